@@ -1,0 +1,16 @@
+//! The program `node`: its words, its input and its outputs, handed to `node_cli`.
+#![tactic(auto)]
+
+use std::process::ExitCode;
+use std::{env, io};
+
+fn main(rt: HostRuntime) -> io::Result<ExitCode> {
+    let args: Vec<String> = env::args(&rt)?.skip(1).collect(rt.alloc())?;
+    let mut words = Vec::new(rt.alloc());
+    for arg in &args {
+        words.push(arg.as_str())?;
+    }
+    let (mut input, mut output, mut faults) = (rt.stdin(), rt.stdout(), rt.stderr());
+    let status = node_cli::node(&rt, words.as_slice(), &mut input, &mut output, &mut faults);
+    Ok(ExitCode::from(status))
+}

@@ -1,0 +1,107 @@
+//! The command line of `node`: what it asks for, and what is printed.
+#![tactic(auto)]
+
+ghost use Rattle.std.specs.Prelude.{◌≤◌};
+
+mod command;
+mod peer;
+
+use command::{Asked, Unasked, read};
+pub use peer::{HashRefused, IdRefused, hash_hex, id_text};
+use std::alloc::{AllocGlobal, Global};
+use std::io;
+use std::io::{Read, Write};
+
+#[cfg(test)]
+mod tests;
+
+/// Why a run ended early.
+#[derive(Drop)]
+enum Ending {
+    Id(IdRefused),
+    Hash(HashRefused),
+    /// A write failed.
+    Unwritten,
+}
+
+impl From<IdRefused> for Ending {
+    fn from(refused: IdRefused) -> Ending {
+        Ending::Id(refused)
+    }
+}
+
+impl From<HashRefused> for Ending {
+    fn from(refused: HashRefused) -> Ending {
+        Ending::Hash(refused)
+    }
+}
+
+impl From<io::Error> for Ending {
+    fn from(_error: io::Error) -> Ending {
+        Ending::Unwritten
+    }
+}
+
+/// Does a whole run of the words behind the program's name, and gives its status: 0 good, 1 refused input or a
+/// failing write, 2 a bad command line.
+pub fn node<R, I, O, E>(
+    rt: &R,
+    words: &[&str],
+    _input: &mut I,
+    output: &mut O,
+    faults: &mut E,
+) -> u8
+where
+    R: AllocGlobal,
+    I: Read,
+    O: Write,
+    E: Write,
+    ensures { result ≤ 2 }
+{
+    let alloc = rt.alloc();
+    match read(alloc, words) {
+        Ok(asked) => status(answer(alloc, asked, output), faults),
+        Err(Unasked::Told(text)) => written(write!(output, "{text}"), 0),
+        Err(Unasked::Bad(text)) => written(write!(faults, "{text}"), 2),
+        Err(Unasked::OutOfMemory) => 1,
+    }
+}
+
+/// The status of a run whose last step was a write.
+fn written(outcome: io::Result<()>, good: u8) -> u8
+    requires { good ≤ 2 }
+    ensures { result ≤ 2 }
+{
+    match outcome {
+        Ok(()) => good,
+        Err(_) => 1,
+    }
+}
+
+/// The status of a run, whose refusal is told by its name.
+fn status<E: Write>(outcome: Result<(), Ending>, faults: &mut E) -> u8
+    ensures { result ≤ 1 }
+{
+    let Err(ending) = outcome else {
+        return 0;
+    };
+    let _ = match ending {
+        Ending::Id(IdRefused::NotHex) => writeln!(faults, "refused NotHex"),
+        Ending::Id(IdRefused::Key(fault)) => writeln!(faults, "refused {fault:?}"),
+        Ending::Hash(HashRefused::Id(fault)) => writeln!(faults, "refused {fault:?}"),
+        Ending::Id(IdRefused::OutOfMemory)
+        | Ending::Hash(HashRefused::OutOfMemory)
+        | Ending::Unwritten => Ok(()),
+    };
+    1
+}
+
+/// Prints what was asked for.
+fn answer<O: Write>(alloc: Global, asked: Asked<'_>, output: &mut O) -> Result<(), Ending> {
+    let line = match asked {
+        Asked::Id(hex) => id_text(alloc, hex)?,
+        Asked::Hash(text) => hash_hex(alloc, text)?,
+    };
+    writeln!(output, "{line}")?;
+    Ok(())
+}

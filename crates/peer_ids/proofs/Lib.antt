@@ -1,0 +1,10 @@
+pub mod Parts
+pub mod OneKey
+pub mod Padded
+pub mod Canonical
+pub mod Bits
+pub mod Regroup
+pub mod OneText
+pub mod Written
+pub mod SomeKey
+pub mod Texts

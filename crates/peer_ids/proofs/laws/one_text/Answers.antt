@@ -1,0 +1,5 @@
+use Rattle.peer_ids.proofs.Texts.{text_once, id_once}
+use Rattle.peer_ids.proofs.laws.one_text.Goals as goal
+
+pub returns : goal.returns
+returns c = record { text = text_once; id = id_once }

@@ -1,0 +1,188 @@
+use super::*;
+use std::alloc::AllocGlobal;
+use std::process::Abort;
+use std::test::*;
+
+const ZEROS: &str = "bafzaajaiaejcaaaaaaaaaaaaaaaaaaaaaaaaaaaaaaaaaaaaaaaaaaaaaaaaaaaa";
+
+const ONES: &str = "bafzaajaiaejcb777777777777777777777777777777777777777777777777777";
+
+const DIGEST_OF_ZEROS: &str = "bafzbeiaaaaaaaaaaaaaaaaaaaaaaaaaaaaaaaaaaaaaaaaaaaaaaaaaaaa";
+
+/// The key of a message: `front`, and then so many bytes of one value.
+fn key_of<R: Abort + AllocGlobal>(
+    rt: &R,
+    front: &[u8],
+    fill: u8,
+    count: usize,
+) -> Result<PublicKey, Fail> {
+    let mut message = Vec::new(rt.alloc());
+    message.extend_from_slice(front)?;
+    for _ in 0..count {
+        message.push(fill)?;
+    }
+    let Ok(key) = PublicKey::read(rt.alloc(), &message) else {
+        return Err("the message is a key".into());
+    };
+    Ok(key)
+}
+
+#[test]
+fn ids_of_ed25519_keys(rt: HostRuntime) -> Result<(), Fail> {
+    let shortest = [0x08, 0x01, 0x12, 0x20];
+    let long_varint = [0x08, 0x81, 0x00, 0x12, 0x20];
+    let unknown_fields = [
+        0x08, 0x01, 0x29, 0, 0, 0, 0, 0, 0, 0, 0, 0x2d, 0, 0, 0, 0, 0x12, 0x20,
+    ];
+    let rows: [(&[u8], u8, &str); 4] = [
+        (&shortest, 0, ZEROS),
+        (&shortest, 0xff, ONES),
+        (&long_varint, 0xff, ONES),
+        (&unknown_fields, 0xff, ONES),
+    ];
+    for (front, fill, text) in rows {
+        let id = PeerId::of_key(&key_of(&rt, front, fill, 32)?);
+        assert_eq!(rt; id.to_text(rt.alloc())?.as_str(), text);
+        assert_eq!(rt; format!(in rt.alloc(); "{id}")?.as_str(), text);
+        assert_eq!(rt; PeerId::from_text(text), Ok(id));
+        assert_eq!(rt; text.parse::<PeerId>(), Ok(id));
+        assert_eq!(rt; PeerId::from_bytes(id.as_bytes()), Ok(id));
+        assert!(rt;
+            id.as_bytes()
+                .starts_with(&[0x00, 0x24, 0x08, 0x01, 0x12, 0x20])
+        );
+    }
+    Ok(())
+}
+
+#[test]
+fn canonical_message_of_a_key_with_long_varints(rt: HostRuntime) -> Result<(), Fail> {
+    let key = key_of(&rt, &[0x08, 0x81, 0x80, 0x00, 0x12, 0x20], 0xff, 32)?;
+    let canonical = key.canonical()?;
+    assert_eq!(rt; canonical.len(), 36);
+    assert_eq!(rt; &canonical[..5], [0x08, 0x01, 0x12, 0x20, 0xff].as_slice());
+    Ok(())
+}
+
+#[test]
+fn keys_of_at_most_42_canonical_bytes_are_their_id(rt: HostRuntime) -> Result<(), Fail> {
+    let identity = PeerId::of_key(&key_of(&rt, &[0x08, 0x00, 0x12, 0x26], 0, 38)?);
+    assert_eq!(rt; &identity.as_bytes()[..2], [0x00, 0x2a].as_slice());
+    let digest = PeerId::of_key(&key_of(&rt, &[0x08, 0x00, 0x12, 0x27], 0, 39)?);
+    assert_eq!(rt; digest.as_bytes().len(), 34);
+    assert_eq!(rt; &digest.as_bytes()[..2], [0x12, 0x20].as_slice());
+    let text = digest.to_text(rt.alloc())?;
+    assert_eq!(rt; text.len(), 59);
+    assert!(rt; text.starts_with("bafzbei"));
+    assert!(rt; identity < digest);
+    assert!(rt; identity != digest);
+    Ok(())
+}
+
+#[test]
+fn faults_of_keys(rt: HostRuntime) -> Result<(), Fail> {
+    let mut short = Vec::new(rt.alloc());
+    short.extend_from_slice(&[0x08, 0x01, 0x12, 0x1f])?;
+    for _ in 0..31 {
+        short.push(0)?;
+    }
+    let rows: [(&[u8], KeyFault); 7] = [
+        (&[0x12, 0x01, 0x00], KeyFault::NoType),
+        (&[0x08, 0x01], KeyFault::NoData),
+        (&[0x08, 0x04, 0x12, 0x00], KeyFault::UnknownType),
+        (&[0x08, 0x01, 0x12, 0x00], KeyFault::BadLength),
+        (&[0x08], KeyFault::Wire),
+        (&[0x0b], KeyFault::Wire),
+        (&short, KeyFault::BadLength),
+    ];
+    for (bytes, fault) in rows {
+        match PublicKey::read(rt.alloc(), bytes) {
+            Ok(_) => assert!(rt; false, "bytes were read as a key"),
+            Err(found) => assert_eq!(rt; found, fault),
+        }
+    }
+    Ok(())
+}
+
+#[test]
+fn the_last_type_and_the_last_data_count(rt: HostRuntime) -> Result<(), Fail> {
+    let front = [
+        0x08, 0x00, 0x12, 0x01, 0x07, 0x0a, 0x00, 0x08, 0x01, 0x12, 0x20,
+    ];
+    let key = key_of(&rt, &front, 0, 32)?;
+    assert_eq!(rt; key.kind(), KeyType::Ed25519);
+    assert_eq!(rt; key.body().len(), 32);
+    Ok(())
+}
+
+#[test]
+fn keys_made_of_parts(rt: HostRuntime) -> Result<(), Fail> {
+    let body = vec![in rt.alloc(); 0; 32]?;
+    let Some(key) = PublicKey::new(KeyType::Ed25519, body) else {
+        return Err("32 bytes are a key".into());
+    };
+    assert_eq!(rt;
+        PeerId::of_key(&key),
+        ZEROS.parse::<PeerId>().ok().ok_or("an id")?
+    );
+    assert!(rt; PublicKey::new(KeyType::Ed25519, vec![in rt.alloc(); 0; 31]?).is_none());
+    assert!(rt; PublicKey::new(KeyType::Rsa, Vec::new(rt.alloc())).is_none());
+    assert!(rt; PublicKey::new(KeyType::Rsa, vec![in rt.alloc(); 0; 4096]?).is_some());
+    assert!(rt; PublicKey::new(KeyType::Rsa, vec![in rt.alloc(); 0; 4097]?).is_none());
+    Ok(())
+}
+
+#[test]
+fn a_digest_is_printed_and_read(rt: HostRuntime) -> Result<(), Fail> {
+    let mut multihash = [0; 34];
+    multihash[0] = 0x12;
+    multihash[1] = 0x20;
+    let Ok(id) = PeerId::from_bytes(&multihash) else {
+        return Err("a multihash".into());
+    };
+    assert_eq!(rt; id.to_text(rt.alloc())?.as_str(), DIGEST_OF_ZEROS);
+    assert_eq!(rt; PeerId::from_text(DIGEST_OF_ZEROS), Ok(id));
+    Ok(())
+}
+
+#[test]
+fn faults_of_texts(rt: HostRuntime) {
+    let rows = [
+        ("", IdFault::NotB),
+        (
+            "afzbeiaaaaaaaaaaaaaaaaaaaaaaaaaaaaaaaaaaaaaaaaaaaaaaaaaaaa",
+            IdFault::NotB,
+        ),
+        ("bAFZBEI", IdFault::NotBase32),
+        ("bafz1eiaa", IdFault::NotBase32),
+        ("ba", IdFault::BadLength),
+        ("bafzbeiaa=", IdFault::NotBase32),
+        ("baa", IdFault::BadPrefix),
+        ("bafzaa", IdFault::BadHash),
+        (
+            "bafzbeiaaaaaaaaaaaaaaaaaaaaaaaaaaaaaaaaaaaaaaaaaaaaaaaaaaab",
+            IdFault::TrailingBits,
+        ),
+    ];
+    for (text, fault) in rows {
+        assert_eq!(rt; PeerId::from_text(text), Err(fault), "at {text}");
+        assert_eq!(rt; text.parse::<PeerId>(), Err(fault), "at {text}");
+    }
+}
+
+#[test]
+fn faults_of_bytes(rt: HostRuntime) {
+    let identity_of_43 = [43; 45];
+    let rows: [&[u8]; 6] = [
+        &[],
+        &[0x00],
+        &[0x00, 0x01],
+        &[0x00, 0x00, 0x00],
+        &[0x12, 0x20, 0x00],
+        &identity_of_43,
+    ];
+    for bytes in rows {
+        assert_eq!(rt; PeerId::from_bytes(bytes), Err(IdFault::BadHash));
+    }
+    assert!(rt; PeerId::from_bytes(&[0x00, 0x00]).is_ok());
+}

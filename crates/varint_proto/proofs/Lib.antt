@@ -1,0 +1,10 @@
+pub mod Spellings
+pub mod Shortest
+pub mod Messages
+pub mod OneReading
+pub mod Reading
+pub mod OneShortest
+pub mod Front
+pub mod Writing
+pub mod SomeReading
+pub mod Least

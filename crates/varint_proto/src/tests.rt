@@ -1,0 +1,130 @@
+use super::*;
+use std::alloc::AllocGlobal;
+use std::process::Abort;
+use std::test::*;
+
+#[test]
+fn writes_the_shortest_spelling(rt: HostRuntime) -> Result<(), Fail> {
+    let mut out = Vec::new(rt.alloc());
+    assert_eq!(rt; write_varint(&mut out, 300), Ok(()));
+    assert_eq!(rt; out.as_slice(), [0xac, 0x02].as_slice());
+    assert_eq!(rt;
+        write_varint(&mut out, 1 << 63),
+        Err(VarintRefused::TooLarge)
+    );
+    assert_eq!(rt; out.as_slice(), [0xac, 0x02].as_slice());
+    assert_eq!(rt; write_varint(&mut out, (1 << 63) - 1), Ok(()));
+    assert_eq!(rt; out.len(), 11);
+    assert_eq!(rt; out.as_slice().last().copied(), Some(0x7f));
+    Ok(())
+}
+
+#[test]
+fn writes_fields(rt: HostRuntime) -> Result<(), Fail> {
+    let mut out = Vec::new(rt.alloc());
+    write_number(&mut out, 1, 300)?;
+    write_body(&mut out, 2, b"ab")?;
+    assert_eq!(rt;
+        out.as_slice(),
+        [0x08, 0xac, 0x02, 0x12, 0x02, b'a', b'b'].as_slice()
+    );
+    Ok(())
+}
+
+#[test]
+fn reads_multiformats_varints(rt: HostRuntime) {
+    let nines = [0xff; 9];
+    let most = [0xff, 0xff, 0xff, 0xff, 0xff, 0xff, 0xff, 0xff, 0x7f];
+    let rows: [(&[u8], Result<Option<(u64, usize)>, WireFault>); 8] = [
+        (&[0xac, 0x02], Ok(Some((300, 2)))),
+        (&[0x80], Ok(None)),
+        (&[], Ok(None)),
+        (&[0x80, 0x00], Err(WireFault::NotShortest)),
+        (&nines, Err(WireFault::TooLong)),
+        (&most, Ok(Some(((1 << 63) - 1, 9)))),
+        (&[0x00, 0x01], Ok(Some((0, 1)))),
+        (&[0x7f, 0x80], Ok(Some((127, 1)))),
+    ];
+    for (bytes, outcome) in rows {
+        assert_eq!(rt; read_varint(bytes), outcome);
+    }
+}
+
+/// The number of each field of a message in turn, and at last the fault, if there is one.
+fn numbers<R: Abort + AllocGlobal>(
+    rt: &R,
+    bytes: &[u8],
+) -> Result<(Vec<u32>, Option<WireFault>), Fail> {
+    let mut numbers = Vec::new(rt.alloc());
+    let mut fields = Fields::new(bytes);
+    for _ in 0..bytes.len() {
+        match fields.next() {
+            Ok(None) => return Ok((numbers, None)),
+            Ok(Some(field)) => numbers.push(field.number)?,
+            Err(fault) => {
+                assert_eq!(rt; fields.next(), Err(fault), "the same fault comes again");
+                return Ok((numbers, Some(fault)));
+            }
+        }
+    }
+    Ok((numbers, None))
+}
+
+#[test]
+fn reads_fields_of_every_wire_type(rt: HostRuntime) -> Result<(), Fail> {
+    let message = [
+        0x08, 0x81, 0x00, 0x11, 1, 2, 3, 4, 5, 6, 7, 8, 0x1a, 0x02, 0xff, 0xfe, 0x25, 9, 8, 7, 6,
+    ];
+    let mut fields = Fields::new(&message);
+    let expected = [
+        Field {
+            number: 1,
+            value: Value::Varint(1),
+        },
+        Field {
+            number: 2,
+            value: Value::Fixed64([1, 2, 3, 4, 5, 6, 7, 8]),
+        },
+        Field {
+            number: 3,
+            value: Value::Bytes(&[0xff, 0xfe]),
+        },
+        Field {
+            number: 4,
+            value: Value::Fixed32([9, 8, 7, 6]),
+        },
+    ];
+    for field in expected {
+        assert_eq!(rt; fields.next(), Ok(Some(field)));
+    }
+    assert_eq!(rt; fields.next(), Ok(None));
+    Ok(())
+}
+
+#[test]
+fn faults_of_messages(rt: HostRuntime) -> Result<(), Fail> {
+    let long = [
+        0x08, 0xff, 0xff, 0xff, 0xff, 0xff, 0xff, 0xff, 0xff, 0xff, 0x02,
+    ];
+    let rows: [(&[u8], usize, Option<WireFault>); 9] = [
+        (&[], 0, None),
+        (&[0x0b], 0, Some(WireFault::BadWire)),
+        (&[0x08, 0x01, 0x09], 1, Some(WireFault::Cut)),
+        (&[0x08], 0, Some(WireFault::Cut)),
+        (&[0x12, 0x02, 0x00], 0, Some(WireFault::Cut)),
+        (&[0x07], 0, Some(WireFault::BadNumber)),
+        (
+            &[0x80, 0x80, 0x80, 0x80, 0x10],
+            0,
+            Some(WireFault::BadNumber),
+        ),
+        (&long, 0, Some(WireFault::TooLong)),
+        (&[0x08, 0x80, 0x00], 1, None),
+    ];
+    for (bytes, count, fault) in rows {
+        let (found, ended) = numbers(&rt, bytes)?;
+        assert_eq!(rt; found.len(), count);
+        assert_eq!(rt; ended, fault);
+    }
+    Ok(())
+}
