@@ -1,15 +1,22 @@
 //! What the words of a command line ask for.
 
+use crate::options::{config_of, replay_command};
 use clap::error::ErrorKind;
 use clap::{Arg, ArgAction, Command, Error};
+use pool_state::Config;
 use std::alloc::{AllocError, Global};
 
 /// What a command line asks for.
+#[derive(Clone, Copy)]
 pub enum Asked<'a> {
     /// The text of the id of a key message in hexadecimal.
     Id(&'a str),
     /// The multihash of the text of an id.
     Hash(&'a str),
+    /// The bytes and the printed text of an address.
+    Addr(&'a str),
+    /// A script of pool calls, on a pool that is made with this.
+    Replay(Config),
 }
 
 /// Why a command line asks for nothing.
@@ -18,6 +25,8 @@ pub enum Unasked {
     Told(Error),
     /// It is bad, as this text says.
     Bad(Error),
+    /// The own peer of a replay is no peer.
+    BadPeer,
     /// It could not be read.
     OutOfMemory,
 }
@@ -52,20 +61,32 @@ fn command<'a>(alloc: Global) -> Result<Command<'a>, AllocError> {
         "TEXT",
         "The text of a peer id",
     )?;
+    let addr = with_word(
+        alloc,
+        "addr",
+        "Prints the bytes of a multiaddr in hexadecimal, and its text",
+        "TEXT",
+        "The text of a multiaddr",
+    )?;
     Command::new(alloc, "node")
         .no_binary_name(true)
         .version("0.1.0")
         .about("A libp2p node's peers and connections")
         .subcommand_required(true)
         .subcommand(id)?
-        .subcommand(hash)
+        .subcommand(hash)?
+        .subcommand(addr)?
+        .subcommand(replay_command(alloc)?)
 }
 
+/// What the words ask for, where they are a good command line.
 fn parse<'a>(alloc: Global, words: &'a [&'a str]) -> Result<Option<Asked<'a>>, Error> {
     let matches = command(alloc)?.try_get_matches_from(words)?;
     Ok(match matches.subcommand() {
         Some(("id", found)) => found.get_str("HEX").map(|hex| Asked::Id(hex)),
         Some(("hash", found)) => found.get_str("TEXT").map(|text| Asked::Hash(text)),
+        Some(("addr", found)) => found.get_str("TEXT").map(|text| Asked::Addr(text)),
+        Some(("replay", found)) => config_of(found).map(|config| Asked::Replay(config)),
         _ => None,
     })
 }
@@ -74,7 +95,8 @@ fn parse<'a>(alloc: Global, words: &'a [&'a str]) -> Result<Option<Asked<'a>>, E
 pub fn read<'a>(alloc: Global, words: &'a [&'a str]) -> Result<Asked<'a>, Unasked> {
     match parse(alloc, words) {
         Ok(Some(asked)) => Ok(asked),
-        Ok(None) => Err(Unasked::OutOfMemory),
+        // Each subcommand but a replay has its word then, and a replay has limits in their ranges.
+        Ok(None) => Err(Unasked::BadPeer),
         Err(error) if error.kind() == ErrorKind::OutOfMemory => Err(Unasked::OutOfMemory),
         Err(error) if error.use_stderr() => Err(Unasked::Bad(error)),
         Err(error) => Err(Unasked::Told(error)),

@@ -3,11 +3,19 @@
 
 ghost use Rattle.std.specs.Prelude.{◌≤◌};
 
+mod addr;
 mod command;
+mod input;
+mod line;
+mod options;
 mod peer;
+mod replay;
 
+pub use addr::{AddrLines, addr_lines};
 use command::{Asked, Unasked, read};
+use multiaddr::AddrFault;
 pub use peer::{HashRefused, IdRefused, hash_hex, id_text};
+use replay::replay;
 use std::alloc::{AllocGlobal, Global};
 use std::io;
 use std::io::{Read, Write};
@@ -20,6 +28,11 @@ mod tests;
 enum Ending {
     Id(IdRefused),
     Hash(HashRefused),
+    Addr(AddrFault),
+    /// The line of this number, from 1 on, is of no known form.
+    Line(u64),
+    /// The input is too long, or it can't be read or held.
+    Input,
     /// A write failed.
     Unwritten,
 }
@@ -36,6 +49,12 @@ impl From<HashRefused> for Ending {
     }
 }
 
+impl From<AddrFault> for Ending {
+    fn from(fault: AddrFault) -> Ending {
+        Ending::Addr(fault)
+    }
+}
+
 impl From<io::Error> for Ending {
     fn from(_error: io::Error) -> Ending {
         Ending::Unwritten
@@ -44,13 +63,7 @@ impl From<io::Error> for Ending {
 
 /// Does a whole run of the words behind the program's name, and gives its status: 0 good, 1 refused input or a
 /// failing write, 2 a bad command line.
-pub fn node<R, I, O, E>(
-    rt: &R,
-    words: &[&str],
-    _input: &mut I,
-    output: &mut O,
-    faults: &mut E,
-) -> u8
+pub fn node<R, I, O, E>(rt: &R, words: &[&str], input: &mut I, output: &mut O, faults: &mut E) -> u8
 where
     R: AllocGlobal,
     I: Read,
@@ -60,9 +73,14 @@ where
 {
     let alloc = rt.alloc();
     match read(alloc, words) {
-        Ok(asked) => status(answer(alloc, asked, output), faults),
+        Ok(asked) => {
+            let answered = answer(alloc, &asked, input, output);
+            let flushed = output.flush();
+            status(answered.and(flushed.map_err(Ending::from)), faults)
+        }
         Err(Unasked::Told(text)) => written(write!(output, "{text}"), 0),
         Err(Unasked::Bad(text)) => written(write!(faults, "{text}"), 2),
+        Err(Unasked::BadPeer) => written(writeln!(faults, "error: the peer of '--own' is none"), 2),
         Err(Unasked::OutOfMemory) => 1,
     }
 }
@@ -89,19 +107,36 @@ fn status<E: Write>(outcome: Result<(), Ending>, faults: &mut E) -> u8
         Ending::Id(IdRefused::NotHex) => writeln!(faults, "refused NotHex"),
         Ending::Id(IdRefused::Key(fault)) => writeln!(faults, "refused {fault:?}"),
         Ending::Hash(HashRefused::Id(fault)) => writeln!(faults, "refused {fault:?}"),
+        Ending::Addr(fault) if fault != AddrFault::OutOfMemory => writeln!(
+            faults,
+            "refused {fault:?}"
+        ),
+        Ending::Line(number) => writeln!(faults, "refused line {number}"),
+        Ending::Input => writeln!(faults, "refused input"),
         Ending::Id(IdRefused::OutOfMemory)
         | Ending::Hash(HashRefused::OutOfMemory)
+        | Ending::Addr(_)
         | Ending::Unwritten => Ok(()),
     };
     1
 }
 
 /// Prints what was asked for.
-fn answer<O: Write>(alloc: Global, asked: Asked<'_>, output: &mut O) -> Result<(), Ending> {
-    let line = match asked {
-        Asked::Id(hex) => id_text(alloc, hex)?,
-        Asked::Hash(text) => hash_hex(alloc, text)?,
-    };
-    writeln!(output, "{line}")?;
+fn answer<I: Read, O: Write>(
+    alloc: Global,
+    asked: &Asked<'_>,
+    input: &mut I,
+    output: &mut O,
+) -> Result<(), Ending> {
+    match asked {
+        Asked::Id(hex) => writeln!(output, "{}", id_text(alloc, hex)?)?,
+        Asked::Hash(text) => writeln!(output, "{}", hash_hex(alloc, text)?)?,
+        Asked::Addr(text) => {
+            let lines = addr_lines(alloc, text)?;
+            writeln!(output, "{}", lines.bytes)?;
+            writeln!(output, "{}", lines.text)?;
+        }
+        Asked::Replay(config) => replay(alloc, *config, input, output)?,
+    }
     Ok(())
 }

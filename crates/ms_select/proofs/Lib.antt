@@ -1,0 +1,8 @@
+pub mod Lists
+pub mod OneSpelling
+pub mod Reading
+pub mod ListenSteps
+pub mod DialSteps
+pub mod Readings
+pub mod Pieces
+pub mod SomeTalk

@@ -1,0 +1,4 @@
+pub mod Messages
+pub mod Listening
+pub mod Dialing
+pub mod Joined

@@ -1,0 +1,60 @@
+//! Whole negotiations, from the first byte on.
+
+ghost use Rattle.std.specs.Prelude.{◌≡◌, ◌≢◌, ℕ, List, length, map, Ok, Err, IfOk, IfErr};
+ghost use Rattle.std.specs.List.{All, flat_map};
+ghost use Rattle.ms_select.specs.Listening.{IsName, Listens};
+ghost use Rattle.ms_select.specs.Dialing.{Dials};
+
+use crate::answer::Answer;
+use crate::dialer::Dialer;
+use crate::fault::SelectFault;
+use crate::listener::Listener;
+use std::alloc::Global;
+
+/// What a side of a negotiation came to.
+#[derive(Debug, Drop)]
+pub struct Talk {
+    pub answer: Answer,
+    /// All that it wrote.
+    pub output: Vec<u8>,
+}
+
+/// What a listener of these names comes to by all that the other end sends, in any pieces.
+pub fn listen(alloc: Global, names: &[&str], pieces: &[&[u8]]) -> Result<Talk, SelectFault>
+    ensures outcome { IfOk result (λ talk. (used : ℕ) × Listens (map (λ name. name.now) names.now) (flat_map (λ piece. piece.now) pieces.now) (Ok talk.answer) used talk.output.items) }
+    ensures fault { IfErr result (λ fault. fault ≢ SelectFault.OutOfMemory → All (λ name. IsName name.now) names.now
+        → (output : List ℕ) × Listens (map (λ name. name.now) names.now) (flat_map (λ piece. piece.now) pieces.now) (Err fault) (length (flat_map (λ piece. piece.now) pieces.now)) output) }
+    ensures bad_length { ¬ All (λ name. IsName name.now) names.now → result ≡ Err SelectFault.BadLength }
+{
+    let mut listener = Listener::new(alloc, names)?;
+    let mut answer = Answer::Going;
+    for piece in pieces {
+        answer = listener.feed(piece)?.answer;
+    }
+    Ok(Talk {
+        answer,
+        output: listener.take_output(),
+    })
+}
+
+/// What a dialer of these names comes to by all that the other end sends, in any pieces.
+pub fn dial(alloc: Global, names: &[&str], pieces: &[&[u8]]) -> Result<Talk, SelectFault>
+    ensures outcome { IfOk result (λ talk. (used : ℕ) × Dials (map (λ name. name.now) names.now) (flat_map (λ piece. piece.now) pieces.now) (Ok talk.answer) used talk.output.items) }
+    ensures fault { IfErr result (λ fault. fault ≢ SelectFault.OutOfMemory → All (λ name. IsName name.now) names.now
+        → (output : List ℕ) × Dials (map (λ name. name.now) names.now) (flat_map (λ piece. piece.now) pieces.now) (Err fault) (length (flat_map (λ piece. piece.now) pieces.now)) output) }
+    ensures bad_length { ¬ All (λ name. IsName name.now) names.now → result ≡ Err SelectFault.BadLength }
+{
+    let mut dialer = Dialer::new(alloc, names)?;
+    let mut answer = if names.is_empty() {
+        Answer::NoneLeft
+    } else {
+        Answer::Going
+    };
+    for piece in pieces {
+        answer = dialer.feed(piece)?.answer;
+    }
+    Ok(Talk {
+        answer,
+        output: dialer.take_output(),
+    })
+}

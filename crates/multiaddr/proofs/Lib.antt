@@ -1,0 +1,10 @@
+pub mod Ip6Text
+pub mod OneSpelling
+pub mod Parts
+pub mod TextParts
+pub mod Values
+pub mod OneAddress
+pub mod Printed
+pub mod Sockets
+pub mod Alphabets
+pub mod OneText

@@ -1,0 +1,7 @@
+pub mod Parts
+pub mod Bodies
+pub mod Steps
+pub mod OneOutcome
+pub mod Own
+pub mod SomeOutcome
+pub mod Pieces

@@ -1,0 +1,10 @@
+//! A plain and slow answer to each pool call, found by searching the whole history of calls, and tests that compare the
+//! pool with it. It shares no code with the pool, and is used by these tests alone.
+#![tactic(auto)]
+
+#[cfg(test)]
+mod calls;
+#[cfg(test)]
+mod history;
+#[cfg(test)]
+mod tests;

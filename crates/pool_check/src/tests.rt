@@ -1,0 +1,124 @@
+//! The pool against the slow program.
+
+use crate::calls::{Cast, Draws};
+use crate::history::{Entry, IN_ORDER, front, listed, reply, rows};
+use peer_ids::PeerId;
+use pool_state::{Agent, Config, Limits, Pool, Refusal, Reply};
+use std::alloc::Global;
+use std::process::Abort;
+use std::test::*;
+
+/// The id of the Ed25519 key of 32 bytes that are all `byte`.
+fn peer(byte: u8) -> Result<PeerId, Fail> {
+    let mut multihash = [byte; 38];
+    multihash[..6].copy_from_slice(&[0x00, 0x24, 0x08, 0x01, 0x12, 0x20]);
+    let id = PeerId::from_bytes(&multihash).ok().ok_or("a multihash")?;
+    Ok(id)
+}
+
+/// Runs a script of drawn calls, and compares each reply and each listing. It marks the numbers of the refusals met.
+fn compare(
+    rt: &impl Abort,
+    alloc: Global,
+    config: Config,
+    seed: u64,
+    calls: usize,
+    met: &mut [bool; 20],
+) -> Result<(), Fail> {
+    let mut cast = Cast {
+        peers: [config.own, peer(0x11)?, peer(0x22)?, peer(0x33)?],
+        agents: [
+            Agent::from_bytes(b"node/1.0.0").ok_or("a name")?,
+            Agent::from_bytes(b"x").ok_or("a name")?,
+        ],
+        latest: config.first_conn,
+    };
+    let mut draws = Draws::new(seed);
+    let mut pool = Pool::new(config);
+    let mut kept = pool.listing();
+    let mut history = Vec::new(alloc);
+    for _ in 0..calls {
+        let call = cast.call(&mut draws);
+        let answer = pool.apply(call);
+        assert_eq!(rt; answer, reply(alloc, &config, &history, call)?);
+        match answer {
+            Reply::Conn(conn) => cast.latest = conn,
+            Reply::Refused(refusal) => {
+                if let Some(mark) = met.get_mut(refusal as usize) {
+                    *mark = true;
+                }
+            }
+            _ => {}
+        }
+        if answer != Reply::Refused(Refusal::Spent) {
+            history.push(Entry {
+                call,
+                reply: answer,
+            })?;
+            kept.add(call, answer);
+        }
+        let shown = pool.listing();
+        assert_eq!(rt; shown.front, front(&config, &history));
+        assert_eq!(rt;
+            shown.conns.as_slice(),
+            rows(alloc, &config, &history)?.as_slice()
+        );
+        assert_eq!(rt;
+            shown.blocked.as_slice(),
+            listed(alloc, &history, true)?.as_slice()
+        );
+        assert_eq!(rt;
+            shown.allowed.as_slice(),
+            listed(alloc, &history, false)?.as_slice()
+        );
+        assert_eq!(rt; kept, shown);
+    }
+    Ok(())
+}
+
+#[test]
+fn pool_answers_as_the_history_says(rt: HostRuntime) -> Result<(), Fail> {
+    let own = peer(0)?;
+    let tight = Limits::new(3, 1, 1, 1, 2, 2, 1).ok_or("in range")?;
+    let wide = Limits::new(5, 2, 2, 2, 4, 4, 2).ok_or("in range")?;
+    let mut met = [false; 20];
+    for (seed, limits, first_conn, allow_only) in [
+        (1, tight, 1, false),
+        (2, wide, 1, false),
+        (3, wide, 7, true),
+        (4, tight, u32::MAX - 3, false),
+        (5, wide, u32::MAX - 5, true),
+        (6, wide, 0, false),
+    ] {
+        let config = Config {
+            own,
+            limits,
+            first_conn,
+            first_front: 0,
+            allow_only,
+        };
+        compare(&rt, rt.alloc(), config, seed, 200, &mut met)?;
+    }
+    for refusal in IN_ORDER {
+        assert!(rt;
+            met.get(refusal as usize) == Some(&true),
+            "{refusal:?} wasn't met"
+        );
+    }
+    Ok(())
+}
+
+#[test]
+fn pool_stops_at_the_last_front(rt: HostRuntime) -> Result<(), Fail> {
+    let config = Config {
+        own: peer(0)?,
+        limits: Limits::new(5, 2, 2, 2, 4, 4, 2).ok_or("in range")?,
+        first_conn: 1,
+        first_front: u64::MAX - 20,
+        allow_only: false,
+    };
+    let mut met = [false; 20];
+    compare(&rt, rt.alloc(), config, 9, 40, &mut met)?;
+    assert!(rt; met[1]);
+    Ok(())
+}

@@ -1,0 +1,280 @@
+use super::*;
+use peer_ids::PeerId;
+use std::process::Abort;
+use std::test::*;
+
+/// The id of the Ed25519 key of 32 bytes that are all `byte`.
+fn peer(byte: u8) -> Result<PeerId, Fail> {
+    let mut multihash = [byte; 38];
+    multihash[..6].copy_from_slice(&[0x00, 0x24, 0x08, 0x01, 0x12, 0x20]);
+    let id = PeerId::from_bytes(&multihash).ok().ok_or("a multihash")?;
+    Ok(id)
+}
+
+/// The agent of a name.
+fn agent(name: &str) -> Result<Agent, Fail> {
+    let agent = Agent::from_bytes(name.as_bytes()).ok_or("a name")?;
+    Ok(agent)
+}
+
+/// The widest limits, from the first number and front, for the node whose id is that of zeros.
+fn config() -> Result<Config, Fail> {
+    let limits = Limits::new(256, 8, 64, 64, 256, 256, 64).ok_or("in range")?;
+    Ok(Config {
+        own: peer(0)?,
+        limits,
+        first_conn: 1,
+        first_front: 0,
+        allow_only: false,
+    })
+}
+
+/// The row of a connection on which nothing was asked for.
+fn row(conn: u32, role: ConnSide, phase: Phase, peer: Option<PeerId>) -> Row {
+    Row {
+        conn,
+        role,
+        phase,
+        peer,
+        asked: [0; 3],
+        done: [0; 3],
+        agent: None,
+    }
+}
+
+/// Makes the calls in turn. Each is answered as `reply` says beforehand, and as the table says.
+fn run(rt: &impl Abort, pool: &mut Pool, script: &[(Call, Reply)]) {
+    for (call, reply) in script {
+        assert_eq!(rt; pool.reply(*call), *reply);
+        assert_eq!(rt; pool.apply(*call), *reply);
+    }
+}
+
+fn refused(refusal: Refusal) -> Reply {
+    Reply::Refused(refusal)
+}
+
+#[test]
+fn refusals_in_order(rt: HostRuntime) -> Result<(), Fail> {
+    let limits = Limits::new(2, 1, 1, 1, 256, 256, 64).ok_or("in range")?;
+    let mut pool = Pool::new(Config {
+        limits,
+        ..config()?
+    });
+    let (own, first, second) = (peer(0)?, peer(0x11)?, peer(0x22)?);
+    let script = [
+        (Call::Dial(Some(first)), Reply::Conn(1)),
+        (Call::Dial(Some(first)), refused(Refusal::PeerFull)),
+        (Call::Accept, Reply::Conn(2)),
+        (Call::Accept, refused(Refusal::Full)),
+        (Call::Settle(2, first), refused(Refusal::PeerFull)),
+        (Call::Settle(1, second), refused(Refusal::Mismatch)),
+        (Call::Settle(1, first), Reply::Done),
+        (Call::Settle(1, first), refused(Refusal::NotPending)),
+        (Call::Ask(1, 2), Reply::Done),
+        (Call::Ask(1, 2), refused(Refusal::StreamsFull)),
+        (Call::Done(1, 0), refused(Refusal::NothingAsked)),
+        (Call::Done(1, 2), Reply::Done),
+        (Call::Ask(2, 0), refused(Refusal::NotLive)),
+        (Call::Block(second), Reply::Count(0)),
+        (Call::Block(peer(0x33)?), refused(Refusal::BlockFull)),
+        (Call::Block(second), Reply::Count(0)),
+        (Call::Settle(2, second), refused(Refusal::Blocked)),
+        (Call::HangUp(first), Reply::Count(1)),
+        (Call::Ask(1, 2), refused(Refusal::Closing)),
+        (Call::Unblock(second), Reply::Count(1)),
+        (Call::Gone(1), Reply::Done),
+        (Call::Gone(1), refused(Refusal::NoConn)),
+        (Call::Dial(Some(own)), refused(Refusal::SelfPeer)),
+    ];
+    run(&rt, &mut pool, &script);
+    let listing = pool.listing();
+    assert_eq!(rt; listing.front, 23);
+    let rows = [row(2, ConnSide::Listener, Phase::Pending, None)];
+    assert_eq!(rt; listing.conns.as_slice(), rows.as_slice());
+    assert!(rt; listing.blocked.is_empty() && listing.allowed.is_empty());
+    Ok(())
+}
+
+#[test]
+fn a_block_closes_pending_rows(rt: HostRuntime) -> Result<(), Fail> {
+    let mut pool = Pool::new(config()?);
+    let (first, second) = (peer(0x11)?, peer(0x22)?);
+    let script = [
+        (Call::Dial(Some(first)), Reply::Conn(1)),
+        (Call::Accept, Reply::Conn(2)),
+        (Call::Block(first), Reply::Count(1)),
+        (Call::Settle(1, first), refused(Refusal::Closing)),
+        (Call::Settle(2, first), refused(Refusal::Blocked)),
+    ];
+    run(&rt, &mut pool, &script);
+    let listing = pool.listing();
+    assert_eq!(rt; listing.front, 5);
+    let rows = [
+        row(1, ConnSide::Dialer, Phase::Closing, Some(first)),
+        row(2, ConnSide::Listener, Phase::Pending, None),
+    ];
+    assert_eq!(rt; listing.conns.as_slice(), rows.as_slice());
+    assert_eq!(rt; listing.blocked.as_slice(), [first].as_slice());
+    let script = [
+        (Call::HangUp(second), Reply::Count(0)),
+        (Call::HangUp(peer(0)?), refused(Refusal::SelfPeer)),
+        (Call::Settle(2, second), Reply::Done),
+        (Call::Ask(2, 3), refused(Refusal::BadProtocol)),
+    ];
+    run(&rt, &mut pool, &script);
+    Ok(())
+}
+
+#[test]
+fn the_last_front(rt: HostRuntime) -> Result<(), Fail> {
+    let mut pool = Pool::new(Config {
+        first_front: u64::MAX - 1,
+        ..config()?
+    });
+    let script = [
+        (Call::Dial(None), Reply::Conn(1)),
+        (Call::Block(peer(0x11)?), refused(Refusal::Spent)),
+    ];
+    run(&rt, &mut pool, &script);
+    let listing = pool.listing();
+    assert_eq!(rt; listing.front, u64::MAX);
+    let rows = [row(1, ConnSide::Dialer, Phase::Pending, None)];
+    assert_eq!(rt; listing.conns.as_slice(), rows.as_slice());
+    assert!(rt; listing.blocked.is_empty());
+    Ok(())
+}
+
+#[test]
+fn the_last_number(rt: HostRuntime) -> Result<(), Fail> {
+    let mut pool = Pool::new(Config {
+        first_conn: u32::MAX,
+        ..config()?
+    });
+    let script = [
+        (Call::Accept, Reply::Conn(u32::MAX)),
+        (Call::Accept, refused(Refusal::IdsExhausted)),
+    ];
+    run(&rt, &mut pool, &script);
+    Ok(())
+}
+
+#[test]
+fn allowed_peers_alone(rt: HostRuntime) -> Result<(), Fail> {
+    let limits = Limits::new(64, 8, 64, 64, 1, 256, 1).ok_or("in range")?;
+    let mut pool = Pool::new(Config {
+        limits,
+        allow_only: true,
+        ..config()?
+    });
+    let (first, second) = (peer(0x11)?, peer(0x22)?);
+    let script = [
+        (Call::Accept, Reply::Conn(1)),
+        (Call::Accept, refused(Refusal::SideFull)),
+        (Call::Dial(Some(first)), refused(Refusal::NotAllowed)),
+        (Call::Allow(first), Reply::Count(1)),
+        (Call::Allow(first), Reply::Count(0)),
+        (Call::Allow(second), refused(Refusal::AllowFull)),
+        (Call::Dial(Some(first)), Reply::Conn(2)),
+        (Call::Settle(1, second), refused(Refusal::NotAllowed)),
+        (Call::Settle(1, first), Reply::Done),
+        (Call::Disallow(first), Reply::Count(2)),
+        (Call::Settle(2, first), refused(Refusal::Closing)),
+    ];
+    run(&rt, &mut pool, &script);
+    let listing = pool.listing();
+    assert_eq!(rt; listing.front, 11);
+    let rows = [
+        row(1, ConnSide::Listener, Phase::Closing, Some(first)),
+        row(2, ConnSide::Dialer, Phase::Closing, Some(first)),
+    ];
+    assert_eq!(rt; listing.conns.as_slice(), rows.as_slice());
+    assert!(rt; listing.allowed.is_empty());
+    Ok(())
+}
+
+#[test]
+fn a_full_table(rt: HostRuntime) -> Result<(), Fail> {
+    let mut pool = Pool::new(config()?);
+    for conn in 1..257 {
+        assert_eq!(rt; pool.apply(Call::Accept), Reply::Conn(conn));
+    }
+    assert_eq!(rt; pool.apply(Call::Accept), refused(Refusal::Full));
+    assert_eq!(rt; pool.listing().conns.len(), 256);
+    Ok(())
+}
+
+#[test]
+fn an_agent_is_noted_while_live(rt: HostRuntime) -> Result<(), Fail> {
+    let mut pool = Pool::new(config()?);
+    let first = peer(0x11)?;
+    let script = [
+        (Call::Dial(None), Reply::Conn(1)),
+        (Call::Note(1, agent("x")?), refused(Refusal::NotLive)),
+        (Call::Settle(1, first), Reply::Done),
+        (Call::Note(1, agent("a b")?), Reply::Done),
+    ];
+    run(&rt, &mut pool, &script);
+    let listing = pool.listing();
+    assert_eq!(rt; listing.front, 4);
+    let rows = [Row {
+        agent: Some(agent("a b")?),
+        ..row(1, ConnSide::Dialer, Phase::Live, Some(first))
+    }];
+    assert_eq!(rt; listing.conns.as_slice(), rows.as_slice());
+    let script = [
+        (Call::Note(2, agent("x")?), refused(Refusal::NoConn)),
+        (Call::HangUp(first), Reply::Count(1)),
+        (Call::Note(1, agent("y")?), refused(Refusal::Closing)),
+    ];
+    run(&rt, &mut pool, &script);
+    Ok(())
+}
+
+#[test]
+fn agents_have_printable_names(rt: HostRuntime) -> Result<(), Fail> {
+    let longest = [b'~'; 64];
+    assert_eq!(rt; agent("node/1.0.0")?.as_bytes(), b"node/1.0.0".as_slice());
+    assert!(rt; Agent::from_bytes(&longest).is_some());
+    assert!(rt; Agent::from_bytes(&[b'~'; 65]).is_none());
+    assert!(rt; Agent::from_bytes(&[]).is_none());
+    assert!(rt; Agent::from_bytes(&[0x1f]).is_none());
+    assert!(rt; Agent::from_bytes(&[0x7f]).is_none());
+    Ok(())
+}
+
+#[test]
+fn limits_have_ranges(rt: HostRuntime) {
+    assert!(rt; Limits::new(1, 1, 1, 0, 0, 0, 0).is_some());
+    assert!(rt; Limits::new(257, 8, 64, 64, 256, 256, 64).is_none());
+    assert!(rt; Limits::new(0, 8, 64, 64, 256, 256, 64).is_none());
+    assert!(rt; Limits::new(64, 9, 64, 64, 256, 256, 64).is_none());
+}
+
+#[test]
+fn a_copy_follows_the_pool(rt: HostRuntime) -> Result<(), Fail> {
+    let mut pool = Pool::new(config()?);
+    let mut kept = pool.listing();
+    let first = peer(0x11)?;
+    let calls = [
+        Call::Dial(Some(first)),
+        Call::Accept,
+        Call::Block(first),
+        Call::Gone(2),
+        Call::Gone(2),
+    ];
+    for call in calls {
+        let reply = pool.apply(call);
+        kept.add(call, reply);
+        assert_eq!(rt; kept.copied(), pool.listing());
+    }
+    Ok(())
+}
+
+#[test]
+fn refusals_have_numbers(rt: HostRuntime) {
+    assert_eq!(rt; Refusal::Spent as u8, 1);
+    assert_eq!(rt; Refusal::NoConn as u8, 3);
+    assert_eq!(rt; Refusal::IdsExhausted as u8, 16);
+    assert_eq!(rt; Refusal::AllowFull as u8, 19);
+}

@@ -1,0 +1,5 @@
+pub mod Bytes
+pub mod Frames
+pub mod Front
+pub mod Readings
+pub mod Ends

@@ -1,0 +1,124 @@
+//! Worked rows of headers and of cut streams.
+
+use super::*;
+
+/// A frame of the table: its bytes, and what they spell.
+fn headers() -> [([u8; 12], Header); 4] {
+    [
+        (
+            [0, 1, 0, 1, 0, 0, 0, 1, 0, 0, 0, 0],
+            Header {
+                kind: FrameKind::Window,
+                flags: Header::SYN,
+                stream: 1,
+                length: 0,
+            },
+        ),
+        (
+            [0, 0, 0, 0, 0, 0, 0, 9, 0, 0, 0, 3],
+            Header {
+                kind: FrameKind::Payload,
+                flags: 0,
+                stream: 9,
+                length: 3,
+            },
+        ),
+        (
+            [0, 2, 0, 2, 0, 0, 0, 0, 0, 0, 0, 7],
+            Header {
+                kind: FrameKind::Ping,
+                flags: Header::ACK,
+                stream: 0,
+                length: 7,
+            },
+        ),
+        (
+            [0, 3, 255, 255, 1, 2, 3, 4, 255, 255, 255, 255],
+            Header {
+                kind: FrameKind::GoAway,
+                flags: 65535,
+                stream: 16909060,
+                length: 4294967295,
+            },
+        ),
+    ]
+}
+
+#[test]
+fn headers_are_read_and_written(rt: HostRuntime) {
+    for (bytes, header) in headers() {
+        assert_eq!(rt; Header::read(&bytes), Ok(header));
+        assert_eq!(rt; header.write(), bytes);
+    }
+}
+
+#[test]
+fn version_is_looked_at_before_type(rt: HostRuntime) {
+    let nines = [1, 9, 9, 9, 9, 9, 9, 9, 9, 9, 9, 9];
+    assert_eq!(rt; Header::read(&nines), Err(FrameFault::BadVersion));
+    let type_four = [0, 4, 0, 0, 0, 0, 0, 0, 0, 0, 0, 0];
+    assert_eq!(rt; Header::read(&type_four), Err(FrameFault::BadType));
+    assert_eq!(rt; FrameFault::BadVersion as u8, 1);
+    assert_eq!(rt; FrameFault::BadType as u8, 2);
+}
+
+/// Two frames: Data of `abc` on stream 9, then a WindowUpdate with SYN.
+const INPUT: [u8; 27] = [
+    0, 0, 0, 0, 0, 0, 0, 9, 0, 0, 0, 3, 97, 98, 99, 0, 1, 0, 1, 0, 0, 0, 1, 0, 0, 0, 0,
+];
+
+/// Feeds the input in pieces of this size, and tells how many heads, payload bytes and last parts were found.
+fn counts(input: &[u8], size: usize) -> (usize, usize, usize) {
+    let mut cutter = Cutter::new();
+    let mut found = (0usize, 0usize, 0usize);
+    for piece in input.chunks(size.max(1)) {
+        let mut rest = piece;
+        for _ in 0..piece.len() {
+            if let Ok((used, cut)) = cutter.feed(rest) {
+                match cut {
+                    Cut::More => {}
+                    Cut::Head(_) => found.0 = found.0.saturating_add(1),
+                    Cut::Part { from, to, last, .. } => {
+                        found.1 = found.1.saturating_add(to.saturating_sub(from));
+                        found.2 = found.2.saturating_add(last as usize);
+                    }
+                }
+                rest = &rest[used.min(rest.len())..];
+            }
+        }
+    }
+    found
+}
+
+#[test]
+fn frames_do_not_depend_on_the_pieces(rt: HostRuntime) {
+    for size in [1, 7, 12, 13, 27] {
+        assert_eq!(rt; counts(&INPUT, size), (2, 3, 1), "in pieces of {size}");
+    }
+}
+
+#[test]
+fn input_ends_within_a_frame(rt: HostRuntime) {
+    let mut cutter = Cutter::new();
+    for (at, byte) in INPUT.iter().enumerate() {
+        assert_eq!(rt;
+            cutter.is_mid_frame(),
+            at != 0 && at != 15,
+            "before byte {at}"
+        );
+        let _answer = cutter.feed(&[*byte]);
+    }
+    assert!(rt; !cutter.is_mid_frame());
+}
+
+#[test]
+fn fault_comes_with_its_last_byte_and_stays(rt: HostRuntime) {
+    let mut cutter = Cutter::new();
+    assert_eq!(rt;
+        cutter.feed(&[0, 4, 0, 0, 0, 0, 0, 0, 0, 0, 0]),
+        Ok((11, Cut::More))
+    );
+    assert_eq!(rt; cutter.feed(&[0]), Err(FrameFault::BadType));
+    assert_eq!(rt; cutter.feed(&INPUT), Err(FrameFault::BadType));
+    assert!(rt; !cutter.is_mid_frame());
+}
