@@ -1,0 +1,139 @@
+-- Bytes fed one after another lead on.
+use Rattle.std.proofs.Common.{◌≡◌, ℕ, suc, ◌+◌, ◌≤◌, true, false, List, [], ◌∷◌, ◌++◌, length, map, take, drop, refl, sym, ap, ◌∙◌, subst, append_assoc, arith}
+use Rattle.std.proofs.lemmas.List.{length-append, map-append, length-take-le, take-append-drop, take-take}
+use Rattle.yamux_session.specs.declared.event.Role.{Role}
+use Rattle.yamux_session.specs.Items.{Item, arrivals}
+use Rattle.yamux_session.specs.Items.Item.{Came}
+use Rattle.yamux_session.specs.Meaning.{Told, events}
+use Rattle.yamux_session.specs.declared.event.Event.{Event}
+use Rattle.yamux_session.specs.State.{State, Stands, EndsWith, Led, Steps, HasCome}
+use Rattle.yamux_session.specs.Arrives.{telling, tellings, Tells, HasData}
+use Rattle.yamux_session.proofs.Lists.{append_none}
+use Rattle.yamux_frames.specs.Frames.{Reads}
+use Rattle.std.specs.List.{AllByRecursion}
+use Rattle.std.proofs.lemmas.List.Concat.{flat_map-append}
+
+take_over : (xs ys : List ℕ) (n : ℕ) → take (length xs + n) (xs ++ ys) ≡ xs ++ take n ys
+take_over [] ys n = let e : 0 + n ≡ n = omega arith in ap (λ k. take k ys) e
+take_over (x ∷ xs) ys n = let e : suc (length xs) + n ≡ suc (length xs + n) = omega arith in ap (λ k. take k (x ∷ (xs ++ ys))) e ∙ ap (λ (t : List ℕ). x ∷ t) (take_over xs ys n)
+
+take_less : (xs : List ℕ) (m n : ℕ) → m ≤ n → take m (take n xs) ≡ take m xs
+take_less xs m n h = take-take m n xs h
+
+pub then_led : (role : Role) (past mid now : List Item) (fed first second sent : List ℕ) (told more_told : List Told) (s t : State)
+    → Led role past mid fed first sent told s → Led role mid now (fed ++ first) second sent more_told t
+    → Led role past now fed (first ++ second) sent (told ++ more_told) t
+then_led role past mid now fed first second sent told more_told s t a b =
+    record {
+      came = (
+        b.came.0 ++ a.came.0,
+        b.came.1 ∙ ap (λ (xs : List Item). map Came b.came.0 ++ xs) a.came.1 ∙ sym (append_assoc (map Came b.came.0) (map Came a.came.0) past) ∙ ap (λ (xs : List Item). xs ++ past) (sym (map-append Came b.came.0 a.came.0)),
+      );
+      told_is = b.told_is ∙ ap (λ (xs : List Told). xs ++ more_told) a.told_is ∙ append_assoc (events role past) told more_told;
+      goes_on = λ going. subst (λ (xs : List ℕ). Stands role now xs sent t) (append_assoc fed first second) (b.goes_on going);
+      fails = λ failed.
+          let end = b.fails failed in (
+            end.0,
+            end.1,
+            (
+              length first + end.2.0,
+              (let fits = end.2.1 in omega (arith, length-append first second)),
+              subst (λ (xs : List ℕ). EndsWith xs (arrivals now)) (append_assoc fed first (take end.2.0 second) ∙ ap (λ (xs : List ℕ). fed ++ xs) (sym (take_over first second end.2.0))) end.2.2,
+            ),
+          );
+    }
+
+take_on : (xs : List ℕ) (i n : ℕ) → i ≤ length xs → take (i + n) xs ≡ take i xs ++ take n (drop i xs)
+take_on xs i n h =
+    let front : length (take i xs) ≡ i = length-take-le i xs h in
+    ap (λ (t : List ℕ). take (i + n) t) (sym (take-append-drop i xs)) ∙ ap (λ k. take (k + n) (take i xs ++ drop i xs)) (sym front) ∙ take_over (take i xs) (drop i xs) n
+
+all_both : (xs ys : List Event) → AllByRecursion HasData xs → AllByRecursion HasData ys → AllByRecursion HasData (xs ++ ys)
+all_both [] ys a b = b
+all_both (x ∷ xs) ys a b = (a.0, all_both xs ys a.1 b)
+
+tells_more : (before after : List Event) (told : List Told) → Tells before after told → tellings after ≡ tellings before ++ told
+tells_more before after told tells =
+    ap tellings tells.added ∙ flat_map-append telling before tells.more ∙ ap (λ (xs : List Told). tellings before ++ xs) tells.telling
+
+-- one answer more
+pub step_led : (role : Role) (past : List Item) (fed bytes sent : List ℕ) (at used : ℕ) (before now_told : List Event) (s t : State)
+    → at ≤ length bytes → s.failed ≡ false
+    → ((mid : List Item) × Led role past mid fed (take at bytes) sent (tellings before) s)
+    → ((mid : List Item) → Stands role mid (fed ++ take at bytes) sent s → Steps role mid (fed ++ take at bytes) (take used (drop at bytes)) sent before now_told t)
+    → (now : List Item) × Led role past now fed (take (at + used) bytes) sent (tellings now_told) t
+step_led role past fed bytes sent at used before now_told s t within going led step =
+    let mid : List Item = led.0 in
+    let a : Led role past mid fed (take at bytes) sent (tellings before) s = led.1 in
+    let next : Steps role mid (fed ++ take at bytes) (take used (drop at bytes)) sent before now_told t =
+    step mid (a.goes_on going) in (
+      next.0,
+      subst (λ (xs : List Told). Led role past next.0 fed (take (at + used) bytes) sent xs t) (sym (tells_more before now_told next.1 next.2))
+          (subst (λ (xs : List ℕ). Led role past next.0 fed xs sent (tellings before ++ next.1) t) (sym (take_on bytes at used within))
+          (then_led role past mid next.0 fed (take at bytes) (take used (drop at bytes)) sent (tellings before) next.1 s t a next.3)),
+    )
+
+-- and its events have data where those before have it
+pub step_filled : (role : Role) (past : List Item) (fed bytes sent : List ℕ) (at used : ℕ) (before now_told : List Event) (s t : State) → s.failed ≡ false
+    → ((mid : List Item) × Led role past mid fed (take at bytes) sent (tellings before) s)
+    → ((mid : List Item) → Stands role mid (fed ++ take at bytes) sent s → Steps role mid (fed ++ take at bytes) (take used (drop at bytes)) sent before now_told t)
+    → AllByRecursion HasData before → AllByRecursion HasData now_told
+step_filled role past fed bytes sent at used before now_told s t going led step filled =
+    let tells = (step led.0 (led.1.goes_on going)).2 in
+    subst (AllByRecursion HasData) (sym tells.added) (all_both before tells.more filled tells.filled)
+
+-- no bytes
+pub nothing_led : (role : Role) (past : List Item) (fed sent : List ℕ) (s : State) → Stands role past fed sent s → Led role past past fed [] sent [] s
+nothing_led role past fed sent s stands = record {
+  came = ([], refl);
+  told_is = sym (append_none (events role past));
+  goes_on = λ _. subst (λ (t : List ℕ). Stands role past t sent s) (sym (append_none fed)) stands;
+  fails = λ bad. absurd (let e : true ≡ false = sym bad ∙ stands.going in cc);
+}
+
+-- memory was wanting before the first byte
+pub none_led : (role : Role) (past : List Item) (fed bytes sent pending : List ℕ) (s : State) → Stands role past fed sent s → pending ≡ s.pending
+    → (used : ℕ) × (used ≤ length bytes) × (now : List Item) × HasCome role past fed (take used bytes) sent now pending
+none_led role past fed bytes sent pending s stands same = (
+  0,
+  omega arith,
+  past,
+  record {
+    came = ([], refl);
+    no_fault = stands.no_fault;
+    read = (s.place.part, subst (λ (t : List ℕ). Reads t (arrivals past) s.place.part) (sym (append_none fed)) stands.frames.reads);
+    output = ap (λ (t : List ℕ). sent ++ t) same ∙ stands.output;
+  },
+)
+
+-- after a fault the rest of the bytes isn't looked at
+pub failed_led : (role : Role) (past now : List Item) (fed bytes sent : List ℕ) (at : ℕ) (told : List Told) (s : State) → at ≤ length bytes → s.failed ≡ true
+    → Led role past now fed (take at bytes) sent told s → Led role past now fed bytes sent told s
+failed_led role past now fed bytes sent at told s within failed led =
+    record {
+      came = led.came;
+      told_is = led.told_is;
+      goes_on = λ going. absurd (let h : true ≡ false = sym failed ∙ going in cc);
+      fails = λ _.
+          let end = led.fails failed in
+          let front : length (take at bytes) ≡ at = length-take-le at bytes within in
+          let fits = end.2.1 in
+          (end.0, end.1, (end.2.0, omega arith, subst (λ (xs : List ℕ). EndsWith (fed ++ xs) (arrivals now)) (take_less bytes end.2.0 at (omega arith)) end.2.2));
+    }
+
+-- a step that ran out of memory
+pub out_led : (role : Role) (past : List Item) (fed bytes sent pending : List ℕ) (at : ℕ) (before : List Event) (s : State) → at ≤ length bytes → s.failed ≡ false → pending ≡ s.pending
+    → ((mid : List Item) × Led role past mid fed (take at bytes) sent (tellings before) s)
+    → (used : ℕ) × (used ≤ length bytes) × (now : List Item) × HasCome role past fed (take used bytes) sent now pending
+out_led role past fed bytes sent pending at before s within going same led =
+    let stands = led.1.goes_on going in (
+      at,
+      within,
+      led.0,
+      record {
+        came = led.1.came;
+        no_fault = stands.no_fault;
+        read = (s.place.part, stands.frames.reads);
+        output = ap (λ (t : List ℕ). sent ++ t) same ∙ stands.output;
+      },
+    )

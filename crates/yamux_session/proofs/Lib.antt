@@ -1,0 +1,15 @@
+pub mod Rows
+pub mod Lists
+pub mod Live
+pub mod Refusals
+pub mod Keeping
+pub mod Pieces
+pub mod Leads
+pub mod Limits
+pub mod Tails
+pub mod Arriving
+pub mod HeadLemmas
+pub mod Telling
+pub mod Stepping
+pub mod CallLemmas
+pub mod Received

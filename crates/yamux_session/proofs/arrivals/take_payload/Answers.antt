@@ -1,0 +1,20 @@
+use Rattle.std.proofs.Common.{◌≡◌, ◌-◌, ℕ, List, length, take, drop, Some, None, sym, ◌∙◌, arith}
+use Rattle.std.proofs.lemmas.List.{length-take-le, length-drop}
+use Rattle.yamux_session.specs.Table.{table_of}
+use Rattle.yamux_session.proofs.Telling.{bytes_arrive, tells_nothing, tells_payload}
+use Rattle.yamux_session.proofs.arrivals.take_payload.Goals as goal
+
+pub returns-in_default : goal.returns-in_default
+returns-in_default c = λ role past output keeps fits.
+    let bytes : List ℕ = take (c.args.to - c.args.from) (drop c.args.from c.args.piece.now) in
+    let size : length bytes ≡ c.args.to - c.args.from = length-take-le (c.args.to - c.args.from) (drop c.args.from c.args.piece.now) (let within = c.requires.within in omega (arith, length-drop c.args.from c.args.piece.now)) in
+    bytes_arrive role past bytes (table_of c.arrive.new.self) None c.args.told.now.items c.args.told.now.items output
+    (c.arrive.ensures.keeps role past bytes keeps size fits) (sym c.in_default.is ∙ c.arrive.ensures.taker role past keeps) (tells_nothing c.args.told.now.items)
+
+pub returns : goal.returns
+returns c = λ role past output keeps fits.
+    let bytes : List ℕ = take (c.args.to - c.args.from) (drop c.args.from c.args.piece.now) in
+    let size : length bytes ≡ c.args.to - c.args.from = length-take-le (c.args.to - c.args.from) (drop c.args.from c.args.piece.now) (let within = c.requires.within in omega (arith, length-drop c.args.from c.args.piece.now)) in
+    bytes_arrive role past bytes (table_of c.arrive.new.self) (Some c.in-Some.stream) c.args.told.now.items c.push.new.self.items output
+    (c.arrive.ensures.keeps role past bytes keeps size fits) (sym c.in-Some.is ∙ c.arrive.ensures.taker role past keeps)
+    (tells_payload c.args.told.now.items c.push.new.self.items c.in-Some.stream bytes c.in_ok-bytes.bytes c.in_ok-bytes.ensures.ok (let some = c.requires.some in omega arith) c.in_ok-push.ensures.items)

@@ -1,0 +1,71 @@
+use Rattle.std.proofs.Common.{◌≡◌, ℕ, ◌+◌, ◌-◌, ◌≤◌, Some, not, min, refl, sym, ap, ◌∙◌, subst, arith}
+use Rattle.yamux_session.specs.Items.Act.{Take}
+use Rattle.yamux_session.specs.Windows.{given_of, untaken}
+use Rattle.yamux_session.specs.Table.{table_of}
+use Rattle.yamux_session.specs.State.{State, Stands}
+use Rattle.yamux_session.proofs.Refusals.{no_stream, a_stream, appended, row_of, untaken_is}
+use Rattle.yamux_session.proofs.Keeping.{did, replaced, quiet, taking, giving, none_finished, none_few, all_given, nothing_sent, given_sent, as_counted}
+use Rattle.yamux_session.proofs.session.Session.taken.Goals as goal
+
+pub returns-in_default-clause-refused : goal.returns-in_default-clause-refused
+returns-in_default-clause-refused c = λ role past fed sent stands.
+    let at = subst (λ (s : State). Stands role past fed sent s) (sym c.self.view_is) stands in
+    no_stream role past (table_of c.self.inside.streams) c.args.stream at.table (sym c.row.ensures ∙ c.in_default.is)
+
+pub returns-then-row-clause-ok : goal.returns-then-row-clause-ok
+returns-then-row-clause-ok c = λ role past fed sent stands.
+    let at = subst (λ (s : State). Stands role past fed sent s) (sym c.self.view_is) stands in
+    let n : ℕ = c.args.stream in
+    let k : ℕ = c.if-count-row.count in
+    let found = sym c.row.ensures ∙ c.in-Some.is in
+    let row = row_of role past (table_of c.self.inside.streams) n (Some c.in-Some.row) at.table found in
+    let bound = row.1.bound in
+    let there = untaken_is role past n c.in-Some.row row.1 in
+    let size : (k ≤ c.in-Some.row.untaken) × (k ≡ min c.args.count (untaken role past n)) = elim c.if-count-row.branch [
+      | goal.then-count-row w ↦ let e = w.count-is in let less = w.if-count-row.true in (omega arith, omega arith)
+      | goal.else-count-row w ↦ let e = w.count-is in let more = w.if-count-row.false in (omega arith, omega arith)
+    ] in
+    let fits = size.0 in
+    let sum : c.saturating_add-owed.result ≡ c.in-Some.row.owed + k = (let e = c.saturating_add-owed.ensures in omega arith) in
+    let none : given_of c.in-Some.row.finished (c.in-Some.row.owed + k) ≡ 0 = elim c.then-row.branch [
+      | goal.then-row-via-then-row w ↦ none_finished c.in-Some.row.finished (c.in-Some.row.owed + k) w.if-row.true
+      | goal.then-row-via-else-row+then-owed-lt-GIVE_BACK_FROM w ↦ none_few c.in-Some.row.finished (c.in-Some.row.owed + k) (let few = w.if-owed-lt-GIVE_BACK_FROM.true in omega arith)
+    ] in
+    as_counted role past fed sent n k _ _ size.1
+    (did role past fed sent (Take n k) _ _ at (a_stream role past (table_of c.self.inside.streams) n c.in-Some.row at.table found, omega arith)
+    (replaced role past (Take n k) n c.in-Some.row (record c.in-Some.row { owed = c.saturating_add-owed.result; untaken = c.in-Some.row.untaken - k }) (table_of c.self.inside.streams) (table_of c.replace.new.self) at.table found c.replace.ensures
+    (taking role past n k 0 c.in-Some.row (record c.in-Some.row { owed = c.saturating_add-owed.result; untaken = c.in-Some.row.untaken - k }) row.1 none (omega arith) fits (omega arith) (omega arith) (omega arith) refl refl refl refl)
+    (λ m. refl) (quiet _) refl refl)
+    refl c.if-self.false (nothing_sent role past n k c.self.inside.output.items (giving role past n k 0 c.in-Some.row row.1 none)))
+
+pub returns-then-is_err-clause-refused : goal.returns-then-is_err-clause-refused
+returns-then-is_err-clause-refused c = λ role past fed sent stands.
+    let at = subst (λ (s : State). Stands role past fed sent s) (sym c.self.view_is) stands in
+    a_stream role past (table_of c.self.inside.streams) c.args.stream c.in-Some.row at.table (sym c.row.ensures ∙ c.in-Some.is)
+
+pub returns-clause-ok : goal.returns-clause-ok
+returns-clause-ok c = λ role past fed sent stands.
+    let at = subst (λ (s : State). Stands role past fed sent s) (sym c.self.view_is) stands in
+    let n : ℕ = c.args.stream in
+    let k : ℕ = c.if-count-row.count in
+    let g : ℕ = c.saturating_add-owed.result in
+    let found = sym c.row.ensures ∙ c.in-Some.is in
+    let row = row_of role past (table_of c.self.inside.streams) n (Some c.in-Some.row) at.table found in
+    let bound = row.1.bound in
+    let there = untaken_is role past n c.in-Some.row row.1 in
+    let size : (k ≤ c.in-Some.row.untaken) × (k ≡ min c.args.count (untaken role past n)) = elim c.if-count-row.branch [
+      | goal.then-count-row w ↦ let e = w.count-is in let less = w.if-count-row.true in (omega arith, omega arith)
+      | goal.else-count-row w ↦ let e = w.count-is in let more = w.if-count-row.false in (omega arith, omega arith)
+    ] in
+    let fits = size.0 in
+    let sum : g ≡ c.in-Some.row.owed + k = (let e = c.saturating_add-owed.ensures in omega arith) in
+    let wide : c.saturating_add.result ≡ c.in-Some.row.window + g = (let e = c.saturating_add.ensures in omega arith) in
+    let many : 131072 ≤ g = c.if-owed-lt-GIVE_BACK_FROM.false in
+    let all : given_of c.in-Some.row.finished (c.in-Some.row.owed + k) ≡ g = all_given c.in-Some.row.finished (c.in-Some.row.owed + k) c.if-row.false (omega arith) ∙ sym sum in
+    as_counted role past fed sent n k _ _ size.1
+    (did role past fed sent (Take n k) _ _ at (a_stream role past (table_of c.self.inside.streams) n c.in-Some.row at.table found, omega arith)
+    (replaced role past (Take n k) n c.in-Some.row (record c.in-Some.row { window = c.saturating_add.result; owed = 0; untaken = c.in-Some.row.untaken - k }) (table_of c.self.inside.streams) (table_of c.replace-2.new.self) at.table found c.replace-2.ensures
+    (taking role past n k g c.in-Some.row (record c.in-Some.row { window = c.saturating_add.result; owed = 0; untaken = c.in-Some.row.untaken - k }) row.1 all (omega arith) fits wide (omega arith) (omega arith) refl refl refl refl)
+    (λ m. refl) (quiet _) refl refl)
+    refl c.if-self.false
+    (appended _ _ _ _ _ c.extend_from_slice.ensures.items (c.is_err.ensures.negation ∙ ap not c.if-is_err.false) (c.frame_bytes-frame.ensures ∙ given_sent role past n k g (giving role past n k g c.in-Some.row row.1 all) many)))

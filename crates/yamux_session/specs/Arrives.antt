@@ -1,0 +1,70 @@
+-- What an arrival leaves: the table of streams, the events, and the output.
+use Rattle.std.specs.Prelude.{◌≡◌, ◌≢◌, ℕ, nat_lt, if◌then◌else◌, List, [], ◌∷◌, ◌++◌, map, Option, Some, None}
+use Rattle.std.specs.List.{AllByRecursion, flat_map}
+use Rattle.yamux_frames.specs.declared.header.Header.{Header}
+use Rattle.yamux_frames.specs.Spelling.{header_bytes, payload_length}
+use Rattle.yamux_frames.specs.Frames.Arrival.{Head, Tail}
+use Rattle.yamux_session.specs.declared.event.Role.{Role}
+use Rattle.yamux_session.specs.declared.event.Event.{Event}
+use Rattle.yamux_session.specs.declared.event.Event.TheVariants as event
+use Rattle.yamux_session.specs.declared.arrivals.TailEffect.{TailEffect}
+use Rattle.yamux_session.specs.declared.arrivals.TailEffect.TheVariants as tail
+use Rattle.yamux_session.specs.declared.heads.HeadRefused.{HeadRefused}
+use Rattle.yamux_session.specs.declared.heads.HeadRefused.TheVariants as refused
+use Rattle.yamux_session.specs.Items.{Item}
+use Rattle.yamux_session.specs.Items.Item.{Came}
+use Rattle.yamux_session.specs.Meaning.{Told, HasNoFault, events, output}
+use Rattle.yamux_session.specs.Meaning.Told.{Opened, Accepted, Data, Ended, WasReset, Credit, Left, Failed}
+use Rattle.yamux_session.specs.Table.{Table}
+use Rattle.yamux_session.specs.Keeps.{Keeps}
+
+-- what an event tells, its data byte by byte
+abbrev pub telling : Event → List Told
+telling (event.Opened n) = Opened n ∷ []
+telling (event.Accepted n) = Accepted n ∷ []
+telling (event.Payload n bytes) = map (Data n) bytes
+telling (event.Ended n) = Ended n ∷ []
+telling (event.Reset n) = WasReset n ∷ []
+telling (event.Credit n) = Credit n ∷ []
+telling (event.GoAway code) = Left code ∷ []
+telling (event.Fault fault) = Failed fault ∷ []
+
+abbrev pub tellings : List Event → List Told
+tellings told = flat_map telling told
+
+-- no event of data is empty
+abbrev pub HasData : Event → Type 0
+HasData (event.Payload n bytes) = bytes ≢ []
+HasData other = Unit {0}
+
+-- events that tell this were added
+pub record Tells (old new : List Event) (told : List Told) : Type 0 where
+  pub more : List Event
+  pub added : new ≡ old ++ more
+  pub telling : tellings more ≡ told
+  pub filled : AllByRecursion HasData more
+
+abbrev pub told_of_tail : TailEffect → List Told
+told_of_tail tail.Nothing = []
+told_of_tail (tail.Ended n) = Ended n ∷ []
+told_of_tail (tail.Reset n) = WasReset n ∷ []
+
+abbrev pub written_header : Option Header → List ℕ
+written_header None = []
+written_header (Some h) = header_bytes h
+
+-- the list with this head, and with its tail where the frame has no payload
+abbrev pub began : Header → List Item → List Item
+began h past = if nat_lt 0 (payload_length h) then Came (Head h) ∷ past else Came Tail ∷ Came (Head h) ∷ past
+
+-- a fact that holds where a head has a fault
+abbrev pub IsFaultOnly : HeadRefused → Type 0 → Type 0
+IsFaultOnly (refused.Fault fault) fact = fact
+IsFaultOnly refused.OutOfMemory fact = Unit {0}
+
+-- from the list past to the list now nothing has a fault; the table is that of now, and events and output have grown by those of the new items
+pub record Arrives (role : Role) (past now : List Item) (new : Table) (old_told new_told : List Event) (old_output new_output : List ℕ) : Type 0 where
+  pub no_fault : HasNoFault role past → HasNoFault role now
+  pub keeps : Keeps role now new
+  pub told : (more : List Told) × Tells old_told new_told more × (events role now ≡ events role past ++ more)
+  pub output : (more : List ℕ) × (new_output ≡ old_output ++ more) × (output role now ≡ output role past ++ more)

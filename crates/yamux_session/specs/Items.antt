@@ -1,0 +1,79 @@
+-- The list of a session: what arrived, and between it what this end did, each where it was done. Lists of items have the newest first.
+use Rattle.std.specs.Prelude.{ℕ, Bool, true, false, ◌==◌, ◌||◌, ◌&&◌, not, List, [], ◌∷◌, bit_and, ◌%◌}
+use Rattle.yamux_frames.specs.declared.header.Header.{Header}
+use Rattle.yamux_frames.specs.declared.header.FrameKind.{FrameKind}
+use Rattle.yamux_frames.specs.declared.header.FrameKind.TheVariants.{Payload, Window, Ping, GoAway}
+use Rattle.yamux_frames.specs.Frames.{Arrival}
+use Rattle.yamux_frames.specs.Frames.Arrival.{Byte}
+use Rattle.yamux_session.specs.declared.event.Role.{Role}
+use Rattle.yamux_session.specs.declared.event.Role.TheVariants.{Client, Server}
+
+-- What this end did; what was refused isn't listed. Start: a stream was opened. Write: these bytes went out, in frames cut so.
+-- Take: so many bytes of what arrived were taken.
+pub data Act : Type 0 where
+  Start : ℕ → Act
+  Write : ℕ → List (List ℕ) → Act
+  Take : ℕ → ℕ → Act
+  Close : ℕ → Act
+  Reset : ℕ → Act
+  Leave : ℕ → Act
+
+pub data Item : Type 0 where
+  Came : Arrival → Item
+  Did : Act → Item
+
+-- what arrived
+abbrev pub arrivals : List Item → List Arrival
+arrivals [] = []
+arrivals (Came x ∷ past) = x ∷ arrivals past
+arrivals (Did act ∷ past) = arrivals past
+
+-- the list with these bytes of a payload, one after another
+abbrev pub came_bytes : List ℕ → List Item → List Item
+came_bytes [] past = past
+came_bytes (b ∷ bytes) past = came_bytes bytes (Came (Byte b) ∷ past)
+
+-- the flags of a header
+abbrev pub has_flag : ℕ → Header → Bool
+has_flag flag h = not (bit_and h.flags flag == 0)
+
+abbrev pub syn : Header → Bool
+syn h = has_flag 1 h
+
+abbrev pub ack : Header → Bool
+ack h = has_flag 2 h
+
+abbrev pub fin : Header → Bool
+fin h = has_flag 4 h
+
+abbrev pub rst : Header → Bool
+rst h = has_flag 8 h
+
+abbrev pub is_data : FrameKind → Bool
+is_data Payload = true
+is_data kind = false
+
+abbrev pub is_update : FrameKind → Bool
+is_update Window = true
+is_update kind = false
+
+abbrev pub is_ping : FrameKind → Bool
+is_ping Ping = true
+is_ping kind = false
+
+abbrev pub is_go_away : FrameKind → Bool
+is_go_away GoAway = true
+is_go_away kind = false
+
+-- Data and WindowUpdate are about a stream
+abbrev pub is_of_stream : Header → Bool
+is_of_stream h = is_data h.kind || is_update h.kind
+
+-- the client's streams are odd, the server's even, and 0 is nobody's
+abbrev pub is_own : Role → ℕ → Bool
+is_own Client n = n % 2 == 1
+is_own Server n = not (n == 0) && n % 2 == 0
+
+abbrev pub is_remote : Role → ℕ → Bool
+is_remote Client n = is_own Server n
+is_remote Server n = is_own Client n

@@ -1,0 +1,16 @@
+pub mod Items
+pub mod Openings
+pub mod Windows
+pub mod Meaning
+pub mod Acts
+pub mod Table
+pub mod Keeps
+pub mod Heads
+pub mod Arrives
+pub mod State
+pub mod Runs
+pub mod Limits
+pub mod Received
+pub use Rattle.yamux_frames.specs.Spelling
+pub use Rattle.yamux_frames.specs.Place
+pub use Rattle.yamux_frames.specs.Frames

@@ -1,0 +1,89 @@
+-- What contracts see of a session, and how it stands to its list.
+use Rattle.std.specs.Prelude.{◌≡◌, ℕ, ◌≤◌, Bool, true, false, List, [], ◌∷◌, ◌++◌, map, length, take, Some}
+use Rattle.std.specs.List.{concat}
+use Rattle.yamux_frames.specs.Frames.{Arrival, spelled, AreFrames, StandsAt, Reads}
+use Rattle.yamux_frames.specs.Place.{Place}
+use Rattle.yamux_session.specs.declared.event.Role.{Role}
+use Rattle.yamux_session.specs.declared.event.Fault.{Fault}
+use Rattle.yamux_session.specs.declared.event.Event.{Event}
+use Rattle.yamux_session.specs.Items.{Item, Act, arrivals}
+use Rattle.yamux_session.specs.Items.Item.{Came, Did}
+use Rattle.yamux_session.specs.Items.Act.{Write}
+use Rattle.yamux_session.specs.Meaning.{Told, HasNoFault, events, output, fault_at}
+use Rattle.yamux_session.specs.Arrives.{Tells, tellings}
+use Rattle.yamux_session.specs.Table.{Table}
+use Rattle.yamux_session.specs.Acts.{AreAnswered}
+use Rattle.yamux_session.specs.Keeps.{Keeps}
+
+-- pending: the output that wasn't taken yet
+pub record State : Type 0 where
+  pub table : Table
+  pub place : Place
+  pub pending : List ℕ
+  pub failed : Bool
+
+-- the session is where this list leaves it, after these bytes were fed and these taken out
+pub record Stands (role : Role) (past : List Item) (fed sent : List ℕ) (s : State) : Type 0 where
+  pub going : s.failed ≡ false
+  pub no_fault : HasNoFault role past
+  pub answered : AreAnswered role past
+  pub frames : StandsAt fed (arrivals past) s.place
+  pub table : Keeps role past s.table
+  pub output : sent ++ s.pending ≡ output role past
+
+-- a fact of every history at which the session stands
+abbrev pub Whenever : State → (Role → List Item → Type 0) → Type 0
+Whenever s fact = (role : Role) (past : List Item) (fed sent : List ℕ) → Stands role past fed sent s → fact role past
+
+-- the act is added to every history at which the session stands
+abbrev pub Adds : State → State → (Role → List Item → Act) → Type 0
+Adds old new act = (role : Role) (past : List Item) (fed sent : List ℕ) → Stands role past fed sent old → Stands role (Did (act role past) ∷ past) fed sent new
+
+-- the same with a Write of these bytes, in some pieces
+abbrev pub AddsWrite : State → State → ℕ → List ℕ → Type 0
+AddsWrite old new n bytes =
+    (role : Role) (past : List Item) (fed sent : List ℕ) → Stands role past fed sent old
+    → (pieces : List (List ℕ)) × (concat pieces ≡ bytes) × Stands role (Did (Write n pieces) ∷ past) fed sent new
+
+-- the newest item has the first fault
+abbrev pub FirstFaults : Role → List Item → Type 0
+FirstFaults role [] = ⊥
+FirstFaults role (x ∷ past) = ((fault : Fault) × (fault_at role past x ≡ Some fault)) × HasNoFault role past
+
+-- the bytes are these arrivals, the last of them perhaps the head that ended it
+pub record EndsWith (bytes : List ℕ) (frames : List Arrival) : Type 0 where
+  pub whole : bytes ≡ spelled frames
+  pub frames_are : AreFrames frames
+
+-- These bytes led from the list past to the list now: its events were told, its output waits, and the session goes on behind all the bytes,
+-- or has failed at the first fault
+pub record Led (role : Role) (past now : List Item) (fed bytes sent : List ℕ) (told : List Told) (s : State) : Type 0 where
+  pub came : (more : List Arrival) × (now ≡ map Came more ++ past)
+  pub told_is : events role now ≡ events role past ++ told
+  pub goes_on : s.failed ≡ false → Stands role now (fed ++ bytes) sent s
+  pub fails : s.failed ≡ true → FirstFaults role now × (sent ++ s.pending ≡ output role now)
+      × ((used : ℕ) × (used ≤ length bytes) × EndsWith (fed ++ take used bytes) (arrivals now))
+
+-- what one answer of the cutter does
+abbrev pub Steps : Role → List Item → List ℕ → List ℕ → List ℕ → List Event → List Event → State → Type 0
+Steps role past fed bytes sent before after new =
+    (now : List Item) × (told : List Told) × Tells before after told × Led role past now fed bytes sent told new
+
+-- what a call of feed does
+abbrev pub Feeds : State → List ℕ → List Event → State → Type 0
+Feeds old bytes told new =
+    (role : Role) (past : List Item) (fed sent : List ℕ) → Stands role past fed sent old
+    → (now : List Item) × Led role past now fed bytes sent (tellings told) new
+
+-- a list that the bytes led to, and the output that it makes
+pub record HasCome (role : Role) (past : List Item) (fed bytes sent : List ℕ) (now : List Item) (pending : List ℕ) : Type 0 where
+  pub came : (more : List Arrival) × (now ≡ map Came more ++ past)
+  pub no_fault : HasNoFault role now
+  pub read : (rest : List ℕ) × Reads (fed ++ bytes) (arrivals now) rest
+  pub output : sent ++ pending ≡ output role now
+
+-- what a call of feed does that runs out of memory: the output is that of the frames of a front of the bytes
+abbrev pub RunsOut : State → List ℕ → State → Type 0
+RunsOut old bytes new =
+    (role : Role) (past : List Item) (fed sent : List ℕ) → Stands role past fed sent old
+    → (used : ℕ) × (used ≤ length bytes) × (now : List Item) × HasCome role past fed (take used bytes) sent now new.pending

@@ -1,0 +1,424 @@
+//! One end of a connection.
+
+ghost use Rattle.std.specs.Prelude.{◌≡◌, ℕ, ◌++◌, ◌∷◌, [], List, Some, None, Err, IfOk, IfErr, OnErr, OnOk, true, false, length, take, ◌<◌, ◌≤◌, ◌-◌, ◌↔◌, drop, min, IsTrue};
+ghost use Rattle.std.specs.List.{AllByRecursion, concat, flat_map};
+ghost use Rattle.yamux_session.specs.Items.{Item, Act};
+ghost use Rattle.yamux_session.specs.Items.Item.{Came, Did};
+ghost use Rattle.yamux_session.specs.Items.Act.{Start, Write, Take, Close, Reset, Leave};
+ghost use Rattle.yamux_session.specs.Acts.{open_credit, start_refusal, stream_refusal, direction_refusal, IsRefusedFor, IsPiece};
+ghost use Rattle.yamux_session.specs.Windows.{credit, untaken};
+ghost use Rattle.yamux_session.specs.Meaning.{data_frame, frame};
+ghost use Rattle.yamux_frames.specs.Frames.{EndsWithin};
+ghost use Rattle.yamux_session.specs.Arrives.{Tells, HasData};
+ghost use Rattle.yamux_session.specs.Meaning.Told.{Failed};
+ghost use Rattle.yamux_session.specs.State.{Stands, Whenever, Adds, AddsWrite, Steps, Feeds, RunsOut};
+
+use crate::arrivals::{append_header, take_frame, take_payload, take_tail};
+use crate::event::{ActRefused, Event, Fault, Role};
+use crate::heads::HeadRefused;
+use crate::streams::{Stream, Streams};
+use bytes::Bytes;
+use std::alloc::{AllocError, Global};
+use std::collections::BTreeMap;
+use std::marker::Model;
+use yamux_frames::{Cut, Cutter, FrameKind, Header};
+
+/// How many bytes of data one frame carries at most.
+const LONGEST_PIECE: usize = 16384;
+
+/// From so much on what was taken is given back.
+const GIVE_BACK_FROM: u32 = 131072;
+
+/// The code of GoAway for a protocol error.
+const PROTOCOL_ERROR: u32 = 1;
+
+/// A session of one end: the streams that are live with their windows, the output that waits, and where in a frame the input
+/// ends. Contracts see these three, and whether it has failed; `Stands` relates them to the history.
+#[derive(Debug, Drop)]
+pub struct Session {
+    streams: Streams,
+    cutter: Cutter,
+    output: Vec<u8>,
+    alloc: Global,
+    failed: bool,
+}
+
+impl Model for Session {
+    ghost use Rattle.yamux_session.specs.State.{State};
+    ghost use Rattle.yamux_session.specs.Table.{table_of};
+
+    ghost Value = { State };
+
+    ghost view = { λ s. record { table = table_of s.streams; place = s.cutter; pending = s.output.items; failed = s.failed } };
+}
+
+/// The bytes of a frame without payload.
+fn frame_bytes(kind: FrameKind, flags: u16, stream: u32, length: u32) -> [u8; 12]
+    ensures { result ≡ frame kind flags stream length }
+{
+    let header = Header {
+        kind,
+        flags,
+        stream,
+        length,
+    };
+    header.write()
+}
+
+/// The frames that carry these bytes.
+fn data_frames(alloc: Global, stream: u32, bytes: &[u8]) -> Result<Vec<u8>, AllocError>
+    ensures { IfOk result (λ frames. (pieces : List (List ℕ)) × AllByRecursion IsPiece pieces × (concat pieces ≡ bytes.now) × (frames.items ≡ flat_map (data_frame stream) pieces)) }
+{
+    let mut frames = Vec::new(alloc);
+    let mut at = 0;
+    while at < bytes.len() {
+        let left = bytes.len() - at;
+        let count = left.min(LONGEST_PIECE);
+        frames.extend_from_slice(&frame_bytes(FrameKind::Payload, 0, stream, count as u32))?;
+        frames.extend_from_slice(&bytes[at..at + count])?;
+        at += count;
+    }
+    Ok(frames)
+}
+
+impl Session {
+    /// A session at the empty history: no stream is open and nothing waits to be sent. It takes no memory.
+    pub fn new(alloc: Global, role: Role) -> Session
+        ensures stands { Stands role [] [] [] result }
+    {
+        Session {
+            streams: Streams {
+                role,
+                rows: BTreeMap::new(alloc),
+                own: 0,
+                remote: 0,
+                next: if role == Role::Client { 1 } else { 2 },
+                reading: None,
+                left: false,
+                gone: false,
+            },
+            cutter: Cutter::new(),
+            output: Vec::new(alloc),
+            alloc,
+            failed: false,
+        }
+    }
+
+    /// How many bytes may be written on a stream, or `None` where it isn't live, this end has closed it, or the session has
+    /// failed.
+    pub fn credit(&self, stream: u32) -> Option<u32>
+        ensures live { Whenever self.now (λ role past. result ≡ open_credit role past stream) }
+        ensures failed { self.now.failed ≡ true → result ≡ None }
+    {
+        if self.failed {
+            return None;
+        }
+        self.streams.credit(stream)
+    }
+
+    /// Whether the bytes that came end within a frame: after a part of a header, or with an unfinished payload. Once the session has failed
+    /// they don't.
+    pub fn mid_frame(&self) -> bool
+        ensures live { (role : Role) (past : List Item) (fed sent : List ℕ) → Stands role past fed sent self.now → IsTrue result ↔ EndsWithin fed }
+        ensures failed { self.now.failed ≡ true → result ≡ false }
+    {
+        if self.failed {
+            return false;
+        }
+        self.cutter.is_mid_frame()
+    }
+
+    /// The bytes to send that were not taken yet; afterwards none wait. It takes no memory.
+    pub fn take_output(&mut self) -> Vec<u8>
+        ensures output { result.items ≡ self.old.pending }
+        ensures rest { self.new ≡ record self.old { pending = [] } }
+        ensures stands { (role : Role) (past : List Item) (fed sent : List ℕ) → Stands role past fed sent self.old → Stands role past fed (sent ++ result.items) self.new }
+    {
+        std::mem::replace(&mut self.output, Vec::new(self.alloc))
+    }
+
+    /// Opens a stream of this end with the next number of its parity, and tells the number. What is sent is an empty WindowUpdate
+    /// with SYN.
+    pub fn open_stream(&mut self) -> Result<u32, ActRefused>
+        ensures ok { IfOk result (λ number. Adds self.old self.new (λ role past. Start number)) }
+        ensures refused { IfErr result (λ refused. Whenever self.old (λ role past. IsRefusedFor (start_refusal role past) refused)) }
+        ensures err { OnErr result (self.new ≡ self.old) }
+        ensures failed { self.old.failed ≡ true → (result ≡ Err ActRefused.Failed) × (self.new ≡ self.old) }
+    {
+        if self.failed {
+            return Err(ActRefused::Failed);
+        }
+        if let Some(refused) = self.streams.start_refused() {
+            return Err(refused);
+        }
+        if self.output.reserve(12).is_err() {
+            return Err(ActRefused::OutOfMemory);
+        }
+        let number = match self.streams.start() {
+            Ok(number) => number,
+            Err(_) => return Err(ActRefused::OutOfMemory),
+        };
+        let frame = frame_bytes(FrameKind::Window, Header::SYN, number, 0);
+        match self.output.extend_from_slice(&frame) {
+            Ok(()) => Ok(number),
+            Err(_) => unreachable!(),
+        }
+    }
+
+    /// Writes on a stream, and tells how many of the bytes the window let through.
+    pub fn write(&mut self, stream: u32, bytes: &[u8]) -> Result<usize, ActRefused>
+        ensures ok { IfOk result (λ count. AddsWrite self.old self.new stream (take count bytes.now)) }
+        ensures count { IfOk result (λ count. Whenever self.old (λ role past. count ≡ min (length bytes.now) (credit role past stream))) }
+        ensures refused { IfErr result (λ refused. Whenever self.old (λ role past. IsRefusedFor (direction_refusal role past stream) refused)) }
+        ensures err { OnErr result (self.new ≡ self.old) }
+        ensures failed { self.old.failed ≡ true → (result ≡ Err ActRefused.Failed) × (self.new ≡ self.old) }
+    {
+        if self.failed {
+            return Err(ActRefused::Failed);
+        }
+        let Some(row) = self.streams.row(stream) else {
+            return Err(ActRefused::NoStream);
+        };
+        if row.closed {
+            return Err(ActRefused::Ended);
+        }
+        let credit = row.credit as usize;
+        let count = if bytes.len() < credit {
+            bytes.len()
+        } else {
+            credit
+        };
+        let frames = match data_frames(self.alloc, stream, &bytes[..count]) {
+            Ok(frames) => frames,
+            Err(_) => return Err(ActRefused::OutOfMemory),
+        };
+        if self.output.extend_from_slice(&frames).is_err() {
+            return Err(ActRefused::OutOfMemory);
+        }
+        let row = Stream {
+            credit: row.credit - count as u32,
+            ..row
+        };
+        self.streams.replace(stream, row);
+        Ok(count)
+    }
+
+    /// Bytes of a stream were taken: at most those that arrived and weren't taken yet.
+    pub fn taken(&mut self, stream: u32, count: usize) -> Result<(), ActRefused>
+        ensures ok { OnOk result (Adds self.old self.new (λ role past. Take stream (min count (untaken role past stream)))) }
+        ensures refused { IfErr result (λ refused. Whenever self.old (λ role past. IsRefusedFor (stream_refusal role past stream) refused)) }
+        ensures err { OnErr result (self.new ≡ self.old) }
+        ensures failed { self.old.failed ≡ true → (result ≡ Err ActRefused.Failed) × (self.new ≡ self.old) }
+    {
+        if self.failed {
+            return Err(ActRefused::Failed);
+        }
+        let Some(row) = self.streams.row(stream) else {
+            return Err(ActRefused::NoStream);
+        };
+        let count = if count < row.untaken as usize {
+            count as u32
+        } else {
+            row.untaken
+        };
+        let owed = row.owed.saturating_add(count);
+        let untaken = row.untaken - count;
+        if row.finished || owed < GIVE_BACK_FROM {
+            let row = Stream {
+                owed,
+                untaken,
+                ..row
+            };
+            self.streams.replace(stream, row);
+            return Ok(());
+        }
+        let frame = frame_bytes(FrameKind::Window, 0, stream, owed);
+        if self.output.extend_from_slice(&frame).is_err() {
+            return Err(ActRefused::OutOfMemory);
+        }
+        let row = Stream {
+            window: row.window.saturating_add(owed),
+            owed: 0,
+            untaken,
+            ..row
+        };
+        self.streams.replace(stream, row);
+        Ok(())
+    }
+
+    /// Closes this end's direction of a stream.
+    pub fn close(&mut self, stream: u32) -> Result<(), ActRefused>
+        ensures ok { OnOk result (Adds self.old self.new (λ role past. Close stream)) }
+        ensures refused { IfErr result (λ refused. Whenever self.old (λ role past. IsRefusedFor (direction_refusal role past stream) refused)) }
+        ensures err { OnErr result (self.new ≡ self.old) }
+        ensures failed { self.old.failed ≡ true → (result ≡ Err ActRefused.Failed) × (self.new ≡ self.old) }
+    {
+        if self.failed {
+            return Err(ActRefused::Failed);
+        }
+        let Some(row) = self.streams.row(stream) else {
+            return Err(ActRefused::NoStream);
+        };
+        if row.closed {
+            return Err(ActRefused::Ended);
+        }
+        let frame = frame_bytes(FrameKind::Window, Header::FIN, stream, 0);
+        if self.output.extend_from_slice(&frame).is_err() {
+            return Err(ActRefused::OutOfMemory);
+        }
+        if row.finished {
+            self.streams.forget(stream);
+        } else {
+            let row = Stream {
+                closed: true,
+                ..row
+            };
+            self.streams.replace(stream, row);
+        }
+        Ok(())
+    }
+
+    /// Ends both directions of a stream.
+    pub fn reset(&mut self, stream: u32) -> Result<(), ActRefused>
+        ensures ok { OnOk result (Adds self.old self.new (λ role past. Reset stream)) }
+        ensures refused { IfErr result (λ refused. Whenever self.old (λ role past. IsRefusedFor (stream_refusal role past stream) refused)) }
+        ensures err { OnErr result (self.new ≡ self.old) }
+        ensures failed { self.old.failed ≡ true → (result ≡ Err ActRefused.Failed) × (self.new ≡ self.old) }
+    {
+        if self.failed {
+            return Err(ActRefused::Failed);
+        }
+        if self.streams.row(stream).is_none() {
+            return Err(ActRefused::NoStream);
+        }
+        let frame = frame_bytes(FrameKind::Window, Header::RST, stream, 0);
+        if self.output.extend_from_slice(&frame).is_err() {
+            return Err(ActRefused::OutOfMemory);
+        }
+        self.streams.forget(stream);
+        Ok(())
+    }
+
+    /// Says that this end goes away: it opens no stream of the other end any more.
+    pub fn go_away(&mut self, code: u32) -> Result<(), ActRefused>
+        ensures ok { OnOk result (Adds self.old self.new (λ role past. Leave code)) }
+        ensures refused { IfErr result (λ refused. self.old.failed ≡ false → refused ≡ ActRefused.OutOfMemory) }
+        ensures err { OnErr result (self.new ≡ self.old) }
+        ensures failed { self.old.failed ≡ true → (result ≡ Err ActRefused.Failed) × (self.new ≡ self.old) }
+    {
+        if self.failed {
+            return Err(ActRefused::Failed);
+        }
+        let frame = frame_bytes(FrameKind::GoAway, 0, 0, code);
+        if self.output.extend_from_slice(&frame).is_err() {
+            return Err(ActRefused::OutOfMemory);
+        }
+        self.streams.left = true;
+        Ok(())
+    }
+
+    /// Takes the bytes that came, and tells what the other end did. The bytes are copied once.
+    ///
+    /// A fault is the last event, and behind the output stands a GoAway with code 1. Where memory was refused, the events are lost, and
+    /// the output is that of the frames of a first part of the bytes. After either every call answers [`ActRefused::Failed`].
+    pub fn feed(&mut self, bytes: &[u8]) -> Result<Vec<Event>, ActRefused>
+        ensures fed { IfOk result (λ told. Feeds self.old bytes.now told.items self.new) }
+        ensures filled { IfOk result (λ told. Whenever self.old (λ role past. AllByRecursion HasData told.items)) }
+        ensures refused { IfErr result (λ refused. self.old.failed ≡ false → (refused ≡ ActRefused.OutOfMemory) × (self.new.failed ≡ true) × RunsOut self.old bytes.now self.new) }
+        ensures failed { self.old.failed ≡ true → (result ≡ Err ActRefused.Failed) × (self.new ≡ self.old) }
+    {
+        if self.failed {
+            return Err(ActRefused::Failed);
+        }
+        match Bytes::copy_from_slice(self.alloc, bytes) {
+            Ok(piece) => self.feed_shared(piece),
+            Err(_) => {
+                self.failed = true;
+                Err(ActRefused::OutOfMemory)
+            }
+        }
+    }
+
+    /// Takes the bytes that came, as `feed` does, and copies none of them: each Payload event holds a slice of the piece.
+    pub fn feed_shared(&mut self, piece: Bytes) -> Result<Vec<Event>, ActRefused>
+        ensures fed { IfOk result (λ told. Feeds self.old piece told.items self.new) }
+        ensures filled { IfOk result (λ told. Whenever self.old (λ role past. AllByRecursion HasData told.items)) }
+        ensures refused { IfErr result (λ refused. self.old.failed ≡ false → (refused ≡ ActRefused.OutOfMemory) × (self.new.failed ≡ true) × RunsOut self.old piece self.new) }
+        ensures failed { self.old.failed ≡ true → (result ≡ Err ActRefused.Failed) × (self.new ≡ self.old) }
+    {
+        self.feed_piece(&piece)
+    }
+
+    fn feed_piece(&mut self, piece: &Bytes) -> Result<Vec<Event>, ActRefused>
+        ensures fed { IfOk result (λ told. Feeds self.old piece.now told.items self.new) }
+        ensures filled { IfOk result (λ told. Whenever self.old (λ role past. AllByRecursion HasData told.items)) }
+        ensures refused { IfErr result (λ refused. self.old.failed ≡ false → (refused ≡ ActRefused.OutOfMemory) × (self.new.failed ≡ true) × RunsOut self.old piece.now self.new) }
+        ensures failed { self.old.failed ≡ true → (result ≡ Err ActRefused.Failed) × (self.new ≡ self.old) }
+    {
+        if self.failed {
+            return Err(ActRefused::Failed);
+        }
+        let mut told = Vec::new(self.alloc);
+        let mut at = 0;
+        while at < piece.len() && !self.failed {
+            match self.step(piece, at, &mut told) {
+                Ok(used) => at += used,
+                Err(_) => {
+                    self.failed = true;
+                    return Err(ActRefused::OutOfMemory);
+                }
+            }
+        }
+        Ok(told)
+    }
+
+    /// Takes one answer of the cutter to the rest of the piece, and tells how many bytes it used.
+    fn step(&mut self, piece: &Bytes, at: usize, told: &mut Vec<Event>) -> Result<usize, AllocError>
+        requires going { self.old.failed ≡ false }
+        requires some { at < length piece.now }
+        ensures used { IfOk result (λ used. (0 < used) × (used ≤ length piece.now - at)) }
+        ensures led { IfOk result (λ used. (role : Role) (past : List Item) (fed sent : List ℕ) → Stands role past fed sent self.old
+            → Steps role past fed (take used (drop at piece.now)) sent told.old.items told.new.items self.new) }
+        ensures kept { OnErr result (self.new.pending ≡ self.old.pending) }
+    {
+        match self.cutter.feed(&piece[at..]) {
+            Ok((used, Cut::More)) => Ok(used),
+            Ok((used, Cut::Head(header))) => {
+                let answer = match take_frame(&mut self.streams, told, header) {
+                    Ok(answer) => answer,
+                    Err(HeadRefused::Fault(fault)) => {
+                        self.fail(fault, told)?;
+                        return Ok(used);
+                    }
+                    Err(HeadRefused::OutOfMemory) => return Err(AllocError),
+                };
+                append_header(&mut self.output, answer)?;
+                Ok(used)
+            }
+            Ok((used, Cut::Part { last, .. })) => {
+                take_payload(&mut self.streams, told, piece, at, at + used)?;
+                if last {
+                    take_tail(&mut self.streams, told)?;
+                }
+                Ok(used)
+            }
+            Err(_) => {
+                self.fail(Fault::BadFrame, told)?;
+                Ok(piece.len() - at)
+            }
+        }
+    }
+
+    /// Ends the session with a fault.
+    fn fail(&mut self, fault: Fault, told: &mut Vec<Event>) -> Result<(), AllocError>
+        ensures failed { OnOk result (self.new ≡ record self.old { pending = self.old.pending ++ frame FrameKind.GoAway 0 0 1; failed = true }) }
+        ensures told { OnOk result (Tells told.old.items told.new.items (Failed fault ∷ [])) }
+        ensures kept { OnErr result (self.new ≡ self.old) }
+    {
+        told.push(Event::Fault(fault))?;
+        self.output
+            .extend_from_slice(&frame_bytes(FrameKind::GoAway, 0, 0, PROTOCOL_ERROR))?;
+        self.failed = true;
+        Ok(())
+    }
+}
