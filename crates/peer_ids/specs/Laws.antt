@@ -5,7 +5,7 @@ use Rattle.peer_ids.specs.declared.fault.KeyFault.TheVariants.{OutOfMemory}
 use Rattle.peer_ids.specs.Key.{Key, IsAllowed}
 use Rattle.peer_ids.specs.ReadsKey.{SpellsKey, RefusesKey}
 use Rattle.peer_ids.specs.PeerId.{canonical_of, id_of, IsMultihash}
-use Rattle.peer_ids.specs.Base32.{IsIdText}
+use Rattle.peer_ids.specs.Base32.{IsIdText, id_text}
 
 -- Bytes spell at most one key, have at most one fault, and not both; want of memory is no fault of theirs.
 pub record OneKey : Type 0 where
@@ -25,7 +25,8 @@ CanonicalIsRead = (key : Key) → IsAllowed key.kind (length key.body) → Spell
 abbrev pub IdsAreMultihashes : Type 0
 IdsAreMultihashes = (key : Key) → IsMultihash (id_of key)
 
--- An id has one text, and a text is that of one id.
+-- An id has one text, which is that of the function, and a text is that of one id.
 pub record OneText : Type 0 where
   pub text : (id text other : List ℕ) → IsIdText text id → IsIdText other id → text ≡ other
   pub id : (text id other : List ℕ) → IsIdText text id → IsIdText text other → id ≡ other
+  pub function : (id text : List ℕ) → IsIdText text id → text ≡ id_text id

@@ -1,7 +1,7 @@
 //! Peer ids.
 
 ghost use Rattle.std.specs.Prelude.{◌≡◌, ◌≤◌, ◌++◌, ◌↔◌, length, IsOk, IfOk, IfErr, string_bytes};
-ghost use Rattle.peer_ids.specs.Base32.{IsIdText};
+ghost use Rattle.peer_ids.specs.Base32.{IsIdText, id_text};
 ghost use Rattle.peer_ids.specs.PeerId.{id_of, canonical_of, multihash_of, IsMultihash};
 
 use crate::base32::{are_letters, decode, encode};
@@ -172,7 +172,8 @@ impl PeerId {
 
     /// The text of the id: `b`, and the base32 of `01 72` and the multihash. It takes no memory.
     fn text(&self) -> ArrayString<75>
-        ensures { IsIdText result.bytes self.now }
+        ensures spelt { IsIdText result.bytes self.now }
+        ensures is { result.bytes ≡ id_text self.now }
     {
         let mut bytes: ArrayVec<u8, 46> = ArrayVec::new();
         bytes.push(0x01);
@@ -255,6 +256,11 @@ impl PartialOrd for PeerId {
 
 /// Prints the text of the id.
 impl fmt::Display for PeerId {
+    ghost use Rattle.std.specs.Prelude.{Some};
+    ghost use Rattle.peer_ids.specs.Base32.{id_text};
+
+    ghost output = { λ id. Some (id_text id) };
+
     fn fmt<W: fmt::Write>(&self, f: &mut fmt::Formatter<W>) -> fmt::Result {
         f.pad(self.text().as_str())
     }
