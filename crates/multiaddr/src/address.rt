@@ -1,11 +1,11 @@
 //! Addresses.
 
-ghost use Rattle.std.specs.Prelude.{◌≡◌, ◌⊎◌, ℕ, List, [], string_bytes, IfOk, IfErr, OnOk};
+ghost use Rattle.std.specs.Prelude.{◌≡◌, ◌⊎◌, ℕ, List, [], string_bytes, IfOk, IfErr, OnOk, Err};
 ghost use Rattle.std.specs.List.{flat_map};
-ghost use Rattle.multiaddr.specs.Part.{Part, Address, IsOpaque, spelling, SpellsAddress, AddressFault, RefusesAddress};
+ghost use Rattle.multiaddr.specs.Part.{Part, Address, IsOpaque, spelling, SpellsAddress, AddressFault, RefusesAddress, HasPart};
 ghost use Rattle.multiaddr.specs.declared.fault.AddrFault.{AddrFault};
 ghost use Rattle.multiaddr.specs.Given.{GivesSocket, GivesPeer};
-ghost use Rattle.multiaddr.specs.Text.{ReadsParts, TextFault, PrintsParts};
+ghost use Rattle.multiaddr.specs.Text.{ReadsParts, TextFault, AsksMemory, PrintsParts};
 
 use crate::fault::AddrFault;
 use crate::print::print;
@@ -48,6 +48,7 @@ fn address_in(alloc: Global, bytes: &[u8]) -> Result<Multiaddr, AddrFault>
 fn address_of(alloc: Global, text: &str) -> Result<Multiaddr, AddrFault>
     ensures found { IfOk result (λ a. (parts : List Part) × ReadsParts text.now parts × (a ≡ flat_map spelling parts)) }
     ensures fault { IfErr result (λ fault. (fault ≡ AddrFault.OutOfMemory) ⊎ TextFault text.now fault) }
+    ensures memory { result ≡ Err AddrFault.OutOfMemory → AsksMemory text.now }
 {
     let bytes = parse(alloc, text)?;
     Ok(Multiaddr { bytes })
@@ -72,7 +73,8 @@ impl Multiaddr {
         ensures found { IfOk result (λ a. (parts : List Part) × ReadsParts text.now parts × (a ≡ flat_map spelling parts)) }
         ensures fault { IfErr result (λ fault. (fault ≡ AddrFault.OutOfMemory) ⊎ TextFault text.now fault) }
 
-        // An address is read, and each fault is answered, unless memory runs out.
+        // An address is read, and each fault is answered, unless memory runs out, which is asked for only behind a part.
+        ensures memory { result ≡ Err AddrFault.OutOfMemory → AsksMemory text.now }
         ensures only_address { (parts : List Part) → ReadsParts text.now parts → (result ≡ Ok (flat_map spelling parts)) ⊎ (result ≡ Err AddrFault.OutOfMemory) }
         ensures only_fault { (fault : AddrFault) → TextFault text.now fault → (result ≡ Err fault) ⊎ (result ≡ Err AddrFault.OutOfMemory) }
     {
@@ -101,10 +103,11 @@ impl Multiaddr {
         peer_of(&self.bytes)
     }
 
-    /// The text. An address with an opaque part has none.
+    /// The text. An address with an opaque part has none. Memory is asked for only where a part stands before that.
     pub fn print(&self, alloc: Global) -> Result<String, AddrFault>
         ensures found { IfOk result (λ text. (a : Address) × SpellsAddress self.now a × (a.opaque ≡ []) × PrintsParts (string_bytes text) a.parts) }
         ensures fault { IfErr result (λ fault. (fault ≡ AddrFault.OutOfMemory) ⊎ ((fault ≡ AddrFault.UnknownProtocol) × (a : Address) × SpellsAddress self.now a × IsOpaque a.opaque)) }
+        ensures memory { result ≡ Err AddrFault.OutOfMemory → HasPart self.now }
     {
         print(alloc, &self.bytes)
     }

@@ -1,5 +1,5 @@
 -- The exchange of plaintext: each end sends one message with its peer id and its key.
-use Rattle.std.specs.Prelude.{◌≡◌, ◌≢◌, ◌⊎◌, ℕ, ◌+◌, ◌<◌, ◌≤◌, List, ◌++◌, length, Option, Some, None, Result, Ok, Err, IsSome, Bool, true, false}
+use Rattle.std.specs.Prelude.{◌≡◌, ◌≢◌, ◌⊎◌, ℕ, ◌+◌, ◌<◌, ◌≤◌, List, [], ◌++◌, length, Option, Some, None, Result, Ok, Err, IsSome, Bool, true, false}
 use Rattle.std.specs.List.{flat_map}
 use Rattle.varint_proto.specs.declared.fault.WireFault.{WireFault}
 use Rattle.varint_proto.specs.Varint.{ReadsShortest, BeginsShortest, shortest}
@@ -96,10 +96,10 @@ Exchanges input (Ok None) used = IsUnfinished input × (used ≡ length input)
 Exchanges input (Ok (Some key)) used = (body : List ℕ) × (rest : List ℕ) × Frames input body rest × SpellsExchange body key × (used + length rest ≡ length input)
 Exchanges input (Err fault) used = HasFault input fault × (used ≡ length input)
 
--- Memory is asked for only where the input so far has no fault but perhaps one of its key: for a message that isn't whole, and for
--- reading the key of one that is.
+-- Memory is asked for twice: once the length is whole, for the message, where that isn't empty; and once the message is whole and has both
+-- fields, for reading its key.
 abbrev pub AsksMemory : List ℕ → Type 0
-AsksMemory input = IsUnfinished input ⊎ HasFault input OutOfMemory
+AsksMemory input = ((len : ℕ) × (0 < len) × Announces input len []) ⊎ HasFault input OutOfMemory
 
 -- ---- what an exchange is to its callers
 

@@ -2,7 +2,7 @@
 
 ghost use Rattle.std.specs.Prelude.{◌≡◌, ◌≢◌, ◌≤◌, ◌<◌, ℕ, List, [], ◌∷◌, ◌++◌, length, true, false, Some, None, Ok, Err, IfOk, IfErr, IfSome, IfNone};
 ghost use Rattle.varint_proto.specs.Varint.{ReadsShortest};
-ghost use Rattle.plaintext_x.specs.Exchange.{IsHeld, Frames, IsUnfinished, HasFault};
+ghost use Rattle.plaintext_x.specs.Exchange.{IsHeld, Announces, Frames, HasFault};
 ghost use Rattle.plaintext_x.specs.Incoming.{IsPartial};
 
 use crate::fault::ExchangeFault;
@@ -76,7 +76,7 @@ impl Incoming {
         ensures more { (input : List ℕ) → IsHeld self.old.expected self.old.bytes input → result ≡ Ok false → IsHeld self.new.expected self.new.bytes (input ++ byte ∷ []) }
         ensures whole { (input : List ℕ) → IsHeld self.old.expected self.old.bytes input → result ≡ Ok true → Frames (input ++ byte ∷ []) self.new.bytes [] }
         ensures fault { (input : List ℕ) → IsHeld self.old.expected self.old.bytes input → IfErr result (λ fault. fault ≢ ExchangeFault.OutOfMemory → HasFault (input ++ byte ∷ []) fault) }
-        ensures memory { (input : List ℕ) → IsHeld self.old.expected self.old.bytes input → result ≡ Err ExchangeFault.OutOfMemory → IsUnfinished (input ++ byte ∷ []) }
+        ensures memory { (input : List ℕ) → IsHeld self.old.expected self.old.bytes input → result ≡ Err ExchangeFault.OutOfMemory → (len : ℕ) × (0 < len) × Announces (input ++ byte ∷ []) len [] }
     {
         self.bytes.push_reserved(byte);
         if let Some(len) = self.expected {

@@ -1,5 +1,8 @@
 //! The calls of a pool, and what they are answered.
 
+ghost use Rattle.std.specs.Prelude.{◌≡◌};
+ghost use Rattle.pool_state.specs.Table.{number_of};
+
 use crate::row::Agent;
 use peer_ids::PeerId;
 
@@ -46,8 +49,8 @@ pub enum Reply {
     Refused(Refusal),
 }
 
-/// Why a call is refused. Where several refusals hold, the one with the lowest number is given, which is
-/// `refusal as u8`. The list and its order are this project's profile.
+/// Why a call is refused. Where several refusals hold, the one with the lowest number is given. The list and its order
+/// are this project's profile.
 #[derive(Clone, Copy, Debug, PartialEq, Eq)]
 pub enum Refusal {
     /// The front has reached `u64::MAX`: no further call enters the history.
@@ -88,4 +91,13 @@ pub enum Refusal {
     NotAllowed = 18,
     /// An Allow of a further peer where as many are allowed as the limits allow.
     AllowFull = 19,
+}
+
+impl Refusal {
+    /// The number of this refusal, from 1 to 19.
+    pub fn number(self) -> u8
+        ensures { result ≡ number_of self }
+    {
+        self as u8
+    }
 }

@@ -272,9 +272,51 @@ fn a_copy_follows_the_pool(rt: HostRuntime) -> Result<(), Fail> {
 }
 
 #[test]
+fn no_call_leads_to_this_node_itself(rt: HostRuntime) -> Result<(), Fail> {
+    let mut pool = Pool::new(config()?);
+    let own = peer(0)?;
+    let script = [
+        (Call::Accept, Reply::Conn(1)),
+        (Call::Dial(Some(own)), refused(Refusal::SelfPeer)),
+        (Call::Settle(1, own), refused(Refusal::SelfPeer)),
+        (Call::HangUp(own), refused(Refusal::SelfPeer)),
+        (Call::Block(own), refused(Refusal::SelfPeer)),
+        (Call::Unblock(own), refused(Refusal::SelfPeer)),
+        (Call::Allow(own), refused(Refusal::SelfPeer)),
+        (Call::Disallow(own), refused(Refusal::SelfPeer)),
+    ];
+    run(&rt, &mut pool, &script);
+    let listing = pool.listing();
+    assert_eq!(rt; listing.front, 8);
+    let rows = [row(1, ConnSide::Listener, Phase::Pending, None)];
+    assert_eq!(rt; listing.conns.as_slice(), rows.as_slice());
+    Ok(())
+}
+
+#[test]
 fn refusals_have_numbers(rt: HostRuntime) {
-    assert_eq!(rt; Refusal::Spent as u8, 1);
-    assert_eq!(rt; Refusal::NoConn as u8, 3);
-    assert_eq!(rt; Refusal::IdsExhausted as u8, 16);
-    assert_eq!(rt; Refusal::AllowFull as u8, 19);
+    let refusals = [
+        Refusal::Spent,
+        Refusal::OutOfMemory,
+        Refusal::NoConn,
+        Refusal::Closing,
+        Refusal::NotPending,
+        Refusal::NotLive,
+        Refusal::BadProtocol,
+        Refusal::SelfPeer,
+        Refusal::Mismatch,
+        Refusal::Blocked,
+        Refusal::Full,
+        Refusal::PeerFull,
+        Refusal::StreamsFull,
+        Refusal::NothingAsked,
+        Refusal::BlockFull,
+        Refusal::IdsExhausted,
+        Refusal::SideFull,
+        Refusal::NotAllowed,
+        Refusal::AllowFull,
+    ];
+    for (number, refusal) in (1_u8..20).zip(refusals) {
+        assert_eq!(rt; refusal.number(), number);
+    }
 }

@@ -1,4 +1,4 @@
-use Rattle.std.proofs.Common.{rules, ◌≡◌, ◌<◌, ℕ, List, [], ◌∷◌, ◌++◌, true, false, length, nat_eq, None, ap, sym, subst, ◌∙◌, inr, arith}
+use Rattle.std.proofs.Common.{rules, ◌≡◌, ◌<◌, ℕ, List, [], ◌∷◌, ◌++◌, true, false, length, nat_eq, None, ap, sym, subst, ◌∙◌, arith}
 use Rattle.std.proofs.lemmas.Bool.{eqb-true, eqb-false}
 use Rattle.plaintext_x.specs.Exchange.{Announces}
 use Rattle.plaintext_x.specs.Incoming.{Incoming}
@@ -15,7 +15,7 @@ returns-in_err-reserve-in-Ok-Some-clause-memory c = λ input h e.
     let announces = length_whole old.expected old.bytes input c.deref.result.now c.args.byte c.in-Ok-Some.len read.0 start h held read.1 read.2 in
     let room = c.self.invariant.start c.in_default.is in
     let positive : 0 < c.in-Ok-Some.len = omega (arith, room.1, c.clear.ensures.capacity, c.clear.ensures.len, c.push_reserved.ensures.capacity, c.in_err-reserve-in-Ok-Some.ensures.full) in
-    inr (c.in-Ok-Some.len, [], announces, positive)
+    (c.in-Ok-Some.len, positive, announces)
 
 pub returns-in_ok-reserve-in-Ok-Some-clause-more : goal.returns-in_ok-reserve-in-Ok-Some-clause-more
 returns-in_ok-reserve-in-Ok-Some-clause-more c = λ input h e.
