@@ -10,7 +10,7 @@ use Rattle.yamux_frames.specs.declared.cutter.Cut.TheVariants as cut
 use Rattle.yamux_frames.specs.Spelling.{header_bytes, payload_length, IsHeader}
 use Rattle.yamux_frames.specs.Place.{Place}
 use Rattle.yamux_frames.specs.Cuts.{CutsAt, Answers, NeedsMore, HasHead, HasPart, IsRefused}
-use Rattle.yamux_frames.specs.Frames.{Arrival, spelled, bytes_left, last_stream, IsBetween, IsWithin, AreFrames, IsRest, IsSound, StandsAt, StopsIn, Uses, EndsExactly, IsOfLast, with_bytes, with_cut}
+use Rattle.yamux_frames.specs.Frames.{Arrival, spelled, bytes_left, last_stream, IsBetween, IsWithin, AreFrames, IsRest, IsSound, StandsAt, StopsIn, Uses, IsLongest, EndsExactly, IsOfLast, with_bytes, with_cut}
 use Rattle.yamux_frames.specs.Frames.Arrival.{Head, Byte, Tail, Garbled}
 
 append_none : (xs : List ℕ) → xs ++ [] ≡ xs
@@ -205,6 +205,22 @@ uses (Some known) old new piece (Ok answer) cuts = absurd (let e = cuts.0 in cc)
 uses (Some known) old new piece (Err fault) cuts = tt
 uses None old new piece (Ok answer) cuts = uses_some old new piece answer.0 answer.1 cuts
 uses None old new piece (Err fault) cuts = tt
+
+is_longest : (old new : Place) (piece : List ℕ) (used : ℕ) (answer : Cut) → Answers old piece used answer new → IsLongest piece answer
+is_longest old new piece used More a = tt
+is_longest old new piece used (cut.Head h) a = tt
+is_longest old new piece used (Part stream from to true) a = λ e. absurd (cc)
+is_longest old new piece used (Part stream from to false) a = λ e.
+    let expected = a.0.expected in
+    let not_all : used ≡ old.left → ⊥ = λ all. absurd (let bad = a.1.1 all in cc) in
+    a.0.to_is ∙ a.0.most (omega arith)
+
+pub longest : (fault : Option FrameFault) (old new : Place) (piece : List ℕ) (result : Result (ℕ × Cut) FrameFault) → CutsAt fault old piece result new
+    → IfOk result (λ answer. IsLongest piece answer.1)
+longest (Some known) old new piece (Ok answer) cuts = absurd (let e = cuts.0 in cc)
+longest (Some known) old new piece (Err fault) cuts = tt
+longest None old new piece (Ok answer) cuts = is_longest old new piece answer.0 answer.1 cuts
+longest None old new piece (Err fault) cuts = tt
 
 ends_exactly : (old new : Place) (piece : List ℕ) (used : ℕ) (answer : Cut) → Answers old piece used answer new → EndsExactly answer new
 ends_exactly old new piece used More a = tt

@@ -174,7 +174,7 @@ on_byte xs b frames rest reads good some =
     led (xs ++ b ∷ []) (with_cut (b ∷ []) answer frames) new
     (stands xs (b ∷ []) frames (place_of frames rest) new 1 answer
     (record { going = refl; reads = reads; sound = good; left = refl; stream = λ _. refl })
-    (record { within = omega arith; some = omega arith; expected = omega arith; stream_is = refl; from_is = refl; to_is = refl; new_is = refl }, true_iff (1 == bytes_left frames) 1 (bytes_left frames) refl))
+    (record { within = omega arith; some = omega arith; expected = omega arith; most = λ few. refl; stream_is = refl; from_is = refl; to_is = refl; new_is = refl }, true_iff (1 == bytes_left frames) 1 (bytes_left frames) refl))
 
 -- one byte more of a header
 on_more : (xs : List ℕ) (b : ℕ) (frames : List Arrival) (rest : List ℕ) → Reads xs frames rest → IsSound frames → bytes_left frames ≡ 0 → length (rest ++ b ∷ []) < 12 → HasReading (xs ++ b ∷ [])

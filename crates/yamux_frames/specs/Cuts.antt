@@ -28,6 +28,7 @@ pub record HasPart (old : Place) (piece : List ℕ) (used stream from to : ℕ) 
   pub within : used ≤ length piece
   pub some : 0 < used
   pub expected : used ≤ old.left
+  pub most : used < old.left → used ≡ length piece
   pub stream_is : stream ≡ old.stream
   pub from_is : from ≡ 0
   pub to_is : to ≡ used

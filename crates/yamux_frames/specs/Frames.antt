@@ -1,6 +1,6 @@
 -- The frames of a whole input (hashicorp yamux specification, "Framing"): each a header, and of Data the payload that it announces, one
 -- frame after another, up to the first twelve bytes that are no header. Lists of arrivals have the newest first.
-use Rattle.std.specs.Prelude.{◌≡◌, ◌≢◌, ℕ, ◌-◌, ◌<◌, ◌≤◌, nat_lt, if◌then◌else◌, List, [], ◌∷◌, ◌++◌, length, take, None}
+use Rattle.std.specs.Prelude.{◌≡◌, ◌≢◌, ℕ, ◌-◌, ◌<◌, ◌≤◌, false, nat_lt, if◌then◌else◌, List, [], ◌∷◌, ◌++◌, length, take, None}
 use Rattle.std.specs.List.{AllByRecursion}
 use Rattle.yamux_frames.specs.declared.header.Header.{Header}
 use Rattle.yamux_frames.specs.declared.header.FrameFault.{FrameFault}
@@ -10,7 +10,8 @@ use Rattle.yamux_frames.specs.declared.cutter.Cut.TheVariants as cut
 use Rattle.yamux_frames.specs.Spelling.{header_bytes, payload_length, IsHeader, HasFault}
 use Rattle.yamux_frames.specs.Place.{Place}
 
--- What arrives: of each frame its head, the bytes of its payload one by one, and its tail, which is its end. Garbled: twelve bytes that are no header
+-- What arrives: of each frame its head, the bytes of its payload one by one, and its tail, which is its end. Garbled: twelve
+-- bytes that are no header
 pub data Arrival : Type 0 where
   Head : Header → Arrival
   Byte : ℕ → Arrival
@@ -115,6 +116,11 @@ Uses piece used (Part stream from to last) = (0 < used) × (used ≤ length piec
 abbrev pub EndsExactly : Cut → Place → Type 0
 EndsExactly (cut.Head h) place = place.part ≡ []
 EndsExactly answer place = Unit {0}
+
+-- a part that doesn't end its payload is the whole piece
+abbrev pub IsLongest : List ℕ → Cut → Type 0
+IsLongest piece (Part stream from to last) = last ≡ false → to ≡ length piece
+IsLongest piece cut = Unit {0}
 
 -- a part is of the stream that the last header names
 abbrev pub IsOfLast : List Arrival → Cut → Type 0

@@ -3,7 +3,7 @@
 ghost use Rattle.std.specs.Prelude.{◌≡◌, ◌+◌, ◌≤◌, ◌<◌, ◌++◌, ◌↔◌, [], length, take, false, IsTrue, IsSome, None, Some, Err, IfOk, IfErr, List, ℕ};
 ghost use Rattle.yamux_frames.specs.Cuts.{Cuts, Answers};
 ghost use Rattle.yamux_frames.specs.Place.{is_within};
-ghost use Rattle.yamux_frames.specs.Frames.{Arrival, StandsAt, StopsIn, Uses, EndsExactly, IsOfLast, EndsWithin, with_cut};
+ghost use Rattle.yamux_frames.specs.Frames.{Arrival, StandsAt, StopsIn, Uses, IsLongest, EndsExactly, IsOfLast, EndsWithin, with_cut};
 
 use crate::header::{FrameFault, Header};
 use std::marker::Model;
@@ -87,10 +87,13 @@ impl Cutter {
         // However the bytes were cut into pieces, the answers are the frames of all of them.
         ensures frames { IfOk result (λ answer. (bytes : List ℕ) (past : List Arrival) → StandsAt bytes past self.old
             → StandsAt (bytes ++ take answer.0 piece.now) (with_cut (take answer.0 piece.now) answer.1 past) self.new) }
+        ensures longest { IfOk result (λ answer. IsLongest piece.now answer.1) }
         ensures exact { IfOk result (λ answer. EndsExactly answer.1 self.new) }
-        ensures stream { IfOk result (λ answer. (bytes : List ℕ) (past : List Arrival) → StandsAt bytes past self.old → IsOfLast past answer.1) }
+        ensures stream { IfOk result (λ answer. (bytes : List ℕ) (past : List Arrival) → StandsAt bytes past self.old
+            → IsOfLast past answer.1) }
 
-        ensures garbled { IfErr result (λ fault. (bytes : List ℕ) (past : List Arrival) → StandsAt bytes past self.old → StopsIn bytes past piece.now fault) }
+        ensures garbled { IfErr result (λ fault. (bytes : List ℕ) (past : List Arrival) → StandsAt bytes past self.old
+            → StopsIn bytes past piece.now fault) }
         ensures fault { IfErr result (λ fault. self.new.fault ≡ Some fault) }
         ensures again { (fault : FrameFault) → self.old.fault ≡ Some fault → (result ≡ Err fault) × (self.new ≡ self.old) }
     {

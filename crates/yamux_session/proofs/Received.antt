@@ -1,5 +1,6 @@
 -- The joined events of data of a stream are what arrived for it.
-use Rattle.std.proofs.Common.{◌≡◌, ℕ, ◌≤◌, Bool, true, false, ◌&&◌, ◌||◌, not, ◌==◌, cond, nat_lt, List, [], ◌∷◌, ◌++◌, Option, Some, None, refl, sym, ap, ◌∙◌, arith}
+use Rattle.std.proofs.Common.{◌≡◌, ◌≢◌, ◌⊎◌, inl, inr, append_assoc, ℕ, ◌≤◌, Bool, true, false, ◌&&◌, ◌||◌, not, ◌==◌, cond, nat_lt, List, [], ◌∷◌, ◌++◌, Option, Some, None, refl, sym, ap, ◌∙◌, arith}
+use Rattle.std.specs.List.{AllByRecursion, flat_map}
 use Rattle.std.proofs.lemmas.Bool.{eqb-true}
 use Rattle.yamux_frames.specs.declared.header.Header.{Header}
 use Rattle.yamux_frames.specs.Frames.Arrival.{Head, Byte, Tail, Garbled}
@@ -9,14 +10,26 @@ use Rattle.yamux_session.specs.Items.Item.{Came, Did}
 use Rattle.yamux_session.specs.Items.Act.{Start, Write, Take, Close, Reset, Leave}
 use Rattle.yamux_session.specs.Openings.{live, is_live, contains, opens, finished, reading, is_let_in, has_left, head_belongs, byte_belongs, is_reading}
 use Rattle.yamux_session.specs.Windows.{accepted}
-use Rattle.yamux_session.specs.Meaning.{Told, when, head_events, tail_events, tail_told, taker, byte_told, events, events_at, events_unless, inbound, byte_at}
+use Rattle.yamux_session.specs.Meaning.{Told, HasNoFault, when, head_events, tail_events, tail_told, taker, byte_told, events, events_at, events_unless, inbound, byte_at}
 use Rattle.yamux_session.specs.Meaning.Told.{Opened, Accepted, Data, Ended, WasReset, Credit, Left}
 use Rattle.yamux_session.specs.Acts.{AreAnswered, next_own}
-use Rattle.yamux_session.specs.Received.{joined, ReceivedData}
+use Rattle.yamux_session.specs.Received.{data_in, AreSinceOpening, ReceivedData}
 use Rattle.yamux_session.proofs.Lists.{append_none}
 use Rattle.yamux_session.proofs.Live.{below, own_next}
 
 -- ---- joining
+
+-- the data of a stream, added to these bytes; what came before its opening is left out
+abbrev joined : ℕ → List ℕ → List Told → List ℕ
+joined n bytes [] = bytes
+joined n bytes (Opened m ∷ told) = joined n (cond (m == n) [] bytes) told
+joined n bytes (Data m b ∷ told) = joined n (cond (m == n) (bytes ++ b ∷ []) bytes) told
+joined n bytes (Accepted m ∷ told) = joined n bytes told
+joined n bytes (Ended m ∷ told) = joined n bytes told
+joined n bytes (WasReset m ∷ told) = joined n bytes told
+joined n bytes (Credit m ∷ told) = joined n bytes told
+joined n bytes (Left code ∷ told) = joined n bytes told
+joined n bytes (Told.Failed fault ∷ told) = joined n bytes told
 
 joined_both : (n : ℕ) (bytes : List ℕ) (xs ys : List Told) → joined n bytes (xs ++ ys) ≡ joined n (joined n bytes xs) ys
 joined_both n bytes [] ys = refl
@@ -161,21 +174,57 @@ one_more : (role : Role) (past : List Item) (x : Item) (n : ℕ) → joined n []
     → joined n (inbound role past n) (events_at role past x) ≡ inbound role (x ∷ past) n → joined n [] (events role (x ∷ past)) ≡ inbound role (x ∷ past) n
 one_more role past x n before now = joined_both n [] (events role past) (events_at role past x) ∙ ap (λ (t : List ℕ). joined n t (events_at role past x)) before ∙ now
 
-pub received : ReceivedData
-received role [] n a good = refl
-received role (Did (Start k) ∷ past) n a good = one_more role past (Did (Start k)) n (received role past n a.1 good.1) (start_kept role past k n (k == n) refl a)
-received role (Did (Write k ps) ∷ past) n a good = one_more role past (Did (Write k ps)) n (received role past n a.1 good.1) (sym (append_none (inbound role past n)))
-received role (Did (Take k c) ∷ past) n a good = one_more role past (Did (Take k c)) n (received role past n a.1 good.1) (sym (append_none (inbound role past n)))
-received role (Did (Close k) ∷ past) n a good = one_more role past (Did (Close k)) n (received role past n a.1 good.1) (sym (append_none (inbound role past n)))
-received role (Did (Reset k) ∷ past) n a good = one_more role past (Did (Reset k)) n (received role past n a.1 good.1) (sym (append_none (inbound role past n)))
-received role (Did (Leave code) ∷ past) n a good = one_more role past (Did (Leave code)) n (received role past n a.1 good.1) (sym (append_none (inbound role past n)))
-received role (Came (Head h) ∷ past) n a good =
-    one_more role past (Came (Head h)) n (received role past n a good.1)
+all_received : (role : Role) (past : List Item) (n : ℕ) → AreAnswered role past → HasNoFault role past → joined n [] (events role past) ≡ inbound role past n
+all_received role [] n a good = refl
+all_received role (Did (Start k) ∷ past) n a good = one_more role past (Did (Start k)) n (all_received role past n a.1 good.1) (start_kept role past k n (k == n) refl a)
+all_received role (Did (Write k ps) ∷ past) n a good = one_more role past (Did (Write k ps)) n (all_received role past n a.1 good.1) (sym (append_none (inbound role past n)))
+all_received role (Did (Take k c) ∷ past) n a good = one_more role past (Did (Take k c)) n (all_received role past n a.1 good.1) (sym (append_none (inbound role past n)))
+all_received role (Did (Close k) ∷ past) n a good = one_more role past (Did (Close k)) n (all_received role past n a.1 good.1) (sym (append_none (inbound role past n)))
+all_received role (Did (Reset k) ∷ past) n a good = one_more role past (Did (Reset k)) n (all_received role past n a.1 good.1) (sym (append_none (inbound role past n)))
+all_received role (Did (Leave code) ∷ past) n a good = one_more role past (Did (Leave code)) n (all_received role past n a.1 good.1) (sym (append_none (inbound role past n)))
+all_received role (Came (Head h) ∷ past) n a good =
+    one_more role past (Came (Head h)) n (all_received role past n a good.1)
     (ap (λ f. joined n (inbound role past n) (events_unless f (head_events role past h))) good.0 ∙ head_joined role past h n (inbound role past n)
     ∙ sym (append_none (cond (opens role past (Came (Head h)) n) [] (inbound role past n))))
-received role (Came (Byte b) ∷ past) n a good =
-    one_more role past (Came (Byte b)) n (received role past n a good.1)
+all_received role (Came (Byte b) ∷ past) n a good =
+    one_more role past (Came (Byte b)) n (all_received role past n a good.1)
     (byte_joined role past n b (inbound role past n) (reading role past) (read_joined role past n b (inbound role past n) (reading role past) refl) refl)
-received role (Came Tail ∷ past) n a good =
-    one_more role past (Came Tail) n (received role past n a good.1) (tail_off role past n (inbound role past n) (reading role past) ∙ sym (append_none (inbound role past n)))
-received role (Came (Garbled bytes) ∷ past) n a good = absurd (let e = good.0 in cc)
+all_received role (Came Tail ∷ past) n a good =
+    one_more role past (Came Tail) n (all_received role past n a good.1) (tail_off role past n (inbound role past n) (reading role past) ∙ sym (append_none (inbound role past n)))
+all_received role (Came (Garbled bytes) ∷ past) n a good = absurd (let e = good.0 in cc)
+
+-- ---- since the opening
+
+data_more : (n m b : ℕ) (bytes rest : List ℕ) (same : Bool) → (cond same (bytes ++ b ∷ []) bytes) ++ rest ≡ bytes ++ (cond same (b ∷ []) [] ++ rest)
+data_more n m b bytes rest true = append_assoc bytes (b ∷ []) rest
+data_more n m b bytes rest false = refl
+
+other_opened : (n m : ℕ) (same : Bool) → (m == n) ≡ same → Opened m ≢ Opened n → (m == n) ≡ false
+other_opened n m true e other = absurd (other (ap Opened (eqb-true m n e)))
+other_opened n m false e other = e
+
+since_joined : (n : ℕ) (bytes : List ℕ) (since : List Told) → AllByRecursion (λ t. t ≢ Opened n) since → joined n bytes since ≡ bytes ++ flat_map (data_in n) since
+since_joined n bytes [] none = sym (append_none bytes)
+since_joined n bytes (Opened m ∷ since) none =
+    ap (λ c. joined n (cond c [] bytes) since) (other_opened n m (m == n) refl none.0) ∙ since_joined n bytes since none.1
+since_joined n bytes (Data m b ∷ since) none =
+    since_joined n (cond (m == n) (bytes ++ b ∷ []) bytes) since none.1 ∙ data_more n m b bytes (flat_map (data_in n) since) (m == n)
+since_joined n bytes (Accepted m ∷ since) none = since_joined n bytes since none.1
+since_joined n bytes (Ended m ∷ since) none = since_joined n bytes since none.1
+since_joined n bytes (WasReset m ∷ since) none = since_joined n bytes since none.1
+since_joined n bytes (Credit m ∷ since) none = since_joined n bytes since none.1
+since_joined n bytes (Left code ∷ since) none = since_joined n bytes since none.1
+since_joined n bytes (Told.Failed fault ∷ since) none = since_joined n bytes since none.1
+
+since_opening_joined : (n : ℕ) (told since : List Told) → AreSinceOpening n told since → joined n [] told ≡ flat_map (data_in n) since
+since_opening_joined n told since at = by at.parts
+  where
+    by : (told ≡ at.before ++ Opened n ∷ since) ⊎ (told ≡ since) → joined n [] told ≡ flat_map (data_in n) since
+    by (inl e) =
+        ap (joined n []) e ∙ joined_both n [] at.before (Opened n ∷ since)
+        ∙ ap (λ c. joined n (cond c [] (joined n [] at.before)) since) (Rattle.std.proofs.lemmas.Bool.eq-eqb n n refl)
+        ∙ since_joined n [] since at.opens_none
+    by (inr e) = ap (joined n []) e ∙ since_joined n [] since at.opens_none
+
+pub received : ReceivedData
+received role past n since a good at = sym (since_opening_joined n (events role past) since at) ∙ all_received role past n a good

@@ -62,8 +62,10 @@ abbrev pub IsFaultOnly : HeadRefused → Type 0 → Type 0
 IsFaultOnly (refused.Fault fault) fact = fact
 IsFaultOnly refused.OutOfMemory fact = Unit {0}
 
--- from the list past to the list now nothing has a fault; the table is that of now, and events and output have grown by those of the new items
-pub record Arrives (role : Role) (past now : List Item) (new : Table) (old_told new_told : List Event) (old_output new_output : List ℕ) : Type 0 where
+-- from the list past to the list now nothing has a fault; the table is that of now, and events and output have grown by those of
+-- the new items
+pub record Arrives (role : Role) (past now : List Item) (new : Table)
+    (old_told new_told : List Event) (old_output new_output : List ℕ) : Type 0 where
   pub no_fault : HasNoFault role past → HasNoFault role now
   pub keeps : Keeps role now new
   pub told : (more : List Told) × Tells old_told new_told more × (events role now ≡ events role past ++ more)

@@ -1,18 +1,24 @@
 -- The data that a stream's events hand out.
-use Rattle.std.specs.Prelude.{◌≡◌, ℕ, ◌==◌, if◌then◌else◌, List, [], ◌∷◌, ◌++◌}
+use Rattle.std.specs.Prelude.{◌≡◌, ◌≢◌, ◌⊎◌, ℕ, ◌==◌, if◌then◌else◌, List, [], ◌∷◌, ◌++◌}
+use Rattle.std.specs.List.{AllByRecursion, flat_map}
 use Rattle.yamux_session.specs.declared.event.Role.{Role}
 use Rattle.yamux_session.specs.Items.{Item}
 use Rattle.yamux_session.specs.Meaning.{Told, HasNoFault, events, inbound}
 use Rattle.yamux_session.specs.Meaning.Told.{Opened, Data}
 use Rattle.yamux_session.specs.Acts.{AreAnswered}
 
--- the data of a stream, joined, since the other end opened it last
-abbrev pub joined : ℕ → List ℕ → List Told → List ℕ
-joined n bytes [] = bytes
-joined n bytes (Opened m ∷ told) = joined n (if m == n then [] else bytes) told
-joined n bytes (Data m b ∷ told) = joined n (if m == n then bytes ++ b ∷ [] else bytes) told
-joined n bytes (other ∷ told) = joined n bytes told
+-- the data of a stream that an event hands out
+abbrev pub data_in : ℕ → Told → List ℕ
+data_in n (Data m b) = if m == n then b ∷ [] else []
+data_in n other = []
 
--- the joined events of data of a stream are what arrived for it since its opening
+-- the events behind the last that opened the stream, or all where none did
+pub record AreSinceOpening (n : ℕ) (told since : List Told) : Type 0 where
+  pub before : List Told
+  pub parts : (told ≡ before ++ Opened n ∷ since) ⊎ (told ≡ since)
+  pub opens_none : AllByRecursion (λ t. t ≢ Opened n) since
+
+-- what the events since its opening hand out for a stream, joined, is what arrived for it
 abbrev pub ReceivedData : Type 0
-ReceivedData = (role : Role) (past : List Item) (n : ℕ) → AreAnswered role past → HasNoFault role past → joined n [] (events role past) ≡ inbound role past n
+ReceivedData = (role : Role) (past : List Item) (n : ℕ) (since : List Told) → AreAnswered role past → HasNoFault role past
+    → AreSinceOpening n (events role past) since → flat_map (data_in n) since ≡ inbound role past n

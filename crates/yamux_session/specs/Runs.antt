@@ -69,9 +69,11 @@ done_or (Err why) = Refused why
 -- the call has this answer there, and leads on to the next point
 abbrev pub AnswersAt : Role → List Item → List ℕ → Act → ActAnswer → Point → Type 0
 AnswersAt role past fed (act.Feed bytes) (Events told) next =
-    (now : List Item) × FedOn role past fed bytes.items told.items now × (GoesOn role fed bytes.items now next ⊎ Ends role fed bytes.items now next)
+    (now : List Item) × FedOn role past fed bytes.items told.items now
+    × (GoesOn role fed bytes.items now next ⊎ Ends role fed bytes.items now next)
 AnswersAt role past fed (act.Feed bytes) (Refused why) next = (why ≡ refused.OutOfMemory) × IsCutOff role past fed bytes.items next
-AnswersAt role past fed act.Start (Stream n) next = (start_refusal role past ≡ None) × (n ≡ next_own role past) × (next ≡ At (Did (Start n) ∷ past) fed)
+AnswersAt role past fed act.Start (Stream n) next = (start_refusal role past ≡ None) × (n ≡ next_own role past)
+    × (next ≡ At (Did (Start n) ∷ past) fed)
 AnswersAt role past fed act.Start (Refused why) next = IsRefusedFor (start_refusal role past) why × (next ≡ At past fed)
 AnswersAt role past fed (act.Write n bytes) (Count count) next = WritesOn role past fed n bytes.items count next
 AnswersAt role past fed (act.Write n bytes) (Refused why) next = IsRefusedFor (direction_refusal role past n) why × (next ≡ At past fed)
@@ -93,7 +95,8 @@ Answers role (Over out) call answer next = (answer ≡ Refused refused.Failed) �
 -- one call after another
 abbrev pub AnswersAll : Role → Point → List Act → List ActAnswer → Point → Type 0
 AnswersAll role point [] [] last = last ≡ point
-AnswersAll role point (call ∷ calls) (answer ∷ answers) last = (next : Point) × Answers role point call answer next × AnswersAll role next calls answers last
+AnswersAll role point (call ∷ calls) (answer ∷ answers) last = (next : Point) × Answers role point call answer next
+    × AnswersAll role next calls answers last
 AnswersAll role point calls answers last = ⊥
 
 -- all output up to a point

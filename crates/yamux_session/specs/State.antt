@@ -37,7 +37,8 @@ Whenever s fact = (role : Role) (past : List Item) (fed sent : List ℕ) → Sta
 
 -- the act is added to every history at which the session stands
 abbrev pub Adds : State → State → (Role → List Item → Act) → Type 0
-Adds old new act = (role : Role) (past : List Item) (fed sent : List ℕ) → Stands role past fed sent old → Stands role (Did (act role past) ∷ past) fed sent new
+Adds old new act = (role : Role) (past : List Item) (fed sent : List ℕ) → Stands role past fed sent old
+    → Stands role (Did (act role past) ∷ past) fed sent new
 
 -- the same with a Write of these bytes, in some pieces
 abbrev pub AddsWrite : State → State → ℕ → List ℕ → Type 0

@@ -64,9 +64,11 @@ fn tail_effect(row: Stream, header: Header) -> TailEffect
 impl Streams {
     /// Bytes of a payload arrive: answers the stream that they belong to.
     pub fn arrive(&mut self, count: usize) -> Option<u32>
-        ensures keeps { (role : Role) (past : List Item) (bytes : List ℕ) → Keeps role past (table_of self.old) → length bytes ≡ count → count ≤ bytes_left (arrivals past)
+        ensures keeps { (role : Role) (past : List Item) (bytes : List ℕ) → Keeps role past (table_of self.old) → length bytes ≡ count
+            → count ≤ bytes_left (arrivals past)
             → Keeps role (came_bytes bytes past) (table_of self.new) }
-        ensures taker { (role : Role) (past : List Item) → Keeps role past (table_of self.old) → result ≡ taker role past (reading role past) }
+        ensures taker { (role : Role) (past : List Item) → Keeps role past (table_of self.old)
+            → result ≡ taker role past (reading role past) }
     {
         let Some(header) = self.reading else {
             return None;
@@ -86,8 +88,10 @@ impl Streams {
 
     /// The frame that is being read is whole.
     pub fn tail(&mut self) -> TailEffect
-        ensures keeps { (role : Role) (past : List Item) → AreAnswered role past → Keeps role past (table_of self.old) → Keeps role (Came Tail ∷ past) (table_of self.new) }
-        ensures told { (role : Role) (past : List Item) → Keeps role past (table_of self.old) → told_of_tail result ≡ tail_events role past (reading role past) }
+        ensures keeps { (role : Role) (past : List Item) → AreAnswered role past → Keeps role past (table_of self.old)
+            → Keeps role (Came Tail ∷ past) (table_of self.new) }
+        ensures told { (role : Role) (past : List Item) → Keeps role past (table_of self.old)
+            → told_of_tail result ≡ tail_events role past (reading role past) }
     {
         let Some(header) = self.reading else {
             return TailEffect::Nothing;
@@ -176,9 +180,12 @@ fn take_head(
     told: &mut Vec<Event>,
     header: Header,
 ) -> Result<Option<Header>, HeadRefused>
-    ensures done { IfOk result (λ answer. (role : Role) (past : List Item) (output : List ℕ) → AreAnswered role past → Keeps role past (table_of streams.old)
-        → Arrives role past (Came (Head header) ∷ past) (table_of streams.new) told.old.items told.new.items output (output ++ written_header answer)) }
-    ensures refused { IfErr result (λ refused. (role : Role) (past : List Item) → AreAnswered role past → Keeps role past (table_of streams.old) → HasFaultOf role past header refused) }
+    ensures done { IfOk result (λ answer. (role : Role) (past : List Item) (output : List ℕ) → AreAnswered role past
+        → Keeps role past (table_of streams.old)
+        → Arrives role past (Came (Head header) ∷ past) (table_of streams.new)
+        told.old.items told.new.items output (output ++ written_header answer)) }
+    ensures refused { IfErr result (λ refused. (role : Role) (past : List Item) → AreAnswered role past
+        → Keeps role past (table_of streams.old) → HasFaultOf role past header refused) }
     ensures told { IfErr result (λ refused. IsFaultOnly refused (told.new.items ≡ told.old.items)) }
 {
     let effect = match streams.head(header) {
@@ -201,8 +208,10 @@ pub fn take_payload(
 ) -> Result<(), AllocError>
     requires some { from < to }
     requires within { to ≤ length piece.now }
-    ensures { OnOk result ((role : Role) (past : List Item) (output : List ℕ) → Keeps role past (table_of streams.old) → to - from ≤ bytes_left (arrivals past)
-        → Arrives role past (came_bytes (take (to - from) (drop from piece.now)) past) (table_of streams.new) told.old.items told.new.items output output) }
+    ensures { OnOk result ((role : Role) (past : List Item) (output : List ℕ) → Keeps role past (table_of streams.old)
+        → to - from ≤ bytes_left (arrivals past)
+        → Arrives role past (came_bytes (take (to - from) (drop from piece.now)) past) (table_of streams.new)
+        told.old.items told.new.items output output) }
 {
     let Some(stream) = streams.arrive(to - from) else {
         return Ok(());
@@ -214,7 +223,8 @@ pub fn take_payload(
 
 /// Takes the tail of a frame.
 pub fn take_tail(streams: &mut Streams, told: &mut Vec<Event>) -> Result<(), AllocError>
-    ensures { OnOk result ((role : Role) (past : List Item) (output : List ℕ) → AreAnswered role past → Keeps role past (table_of streams.old)
+    ensures { OnOk result ((role : Role) (past : List Item) (output : List ℕ) → AreAnswered role past
+        → Keeps role past (table_of streams.old)
         → Arrives role past (Came Tail ∷ past) (table_of streams.new) told.old.items told.new.items output output) }
 {
     match streams.tail() {
@@ -230,9 +240,12 @@ pub fn take_frame(
     told: &mut Vec<Event>,
     header: Header,
 ) -> Result<Option<Header>, HeadRefused>
-    ensures done { IfOk result (λ answer. (role : Role) (past : List Item) (output : List ℕ) → AreAnswered role past → Keeps role past (table_of streams.old)
-        → Arrives role past (began header past) (table_of streams.new) told.old.items told.new.items output (output ++ written_header answer)) }
-    ensures refused { IfErr result (λ refused. (role : Role) (past : List Item) → AreAnswered role past → Keeps role past (table_of streams.old) → HasFaultOf role past header refused) }
+    ensures done { IfOk result (λ answer. (role : Role) (past : List Item) (output : List ℕ) → AreAnswered role past
+        → Keeps role past (table_of streams.old)
+        → Arrives role past (began header past) (table_of streams.new)
+        told.old.items told.new.items output (output ++ written_header answer)) }
+    ensures refused { IfErr result (λ refused. (role : Role) (past : List Item) → AreAnswered role past
+        → Keeps role past (table_of streams.old) → HasFaultOf role past header refused) }
     ensures told { IfErr result (λ refused. IsFaultOnly refused (told.new.items ≡ told.old.items)) }
 {
     let answer = match take_head(streams, told, header) {

@@ -63,7 +63,8 @@ fn done(outcome: Result<(), ActRefused>) -> ActAnswer
 
 /// Makes one call.
 fn perform(session: &mut Session, act: &Act) -> ActAnswer
-    ensures { (role : Role) (point : Point) → IsAt role point session.old → (next : Point) × Answers role point act.now result next × IsAt role next session.new }
+    ensures { (role : Role) (point : Point) → IsAt role point session.old
+        → (next : Point) × Answers role point act.now result next × IsAt role next session.new }
 {
     match act {
         Act::Feed(bytes) => match session.feed(bytes) {

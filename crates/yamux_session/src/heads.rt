@@ -98,8 +98,10 @@ fn is_crediting(header: Header) -> bool
 impl Streams {
     /// The head of a frame arrives.
     pub fn head(&mut self, header: Header) -> Result<Effect, HeadRefused>
-        ensures done { IfOk result (λ effect. (role : Role) (past : List Item) → AreAnswered role past → Keeps role past (table_of self.old) → HeadDone role past header effect (table_of self.new)) }
-        ensures refused { IfErr result (λ refused. (role : Role) (past : List Item) → AreAnswered role past → Keeps role past (table_of self.old) → IsHeadRefused role past header refused) }
+        ensures done { IfOk result (λ effect. (role : Role) (past : List Item) → AreAnswered role past
+            → Keeps role past (table_of self.old) → HeadDone role past header effect (table_of self.new)) }
+        ensures refused { IfErr result (λ refused. (role : Role) (past : List Item) → AreAnswered role past
+            → Keeps role past (table_of self.old) → IsHeadRefused role past header refused) }
     {
         match header.kind {
             FrameKind::Ping => {
@@ -125,8 +127,10 @@ impl Streams {
     fn plain_head(&mut self, header: Header) -> Result<Effect, HeadRefused>
         requires kind { is_of_stream header ≡ true }
         requires plain { syn header ≡ false }
-        ensures done { IfOk result (λ effect. (role : Role) (past : List Item) → Keeps role past (table_of self.old) → HeadDone role past header effect (table_of self.new)) }
-        ensures refused { IfErr result (λ refused. (role : Role) (past : List Item) → Keeps role past (table_of self.old) → IsHeadRefused role past header refused) }
+        ensures done { IfOk result (λ effect. (role : Role) (past : List Item) → Keeps role past (table_of self.old)
+            → HeadDone role past header effect (table_of self.new)) }
+        ensures refused { IfErr result (λ refused. (role : Role) (past : List Item) → Keeps role past (table_of self.old)
+            → IsHeadRefused role past header refused) }
     {
         let Some(row) = self.row(header.stream) else {
             self.reading = None;
@@ -153,8 +157,10 @@ impl Streams {
     fn opening_head(&mut self, header: Header) -> Result<Effect, HeadRefused>
         requires kind { is_of_stream header ≡ true }
         requires opening { syn header ≡ true }
-        ensures done { IfOk result (λ effect. (role : Role) (past : List Item) → AreAnswered role past → Keeps role past (table_of self.old) → HeadDone role past header effect (table_of self.new)) }
-        ensures refused { IfErr result (λ refused. (role : Role) (past : List Item) → AreAnswered role past → Keeps role past (table_of self.old) → IsHeadRefused role past header refused) }
+        ensures done { IfOk result (λ effect. (role : Role) (past : List Item) → AreAnswered role past
+            → Keeps role past (table_of self.old) → HeadDone role past header effect (table_of self.new)) }
+        ensures refused { IfErr result (λ refused. (role : Role) (past : List Item) → AreAnswered role past
+            → Keeps role past (table_of self.old) → IsHeadRefused role past header refused) }
     {
         if !is_remote_number(self.role, header.stream) {
             return Err(HeadRefused::Fault(Fault::WrongParity));

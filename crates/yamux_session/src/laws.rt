@@ -13,7 +13,7 @@ pub fn untaken_limit()
     ensures { UntakenLimit }
 {}
 
-/// The Payload events of a stream, joined, are the data that arrived for it since its opening.
+/// The Payload events of a stream since its opening, joined, are the data that arrived for it.
 pub fn received_data()
     ensures { ReceivedData }
 {}

@@ -67,7 +67,8 @@ fn frame_bytes(kind: FrameKind, flags: u16, stream: u32, length: u32) -> [u8; 12
 
 /// The frames that carry these bytes.
 fn data_frames(alloc: Global, stream: u32, bytes: &[u8]) -> Result<Vec<u8>, AllocError>
-    ensures { IfOk result (λ frames. (pieces : List (List ℕ)) × AllByRecursion IsPiece pieces × (concat pieces ≡ bytes.now) × (frames.items ≡ flat_map (data_frame stream) pieces)) }
+    ensures { IfOk result (λ frames. (pieces : List (List ℕ)) × AllByRecursion IsPiece pieces × (concat pieces ≡ bytes.now)
+        × (frames.items ≡ flat_map (data_frame stream) pieces)) }
 {
     let mut frames = Vec::new(alloc);
     let mut at = 0;
@@ -119,7 +120,8 @@ impl Session {
     /// Whether the bytes that came end within a frame: after a part of a header, or with an unfinished payload. Once the session has failed
     /// they don't.
     pub fn mid_frame(&self) -> bool
-        ensures live { (role : Role) (past : List Item) (fed sent : List ℕ) → Stands role past fed sent self.now → IsTrue result ↔ EndsWithin fed }
+        ensures live { (role : Role) (past : List Item) (fed sent : List ℕ) → Stands role past fed sent self.now
+            → IsTrue result ↔ EndsWithin fed }
         ensures failed { self.now.failed ≡ true → result ≡ false }
     {
         if self.failed {
@@ -132,7 +134,8 @@ impl Session {
     pub fn take_output(&mut self) -> Vec<u8>
         ensures output { result.items ≡ self.old.pending }
         ensures rest { self.new ≡ record self.old { pending = [] } }
-        ensures stands { (role : Role) (past : List Item) (fed sent : List ℕ) → Stands role past fed sent self.old → Stands role past fed (sent ++ result.items) self.new }
+        ensures stands { (role : Role) (past : List Item) (fed sent : List ℕ) → Stands role past fed sent self.old
+            → Stands role past fed (sent ++ result.items) self.new }
     {
         std::mem::replace(&mut self.output, Vec::new(self.alloc))
     }
@@ -141,7 +144,8 @@ impl Session {
     /// with SYN.
     pub fn open_stream(&mut self) -> Result<u32, ActRefused>
         ensures ok { IfOk result (λ number. Adds self.old self.new (λ role past. Start number)) }
-        ensures refused { IfErr result (λ refused. Whenever self.old (λ role past. IsRefusedFor (start_refusal role past) refused)) }
+        ensures refused { IfErr result (λ refused.
+            Whenever self.old (λ role past. IsRefusedFor (start_refusal role past) refused)) }
         ensures err { OnErr result (self.new ≡ self.old) }
         ensures failed { self.old.failed ≡ true → (result ≡ Err ActRefused.Failed) × (self.new ≡ self.old) }
     {
@@ -169,7 +173,8 @@ impl Session {
     pub fn write(&mut self, stream: u32, bytes: &[u8]) -> Result<usize, ActRefused>
         ensures ok { IfOk result (λ count. AddsWrite self.old self.new stream (take count bytes.now)) }
         ensures count { IfOk result (λ count. Whenever self.old (λ role past. count ≡ min (length bytes.now) (credit role past stream))) }
-        ensures refused { IfErr result (λ refused. Whenever self.old (λ role past. IsRefusedFor (direction_refusal role past stream) refused)) }
+        ensures refused { IfErr result (λ refused.
+            Whenever self.old (λ role past. IsRefusedFor (direction_refusal role past stream) refused)) }
         ensures err { OnErr result (self.new ≡ self.old) }
         ensures failed { self.old.failed ≡ true → (result ≡ Err ActRefused.Failed) × (self.new ≡ self.old) }
     {
@@ -206,7 +211,8 @@ impl Session {
     /// Bytes of a stream were taken: at most those that arrived and weren't taken yet.
     pub fn taken(&mut self, stream: u32, count: usize) -> Result<(), ActRefused>
         ensures ok { OnOk result (Adds self.old self.new (λ role past. Take stream (min count (untaken role past stream)))) }
-        ensures refused { IfErr result (λ refused. Whenever self.old (λ role past. IsRefusedFor (stream_refusal role past stream) refused)) }
+        ensures refused { IfErr result (λ refused.
+            Whenever self.old (λ role past. IsRefusedFor (stream_refusal role past stream) refused)) }
         ensures err { OnErr result (self.new ≡ self.old) }
         ensures failed { self.old.failed ≡ true → (result ≡ Err ActRefused.Failed) × (self.new ≡ self.old) }
     {
@@ -249,7 +255,8 @@ impl Session {
     /// Closes this end's direction of a stream.
     pub fn close(&mut self, stream: u32) -> Result<(), ActRefused>
         ensures ok { OnOk result (Adds self.old self.new (λ role past. Close stream)) }
-        ensures refused { IfErr result (λ refused. Whenever self.old (λ role past. IsRefusedFor (direction_refusal role past stream) refused)) }
+        ensures refused { IfErr result (λ refused.
+            Whenever self.old (λ role past. IsRefusedFor (direction_refusal role past stream) refused)) }
         ensures err { OnErr result (self.new ≡ self.old) }
         ensures failed { self.old.failed ≡ true → (result ≡ Err ActRefused.Failed) × (self.new ≡ self.old) }
     {
@@ -281,7 +288,8 @@ impl Session {
     /// Ends both directions of a stream.
     pub fn reset(&mut self, stream: u32) -> Result<(), ActRefused>
         ensures ok { OnOk result (Adds self.old self.new (λ role past. Reset stream)) }
-        ensures refused { IfErr result (λ refused. Whenever self.old (λ role past. IsRefusedFor (stream_refusal role past stream) refused)) }
+        ensures refused { IfErr result (λ refused.
+            Whenever self.old (λ role past. IsRefusedFor (stream_refusal role past stream) refused)) }
         ensures err { OnErr result (self.new ≡ self.old) }
         ensures failed { self.old.failed ≡ true → (result ≡ Err ActRefused.Failed) × (self.new ≡ self.old) }
     {
@@ -324,7 +332,8 @@ impl Session {
     pub fn feed(&mut self, bytes: &[u8]) -> Result<Vec<Event>, ActRefused>
         ensures fed { IfOk result (λ told. Feeds self.old bytes.now told.items self.new) }
         ensures filled { IfOk result (λ told. Whenever self.old (λ role past. AllByRecursion HasData told.items)) }
-        ensures refused { IfErr result (λ refused. self.old.failed ≡ false → (refused ≡ ActRefused.OutOfMemory) × (self.new.failed ≡ true) × RunsOut self.old bytes.now self.new) }
+        ensures refused { IfErr result (λ refused. self.old.failed ≡ false
+            → (refused ≡ ActRefused.OutOfMemory) × (self.new.failed ≡ true) × RunsOut self.old bytes.now self.new) }
         ensures failed { self.old.failed ≡ true → (result ≡ Err ActRefused.Failed) × (self.new ≡ self.old) }
     {
         if self.failed {
@@ -343,7 +352,8 @@ impl Session {
     pub fn feed_shared(&mut self, piece: Bytes) -> Result<Vec<Event>, ActRefused>
         ensures fed { IfOk result (λ told. Feeds self.old piece told.items self.new) }
         ensures filled { IfOk result (λ told. Whenever self.old (λ role past. AllByRecursion HasData told.items)) }
-        ensures refused { IfErr result (λ refused. self.old.failed ≡ false → (refused ≡ ActRefused.OutOfMemory) × (self.new.failed ≡ true) × RunsOut self.old piece self.new) }
+        ensures refused { IfErr result (λ refused. self.old.failed ≡ false
+            → (refused ≡ ActRefused.OutOfMemory) × (self.new.failed ≡ true) × RunsOut self.old piece self.new) }
         ensures failed { self.old.failed ≡ true → (result ≡ Err ActRefused.Failed) × (self.new ≡ self.old) }
     {
         self.feed_piece(&piece)
@@ -352,7 +362,8 @@ impl Session {
     fn feed_piece(&mut self, piece: &Bytes) -> Result<Vec<Event>, ActRefused>
         ensures fed { IfOk result (λ told. Feeds self.old piece.now told.items self.new) }
         ensures filled { IfOk result (λ told. Whenever self.old (λ role past. AllByRecursion HasData told.items)) }
-        ensures refused { IfErr result (λ refused. self.old.failed ≡ false → (refused ≡ ActRefused.OutOfMemory) × (self.new.failed ≡ true) × RunsOut self.old piece.now self.new) }
+        ensures refused { IfErr result (λ refused. self.old.failed ≡ false
+            → (refused ≡ ActRefused.OutOfMemory) × (self.new.failed ≡ true) × RunsOut self.old piece.now self.new) }
         ensures failed { self.old.failed ≡ true → (result ≡ Err ActRefused.Failed) × (self.new ≡ self.old) }
     {
         if self.failed {
@@ -411,7 +422,8 @@ impl Session {
 
     /// Ends the session with a fault.
     fn fail(&mut self, fault: Fault, told: &mut Vec<Event>) -> Result<(), AllocError>
-        ensures failed { OnOk result (self.new ≡ record self.old { pending = self.old.pending ++ frame FrameKind.GoAway 0 0 1; failed = true }) }
+        ensures failed { OnOk result (self.new
+            ≡ record self.old { pending = self.old.pending ++ frame FrameKind.GoAway 0 0 1; failed = true }) }
         ensures told { OnOk result (Tells told.old.items told.new.items (Failed fault ∷ [])) }
         ensures kept { OnErr result (self.new ≡ self.old) }
     {

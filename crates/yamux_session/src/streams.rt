@@ -123,7 +123,9 @@ impl Streams {
 
     /// Forgets a stream, which is live no more.
     pub fn forget(&mut self, number: u32)
-        ensures { Rewrites (table_of self.old) number None (self.old.own - (if is_own self.old.role number then 1 else 0)) (self.old.remote - (if is_remote self.old.role number then 1 else 0)) (table_of self.new) }
+        ensures { Rewrites (table_of self.old) number None
+            (self.old.own - (if is_own self.old.role number then 1 else 0))
+            (self.old.remote - (if is_remote self.old.role number then 1 else 0)) (table_of self.new) }
     {
         self.rows.remove(&number);
         if is_own_number(self.role, number) {

@@ -1,7 +1,7 @@
 use Rattle.std.proofs.Common.{refl, subst, Option}
 use Rattle.yamux_frames.specs.declared.header.FrameFault.{FrameFault}
 use Rattle.yamux_frames.specs.Cuts.{CutsAt}
-use Rattle.yamux_frames.proofs.Frames.{frames, uses, exact, streams, stops, stays}
+use Rattle.yamux_frames.proofs.Frames.{frames, uses, longest, exact, streams, stops, stays}
 use Rattle.yamux_frames.proofs.cutter.Cutter.feed.Goals as goal
 
 pub returns-clause-uses : goal.returns-clause-uses
@@ -9,6 +9,9 @@ returns-clause-uses c = uses c.args.self.now.fault c.args.self.now c.cut.new.sel
 
 pub returns-clause-frames : goal.returns-clause-frames
 returns-clause-frames c = frames c.args.self.now.fault c.args.self.now c.cut.new.self c.args.piece.now c.cut.result c.cut.ensures
+
+pub returns-clause-longest : goal.returns-clause-longest
+returns-clause-longest c = longest c.args.self.now.fault c.args.self.now c.cut.new.self c.args.piece.now c.cut.result c.cut.ensures
 
 pub returns-clause-exact : goal.returns-clause-exact
 returns-clause-exact c = exact c.args.self.now.fault c.args.self.now c.cut.new.self c.args.piece.now c.cut.result c.cut.ensures

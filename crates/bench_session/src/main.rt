@@ -1,0 +1,209 @@
+//! What a session costs beside the bytes that it is fed: against a copy of the same bytes, with 1 and 16 streams of data, by either call;
+//! for twice as many bytes; and per frame of a flood of headers. Each figure is the least of some rounds, in processor time, and is
+//! written to standard error, since it differs from run to run.
+#![tactic(auto)]
+
+use bytes::Bytes;
+use std::alloc::{AllocError, Global};
+use std::io::{self, Eprint};
+use std::time::CpuClock;
+use yamux_frames::{FrameKind, Header};
+use yamux_session::{Event, Role, Session};
+
+/// The data of one frame.
+const DATA: u32 = 16384;
+
+/// How much is fed at once.
+const PIECE: usize = 65536;
+
+/// How many frames of data are fed in a round.
+const FRAMES: u32 = 1024;
+
+/// How many frames of WindowUpdate are fed in a round.
+const UPDATES: u32 = 65536;
+
+const ROUNDS: u32 = 9;
+
+/// How a session is fed.
+#[derive(Clone, Copy, Debug, PartialEq, Eq)]
+enum Way {
+    Shared,
+    Copied,
+}
+
+/// The number of the stream of this index, counted from 0.
+fn number(index: u32, streams: u32) -> u32 {
+    let index = index.checked_rem(streams).unwrap_or(0);
+    index.saturating_mul(2).saturating_add(1)
+}
+
+/// The header of a frame.
+fn header(kind: FrameKind, flags: u16, stream: u32, length: u32) -> [u8; 12] {
+    let header = Header {
+        kind,
+        flags,
+        stream,
+        length,
+    };
+    header.write()
+}
+
+/// A session whose other end has opened so many streams.
+fn opened(alloc: Global, streams: u32) -> Option<Session> {
+    let mut session = Session::new(alloc, Role::Server);
+    for index in 0..streams {
+        let frame = header(FrameKind::Window, Header::SYN, number(index, streams), 0);
+        session.feed(&frame).ok()?;
+    }
+    let _ = session.take_output();
+    Some(session)
+}
+
+/// Frames of data, to one stream after another.
+fn data(alloc: Global, streams: u32, frames: u32) -> Result<Bytes, AllocError> {
+    let payload = vec![in alloc; 7u8; DATA as usize]?;
+    let mut input = Vec::new(alloc);
+    for index in 0..frames {
+        input.extend_from_slice(&header(FrameKind::Payload, 0, number(index, streams), DATA))?;
+        input.extend_from_slice(&payload)?;
+    }
+    match Bytes::from_vec(input) {
+        Ok(input) => Ok(input),
+        Err(_) => Err(AllocError),
+    }
+}
+
+/// Frames that each add 1 to the credit of a stream, of one stream after another.
+fn updates(alloc: Global, streams: u32) -> Result<Bytes, AllocError> {
+    let mut input = Vec::new(alloc);
+    for index in 0..UPDATES {
+        input.extend_from_slice(&header(FrameKind::Window, 0, number(index, streams), 1))?;
+    }
+    match Bytes::from_vec(input) {
+        Ok(input) => Ok(input),
+        Err(_) => Err(AllocError),
+    }
+}
+
+/// Feeds the bytes from here to there, and takes all data. Answers how much that was.
+fn feed_piece(
+    session: &mut Session,
+    input: &Bytes,
+    (from, to): (usize, usize),
+    way: Way,
+) -> Option<usize> {
+    if from > to || to > input.len() {
+        return None;
+    }
+    let events = match way {
+        Way::Shared => session.feed_shared(input.slice(from..to).ok()?).ok()?,
+        Way::Copied => session.feed(&input.as_slice()[from..to]).ok()?,
+    };
+    let mut taken: usize = 0;
+    for event in &events {
+        if let Event::Payload(stream, bytes) = event {
+            session.taken(*stream, bytes.len()).ok()?;
+            taken = taken.saturating_add(bytes.len());
+        }
+    }
+    let _ = session.take_output();
+    Some(taken)
+}
+
+/// Feeds the whole input in pieces. Answers how much data was handed out.
+fn feed(session: &mut Session, input: &Bytes, way: Way) -> Option<usize> {
+    let mut taken: usize = 0;
+    for from in (0..input.len()).step_by(PIECE) {
+        let to = from.saturating_add(PIECE).min(input.len());
+        taken = taken.saturating_add(feed_piece(session, input, (from, to), way)?);
+    }
+    Some(taken)
+}
+
+/// Copies the input, piece after piece, into one buffer of the size of a piece. Answers whether the last byte came over.
+fn copy(buffer: &mut [u8], input: &[u8]) -> bool {
+    let mut last = None;
+    for from in input.chunks(PIECE) {
+        let Some(to) = buffer.get_mut(..from.len()) else {
+            return false;
+        };
+        to.copy_from_slice(from);
+        last = to.last().copied();
+    }
+    last == input.last().copied()
+}
+
+/// The least processor time of the rounds, in nanoseconds. Each round must end as it should.
+fn timed<F: FnMut() -> bool>(clock: &impl CpuClock, mut round: F) -> io::Result<u128>
+    requires { F.IsAlwaysCallable round }
+{
+    let mut least = u128::MAX;
+    for _ in 0..ROUNDS {
+        let start = clock.process_cpu_time()?.as_nanos();
+        if !round() {
+            return Err(io::Error::from(io::ErrorKind::Other));
+        }
+        let end = clock.process_cpu_time()?.as_nanos();
+        least = least.min(end.saturating_sub(start));
+    }
+    Ok(least)
+}
+
+/// The time of feeding an input again and again, each time with so much data handed out.
+fn timed_feed(
+    clock: &impl CpuClock,
+    session: Option<Session>,
+    input: &Bytes,
+    way: Way,
+    length: usize,
+) -> io::Result<u128> {
+    let Some(mut session) = session else {
+        return Err(io::Error::from(io::ErrorKind::Other));
+    };
+    timed(clock, || feed(&mut session, input, way) == Some(length))
+}
+
+/// Writes how many hundredths one time is of another.
+fn show(rt: &impl Eprint, what: &str, streams: u32, time: u128, other: u128) -> io::Result<()> {
+    let hundredths = time.saturating_mul(100) / other.max(1);
+    eprintln!(rt; "{what}, {streams} streams: {hundredths} hundredths ({time} ns)")
+}
+
+/// Data: by either call against a copy, and twice as much against once.
+fn measure_data(rt: &(impl CpuClock + Eprint), alloc: Global, streams: u32) -> io::Result<()> {
+    let length = DATA as usize * FRAMES as usize;
+    let input = data(alloc, streams, FRAMES)?;
+    let twice = data(alloc, streams, 2 * FRAMES)?;
+    let mut buffer = vec![in alloc; 0u8; PIECE]?;
+    let copied = timed(rt, || copy(&mut buffer, input.as_slice()))?;
+    let shared = timed_feed(rt, opened(alloc, streams), &input, Way::Shared, length)?;
+    let fed = timed_feed(rt, opened(alloc, streams), &input, Way::Copied, length)?;
+    let more = timed_feed(rt, opened(alloc, streams), &twice, Way::Copied, 2 * length)?;
+    show(rt, "feed_shared against a copy", streams, shared, copied)?;
+    show(rt, "feed against a copy", streams, fed, copied)?;
+    show(rt, "feed of twice the bytes", streams, more, fed)
+}
+
+/// A flood of headers: against a copy of its bytes, and per frame.
+fn measure_flood(rt: &(impl CpuClock + Eprint), alloc: Global, streams: u32) -> io::Result<()> {
+    let input = updates(alloc, streams)?;
+    let mut buffer = vec![in alloc; 0u8; PIECE]?;
+    let copied = timed(rt, || copy(&mut buffer, input.as_slice()))?;
+    let fed = timed_feed(rt, opened(alloc, streams), &input, Way::Shared, 0)?;
+    show(rt, "WindowUpdates against a copy", streams, fed, copied)?;
+    eprintln!(rt;
+        "WindowUpdates, {streams} streams: {} ns a frame",
+        fed / u128::from(UPDATES)
+    )
+}
+
+fn main(rt: HostRuntime) -> io::Result<()> {
+    let alloc = rt.alloc();
+    for streams in [1, 16] {
+        measure_data(&rt, alloc, streams)?;
+    }
+    for streams in [1, 256] {
+        measure_flood(&rt, alloc, streams)?;
+    }
+    Ok(())
+}

@@ -1,0 +1,219 @@
+//! The worked rows of a session: what is done, and what must come of it.
+
+use yamux_session::{ActRefused, Fault};
+
+/// What an event tells, data byte by byte, so that it doesn't matter how Payload is cut.
+#[derive(Clone, Copy, Debug, PartialEq, Eq)]
+pub enum Told {
+    Opened(u32),
+    Accepted(u32),
+    Data(u32, u8),
+    Ended(u32),
+    Reset(u32),
+    Credit(u32),
+    GoAway(u32),
+    Failed(Fault),
+}
+
+/// An act of this end. What is written are zeros.
+#[derive(Clone, Copy, Debug)]
+pub enum Act {
+    Start,
+    Write(u32, usize),
+    Take(u32, usize),
+    Close(u32),
+    Reset(u32),
+    Leave(u32),
+}
+
+/// One step of a row, with its answer and the output that it adds.
+#[derive(Clone, Copy)]
+pub enum Step {
+    /// These bytes are fed: what the events tell.
+    Fed(&'static [u8], &'static [Told], &'static [u8]),
+    /// So many zeros of data are fed, and all are handed out.
+    Filled(usize),
+    /// An act: its number (of the stream, or of bytes; else 0) or refusal, and the output.
+    Acts(Act, Result<usize, ActRefused>, &'static [u8]),
+    /// A write: how much is let through, and how long the output is.
+    Writes(u32, usize, usize, usize),
+    Credit(u32, Option<u32>),
+    MidFrame(bool),
+}
+
+use Step::*;
+
+/// The frames of the rows, as they stand on the wire.
+pub const SYN_1: &[u8] = &[0, 1, 0, 1, 0, 0, 0, 1, 0, 0, 0, 0];
+
+const SYN_3: &[u8] = &[0, 1, 0, 1, 0, 0, 0, 3, 0, 0, 0, 0];
+
+const ACK_1: &[u8] = &[0, 1, 0, 2, 0, 0, 0, 1, 0, 0, 0, 0];
+
+const FIN_1: &[u8] = &[0, 1, 0, 4, 0, 0, 0, 1, 0, 0, 0, 0];
+
+const RST_1: &[u8] = &[0, 1, 0, 8, 0, 0, 0, 1, 0, 0, 0, 0];
+
+const HALF_BACK_1: &[u8] = &[0, 1, 0, 0, 0, 0, 0, 1, 0, 2, 0, 0];
+
+pub const LEAVING: &[u8] = &[0, 3, 0, 0, 0, 0, 0, 0, 0, 0, 0, 0];
+
+const PROTOCOL_ERROR: &[u8] = &[0, 3, 0, 0, 0, 0, 0, 0, 0, 0, 0, 1];
+
+/// Opened twice in one piece: the answer to the first SYN stands before the end.
+const OPENED_TWICE: &[Step] = &[Fed(
+    &[
+        0, 1, 0, 1, 0, 0, 0, 1, 0, 0, 0, 0, 0, 1, 0, 1, 0, 0, 0, 1, 0, 0, 0, 0,
+    ],
+    &[Told::Opened(1), Told::Failed(Fault::DuplicateStream)],
+    &[
+        0, 1, 0, 2, 0, 0, 0, 1, 0, 0, 0, 0, 0, 3, 0, 0, 0, 0, 0, 0, 0, 0, 0, 1,
+    ],
+)];
+
+const ENDED_AND_OPENED_AGAIN: &[Step] = &[
+    Fed(SYN_1, &[Told::Opened(1)], ACK_1),
+    Acts(Act::Close(1), Ok(0), FIN_1),
+    Acts(Act::Close(1), Err(ActRefused::Ended), &[]),
+    Fed(
+        &[
+            0, 1, 0, 4, 0, 0, 0, 1, 0, 0, 0, 0, 0, 1, 0, 1, 0, 0, 0, 1, 0, 0, 0, 0,
+        ],
+        &[Told::Ended(1), Told::Opened(1)],
+        ACK_1,
+    ),
+    Acts(Act::Write(3, 1), Err(ActRefused::NoStream), &[]),
+];
+
+const PING_AND_UNKNOWN_STREAM: &[Step] = &[
+    Fed(
+        &[0, 2, 0, 1, 0, 0, 0, 0, 0, 0, 0, 7],
+        &[],
+        &[0, 2, 0, 2, 0, 0, 0, 0, 0, 0, 0, 7],
+    ),
+    Fed(&[0, 0, 0, 0, 0, 0, 0, 9, 0, 0, 0, 3, 97, 98, 99], &[], &[]),
+    Fed(SYN_1, &[Told::Opened(1)], ACK_1),
+    Fed(
+        &[0, 0, 0, 0, 0, 0, 0, 1, 0, 0, 0, 2, 97, 98],
+        &[Told::Data(1, 97), Told::Data(1, 98)],
+        &[],
+    ),
+];
+
+const FAULT_WITH_ITS_LAST_BYTE: &[Step] = &[
+    MidFrame(false),
+    Fed(&[0, 4, 0, 0, 0, 0, 0, 0, 0, 0, 0], &[], &[]),
+    MidFrame(true),
+    Fed(&[0], &[Told::Failed(Fault::BadFrame)], PROTOCOL_ERROR),
+    MidFrame(false),
+];
+
+const CREDIT_AND_TOO_MUCH_OF_IT: &[Step] = &[
+    Fed(
+        &[0, 1, 0, 1, 0, 0, 0, 3, 0, 0, 0, 1],
+        &[Told::Opened(3), Told::Credit(3)],
+        &[0, 1, 0, 2, 0, 0, 0, 3, 0, 0, 0, 0],
+    ),
+    Fed(SYN_1, &[Told::Opened(1)], ACK_1),
+    Fed(
+        &[0, 1, 0, 0, 0, 0, 0, 1, 255, 251, 255, 255],
+        &[Told::Credit(1)],
+        &[],
+    ),
+    Credit(1, Some(4294967295)),
+    Fed(
+        &[0, 1, 0, 0, 0, 0, 0, 1, 0, 0, 0, 1],
+        &[Told::Failed(Fault::WindowTooLarge)],
+        PROTOCOL_ERROR,
+    ),
+];
+
+const DATA_BEHIND_THE_END: &[Step] = &[
+    Fed(SYN_1, &[Told::Opened(1)], ACK_1),
+    Fed(FIN_1, &[Told::Ended(1)], &[]),
+    Fed(FIN_1, &[], &[]),
+    Fed(&[0, 0, 0, 0, 0, 0, 0, 1, 0, 0, 0, 3, 1, 2, 3], &[], &[]),
+    Credit(1, Some(262144)),
+    Acts(Act::Close(1), Ok(0), FIN_1),
+    Acts(Act::Write(1, 1), Err(ActRefused::NoStream), &[]),
+    Credit(1, None),
+];
+
+const RESET_BEHIND_THE_END: &[Step] = &[
+    Fed(SYN_1, &[Told::Opened(1)], ACK_1),
+    Fed(FIN_1, &[Told::Ended(1)], &[]),
+    Fed(
+        &[0, 0, 0, 8, 0, 0, 0, 1, 0, 0, 0, 0],
+        &[Told::Reset(1)],
+        &[],
+    ),
+    Credit(1, None),
+];
+
+const MORE_THAN_THE_WINDOW: &[Step] = &[
+    Fed(SYN_1, &[Told::Opened(1)], ACK_1),
+    Fed(&[0, 0, 0, 0, 0, 0, 0, 1, 0, 4, 0, 0], &[], &[]),
+    MidFrame(true),
+    Filled(262144),
+    MidFrame(false),
+    Fed(
+        &[0, 0, 0, 0, 0, 0, 0, 1, 0, 0, 0, 1],
+        &[Told::Failed(Fault::WindowExceeded)],
+        PROTOCOL_ERROR,
+    ),
+];
+
+const GIVEN_BACK_FROM_HALF: &[Step] = &[
+    Fed(SYN_1, &[Told::Opened(1)], ACK_1),
+    Fed(&[0, 0, 0, 0, 0, 0, 0, 1, 0, 4, 0, 0], &[], &[]),
+    Filled(262144),
+    Acts(Act::Take(1, 131071), Ok(0), &[]),
+    Acts(Act::Take(1, 1), Ok(0), HALF_BACK_1),
+    Acts(Act::Take(1, 999999), Ok(0), HALF_BACK_1),
+];
+
+/// The rows of a server.
+pub const SERVER: &[&[Step]] = &[
+    OPENED_TWICE,
+    ENDED_AND_OPENED_AGAIN,
+    PING_AND_UNKNOWN_STREAM,
+    FAULT_WITH_ITS_LAST_BYTE,
+    CREDIT_AND_TOO_MUCH_OF_IT,
+    DATA_BEHIND_THE_END,
+    RESET_BEHIND_THE_END,
+    MORE_THAN_THE_WINDOW,
+    GIVEN_BACK_FROM_HALF,
+];
+
+const WRONG_PARITY: &[Step] = &[
+    Fed(SYN_1, &[Told::Failed(Fault::WrongParity)], PROTOCOL_ERROR),
+    Acts(Act::Start, Err(ActRefused::Failed), &[]),
+    Credit(1, None),
+];
+
+const WRITES_AND_LEAVES: &[Step] = &[
+    Acts(Act::Start, Ok(1), SYN_1),
+    Acts(
+        Act::Write(1, 2),
+        Ok(2),
+        &[0, 0, 0, 0, 0, 0, 0, 1, 0, 0, 0, 2, 0, 0],
+    ),
+    Writes(1, 262145, 262142, 262334),
+    Acts(Act::Write(1, 5), Ok(0), &[]),
+    Acts(Act::Reset(1), Ok(0), RST_1),
+    Acts(Act::Reset(1), Err(ActRefused::NoStream), &[]),
+    Acts(Act::Start, Ok(3), SYN_3),
+    Acts(Act::Leave(0), Ok(0), LEAVING),
+];
+
+const ACCEPTED_ONCE: &[Step] = &[
+    Acts(Act::Start, Ok(1), SYN_1),
+    Fed(ACK_1, &[Told::Accepted(1)], &[]),
+    Fed(ACK_1, &[], &[]),
+    Fed(LEAVING, &[Told::GoAway(0)], &[]),
+    Acts(Act::Start, Err(ActRefused::GoneAway), &[]),
+    Writes(1, 1, 1, 13),
+];
+
+/// The rows of a client.
+pub const CLIENT: &[&[Step]] = &[WRONG_PARITY, WRITES_AND_LEAVES, ACCEPTED_ONCE];
