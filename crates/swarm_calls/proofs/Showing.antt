@@ -1,0 +1,66 @@
+-- What is shown, and what lies under the lock, after one entry more.
+use Rattle.std.proofs.Common.{◌≡◌, ◌≢◌, ◌<◌, ◌≤◌, ◌^◌, ℕ, ◌+◌, ◌-◌, ◌==◌, nat_lt, if◌then◌else◌, Bool, true, false, List, [], ◌∷◌, ◌++◌, length, slice_index, slice_set, Option, Some, None, fold, refl, ap, sym, subst, ◌∙◌, arith, length-append}
+use Rattle.std.proofs.lemmas.Bool.Decides.{nat_tests}
+use Rattle.logbook.specs.Pages.{Book}
+use Rattle.pool_state.specs.declared.call.Call.{Call}
+use Rattle.pool_state.specs.declared.call.Reply.{Reply}
+use Rattle.pool_state.specs.declared.call.Reply.TheVariants.{Refused}
+use Rattle.pool_state.specs.declared.call.Refusal.TheVariants.{Spent}
+use Rattle.pool_state.specs.declared.limits.Config.{Config}
+use Rattle.pool_state.specs.declared.listing.Listing.{Listing}
+use Rattle.pool_state.specs.History.{Entry, entry, front_of}
+use Rattle.pool_state.specs.Shown.{Shown, IsLegal, reply_after}
+use Rattle.pool_state.specs.Added.{added, more, more_at}
+use Rattle.swarm_calls.specs.declared.snapshot.Snapshot.{Snapshot}
+use Rattle.swarm_calls.specs.declared.addition.Addition.{Addition}
+use Rattle.swarm_calls.specs.Steps.{beginning}
+use Rattle.swarm_calls.specs.History.{mine, Counts}
+use Rattle.swarm_calls.specs.Snapshots.{IsShown, absorbed}
+use Rattle.swarm_calls.proofs.Legal.{legal_snoc, counts_snoc, mine_le}
+use Rattle.swarm_calls.proofs.Replies.{unspent_below}
+
+more_at_small : (n : ℕ) (b : Bool) → nat_lt n (2 ^ 64 - 1) ≡ b → n < 18446744073709551615 → more n ≡ n + 1
+more_at_small n true is small = rw is refl
+more_at_small n false is small = absurd (grind (arith, nat_tests))
+
+-- one more, where there is room
+pub more_is : (n : ℕ) → n < 18446744073709551615 → more n ≡ n + 1
+more_is n small = more_at_small n (nat_lt n (2 ^ 64 - 1)) refl small
+
+pub short : (config : Config) (h : List Entry) (e : Entry) → e.reply ≡ reply_after config h e.call → e.reply ≢ Refused Spent → length h < 18446744073709551615
+short config h e reply unspent =
+    let P : Reply → Type 0 = λ r. r ≢ Refused Spent in
+    omega (arith, unspent_below config h e.call (subst P reply unspent))
+
+-- what is published after the entry shows the history with it
+pub shown_snoc : ((config : Config) (history : List Entry) (caller : ℕ) (call : Call) (reply : Reply) → IsLegal config (history ++ entry caller call reply ∷ []) → added (Shown config history) call reply ≡ Shown config (history ++ entry caller call reply ∷ []))
+    → (book : Book) (config : Config) (s : Snapshot) (a : Addition) → IsShown book config s → a.after ≡ beginning book (s.beginning.log ++ a.entry ∷ []) → (1 ≤ a.entry.caller) × (a.entry.caller ≤ 8)
+    → a.entry.reply ≡ reply_after config s.beginning.log a.entry.call → a.entry.reply ≢ Refused Spent
+    → IsShown book config (absorbed s (Some a))
+shown_snoc law book config s a shown after within reply unspent =
+    let h = s.beginning.log in
+    let e = a.entry in
+    let small = short config h e reply unspent in
+    let all = legal_snoc config h e shown.legal reply unspent in
+    let log : a.after.log ≡ h ++ e ∷ [] = ap (λ (b : Rattle.swarm_calls.specs.Steps.Beginning). b.log) after in
+    let own = shown.calls_are.each e.caller within.0 within.1 in
+    let few : slice_index s.calls (e.caller - 1) < 18446744073709551615 = omega (arith, own, mine_le e.caller h, small) in
+    record {
+      book_is = ap (λ (b : Rattle.swarm_calls.specs.Steps.Beginning). b.book) after;
+      count_is = rw log (more_is s.count (omega (arith, shown.count_is, small)) ∙ omega (arith, shown.count_is, length-append h (e ∷ [])));
+      legal = rw log all;
+      listing_is = rw log (ap (λ (l : Listing). added l e.call e.reply) shown.listing_is ∙ law config h e.caller e.call e.reply all);
+      calls_are = rw (log, more_is (slice_index s.calls (e.caller - 1)) few) (counts_snoc s.calls h e within.0 within.1 shown.calls_are);
+    }
+
+-- what is published next, once nothing and then the entry was applied, shows the history with it
+pub next_shown : (a : Addition)
+    → ((config : Config) (history : List Entry) (caller : ℕ) (call : Call) (reply : Reply) → IsLegal config (history ++ entry caller call reply ∷ []) → added (Shown config history) call reply ≡ Shown config (history ++ entry caller call reply ∷ []))
+    → (book : Book) (config : Config) (w v next : Snapshot) (before pending : List (Option Addition)) → v ≡ w → before ≡ None ∷ [] → pending ≡ before ++ Some a ∷ [] → next ≡ fold absorbed v pending
+    → IsShown book config w → a.after ≡ beginning book (w.beginning.log ++ a.entry ∷ []) → (1 ≤ a.entry.caller) × (a.entry.caller ≤ 8)
+    → a.entry.reply ≡ reply_after config w.beginning.log a.entry.call → a.entry.reply ≢ Refused Spent
+    → IsShown book config next
+next_shown a law book config w v next before pending same first second is shown after within reply unspent =
+    let two : pending ≡ None ∷ Some a ∷ [] = second ∙ ap (λ (l : List (Option Addition)). l ++ Some a ∷ []) first in
+    let changed : next ≡ absorbed w (Some a) = is ∙ (ap (fold absorbed v) two ∙ ap (λ (s : Snapshot). absorbed s (Some a)) same) in
+    subst (IsShown book config) (sym changed) (shown_snoc law book config w a shown after within reply unspent)

@@ -1,0 +1,81 @@
+//! What is published: a listing, with the history that it shows and the number of each caller's entries there.
+
+ghost use Rattle.std.specs.Prelude.{◌≡◌, ◌<◌, ◌^◌, []};
+ghost use Rattle.pool_state.specs.Added.{more, more_at};
+
+use crate::addition::Addition;
+use crate::history::Beginning;
+use left_right::Absorb;
+use pool_state::Listing;
+use std::alloc::AllocError;
+
+/// What is published, and what a pass keeps of it: the history's length, its listing, and how many entries each caller has
+/// there.
+#[derive(Drop)]
+pub struct Snapshot {
+    pub beginning: Beginning,
+    pub count: u64,
+    pub listing: Listing,
+    pub calls: [u64; 8],
+}
+
+/// What is done to both published copies: an addition, or nothing.
+pub type Operation = Option<Addition>;
+
+fn one_more(count: u64) -> u64
+    ensures { result ≡ more count }
+{
+    if count < u64::MAX { count + 1 } else { count }
+}
+
+fn one_more_at(calls: &mut [u64; 8], index: usize)
+    requires { index < 8 }
+    ensures { calls.new ≡ more_at calls.old index }
+{
+    calls[index] = one_more(calls[index]);
+}
+
+impl Snapshot {
+    /// An equal snapshot. It takes no memory.
+    pub fn copied(&self) -> Snapshot
+        ensures { result ≡ self.now }
+    {
+        Snapshot {
+            beginning: self.beginning.copied(),
+            count: self.count,
+            listing: self.listing.copied(),
+            calls: self.calls,
+        }
+    }
+
+    /// The front of the listing.
+    pub fn front(&self) -> u64
+        ensures is { result ≡ self.now.listing.front }
+        ensures fits { result < 2 ^ 64 }
+    {
+        self.listing.front
+    }
+}
+
+impl Absorb<Operation> for Snapshot {
+    ghost use Rattle.swarm_calls.specs.Snapshots.{absorbed};
+
+    type State = Snapshot;
+
+    ghost state = { λ s. s };
+
+    ghost applied = { absorbed };
+
+    ghost never_fails = { Unit {0} };
+
+    fn absorb_first(&mut self, operation: &Operation, _other: &Snapshot) -> Result<(), AllocError> {
+        if let Some(addition) = operation {
+            let entry = &addition.entry;
+            self.beginning = addition.after.copied();
+            self.count = one_more(self.count);
+            self.listing.add(entry.call(), entry.reply());
+            one_more_at(&mut self.calls, entry.caller() - 1);
+        }
+        Ok(())
+    }
+}

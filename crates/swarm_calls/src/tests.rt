@@ -1,0 +1,151 @@
+ghost use Rattle.std.specs.Prelude.{◌≡◌};
+
+mod crowd;
+mod example;
+mod gate;
+mod rows;
+mod threads;
+
+use crate::{
+    BlankHistory, BlankLedgers, Eight, Gate, Identity, Ledgers, NewRefused, NoGate, Pass, Swarm,
+};
+use peer_ids::{PeerId, PublicKey};
+use plaintext_x::{Exchange, Proven, exchange_keys};
+use pool_state::{Call, Config, Limits, Reply};
+use std::alloc::Global;
+use std::marker::Brand;
+use std::process::Abort;
+use std::sync::Wait;
+use std::sync::ledger::Ledger;
+use std::test::*;
+
+/// The id of the Ed25519 key of 32 bytes that are all `byte`.
+fn peer(byte: u8) -> Result<PeerId, Fail> {
+    let mut multihash = [byte; 38];
+    multihash[..6].copy_from_slice(&[0x00, 0x24, 0x08, 0x01, 0x12, 0x20]);
+    let id = PeerId::from_bytes(&multihash).ok().ok_or("a multihash")?;
+    Ok(id)
+}
+
+/// What an exchange with the holder of that key proves.
+fn proven(alloc: Global, byte: u8) -> Result<Proven, Fail> {
+    let mut message = [byte; 36];
+    message[..4].copy_from_slice(&[0x08, 0x01, 0x12, 0x20]);
+    let key = PublicKey::read(alloc, &message).ok().ok_or("a key")?;
+    let mut other = Exchange::new(alloc, &key).ok().ok_or("memory")?;
+    let sent = other.take_output();
+    let came = exchange_keys(alloc, &key, &[sent.as_slice()])
+        .ok()
+        .ok_or("an exchange")?;
+    let proven = came.proven.ok_or("a proof")?;
+    Ok(proven)
+}
+
+/// The widest limits but for connections of one peer, for the node whose id is that of zeros.
+fn config(per_peer: usize) -> Result<Config, Fail> {
+    let limits = Limits::new(256, per_peer, 64, 64, 256, 256, 64).ok_or("in range")?;
+    Ok(Config {
+        own: peer(0)?,
+        limits,
+        first_conn: 1,
+        first_front: 0,
+        allow_only: false,
+    })
+}
+
+/// Makes the call, but for a Settle, for which it makes an Accept.
+fn make<G: Gate, J: Identity, L: Ledgers, R: Wait>(
+    rt: &R,
+    swarm: &Swarm<G, J, L>,
+    pass: &mut Pass<J, L>,
+    call: &Call,
+) -> Reply {
+    match call {
+        Call::Dial(peer) => swarm.dial(rt, pass, *peer),
+        Call::Ask(conn, index) => swarm.ask(rt, pass, *conn, *index),
+        Call::Done(conn, index) => swarm.done(rt, pass, *conn, *index),
+        Call::HangUp(peer) => swarm.hang_up(rt, pass, *peer),
+        Call::Block(peer) => swarm.block(rt, pass, *peer),
+        Call::Unblock(peer) => swarm.unblock(rt, pass, *peer),
+        Call::Allow(peer) => swarm.allow(rt, pass, *peer),
+        Call::Disallow(peer) => swarm.disallow(rt, pass, *peer),
+        Call::Gone(conn) => swarm.gone(rt, pass, *conn),
+        Call::Note(conn, agent) => swarm.note(rt, pass, *conn, *agent),
+        _ => swarm.accept(rt, pass),
+    }
+}
+
+/// What a test of one thread does with a swarm.
+trait Script {
+    fn play<J: Identity, L: Ledgers, R: Wait + Abort>(
+        &self,
+        rt: &R,
+        swarm: Swarm<NoGate, J, L>,
+        passes: Vec<Pass<J, L>>,
+    ) -> Result<(), Fail>;
+}
+
+/// Makes a swarm, and plays the script on it, or says why there is no swarm.
+fn run<
+    J: Identity,
+    L1: Ledger,
+    L2: Ledger,
+    L3: Ledger,
+    L4: Ledger,
+    L5: Ledger,
+    L6: Ledger,
+    L7: Ledger,
+    L8: Ledger,
+    S: Script,
+    R: Wait + Abort,
+>(
+    rt: &R,
+    alloc: Global,
+    config: Config,
+    callers: usize,
+    history: BlankHistory,
+    ledgers: BlankLedgers,
+    script: &S,
+) -> Result<Option<NewRefused>, Fail>
+    requires history { history ≡ J.book }
+    requires config { config ≡ J.config }
+    requires callers { callers ≡ J.callers }
+    requires first { (ledgers.first.name ≡ L1.name) × (ledgers.first.parts ≡ L1.parts) }
+    requires second { (ledgers.second.name ≡ L2.name) × (ledgers.second.parts ≡ L2.parts) }
+    requires third { (ledgers.third.name ≡ L3.name) × (ledgers.third.parts ≡ L3.parts) }
+    requires fourth { (ledgers.fourth.name ≡ L4.name) × (ledgers.fourth.parts ≡ L4.parts) }
+    requires fifth { (ledgers.fifth.name ≡ L5.name) × (ledgers.fifth.parts ≡ L5.parts) }
+    requires sixth { (ledgers.sixth.name ≡ L6.name) × (ledgers.sixth.parts ≡ L6.parts) }
+    requires seventh { (ledgers.seventh.name ≡ L7.name) × (ledgers.seventh.parts ≡ L7.parts) }
+    requires eighth { (ledgers.eighth.name ≡ L8.name) × (ledgers.eighth.parts ≡ L8.parts) }
+{
+    let made = Swarm::<NoGate, J, Eight<L1, L2, L3, L4, L5, L6, L7, L8>>::new(
+        rt, alloc, config, callers, NoGate, history, ledgers,
+    );
+    match made {
+        Ok((swarm, passes)) => {
+            script.play(rt, swarm, passes)?;
+            Ok(None)
+        }
+        Err(refused) => Ok(Some(refused)),
+    }
+}
+
+/// The same, with a new history and new ledgers.
+fn play<S: Script, R: Wait + Abort>(
+    rt: &R,
+    alloc: Global,
+    config: Config,
+    callers: usize,
+    script: &S,
+) -> Result<Option<NewRefused>, Fail> {
+    run::<Brand, Brand, Brand, Brand, Brand, Brand, Brand, Brand, Brand, S, R>(
+        rt,
+        alloc,
+        config,
+        callers,
+        BlankHistory::new(),
+        BlankLedgers::new(),
+        script,
+    )
+}

@@ -1,0 +1,90 @@
+//! The example of the crate's page.
+
+ghost use Rattle.std.specs.Prelude.{◌≡◌};
+
+use super::config;
+use crate::{BlankHistory, BlankLedgers, Closed, Eight, Identity, Ledgers, NoGate, Pass, Swarm};
+use pool_state::{Config, Listing};
+use std::alloc::Global;
+use std::marker::Brand;
+use std::sync::Wait;
+use std::sync::ledger::Ledger;
+use std::test::*;
+use std::thread::{Threads, join};
+
+/// What a caller does in its thread: it accepts a connection, and lists.
+fn call<J: Identity, L: Ledgers, R: Wait>(
+    rt: &R,
+    swarm: &Swarm<NoGate, J, L>,
+    mut pass: Pass<J, L>,
+) -> (Pass<J, L>, Listing) {
+    swarm.accept(rt, &mut pass);
+    let listing = swarm.list(&mut pass);
+    (pass, listing)
+}
+
+/// A swarm of two callers, from its making to its end.
+fn serve<
+    J: Identity + Send + Sync,
+    L1: Ledger + Send + Sync,
+    L2: Ledger + Send + Sync,
+    L3: Ledger + Send + Sync,
+    L4: Ledger + Send + Sync,
+    L5: Ledger + Send + Sync,
+    L6: Ledger + Send + Sync,
+    L7: Ledger + Send + Sync,
+    L8: Ledger + Send + Sync,
+    R: Threads + Wait + Sync,
+>(
+    rt: &R,
+    alloc: Global,
+    config: Config,
+    history: BlankHistory,
+    ledgers: BlankLedgers,
+) -> Option<(Listing, Closed)>
+    requires history { history ≡ J.book }
+    requires config { config ≡ J.config }
+    requires callers { J.callers ≡ 2 }
+    requires first { (ledgers.first.name ≡ L1.name) × (ledgers.first.parts ≡ L1.parts) }
+    requires second { (ledgers.second.name ≡ L2.name) × (ledgers.second.parts ≡ L2.parts) }
+    requires third { (ledgers.third.name ≡ L3.name) × (ledgers.third.parts ≡ L3.parts) }
+    requires fourth { (ledgers.fourth.name ≡ L4.name) × (ledgers.fourth.parts ≡ L4.parts) }
+    requires fifth { (ledgers.fifth.name ≡ L5.name) × (ledgers.fifth.parts ≡ L5.parts) }
+    requires sixth { (ledgers.sixth.name ≡ L6.name) × (ledgers.sixth.parts ≡ L6.parts) }
+    requires seventh { (ledgers.seventh.name ≡ L7.name) × (ledgers.seventh.parts ≡ L7.parts) }
+    requires eighth { (ledgers.eighth.name ≡ L8.name) × (ledgers.eighth.parts ≡ L8.parts) }
+{
+    let made = Swarm::<NoGate, J, Eight<L1, L2, L3, L4, L5, L6, L7, L8>>::new(
+        rt, alloc, config, 2, NoGate, history, ledgers,
+    );
+    let (swarm, mut passes) = made.ok()?;
+    let (two, one) = (passes.pop()?, passes.pop()?);
+    let shared = &swarm;
+    let ((mut one, _), (mut two, _)) = join(
+        rt,
+        move || call(rt, shared, one),
+        move || call(rt, shared, two),
+    );
+    swarm.meet(rt, &mut one, &mut two);
+    let listing = swarm.list(&mut one);
+    passes.push(one).ok()?;
+    passes.push(two).ok()?;
+    let closed = swarm.close(rt, passes).ok()?;
+    Some((listing, closed))
+}
+
+#[test]
+fn two_threads_accept_and_list(rt: HostRuntime) -> Result<(), Fail> {
+    let served = serve::<Brand, Brand, Brand, Brand, Brand, Brand, Brand, Brand, Brand, _>(
+        &rt,
+        rt.alloc(),
+        config(1)?,
+        BlankHistory::new(),
+        BlankLedgers::new(),
+    );
+    let (listing, closed) = served.ok_or("a swarm")?;
+    assert_eq!(rt; (listing.front, listing.conns.len()), (2, 2));
+    assert_eq!(rt; closed.calls, 2);
+    assert!(rt; closed.listing == listing);
+    Ok(())
+}
