@@ -73,6 +73,11 @@ fn multihashes_of_ids(rt: HostRuntime) {
         &["hash", ZERO_ID],
         "0024080112200000000000000000000000000000000000000000000000000000000000000000",
     );
+    prints(
+        &rt,
+        &["hash", ONES_ID],
+        "002408011220ffffffffffffffffffffffffffffffffffffffffffffffffffffffffffffffff",
+    );
     prints(&rt, &["hash", "bafzaaaa"], "0000");
     refuses(&rt, &["hash", "afzaaaa"], "NotB");
     refuses(&rt, &["hash", "bAFZAAAA"], "NotBase32");
@@ -154,6 +159,29 @@ fn replay_of_refusals_in_order(rt: HostRuntime) {
 }
 
 #[test]
+fn replay_of_admissions_alone(rt: HostRuntime) {
+    let options = [
+        "--conns",
+        "2",
+        "--per-peer",
+        "1",
+        "--streams",
+        "1",
+        "--blocked",
+        "1",
+    ];
+    replays(
+        &rt,
+        &options,
+        "dial @11\ndial @11\naccept\naccept\nsettle 2 @11\nsettle 1 @22\nsettle 1 @11\nsettle 1 @11\ngone 1\ngone 1\ndial @00\nlist\n",
+        "conn 1\nrefused 12 PeerFull\nconn 2\nrefused 11 Full\nrefused 12 PeerFull\nrefused 9 Mismatch\nok\nrefused 5 NotPending\nok\n\
+         refused 3 NoConn\nrefused 8 SelfPeer\nfront 11\nconn 2 listener pending - 0/0 0/0 0/0\nend\n",
+        0,
+        "",
+    );
+}
+
+#[test]
 fn replay_of_blocks_and_hang_ups(rt: HostRuntime) {
     replays(
         &rt,
@@ -173,6 +201,14 @@ fn replay_to_the_last_front_and_the_last_number(rt: HostRuntime) {
         &rt,
         &["--first-front", "18446744073709551614"],
         "dial -\nblock @11\nlist",
+        "conn 1\nrefused 1 Spent\nfront 18446744073709551615\nconn 1 dialer pending - 0/0 0/0 0/0\nend\n",
+        0,
+        "",
+    );
+    replays(
+        &rt,
+        &["--first-front", "18446744073709551614"],
+        "dial -\naccept\nlist\n",
         "conn 1\nrefused 1 Spent\nfront 18446744073709551615\nconn 1 dialer pending - 0/0 0/0 0/0\nend\n",
         0,
         "",
