@@ -107,27 +107,33 @@ impl Listing {
     pub fn copied(&self) -> Listing
         ensures { result ≡ self.now }
     {
-        Listing {
-            front: self.front,
-            conns: copied_rows(&self.conns),
-            blocked: copied_peers(&self.blocked),
-            allowed: copied_peers(&self.allowed),
-        }
+        let mut copy = Listing::new(self.front);
+        copy.copy_from(self);
+        copy
+    }
+
+    /// Becomes equal to the other listing, in place: it costs what the other holds, not what a listing can hold. It takes no
+    /// memory.
+    pub fn copy_from(&mut self, other: &Listing)
+        ensures { self.new ≡ other.now }
+    {
+        self.front = other.front;
+        copy_rows(&mut self.conns, &other.conns);
+        copy_peers(&mut self.blocked, &other.blocked);
+        copy_peers(&mut self.allowed, &other.allowed);
     }
 }
 
-fn copied_rows(rows: &ArrayVec<Row, 256>) -> ArrayVec<Row, 256>
-    ensures { result.items ≡ rows.now.items }
+fn copy_rows(rows: &mut ArrayVec<Row, 256>, other: &ArrayVec<Row, 256>)
+    ensures { rows.new.items ≡ other.now.items }
 {
-    let mut copy = ArrayVec::new();
-    let _fits = copy.try_extend_from_slice(rows.as_slice());
-    copy
+    rows.clear();
+    let _fits = rows.try_extend_from_slice(other.as_slice());
 }
 
-fn copied_peers(peers: &ArrayVec<PeerId, 64>) -> ArrayVec<PeerId, 64>
-    ensures { result.items ≡ peers.now.items }
+fn copy_peers(peers: &mut ArrayVec<PeerId, 64>, other: &ArrayVec<PeerId, 64>)
+    ensures { peers.new.items ≡ other.now.items }
 {
-    let mut copy = ArrayVec::new();
-    let _fits = copy.try_extend_from_slice(peers.as_slice());
-    copy
+    peers.clear();
+    let _fits = peers.try_extend_from_slice(other.as_slice());
 }

@@ -121,7 +121,7 @@ impl<J: Identity, L: Ledgers> Inside<J, L> {
             published.count,
         );
         self.books.audit(&mut pass.tally);
-        pass.kept = published.copied();
+        pass.kept.copy_from(published);
     }
 
     /// Makes a call: asks the pool for its reply, and publishes both in one step.
@@ -162,7 +162,7 @@ impl<J: Identity, L: Ledgers> Inside<J, L> {
         if published {
             self.books.count(&mut pass.tally);
             self.pool.apply(*call);
-            pass.kept = self.writer.published().copied();
+            pass.kept.copy_from(self.writer.published());
         }
         published
     }

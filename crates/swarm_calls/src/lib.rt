@@ -120,6 +120,3 @@ pub use identity::Identity;
 pub use ledgers::{BlankLedgers, Eight, Ledgers};
 pub use pass::Pass;
 pub use swarm::{Closed, Gate, NewRefused, NoGate, Swarm};
-
-#[cfg(test)]
-mod tests;

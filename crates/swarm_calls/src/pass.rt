@@ -12,14 +12,14 @@ use crate::identity::Identity;
 use crate::ledgers::{Ledgers, Tally};
 use crate::rule::{ShowsSwarm, SwarmReader};
 use crate::snapshot::Snapshot;
-use core::mem::replace_with;
 use pool_state::Listing;
 use std::marker::Model;
 
 /// A caller's right to make calls. Contracts see its number and the history that it has seen.
 #[derive(Drop)]
 pub struct Pass<J: Identity, L: Ledgers> {
-    pub(crate) reader: SwarmReader<J>,
+    // It is out of its place only while `list` reads.
+    pub(crate) reader: Option<SwarmReader<J>>,
     pub(crate) tally: Tally<L>,
     pub(crate) kept: Snapshot,
 }
@@ -38,39 +38,35 @@ impl<J: Identity, L: Ledgers> Model for Pass<J, L> {
     ghost invariant = { λ p. IsShown J.book J.config p.kept × (amount_of p.tally ≡ length (mine (caller_of p.tally) p.kept.beginning.log)) × (caller_of p.tally ≤ J.callers) };
 }
 
-// The other snapshot, where it is no shorter and has as many entries of the caller.
-fn newer<J: Identity>(kept: &Snapshot, other: &Snapshot, caller: usize) -> Option<Snapshot>
+// Becomes the other snapshot, where that is longer and has as many entries of the caller.
+fn renew<J: Identity>(kept: &mut Snapshot, other: &Snapshot, caller: usize)
     requires caller { (1 ≤ caller) × (caller ≤ 8) }
-    requires kept { IsShown J.book J.config kept.now }
+    requires kept { IsShown J.book J.config kept.old }
     requires other { IsShown J.book J.config other.now }
-    ensures shown { IfSome result (λ s. IsShown J.book J.config s) }
-    ensures begins { IfSome result (λ s. IsPrefix kept.now.beginning.log s.beginning.log) }
-    ensures own { IfSome result (λ s. mine caller s.beginning.log ≡ mine caller kept.now.beginning.log) }
+    ensures shown { IsShown J.book J.config kept.new }
+    ensures begins { IsPrefix kept.old.beginning.log kept.new.beginning.log }
+    ensures own { mine caller kept.new.beginning.log ≡ mine caller kept.old.beginning.log }
 {
-    if kept.count > other.count || kept.calls[caller - 1] != other.calls[caller - 1] {
-        return None;
+    if kept.count >= other.count || kept.calls[caller - 1] != other.calls[caller - 1] {
+        return;
     }
     kept.beginning.begins(&other.beginning);
-    Some(other.copied())
+    kept.copy_from(other);
 }
 
-// Enters, and gives what is published then, where it is newer than what is kept.
-fn look<J: Identity>(
-    reader: SwarmReader<J>,
-    kept: &Snapshot,
-    caller: usize,
-) -> (SwarmReader<J>, Option<Snapshot>)
+// Enters, and renews what is kept by what is published then.
+fn look<J: Identity>(reader: SwarmReader<J>, kept: &mut Snapshot, caller: usize) -> SwarmReader<J>
     requires caller { (1 ≤ caller) × (caller ≤ 8) }
-    requires kept { IsShown J.book J.config kept.now }
-    ensures shown { IfSome result.1 (λ s. IsShown J.book J.config s) }
-    ensures begins { IfSome result.1 (λ s. IsPrefix kept.now.beginning.log s.beginning.log) }
-    ensures own { IfSome result.1 (λ s. mine caller s.beginning.log ≡ mine caller kept.now.beginning.log) }
+    requires kept { IsShown J.book J.config kept.old }
+    ensures shown { IsShown J.book J.config kept.new }
+    ensures begins { IsPrefix kept.old.beginning.log kept.new.beginning.log }
+    ensures own { mine caller kept.new.beginning.log ≡ mine caller kept.old.beginning.log }
 {
     match reader.enter_as::<ShowsSwarm<J>>() {
-        Err(reader) => (reader, None),
+        Err(reader) => reader,
         Ok(reading) => {
-            let newer = newer::<J>(kept, reading.get(), caller);
-            (reading.leave(), newer)
+            renew::<J>(kept, reading.get(), caller);
+            reading.leave()
         }
     }
 }
@@ -98,11 +94,8 @@ impl<J: Identity, L: Ledgers> Pass<J, L> {
         ensures shown { result ≡ Shown J.config self.new.seen }
     {
         let caller = self.tally.caller();
-        let newer = replace_with(&mut self.reader, &self.kept, |reader, kept| {
-            look(reader, kept, caller)
-        });
-        if let Some(newer) = newer {
-            self.kept = newer;
+        if let Some(reader) = self.reader.take() {
+            self.reader = Some(look(reader, &mut self.kept, caller));
         }
         self.kept.listing.copied()
     }

@@ -48,6 +48,16 @@ impl Snapshot {
         }
     }
 
+    /// Becomes equal to the other snapshot, in place. It takes no memory.
+    pub fn copy_from(&mut self, other: &Snapshot)
+        ensures { self.new ≡ other.now }
+    {
+        self.beginning = other.beginning.copied();
+        self.count = other.count;
+        self.listing.copy_from(&other.listing);
+        self.calls = other.calls;
+    }
+
     /// The front of the listing.
     pub fn front(&self) -> u64
         ensures is { result ≡ self.now.listing.front }

@@ -370,7 +370,7 @@ fn seat<J: Identity, L: Ledgers>(
         return Err(NewRefused::NoPlace);
     };
     let pass = Pass {
-        reader,
+        reader: Some(reader),
         tally,
         kept: shown.copied(),
     };

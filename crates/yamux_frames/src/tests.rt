@@ -3,7 +3,7 @@
 use super::*;
 
 /// A frame of the table: its bytes, and what they spell.
-fn headers() -> [([u8; 12], Header); 4] {
+fn headers() -> [([u8; 12], Header); 6] {
     [
         (
             [0, 1, 0, 1, 0, 0, 0, 1, 0, 0, 0, 0],
@@ -30,6 +30,24 @@ fn headers() -> [([u8; 12], Header); 4] {
                 flags: Header::ACK,
                 stream: 0,
                 length: 7,
+            },
+        ),
+        (
+            [0, 0, 0, 4, 0, 0, 0, 2, 0, 0, 0, 0],
+            Header {
+                kind: FrameKind::Payload,
+                flags: Header::FIN,
+                stream: 2,
+                length: 0,
+            },
+        ),
+        (
+            [0, 1, 0, 8, 0, 0, 0, 2, 0, 0, 0, 0],
+            Header {
+                kind: FrameKind::Window,
+                flags: Header::RST,
+                stream: 2,
+                length: 0,
             },
         ),
         (

@@ -1,6 +1,6 @@
 //! A whole session, from its first call to its last.
 
-ghost use Rattle.std.specs.Prelude.{◌≡◌, ℕ, List, IfOk, Ok, Err};
+ghost use Rattle.std.specs.Prelude.{◌≡◌, ◌<◌, ℕ, List, IfOk, OnErr, Ok, Err, length};
 ghost use Rattle.yamux_session.specs.declared.event.Role.{Role};
 ghost use Rattle.yamux_session.specs.Runs.{Point, IsAt, Answers, Runs, done_or};
 
@@ -88,7 +88,8 @@ fn perform(session: &mut Session, act: &Act) -> ActAnswer
 
 /// Makes these calls of a new session, in order. [`AllocError`] is answered only where the list of answers couldn't grow.
 pub fn run(alloc: Global, role: Role, acts: &[Act]) -> Result<Ran, AllocError>
-    ensures { IfOk result (λ ran. Runs role acts.now ran.answers.items ran.output.items) }
+    ensures ran { IfOk result (λ ran. Runs role acts.now ran.answers.items ran.output.items) }
+    ensures memory { OnErr result (0 < length acts.now) }
 {
     let mut session = Session::new(alloc, role);
     let mut answers = Vec::new(alloc);

@@ -6,7 +6,7 @@ ghost use Rattle.yamux_session.specs.Items.{Item, Act};
 ghost use Rattle.yamux_session.specs.Items.Item.{Came, Did};
 ghost use Rattle.yamux_session.specs.Items.Act.{Start, Write, Take, Close, Reset, Leave};
 ghost use Rattle.yamux_session.specs.Acts.{open_credit, start_refusal, stream_refusal, direction_refusal, IsRefusedFor, IsPiece};
-ghost use Rattle.yamux_session.specs.Windows.{credit, untaken};
+ghost use Rattle.yamux_session.specs.Windows.{credit, given_back, untaken};
 ghost use Rattle.yamux_session.specs.Meaning.{data_frame, frame};
 ghost use Rattle.yamux_frames.specs.Frames.{EndsWithin};
 ghost use Rattle.yamux_session.specs.Arrives.{Tells, HasData};
@@ -80,6 +80,25 @@ fn data_frames(alloc: Global, stream: u32, bytes: &[u8]) -> Result<Vec<u8>, Allo
         at += count;
     }
     Ok(frames)
+}
+
+/// Appends the frames that carry these bytes. Where there are none it takes no memory.
+fn append_data(
+    alloc: Global,
+    output: &mut Vec<u8>,
+    stream: u32,
+    bytes: &[u8],
+) -> Result<(), AllocError>
+    ensures ok { OnOk result ((pieces : List (List ℕ)) × AllByRecursion IsPiece pieces × (concat pieces ≡ bytes.now)
+        × (output.new.items ≡ output.old.items ++ flat_map (data_frame stream) pieces)) }
+    ensures err { OnErr result (output.new.items ≡ output.old.items) }
+    ensures memory { OnErr result (0 < length bytes.now) }
+{
+    if bytes.is_empty() {
+        return Ok(());
+    }
+    let frames = data_frames(alloc, stream, bytes)?;
+    output.extend_from_slice(&frames)
 }
 
 impl Session {
@@ -175,6 +194,9 @@ impl Session {
         ensures count { IfOk result (λ count. Whenever self.old (λ role past. count ≡ min (length bytes.now) (credit role past stream))) }
         ensures refused { IfErr result (λ refused.
             Whenever self.old (λ role past. IsRefusedFor (direction_refusal role past stream) refused)) }
+        // Memory is asked for only where bytes go through.
+        ensures memory { IfErr result (λ refused. refused ≡ ActRefused.OutOfMemory
+            → Whenever self.old (λ role past. 0 < min (length bytes.now) (credit role past stream))) }
         ensures err { OnErr result (self.new ≡ self.old) }
         ensures failed { self.old.failed ≡ true → (result ≡ Err ActRefused.Failed) × (self.new ≡ self.old) }
     {
@@ -193,12 +215,9 @@ impl Session {
         } else {
             credit
         };
-        let frames = match data_frames(self.alloc, stream, &bytes[..count]) {
-            Ok(frames) => frames,
+        match append_data(self.alloc, &mut self.output, stream, &bytes[..count]) {
+            Ok(()) => {}
             Err(_) => return Err(ActRefused::OutOfMemory),
-        };
-        if self.output.extend_from_slice(&frames).is_err() {
-            return Err(ActRefused::OutOfMemory);
         }
         let row = Stream {
             credit: row.credit - count as u32,
@@ -213,6 +232,9 @@ impl Session {
         ensures ok { OnOk result (Adds self.old self.new (λ role past. Take stream (min count (untaken role past stream)))) }
         ensures refused { IfErr result (λ refused.
             Whenever self.old (λ role past. IsRefusedFor (stream_refusal role past stream) refused)) }
+        // Memory is asked for only where something is given back.
+        ensures memory { IfErr result (λ refused. refused ≡ ActRefused.OutOfMemory → Whenever self.old (λ role past.
+            0 < given_back role stream past (Did (Take stream (min count (untaken role past stream)))))) }
         ensures err { OnErr result (self.new ≡ self.old) }
         ensures failed { self.old.failed ≡ true → (result ≡ Err ActRefused.Failed) × (self.new ≡ self.old) }
     {
@@ -334,10 +356,14 @@ impl Session {
         ensures filled { IfOk result (λ told. Whenever self.old (λ role past. AllByRecursion HasData told.items)) }
         ensures refused { IfErr result (λ refused. self.old.failed ≡ false
             → (refused ≡ ActRefused.OutOfMemory) × (self.new.failed ≡ true) × RunsOut self.old bytes.now self.new) }
+        ensures memory { OnErr result (self.old.failed ≡ false → 0 < length bytes.now) }
         ensures failed { self.old.failed ≡ true → (result ≡ Err ActRefused.Failed) × (self.new ≡ self.old) }
     {
         if self.failed {
             return Err(ActRefused::Failed);
+        }
+        if bytes.is_empty() {
+            return self.feed_shared(Bytes::new());
         }
         match Bytes::copy_from_slice(self.alloc, bytes) {
             Ok(piece) => self.feed_shared(piece),
@@ -354,6 +380,7 @@ impl Session {
         ensures filled { IfOk result (λ told. Whenever self.old (λ role past. AllByRecursion HasData told.items)) }
         ensures refused { IfErr result (λ refused. self.old.failed ≡ false
             → (refused ≡ ActRefused.OutOfMemory) × (self.new.failed ≡ true) × RunsOut self.old piece self.new) }
+        ensures memory { OnErr result (self.old.failed ≡ false → 0 < length piece) }
         ensures failed { self.old.failed ≡ true → (result ≡ Err ActRefused.Failed) × (self.new ≡ self.old) }
     {
         self.feed_piece(&piece)
@@ -364,6 +391,7 @@ impl Session {
         ensures filled { IfOk result (λ told. Whenever self.old (λ role past. AllByRecursion HasData told.items)) }
         ensures refused { IfErr result (λ refused. self.old.failed ≡ false
             → (refused ≡ ActRefused.OutOfMemory) × (self.new.failed ≡ true) × RunsOut self.old piece.now self.new) }
+        ensures memory { OnErr result (self.old.failed ≡ false → 0 < length piece.now) }
         ensures failed { self.old.failed ≡ true → (result ≡ Err ActRefused.Failed) × (self.new ≡ self.old) }
     {
         if self.failed {

@@ -32,6 +32,32 @@ fn payload_outlives_the_session(rt: HostRuntime) -> Result<(), Fail> {
 }
 
 #[test]
+fn numbers_of_faults_and_refusals(rt: HostRuntime) {
+    let faults = [
+        Fault::BadFrame,
+        Fault::WrongParity,
+        Fault::DuplicateStream,
+        Fault::WindowExceeded,
+        Fault::WindowTooLarge,
+    ];
+    for (index, fault) in faults.iter().enumerate() {
+        assert_eq!(rt; *fault as usize, index + 1);
+    }
+    let refusals = [
+        ActRefused::Failed,
+        ActRefused::NoStream,
+        ActRefused::Ended,
+        ActRefused::GoneAway,
+        ActRefused::StreamsExhausted,
+        ActRefused::StreamsFull,
+        ActRefused::OutOfMemory,
+    ];
+    for (index, refused) in refusals.iter().enumerate() {
+        assert_eq!(rt; *refused as usize, index + 1);
+    }
+}
+
+#[test]
 fn whole_run(rt: HostRuntime) -> Result<(), Fail> {
     let acts = vec![in rt.alloc();
         Act::Start,

@@ -41,7 +41,7 @@ invariant_of-pass g c =
     let shown : IsShown g.J.Identity.book g.J.Identity.config c.replace_with-published.new.dest.desk.shown.value = search rules in
     let after : c.replace_with-published.new.dest.desk.shown.value.beginning ≡ beginning g.J.Identity.book (h ++ made ∷ []) = search rules in
     let longer : c.replace_with-published.new.dest.desk.shown.value.beginning.log ≡ h ++ made ∷ [] = ap (λ (b : Beginning). b.log) after in
-    let all : c.copied.result ≡ c.replace_with-published.new.dest.desk.shown.value = c.copied.ensures ∙ c.published.ensures in
+    let all : c.copy_from.new.self ≡ c.replace_with-published.new.dest.desk.shown.value = c.copy_from.ensures ∙ c.published.ensures in
     let seen : c.pass.inside.kept.beginning.log ≡ h = ap (λ (p : Past). p.seen) c.pass.view_is ∙ (c.requires.seen ∙ sym c.self.view_is) in
     let one_more : length (mine made.caller (h ++ made ∷ [])) ≡ length (mine made.caller h) + 1 = ap length (mine_snoc h made) ∙ length-append (mine made.caller h) (made ∷ []) in
     (rw all shown, rw (all, longer, c.count.ensures.caller, c.count.ensures.amount, one_more, ← seen) (ap (λ n. n + 1) c.pass.invariant.1), rw c.count.ensures.caller c.pass.invariant.2)

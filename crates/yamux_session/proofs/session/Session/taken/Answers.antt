@@ -1,6 +1,7 @@
-use Rattle.std.proofs.Common.{◌≡◌, ℕ, ◌+◌, ◌-◌, ◌≤◌, Some, not, min, refl, sym, ap, ◌∙◌, subst, arith}
+use Rattle.std.proofs.Common.{◌≡◌, ◌<◌, ℕ, ◌+◌, ◌-◌, ◌≤◌, Some, not, min, refl, sym, ap, ◌∙◌, subst, arith}
 use Rattle.yamux_session.specs.Items.Act.{Take}
-use Rattle.yamux_session.specs.Windows.{given_of, untaken}
+use Rattle.yamux_session.specs.Items.Item.{Did}
+use Rattle.yamux_session.specs.Windows.{given_back, given_of, untaken}
 use Rattle.yamux_session.specs.Table.{table_of}
 use Rattle.yamux_session.specs.State.{State, Stands}
 use Rattle.yamux_session.proofs.Refusals.{no_stream, a_stream, appended, row_of, untaken_is}
@@ -69,3 +70,24 @@ returns-clause-ok c = λ role past fed sent stands.
     (λ m. refl) (quiet _) refl refl)
     refl c.if-self.false
     (appended _ _ _ _ _ c.extend_from_slice.ensures.items (c.is_err.ensures.negation ∙ ap not c.if-is_err.false) (c.frame_bytes-frame.ensures ∙ given_sent role past n k g (giving role past n k g c.in-Some.row row.1 all) many)))
+
+pub returns-then-is_err-clause-memory : goal.returns-then-is_err-clause-memory
+returns-then-is_err-clause-memory c = λ why role past fed sent stands.
+    let at = subst (λ (s : State). Stands role past fed sent s) (sym c.self.view_is) stands in
+    let n : ℕ = c.args.stream in
+    let k : ℕ = c.if-count-row.count in
+    let g : ℕ = c.saturating_add-owed.result in
+    let found = sym c.row.ensures ∙ c.in-Some.is in
+    let row = row_of role past (table_of c.self.inside.streams) n (Some c.in-Some.row) at.table found in
+    let bound = row.1.bound in
+    let there = untaken_is role past n c.in-Some.row row.1 in
+    let size : (k ≤ c.in-Some.row.untaken) × (k ≡ min c.args.count (untaken role past n)) = elim c.if-count-row.branch [
+      | goal.then-count-row w ↦ let e = w.count-is in let less = w.if-count-row.true in (omega arith, omega arith)
+      | goal.else-count-row w ↦ let e = w.count-is in let more = w.if-count-row.false in (omega arith, omega arith)
+    ] in
+    let fits = size.0 in
+    let sum : g ≡ c.in-Some.row.owed + k = (let e = c.saturating_add-owed.ensures in omega arith) in
+    let many : 131072 ≤ g = c.if-owed-lt-GIVE_BACK_FROM.false in
+    let all : given_of c.in-Some.row.finished (c.in-Some.row.owed + k) ≡ g = all_given c.in-Some.row.finished (c.in-Some.row.owed + k) c.if-row.false (omega arith) ∙ sym sum in
+    let some : 0 < g = omega arith in
+    subst (λ j. 0 < given_back role n past (Did (Take n j))) size.1 (subst (λ t. 0 < t) (sym (giving role past n k g c.in-Some.row row.1 all)) some)

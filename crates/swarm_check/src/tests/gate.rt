@@ -1,6 +1,6 @@
 //! A gate that holds caller 1 while another lists.
 
-use crate::Gate;
+use swarm_calls::Gate;
 use std::rt::Clock;
 use std::sync::Wait;
 use std::sync::atomic::{AtomicU64, Ordering};

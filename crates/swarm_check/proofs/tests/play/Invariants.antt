@@ -1,4 +1,4 @@
-use Rattle.swarm_calls.proofs.tests.threads.play.Given as goal
+use Rattle.swarm_check.proofs.tests.play.Given as goal
 
 abbrev pub ghosts-run-J-Identity : goal.ghosts-run-J-Identity
 ghosts-run-J-Identity g a = record { book = a.history; config = a.config; callers = a.callers }

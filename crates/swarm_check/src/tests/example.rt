@@ -3,7 +3,7 @@
 ghost use Rattle.std.specs.Prelude.{◌≡◌};
 
 use super::config;
-use crate::{BlankHistory, BlankLedgers, Closed, Eight, Identity, Ledgers, NoGate, Pass, Swarm};
+use swarm_calls::{BlankHistory, BlankLedgers, Closed, Eight, Identity, Ledgers, NoGate, Pass, Swarm};
 use pool_state::{Config, Listing};
 use std::alloc::Global;
 use std::marker::Brand;

@@ -2,7 +2,7 @@
 //! listing shows that pool after a beginning of the history.
 
 use super::make;
-use crate::{Gate, Identity, Ledgers, Pass, Swarm};
+use swarm_calls::{Gate, Identity, Ledgers, Pass, Swarm};
 use peer_ids::PeerId;
 use pool_state::{Call, Config, Listing, Pool, Reply};
 use std::alloc::{AllocError, Global};

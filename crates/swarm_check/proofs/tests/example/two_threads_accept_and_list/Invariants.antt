@@ -1,4 +1,4 @@
-use Rattle.swarm_calls.proofs.tests.example.two_threads_accept_and_list.Given as goal
+use Rattle.swarm_check.proofs.tests.example.two_threads_accept_and_list.Given as goal
 
 abbrev pub ghosts-serve-J-Identity : goal.ghosts-serve-J-Identity
 ghosts-serve-J-Identity g a = record { book = a.history; config = a.config; callers = 2 }

@@ -1,7 +1,7 @@
 //! Worked rows.
 
 use super::{Script, config, make, peer, play, proven};
-use crate::{Identity, Ledgers, NewRefused, NoGate, Pass, Swarm};
+use swarm_calls::{Identity, Ledgers, NewRefused, NoGate, Pass, Swarm};
 use plaintext_x::Proven;
 use pool_state::{Agent, Call, Config, ConnSide, Phase, Pool, Refusal, Reply, Row};
 use std::alloc::Global;

@@ -5,7 +5,7 @@ ghost use Rattle.std.specs.Prelude.{◌≡◌};
 use super::crowd::{History, run_caller};
 use super::gate::{ENOUGH, HoldFirst, Watch};
 use super::{config, peer};
-use crate::{BlankHistory, BlankLedgers, Eight, Gate, Identity, Ledgers, Pass, Swarm};
+use swarm_calls::{BlankHistory, BlankLedgers, Eight, Gate, Identity, Ledgers, Pass, Swarm};
 use peer_ids::PeerId;
 use pool_state::{Config, Refusal, Reply};
 use std::alloc::Global;

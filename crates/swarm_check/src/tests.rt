@@ -6,7 +6,7 @@ mod gate;
 mod rows;
 mod threads;
 
-use crate::{
+use swarm_calls::{
     BlankHistory, BlankLedgers, Eight, Gate, Identity, Ledgers, NewRefused, NoGate, Pass, Swarm,
 };
 use peer_ids::{PeerId, PublicKey};
