@@ -66,11 +66,11 @@ impl Dialer {
         ensures bad_length { (result ≡ Err SelectFault.BadLength) ↔ ¬ All (λ name. IsName name.now) names.now }
         ensures checked { OnOk result (All (λ name. IsName name.now) names.now) }
         ensures fault { IfErr result (λ fault. (fault ≡ SelectFault.BadLength) ⊎ (fault ≡ SelectFault.OutOfMemory)) }
+        ensures memory { OnErr result (0 < length names.now) }
     {
-        let names = checked_names(alloc, names)?;
         if names.is_empty() {
             return Ok(Dialer {
-                names,
+                names: Vec::new(alloc),
                 begun: false,
                 refusals: 0,
                 held: Vec::new(alloc),
@@ -79,6 +79,7 @@ impl Dialer {
                 alloc,
             });
         }
+        let names = checked_names(alloc, names)?;
         let output = first_proposal(alloc, name_at(&names, 0))?;
         Ok(Dialer {
             names,

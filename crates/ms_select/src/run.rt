@@ -1,6 +1,6 @@
 //! Whole negotiations, from the first byte on.
 
-ghost use Rattle.std.specs.Prelude.{◌≡◌, ◌≢◌, ℕ, List, length, map, Ok, Err, IfOk, IfErr};
+ghost use Rattle.std.specs.Prelude.{◌≡◌, ◌≢◌, ◌<◌, ℕ, List, length, map, Ok, Err, IfOk, IfErr, OnErr};
 ghost use Rattle.std.specs.List.{All, flat_map};
 ghost use Rattle.ms_select.specs.Listening.{IsName, Listens};
 ghost use Rattle.ms_select.specs.Dialing.{Dials};
@@ -43,6 +43,7 @@ pub fn dial(alloc: Global, names: &[&str], pieces: &[&[u8]]) -> Result<Talk, Sel
     ensures fault { IfErr result (λ fault. fault ≢ SelectFault.OutOfMemory → All (λ name. IsName name.now) names.now
         → (output : List ℕ) × Dials (map (λ name. name.now) names.now) (flat_map (λ piece. piece.now) pieces.now) (Err fault) (length (flat_map (λ piece. piece.now) pieces.now)) output) }
     ensures bad_length { ¬ All (λ name. IsName name.now) names.now → result ≡ Err SelectFault.BadLength }
+    ensures memory { OnErr result (0 < length names.now) }
 {
     let mut dialer = Dialer::new(alloc, names)?;
     let mut answer = if names.is_empty() {

@@ -296,3 +296,18 @@ fn whole_talks_of_two_ends(rt: HostRuntime) -> Result<(), Fail> {
     );
     Ok(())
 }
+
+#[test]
+fn numbers_of_faults(rt: HostRuntime) {
+    let faults = [
+        SelectFault::Failed,
+        SelectFault::BadLength,
+        SelectFault::NoNewline,
+        SelectFault::BadHeader,
+        SelectFault::NotProposed,
+        SelectFault::OutOfMemory,
+    ];
+    for (index, fault) in faults.iter().enumerate() {
+        assert_eq!(rt; *fault as usize, index + 1);
+    }
+}

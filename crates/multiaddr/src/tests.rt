@@ -194,3 +194,17 @@ fn sockets_and_peers(rt: HostRuntime) -> Result<(), Fail> {
     assert_eq!(rt; parsed(&rt, with_peer.as_str())?.bytes().len(), 49);
     Ok(())
 }
+
+#[test]
+fn numbers_of_faults(rt: HostRuntime) {
+    let faults = [
+        AddrFault::Empty,
+        AddrFault::UnknownProtocol,
+        AddrFault::Cut,
+        AddrFault::BadValue,
+        AddrFault::OutOfMemory,
+    ];
+    for (index, fault) in faults.iter().enumerate() {
+        assert_eq!(rt; *fault as usize, index + 1);
+    }
+}

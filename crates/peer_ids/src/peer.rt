@@ -257,9 +257,12 @@ impl PartialOrd for PeerId {
 /// Prints the text of the id.
 impl fmt::Display for PeerId {
     ghost use Rattle.std.specs.Prelude.{Some};
+    ghost use Rattle.std.specs.Fmt.{styled_text};
     ghost use Rattle.peer_ids.specs.Base32.{id_text};
 
     ghost output = { λ id. Some (id_text id) };
+
+    ghost styled_output = { λ id s. Some (styled_text s (id_text id)) };
 
     fn fmt<W: fmt::Write>(&self, f: &mut fmt::Formatter<W>) -> fmt::Result {
         f.pad(self.text().as_str())

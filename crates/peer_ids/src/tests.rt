@@ -172,7 +172,8 @@ fn faults_of_texts(rt: HostRuntime) {
 
 #[test]
 fn faults_of_bytes(rt: HostRuntime) {
-    let identity_of_43 = [43; 45];
+    let mut identity_of_43 = [43; 45];
+    identity_of_43[0] = 0;
     let rows: [&[u8]; 6] = [
         &[],
         &[0x00],
@@ -185,4 +186,45 @@ fn faults_of_bytes(rt: HostRuntime) {
         assert_eq!(rt; PeerId::from_bytes(bytes), Err(IdFault::BadHash));
     }
     assert!(rt; PeerId::from_bytes(&[0x00, 0x00]).is_ok());
+}
+
+#[test]
+fn ids_of_every_length_are_printed(rt: HostRuntime) -> Result<(), Fail> {
+    let mut multihash = [0; 44];
+    for length in 0..43u8 {
+        multihash[1] = length;
+        let id = PeerId::from_bytes(&multihash[..usize::from(length) + 2])
+            .ok()
+            .ok_or("a multihash")?;
+        let text = id.to_text(rt.alloc())?;
+        assert_eq!(rt; format!(in rt.alloc(); "{id}")?, text, "{length} bytes");
+        assert_eq!(rt; text.as_str().parse::<PeerId>(), Ok(id), "{length} bytes");
+    }
+    Ok(())
+}
+
+#[test]
+fn numbers_of_faults(rt: HostRuntime) {
+    let of_keys = [
+        KeyFault::Wire,
+        KeyFault::NoType,
+        KeyFault::NoData,
+        KeyFault::UnknownType,
+        KeyFault::BadLength,
+        KeyFault::OutOfMemory,
+    ];
+    for (index, fault) in of_keys.iter().enumerate() {
+        assert_eq!(rt; *fault as usize, index + 1);
+    }
+    let of_ids = [
+        IdFault::NotB,
+        IdFault::NotBase32,
+        IdFault::BadLength,
+        IdFault::TrailingBits,
+        IdFault::BadPrefix,
+        IdFault::BadHash,
+    ];
+    for (index, fault) in of_ids.iter().enumerate() {
+        assert_eq!(rt; *fault as usize, index + 1);
+    }
 }

@@ -129,3 +129,20 @@ fn a_whole_exchange(rt: HostRuntime) -> Result<(), Fail> {
     assert_eq!(rt; proven.peer().as_bytes(), ID);
     Ok(())
 }
+
+#[test]
+fn numbers_of_faults(rt: HostRuntime) {
+    let faults = [
+        ExchangeFault::Failed,
+        ExchangeFault::TooLong,
+        ExchangeFault::Wire,
+        ExchangeFault::NoId,
+        ExchangeFault::NoKey,
+        ExchangeFault::BadKey,
+        ExchangeFault::Differs,
+        ExchangeFault::OutOfMemory,
+    ];
+    for (index, fault) in faults.iter().enumerate() {
+        assert_eq!(rt; *fault as usize, index + 1);
+    }
+}

@@ -1,5 +1,5 @@
 -- What a pass and the lock know of one history.
-use Rattle.std.proofs.Common.{◌≡◌, ◌≢◌, ◌⊎◌, inl, inr, ⊎_elim, ℕ, zero, suc, ◌+◌, ◌-◌, ◌≤◌, ◌<◌, ◌^◌, ◌↔◌, List, [], ◌∷◌, ◌++◌, length, slice_index, slice_set, refl, ap, sym, ◌∙◌, arith, subst, min, append_assoc, All}
+use Rattle.std.proofs.Common.{◌≡◌, ◌≢◌, inl, inr, ⊎_elim, ℕ, zero, suc, ◌+◌, ◌-◌, ◌≤◌, ◌<◌, ◌^◌, List, [], ◌∷◌, ◌++◌, length, slice_index, slice_set, refl, ap, sym, ◌∙◌, arith, subst, min, append_assoc, All}
 use Rattle.std.proofs.lemmas.List.{append-nil}
 use mathlib.Core.List.{IsPrefix}
 use Rattle.logbook.specs.Pages.{Book}
@@ -19,7 +19,7 @@ use Rattle.swarm_calls.specs.Ledgers.{caller_of}
 use Rattle.swarm_calls.specs.History.{mine, IsOf, Counts}
 use Rattle.swarm_calls.specs.Snapshots.{IsShown}
 use Rattle.swarm_calls.specs.Locked.{IsLocked}
-use Rattle.swarm_calls.specs.Calls.{Past, past, Later, SameCalls, IsMade, IsTurnedAway, IsCalled, newcomers}
+use Rattle.swarm_calls.specs.Calls.{Past, past, Later, SameCalls, IsTurnedAway, IsCalled, newcomers}
 use Rattle.swarm_calls.proofs.Legal.{legal_snoc, mine_same, mine_snoc, counts_snoc, counts_nil, of_snoc, of_nil}
 use Rattle.swarm_calls.proofs.Prefixes.{prefix_trans}
 use Rattle.swarm_calls.proofs.Replies.{spent_at_last, never_out_of_memory, unspent_below}

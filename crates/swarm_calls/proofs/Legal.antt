@@ -1,19 +1,15 @@
 -- Laws of legal histories and of each caller's calls in them.
-use Rattle.std.proofs.Common.{◌≡◌, ◌≢◌, ◌<◌, ◌≤◌, ℕ, zero, suc, ◌+◌, ◌-◌, ◌==◌, cond, Bool, true, false, List, [], ◌∷◌, ◌++◌, length, slice_index, slice_set, refl, ap, sym, subst, ◌∙◌, arith, length-append, append_assoc, All}
-use Rattle.std.specs.List.{filter}
+use Rattle.std.proofs.Common.{◌≡◌, ◌≢◌, ◌<◌, ◌≤◌, ℕ, zero, suc, ◌+◌, ◌-◌, ◌==◌, cond, Bool, true, false, List, [], ◌∷◌, ◌++◌, length, slice_index, slice_set, refl, ap, sym, subst, ◌∙◌, arith, length-append, append_assoc}
 use Rattle.std.proofs.lemmas.Bool.Decides.{nat_tests}
 use Rattle.std.proofs.lemmas.List.Elements.{All-append, All-cons, All-nil, All-head, All-tail}
 use Rattle.std.proofs.lemmas.Grind.{get_or-set_at}
 use Rattle.std.proofs.lemmas.List.{append-nil, get_or-set_other, length-set}
 use mathlib.Core.List.{IsPrefix}
-use Rattle.pool_state.specs.declared.call.Call.{Call}
-use Rattle.pool_state.specs.declared.call.Reply.{Reply}
 use Rattle.pool_state.specs.declared.call.Reply.TheVariants.{Refused}
 use Rattle.pool_state.specs.declared.call.Refusal.TheVariants.{Spent}
 use Rattle.pool_state.specs.declared.limits.Config.{Config}
 use Rattle.pool_state.specs.History.{Entry}
 use Rattle.pool_state.specs.Shown.{IsLegal, IsLegalAfter, reply_after}
-use Rattle.pool_state.specs.Added.{more, more_at}
 use Rattle.swarm_calls.specs.History.{mine, IsOf, calls_of, Counts}
 
 pub legal_after_snoc : (config : Config) (before h : List Entry) (e : Entry) → IsLegalAfter config before h → e.reply ≡ reply_after config (before ++ h) e.call → e.reply ≢ Refused Spent → IsLegalAfter config before (h ++ e ∷ [])

@@ -1,5 +1,5 @@
 -- A pool answers Spent at the last front alone, and never OutOfMemory.
-use Rattle.std.proofs.Common.{◌≡◌, ◌≢◌, ◌<◌, ◌≤◌, ◌^◌, ◌-◌, ℕ, Bool, true, false, ◌&&◌, nat_le, if◌then◌else◌, List, [], ◌∷◌, Option, Some, None, refl, ap, sym, ◌∙◌, arith, subst, ◌⊎◌, inl, inr, ⊎_elim}
+use Rattle.std.proofs.Common.{◌≡◌, ◌≢◌, ◌<◌, ◌≤◌, ◌^◌, ◌-◌, ℕ, Bool, true, false, ◌&&◌, nat_le, if◌then◌else◌, List, [], ◌∷◌, Option, Some, None, refl, arith, subst, ◌⊎◌, inl, inr, ⊎_elim}
 use Rattle.std.proofs.lemmas.Bool.Decides.{nat_tests}
 use Rattle.pool_state.specs.declared.call.Call.{Call}
 use Rattle.pool_state.specs.declared.call.Call.TheVariants as call
@@ -9,7 +9,7 @@ use Rattle.pool_state.specs.declared.call.Refusal.{Refusal}
 use Rattle.pool_state.specs.declared.call.Refusal.TheVariants.{Spent, OutOfMemory}
 use Rattle.pool_state.specs.declared.limits.Config.{Config}
 use Rattle.pool_state.specs.declared.listing.Listing.{Listing}
-use Rattle.pool_state.specs.Table.{may_refuse, answer, first_that_holds, refused_or, reply_to, number_of}
+use Rattle.pool_state.specs.Table.{may_refuse, answer, first_that_holds, refused_or, number_of}
 use Rattle.pool_state.specs.History.{Entry, front_of, next_number}
 use Rattle.pool_state.specs.Shown.{Shown, reply_after}
 

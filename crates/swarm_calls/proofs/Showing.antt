@@ -1,5 +1,5 @@
 -- What is shown, and what lies under the lock, after one entry more.
-use Rattle.std.proofs.Common.{◌≡◌, ◌≢◌, ◌<◌, ◌≤◌, ◌^◌, ℕ, ◌+◌, ◌-◌, ◌==◌, nat_lt, if◌then◌else◌, Bool, true, false, List, [], ◌∷◌, ◌++◌, length, slice_index, slice_set, Option, Some, None, fold, refl, ap, sym, subst, ◌∙◌, arith, length-append}
+use Rattle.std.proofs.Common.{◌≡◌, ◌≢◌, ◌<◌, ◌≤◌, ◌^◌, ℕ, ◌+◌, ◌-◌, nat_lt, Bool, true, false, List, [], ◌∷◌, ◌++◌, length, slice_index, Option, Some, None, fold, refl, ap, sym, subst, ◌∙◌, arith, length-append}
 use Rattle.std.proofs.lemmas.Bool.Decides.{nat_tests}
 use Rattle.logbook.specs.Pages.{Book}
 use Rattle.pool_state.specs.declared.call.Call.{Call}
@@ -8,13 +8,12 @@ use Rattle.pool_state.specs.declared.call.Reply.TheVariants.{Refused}
 use Rattle.pool_state.specs.declared.call.Refusal.TheVariants.{Spent}
 use Rattle.pool_state.specs.declared.limits.Config.{Config}
 use Rattle.pool_state.specs.declared.listing.Listing.{Listing}
-use Rattle.pool_state.specs.History.{Entry, entry, front_of}
+use Rattle.pool_state.specs.History.{Entry, entry}
 use Rattle.pool_state.specs.Shown.{Shown, IsLegal, reply_after}
-use Rattle.pool_state.specs.Added.{added, more, more_at}
+use Rattle.pool_state.specs.Added.{added, more}
 use Rattle.swarm_calls.specs.declared.snapshot.Snapshot.{Snapshot}
 use Rattle.swarm_calls.specs.declared.addition.Addition.{Addition}
 use Rattle.swarm_calls.specs.Steps.{beginning}
-use Rattle.swarm_calls.specs.History.{mine, Counts}
 use Rattle.swarm_calls.specs.Snapshots.{IsShown, absorbed}
 use Rattle.swarm_calls.proofs.Legal.{legal_snoc, counts_snoc, mine_le}
 use Rattle.swarm_calls.proofs.Replies.{unspent_below}

@@ -1,5 +1,5 @@
 -- What is published, and what it shows.
-use Rattle.std.specs.Prelude.{◌≡◌, ℕ, ◌-◌, List, [], length, Option, Some, None}
+use Rattle.std.specs.Prelude.{◌≡◌, ◌-◌, length, Option, Some, None}
 use Rattle.logbook.specs.Pages.{Book}
 use Rattle.pool_state.specs.declared.limits.Config.{Config}
 use Rattle.pool_state.specs.Added.{added, more, more_at}

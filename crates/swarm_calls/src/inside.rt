@@ -1,6 +1,7 @@
 //! What lies under the swarm's lock.
 
 ghost use Rattle.std.specs.Prelude.{◌≡◌, ◌≢◌, ◌+◌, ◌<◌, ◌≤◌, ◌^◌, ◌++◌, ◌∷◌, [], drop, length, true, false};
+ghost use mathlib.Core.List.{IsPrefix};
 ghost use Rattle.pool_state.specs.History.{entry};
 ghost use Rattle.pool_state.specs.Shown.{Shown, IsLegal, reply_after};
 ghost use Rattle.pool_state.specs.declared.call.Reply.TheVariants.{Refused};
@@ -132,7 +133,9 @@ impl<J: Identity, L: Ledgers> Inside<J, L> {
         pass: &mut Pass<J, L>,
         call: &Call,
     ) -> Reply
-        ensures { IsCalled J.config call.now pass.old result pass.new }
+        ensures called { IsCalled J.config call.now pass.old result pass.new }
+        // Refused or not, the pass has then seen all that stood under the lock.
+        ensures seen { IsPrefix self.old pass.new.seen }
     {
         self.show(rt, pass);
         let _front = pass.front();

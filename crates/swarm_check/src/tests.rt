@@ -3,12 +3,10 @@ ghost use Rattle.std.specs.Prelude.{◌≡◌};
 mod crowd;
 mod example;
 mod gate;
+mod held;
 mod rows;
 mod threads;
 
-use swarm_calls::{
-    BlankHistory, BlankLedgers, Eight, Gate, Identity, Ledgers, NewRefused, NoGate, Pass, Swarm,
-};
 use peer_ids::{PeerId, PublicKey};
 use plaintext_x::{Exchange, Proven, exchange_keys};
 use pool_state::{Call, Config, Limits, Reply};
@@ -18,6 +16,9 @@ use std::process::Abort;
 use std::sync::Wait;
 use std::sync::ledger::Ledger;
 use std::test::*;
+use swarm_calls::{
+    BlankHistory, BlankLedgers, Eight, Gate, Identity, Ledgers, NewRefused, NoGate, Pass, Swarm,
+};
 
 /// The id of the Ed25519 key of 32 bytes that are all `byte`.
 fn peer(byte: u8) -> Result<PeerId, Fail> {

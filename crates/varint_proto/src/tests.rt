@@ -128,3 +128,21 @@ fn faults_of_messages(rt: HostRuntime) -> Result<(), Fail> {
     }
     Ok(())
 }
+
+#[test]
+fn numbers_of_faults_and_refusals(rt: HostRuntime) {
+    let faults = [
+        WireFault::TooLong,
+        WireFault::NotShortest,
+        WireFault::Cut,
+        WireFault::BadNumber,
+        WireFault::BadWire,
+    ];
+    for (index, fault) in faults.iter().enumerate() {
+        assert_eq!(rt; *fault as usize, index + 1);
+    }
+    let refusals = [VarintRefused::TooLarge, VarintRefused::OutOfMemory];
+    for (index, refused) in refusals.iter().enumerate() {
+        assert_eq!(rt; *refused as usize, index + 1);
+    }
+}

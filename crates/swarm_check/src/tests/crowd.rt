@@ -2,11 +2,11 @@
 //! listing shows that pool after a beginning of the history.
 
 use super::make;
-use swarm_calls::{Gate, Identity, Ledgers, Pass, Swarm};
 use peer_ids::PeerId;
 use pool_state::{Call, Config, Listing, Pool, Reply};
 use std::alloc::{AllocError, Global};
 use std::sync::Wait;
+use swarm_calls::{Gate, Identity, Ledgers, Pass, Swarm};
 
 /// A call as its caller saw it: the front that its pass had then, and the reply.
 #[derive(Clone, Copy, Drop)]

@@ -3,7 +3,6 @@
 ghost use Rattle.std.specs.Prelude.{◌≡◌};
 
 use super::config;
-use swarm_calls::{BlankHistory, BlankLedgers, Closed, Eight, Identity, Ledgers, NoGate, Pass, Swarm};
 use pool_state::{Config, Listing};
 use std::alloc::Global;
 use std::marker::Brand;
@@ -11,6 +10,9 @@ use std::sync::Wait;
 use std::sync::ledger::Ledger;
 use std::test::*;
 use std::thread::{Threads, join};
+use swarm_calls::{
+    BlankHistory, BlankLedgers, Closed, Eight, Identity, Ledgers, NoGate, Pass, Swarm,
+};
 
 /// What a caller does in its thread: it accepts a connection, and lists.
 fn call<J: Identity, L: Ledgers, R: Wait>(

@@ -1,13 +1,13 @@
 //! Worked rows.
 
 use super::{Script, config, make, peer, play, proven};
-use swarm_calls::{Identity, Ledgers, NewRefused, NoGate, Pass, Swarm};
 use plaintext_x::Proven;
 use pool_state::{Agent, Call, Config, ConnSide, Phase, Pool, Refusal, Reply, Row};
 use std::alloc::Global;
 use std::process::Abort;
 use std::sync::Wait;
 use std::test::*;
+use swarm_calls::{Identity, Ledgers, NewRefused, NoGate, Pass, Swarm};
 
 fn refused(refusal: Refusal) -> Reply {
     Reply::Refused(refusal)
@@ -263,4 +263,16 @@ fn a_swarm_has_one_to_eight_callers(rt: HostRuntime) -> Result<(), Fail> {
     let made = play_steps(&rt, rt.alloc(), config(1)?, 8, none, 0)?;
     assert_eq!(rt; made, None);
     Ok(())
+}
+
+#[test]
+fn numbers_of_refusals(rt: HostRuntime) {
+    let refusals = [
+        NewRefused::BadCallers,
+        NewRefused::OutOfMemory,
+        NewRefused::NoPlace,
+    ];
+    for (index, refused) in refusals.iter().enumerate() {
+        assert_eq!(rt; *refused as usize, index + 1);
+    }
 }

@@ -3,9 +3,9 @@
 ghost use Rattle.std.specs.Prelude.{◌≡◌};
 
 use super::crowd::{History, run_caller};
-use super::gate::{ENOUGH, HoldFirst, Watch};
+use super::gate::{ENOUGH, HoldFirst, PATIENT, Watch};
+use super::held::{hold_each_call, wait_for_the_first};
 use super::{config, peer};
-use swarm_calls::{BlankHistory, BlankLedgers, Eight, Gate, Identity, Ledgers, Pass, Swarm};
 use peer_ids::PeerId;
 use pool_state::{Config, Refusal, Reply};
 use std::alloc::Global;
@@ -13,10 +13,11 @@ use std::marker::Brand;
 use std::process::Abort;
 use std::rt::Clock;
 use std::sync::Wait;
-use std::sync::atomic::{AtomicU64, Ordering};
+use std::sync::atomic::Ordering;
 use std::sync::ledger::Ledger;
 use std::test::*;
 use std::thread::{Threads, join, map_vec};
+use swarm_calls::{BlankHistory, BlankLedgers, Eight, Gate, Identity, Ledgers, Pass, Swarm};
 
 /// What several threads do with a swarm.
 #[derive(Clone, Copy)]
@@ -25,6 +26,10 @@ enum Plan {
     Dial,
     /// One lists while the other's call is held under the lock.
     Hold,
+    /// One calls while the other's call is held under the lock.
+    Wait,
+    /// Each of two makes each call in turn, and the gate counts them.
+    Count,
     /// Each of eight makes so many calls, with listings between.
     Crowd(u64),
 }
@@ -73,6 +78,8 @@ fn run<
     match plan {
         Plan::Dial => dial_at_once(rt, swarm, passes),
         Plan::Hold => list_while_held(rt, swarm, passes, watch),
+        Plan::Wait => call_while_held(rt, swarm, passes, watch),
+        Plan::Count => hold_each_call(rt, alloc, swarm, passes, watch),
         Plan::Crowd(calls) => call_in_a_crowd(rt, alloc, swarm, passes, calls),
     }
 }
@@ -83,13 +90,9 @@ fn play<R: Threads + Wait + Abort + Clock + Sync>(
     alloc: Global,
     config: Config,
     callers: usize,
-    listed: u64,
+    watch: Watch,
     plan: Plan,
 ) -> Result<(), Fail> {
-    let watch = Watch {
-        listed: AtomicU64::new(listed),
-        gave_up: AtomicU64::new(0),
-    };
     run::<Brand, Brand, Brand, Brand, Brand, Brand, Brand, Brand, Brand, R>(
         rt,
         alloc,
@@ -100,6 +103,16 @@ fn play<R: Threads + Wait + Abort + Clock + Sync>(
         &watch,
         plan,
     )
+}
+
+/// Of a gate that holds nobody for long.
+fn open() -> Watch {
+    Watch::new(ENOUGH, PATIENT)
+}
+
+/// Of a gate that holds caller 1 until the other has listed, or it has looked so often.
+fn closed(patience: u64) -> Watch {
+    Watch::new(0, patience)
 }
 
 fn dial<G: Gate, J: Identity, L: Ledgers, R: Wait>(
@@ -156,7 +169,7 @@ fn dial_at_once<
 
 #[test]
 fn two_dials_of_one_peer_at_once(rt: HostRuntime) -> Result<(), Fail> {
-    play(&rt, rt.alloc(), config(1)?, 2, ENOUGH, Plan::Dial)
+    play(&rt, rt.alloc(), config(1)?, 2, open(), Plan::Dial)
 }
 
 /// Lists often enough for the gate. Gives the front of the last listing.
@@ -211,7 +224,61 @@ fn list_while_held<
 
 #[test]
 fn lists_while_a_call_is_held(rt: HostRuntime) -> Result<(), Fail> {
-    play(&rt, rt.alloc(), config(1)?, 2, 0, Plan::Hold)
+    play(&rt, rt.alloc(), config(1)?, 2, closed(PATIENT), Plan::Hold)
+}
+
+/// A call of the second waits until that of the first, which holds the lock, is made.
+fn call_while_held<
+    G: Gate + Sync,
+    J: Identity + Send + Sync,
+    L1: Ledger + Send + Sync,
+    L2: Ledger + Send + Sync,
+    L3: Ledger + Send + Sync,
+    L4: Ledger + Send + Sync,
+    L5: Ledger + Send + Sync,
+    L6: Ledger + Send + Sync,
+    L7: Ledger + Send + Sync,
+    L8: Ledger + Send + Sync,
+    R: Threads + Wait + Abort + Clock + Sync,
+>(
+    rt: &R,
+    swarm: Swarm<G, J, Eight<L1, L2, L3, L4, L5, L6, L7, L8>>,
+    passes: Vec<Pass<J, Eight<L1, L2, L3, L4, L5, L6, L7, L8>>>,
+    watch: &Watch,
+) -> Result<(), Fail> {
+    let mut passes = passes;
+    let (Some(two), Some(one)) = (passes.pop(), passes.pop()) else {
+        return Err(Fail::from("two passes"));
+    };
+    let (first, second) = (peer(0x11)?, peer(0x22)?);
+    let shared = &swarm;
+    let ((one, replied), (two, answered)) = join(
+        rt,
+        move || dial(rt, shared, one, first),
+        move || {
+            wait_for_the_first(rt, watch);
+            dial(rt, shared, two, second)
+        },
+    );
+    assert_eq!(rt; (replied, answered), (Reply::Conn(1), Reply::Conn(2)));
+    assert_eq!(rt; (one.front(), two.front()), (1, 2));
+    assert_eq!(rt; watch.gave_up.load(Ordering::SeqCst), 1);
+    Ok(())
+}
+
+#[test]
+fn a_call_waits_while_another_is_held(rt: HostRuntime) -> Result<(), Fail> {
+    play(&rt, rt.alloc(), config(1)?, 2, closed(300), Plan::Wait)
+}
+
+/// Two callers make each call; then the front is at its end.
+#[test]
+fn each_call_is_held_once(rt: HostRuntime) -> Result<(), Fail> {
+    let config = Config {
+        first_front: u64::MAX - 24,
+        ..config(1)?
+    };
+    play(&rt, rt.alloc(), config, 2, open(), Plan::Count)
 }
 
 fn call_in_a_crowd<
@@ -257,5 +324,5 @@ fn call_in_a_crowd<
 
 #[test]
 fn eight_threads_make_one_history(rt: HostRuntime) -> Result<(), Fail> {
-    play(&rt, rt.alloc(), config(4)?, 8, ENOUGH, Plan::Crowd(10_000))
+    play(&rt, rt.alloc(), config(4)?, 8, open(), Plan::Crowd(10_000))
 }

@@ -1,6 +1,7 @@
 use Rattle.std.proofs.Common.{◌≡◌, ℕ, List, [], ◌++◌, ◌+◌, length, map, take, drop, Ok, Err, ap, sym, subst, ◌∙◌, arith}
 use Rattle.std.proofs.lemmas.Result.{err_from_is_err_and}
-use Rattle.ms_select.specs.Dialing.{Pursues, Dials}
+use Rattle.ms_select.specs.Dialing.{Dialing, Pursues, Dials}
+use Rattle.ms_select.specs.declared.answer.Answer.TheVariants.{NoneLeft}
 use Rattle.ms_select.proofs.Pieces.{joined, joined_more, joined_parts, take_past}
 use Rattle.ms_select.proofs.ListenSteps.{going_on}
 use Rattle.ms_select.proofs.DialSteps.{dials, dial_fault_stays}
@@ -32,6 +33,7 @@ loop-piece-preserved c =
     record {
       names = c.in_ok-answer.ensures.names ∙ c.loop-piece.invariant.names;
       answer = c.in_ok-answer.ensures.answer;
+      nameless = λ none. ap (λ (d : Dialing). d.answer) (c.in_ok-answer.ensures.decided NoneLeft (c.loop-piece.invariant.nameless none) (λ e. cc)).1 ∙ c.loop-piece.invariant.nameless none;
       told = (used, subst (λ (b : List ℕ). Pursues c.feed.new.self b used []) (joined_more pieces i _ c.loop-piece-test.true) next);
     }
 

@@ -1,4 +1,4 @@
-use Rattle.std.proofs.Common.{sym, ◌∙◌, arith, ap}
+use Rattle.std.proofs.Common.{sym, ◌∙◌}
 use Rattle.swarm_calls.proofs.Legal.{mine_same}
 use Rattle.swarm_calls.proofs.pass.renew.Goals as goal
 

@@ -1,16 +1,15 @@
-use Rattle.std.proofs.Common.{◌≡◌, ◌≢◌, ◌+◌, ◌-◌, ◌++◌, ◌∷◌, [], List, drop, length, slice_index, slice_set, ap, sym, subst, ◌∙◌, rules, length-append}
+use Rattle.std.proofs.Common.{◌≡◌, ◌≢◌, ◌+◌, ◌++◌, ◌∷◌, [], List, drop, length, ap, sym, subst, ◌∙◌, rules, length-append}
 use Rattle.pool_state.specs.At.{IsAt}
 use Rattle.pool_state.specs.History.{Entry, entry}
 use Rattle.pool_state.specs.Shown.{reply_after}
 use Rattle.pool_state.specs.declared.call.Reply.{Reply}
 use Rattle.pool_state.specs.declared.call.Reply.TheVariants.{Refused}
 use Rattle.pool_state.specs.declared.call.Refusal.TheVariants.{Spent}
-use Rattle.swarm_calls.specs.Ledgers.{caller_of, amount_of}
+use Rattle.swarm_calls.specs.Ledgers.{caller_of}
 use Rattle.swarm_calls.specs.Calls.{Past}
 use Rattle.swarm_calls.specs.History.{mine}
 use Rattle.swarm_calls.specs.Snapshots.{IsShown}
 use Rattle.swarm_calls.specs.Steps.{beginning, Beginning}
-use Rattle.swarm_calls.specs.Locked.{IsLocked}
 use Rattle.swarm_calls.proofs.Calls.{locked_snoc, caller_within}
 use Rattle.swarm_calls.proofs.Legal.{mine_snoc}
 use Rattle.swarm_calls.proofs.inside.Inside.publish.Goals as goal

@@ -1,4 +1,4 @@
-use Rattle.std.proofs.Common.{◌≡◌, ◌++◌, List, ap, sym, subst, ◌∙◌}
+use Rattle.std.proofs.Common.{◌≡◌, List, ap, subst}
 use mathlib.Core.List.{IsPrefix}
 use Rattle.pool_state.specs.History.{Entry}
 use Rattle.swarm_calls.proofs.Calls.{calls_same, caller_within}
