@@ -1,5 +1,5 @@
 -- One call of a session, from where the session is to where it is then.
-use Rattle.std.proofs.Common.{◌≡◌, ℕ, ◌⊎◌, inl, inr, Bool, true, false, min, List, [], ◌∷◌, ◌++◌, length, take, Option, Result, Ok, Err, IfErr, OnOk, OnErr, refl, sym, ap, ◌∙◌, subst}
+use Rattle.std.proofs.Common.{◌≡◌, ℕ, ◌<◌, ◌⊎◌, inl, inr, Bool, true, false, min, List, [], ◌∷◌, ◌++◌, length, take, Option, Result, Ok, Err, IfErr, OnOk, OnErr, refl, sym, ap, ◌∙◌, subst}
 use Rattle.std.specs.List.{AllByRecursion, concat}
 use Rattle.yamux_session.specs.declared.event.Role.{Role}
 use Rattle.yamux_session.specs.declared.event.Event.{Event}
@@ -12,7 +12,7 @@ use Rattle.yamux_session.specs.declared.calls.ActAnswer.TheVariants.{Stream, Don
 use Rattle.yamux_session.specs.Items.{Item}
 use Rattle.yamux_session.specs.Items.Item.{Did}
 use Rattle.yamux_session.specs.Items.Act.{Start, Write, Take, Close, Reset, Leave}
-use Rattle.yamux_session.specs.Windows.{credit, untaken}
+use Rattle.yamux_session.specs.Windows.{credit, given_back, untaken}
 use Rattle.yamux_session.specs.Meaning.{output}
 use Rattle.yamux_session.specs.Acts.{start_refusal, stream_refusal, direction_refusal, IsRefusedFor}
 use Rattle.yamux_session.specs.Arrives.{HasData}
@@ -77,45 +77,63 @@ cut_off_at role past fed bytes old new failed stands runs_out =
 abbrev pub AddsAct : State → State → (Role → List Item → Item) → Type 0
 AddsAct old new did = (role : Role) (past : List Item) (fed sent : List ℕ) → Stands role past fed sent old → Stands role (did role past ∷ past) fed sent new
 
-abbrev pub IsRefusedBy : State → (Role → List Item → Option ActRefused) → ActRefused → Type 0
-IsRefusedBy old why refusal = (role : Role) (past : List Item) (fed sent : List ℕ) → Stands role past fed sent old → IsRefusedFor (why role past) refusal
+-- at whatever history it stands, the refusal is one of these
+abbrev pub IsRefusedBy : State → (Role → List Item → ActRefused → Type 0) → ActRefused → Type 0
+IsRefusedBy old P why = (role : Role) (past : List Item) (fed sent : List ℕ) → Stands role past fed sent old → P role past why
 
-acts : (role : Role) (point : Point) (call : Act) (old new : State) (r : Result (Unit {0}) ActRefused) (why : Role → List Item → Option ActRefused) (did : Role → List Item → Item)
+-- and want of memory comes only where this holds
+abbrev IsWantedBy : State → (Role → List Item → Type 0) → ActRefused → Type 0
+IsWantedBy old Q why = why ≡ refused.OutOfMemory → (role : Role) (past : List Item) (fed sent : List ℕ) → Stands role past fed sent old → Q role past
+
+abbrev pub WithMemory : (Role → List Item → ActRefused → Type 0) → (Role → List Item → Type 0) → Role → List Item → ActRefused → Type 0
+WithMemory P Q role past why = P role past why × (why ≡ refused.OutOfMemory → Q role past)
+
+with_memory : (old : State) (P : Role → List Item → ActRefused → Type 0) (Q : Role → List Item → Type 0) (why : ActRefused) → IsRefusedBy old P why → IsWantedBy old Q why → IsRefusedBy old (WithMemory P Q) why
+with_memory old P Q why refusal wanting = λ role past fed sent stands. (refusal role past fed sent stands, λ none. wanting none role past fed sent stands)
+
+both : {A : Type 0} (old : State) (P : Role → List Item → ActRefused → Type 0) (Q : Role → List Item → Type 0) (r : Result A ActRefused) → IfErr r (IsRefusedBy old P) → IfErr r (IsWantedBy old Q) → IfErr r (IsRefusedBy old (WithMemory P Q))
+both old P Q (Ok x) refusal wanting = tt
+both old P Q (Err why) refusal wanting = with_memory old P Q why refusal wanting
+
+acts : (role : Role) (point : Point) (call : Act) (old new : State) (r : Result (Unit {0}) ActRefused) (P : Role → List Item → ActRefused → Type 0) (did : Role → List Item → Item)
     → ((past : List Item) (fed : List ℕ) (next : Point) → Stands role (did role past ∷ past) fed [] new → next ≡ At (did role past ∷ past) fed → Answers role (At past fed) call Done next)
-    → ((past : List Item) (fed : List ℕ) (refusal : ActRefused) (next : Point) → IsRefusedFor (why role past) refusal → next ≡ At past fed → Answers role (At past fed) call (Refused refusal) next)
+    → ((past : List Item) (fed : List ℕ) (refusal : ActRefused) (next : Point) → P role past refusal → next ≡ At past fed → Answers role (At past fed) call (Refused refusal) next)
     → OnOk r (AddsAct old new did)
-    → IfErr r (IsRefusedBy old why)
+    → IfErr r (IsRefusedBy old P)
     → OnErr r (new ≡ old) → FailsOn r old new → IsAt role point old → Leads role point call (done_or r) new
-acts role (At past fed) call old new (Ok x) why did done denied ok err same fails at =
+acts role (At past fed) call old new (Ok x) P did done denied ok err same fails at =
     let now = ok role past fed [] at in (At (did role past ∷ past) fed, done past fed (At (did role past ∷ past) fed) now refl, now)
-acts role (At past fed) call old new (Err refusal) why did done denied ok err same fails at =
+acts role (At past fed) call old new (Err refusal) P did done denied ok err same fails at =
     (At past fed, denied past fed refusal (At past fed) (err role past fed [] at) refl, subst (λ (s : State). Stands role past fed [] s) (sym same) at)
-acts role (Over out) call old new (Ok x) why did done denied ok err same fails at = absurd (let e = (fails at.0).0 in cc)
-acts role (Over out) call old new (Err refusal) why did done denied ok err same fails at =
+acts role (Over out) call old new (Ok x) P did done denied ok err same fails at = absurd (let e = (fails at.0).0 in cc)
+acts role (Over out) call old new (Err refusal) P did done denied ok err same fails at =
     (Over out, ((let e = (fails at.0).0 in let same_why : refusal ≡ refused.Failed = cc in ap Refused same_why), refl), over_same role out old new same at)
 
 pub takes : (role : Role) (point : Point) (n count : ℕ) (old new : State) (r : Result (Unit {0}) ActRefused)
     → OnOk r (AddsAct old new (λ role past. Did (Take n (min count (untaken role past n)))))
-    → IfErr r (IsRefusedBy old (λ role past. stream_refusal role past n))
+    → IfErr r (IsRefusedBy old (λ role past. IsRefusedFor (stream_refusal role past n)))
+    → IfErr r (IsWantedBy old (λ role past. 0 < given_back role n past (Did (Take n (min count (untaken role past n))))))
     → OnErr r (new ≡ old) → FailsOn r old new → IsAt role point old → Leads role point (act.Taken n count) (done_or r) new
-takes role point n count old new r ok err same fails at =
-    acts role point (act.Taken n count) old new r (λ role past. stream_refusal role past n) (λ role past. Did (Take n (min count (untaken role past n))))
-    (λ past fed next now e. (now.answered.0.0, e)) (λ past fed refusal next why e. (why, e)) ok err same fails at
+takes role point n count old new r ok err memory same fails at =
+    let P : Role → List Item → ActRefused → Type 0 = λ role past. IsRefusedFor (stream_refusal role past n) in
+    let Q : Role → List Item → Type 0 = λ role past. 0 < given_back role n past (Did (Take n (min count (untaken role past n)))) in
+    acts role point (act.Taken n count) old new r (WithMemory P Q) (λ role past. Did (Take n (min count (untaken role past n))))
+    (λ past fed next now e. (now.answered.0.0, e)) (λ past fed refusal next why e. (why.0, why.1, e)) ok (both old P Q r err memory) same fails at
 
 pub closes : (role : Role) (point : Point) (n : ℕ) (old new : State) (r : Result (Unit {0}) ActRefused)
     → OnOk r (AddsAct old new (λ role past. Did (Close n)))
-    → IfErr r (IsRefusedBy old (λ role past. direction_refusal role past n))
+    → IfErr r (IsRefusedBy old (λ role past. IsRefusedFor (direction_refusal role past n)))
     → OnErr r (new ≡ old) → FailsOn r old new → IsAt role point old → Leads role point (act.Close n) (done_or r) new
 closes role point n old new r ok err same fails at =
-    acts role point (act.Close n) old new r (λ role past. direction_refusal role past n) (λ role past. Did (Close n))
+    acts role point (act.Close n) old new r (λ role past. IsRefusedFor (direction_refusal role past n)) (λ role past. Did (Close n))
     (λ past fed next now e. (now.answered.0, e)) (λ past fed refusal next why e. (why, e)) ok err same fails at
 
 pub resets : (role : Role) (point : Point) (n : ℕ) (old new : State) (r : Result (Unit {0}) ActRefused)
     → OnOk r (AddsAct old new (λ role past. Did (Reset n)))
-    → IfErr r (IsRefusedBy old (λ role past. stream_refusal role past n))
+    → IfErr r (IsRefusedBy old (λ role past. IsRefusedFor (stream_refusal role past n)))
     → OnErr r (new ≡ old) → FailsOn r old new → IsAt role point old → Leads role point (act.Reset n) (done_or r) new
 resets role point n old new r ok err same fails at =
-    acts role point (act.Reset n) old new r (λ role past. stream_refusal role past n) (λ role past. Did (Reset n))
+    acts role point (act.Reset n) old new r (λ role past. IsRefusedFor (stream_refusal role past n)) (λ role past. Did (Reset n))
     (λ past fed next now e. (now.answered.0, e)) (λ past fed refusal next why e. (why, e)) ok err same fails at
 
 pub leaves : (role : Role) (point : Point) (code : ℕ) (old new : State) (r : Result (Unit {0}) ActRefused)
@@ -144,7 +162,7 @@ pub starts : (role : Role) (point : Point) (old new : State) (n : ℕ) → ((rol
 starts role (At past fed) old new n ok going at = let now = ok role past fed [] at in (At (Did (Start n) ∷ past) fed, (now.answered.0.0, now.answered.0.1, refl), now)
 starts role (Over out) old new n ok going at = absurd (going at.0)
 
-pub start_refused : (role : Role) (point : Point) (old new : State) (why : ActRefused) → IsRefusedBy old (λ role past. start_refusal role past) why → new ≡ old
+pub start_refused : (role : Role) (point : Point) (old new : State) (why : ActRefused) → IsRefusedBy old (λ role past. IsRefusedFor (start_refusal role past)) why → new ≡ old
     → (old.failed ≡ true → why ≡ refused.Failed) → IsAt role point old → Leads role point act.Start (Refused why) new
 start_refused role (At past fed) old new why refusal same failed at = (At past fed, (refusal role past fed [] at, refl), subst (λ (s : State). Stands role past fed [] s) (sym same) at)
 start_refused role (Over out) old new why refusal same failed at = (Over out, (ap Refused (failed at.0), refl), over_same role out old new same at)
@@ -167,10 +185,14 @@ writes_at role past fed n bytes given count old new same ok counted stands =
       w.2,
     )
 
-pub write_refused : (role : Role) (point : Point) (call : Act) (n : ℕ) (old new : State) (why : ActRefused)
-    → ((past : List Item) (fed : List ℕ) (next : Point) → IsRefusedFor (direction_refusal role past n) why → next ≡ At past fed → Answers role (At past fed) call (Refused why) next)
-    → IsRefusedBy old (λ role past. direction_refusal role past n) why → new ≡ old
+pub write_refused : (role : Role) (point : Point) (call : Act) (n : ℕ) (given : List ℕ) (old new : State) (why : ActRefused)
+    → ((past : List Item) (fed : List ℕ) (next : Point) → IsRefusedFor (direction_refusal role past n) why → (why ≡ refused.OutOfMemory → 0 < min (length given) (credit role past n)) → next ≡ At past fed → Answers role (At past fed) call (Refused why) next)
+    → IsRefusedBy old (λ role past. IsRefusedFor (direction_refusal role past n)) why
+    → IsWantedBy old (λ role past. 0 < min (length given) (credit role past n)) why → new ≡ old
     → (old.failed ≡ true → why ≡ refused.Failed) → IsAt role point old → Leads role point call (Refused why) new
-write_refused role (At past fed) call n old new why shape refusal same failed at =
-    (At past fed, shape past fed (At past fed) (refusal role past fed [] at) refl, subst (λ (s : State). Stands role past fed [] s) (sym same) at)
-write_refused role (Over out) call n old new why shape refusal same failed at = (Over out, (ap Refused (failed at.0), refl), over_same role out old new same at)
+write_refused role (At past fed) call n given old new why shape refusal wanting same failed at = (
+  At past fed,
+  shape past fed (At past fed) (refusal role past fed [] at) (λ none. wanting none role past fed [] at) refl,
+  subst (λ (s : State). Stands role past fed [] s) (sym same) at,
+)
+write_refused role (Over out) call n given old new why shape refusal wanting same failed at = (Over out, (ap Refused (failed at.0), refl), over_same role out old new same at)

@@ -1,5 +1,5 @@
 -- A whole session: each call with its answer, from the empty history on.
-use Rattle.std.specs.Prelude.{◌≡◌, ℕ, ◌≤◌, ◌⊎◌, true, min, List, [], ◌∷◌, ◌++◌, map, length, take, None, Result, Ok, Err}
+use Rattle.std.specs.Prelude.{◌≡◌, ℕ, ◌<◌, ◌≤◌, ◌⊎◌, true, min, List, [], ◌∷◌, ◌++◌, map, length, take, None, Result, Ok, Err}
 use Rattle.std.specs.List.{AllByRecursion, concat}
 use Rattle.yamux_frames.specs.Frames.{Arrival, Reads}
 use Rattle.yamux_session.specs.declared.event.Role.{Role}
@@ -13,7 +13,7 @@ use Rattle.yamux_session.specs.declared.calls.ActAnswer.TheVariants.{Events, Str
 use Rattle.yamux_session.specs.Items.{Item, arrivals}
 use Rattle.yamux_session.specs.Items.Item.{Came, Did}
 use Rattle.yamux_session.specs.Items.Act.{Start, Write, Take, Close, Reset, Leave}
-use Rattle.yamux_session.specs.Windows.{credit, untaken}
+use Rattle.yamux_session.specs.Windows.{credit, given_back, untaken}
 use Rattle.yamux_session.specs.Meaning.{HasNoFault, events, output}
 use Rattle.yamux_session.specs.Acts.{IsPiece, next_own, start_refusal, stream_refusal, direction_refusal, IsRefusedFor}
 use Rattle.yamux_session.specs.Arrives.{tellings, HasData}
@@ -71,15 +71,18 @@ abbrev pub AnswersAt : Role → List Item → List ℕ → Act → ActAnswer →
 AnswersAt role past fed (act.Feed bytes) (Events told) next =
     (now : List Item) × FedOn role past fed bytes.items told.items now
     × (GoesOn role fed bytes.items now next ⊎ Ends role fed bytes.items now next)
-AnswersAt role past fed (act.Feed bytes) (Refused why) next = (why ≡ refused.OutOfMemory) × IsCutOff role past fed bytes.items next
+AnswersAt role past fed (act.Feed bytes) (Refused why) next = (why ≡ refused.OutOfMemory) × (0 < length bytes.items)
+    × IsCutOff role past fed bytes.items next
 AnswersAt role past fed act.Start (Stream n) next = (start_refusal role past ≡ None) × (n ≡ next_own role past)
     × (next ≡ At (Did (Start n) ∷ past) fed)
 AnswersAt role past fed act.Start (Refused why) next = IsRefusedFor (start_refusal role past) why × (next ≡ At past fed)
 AnswersAt role past fed (act.Write n bytes) (Count count) next = WritesOn role past fed n bytes.items count next
-AnswersAt role past fed (act.Write n bytes) (Refused why) next = IsRefusedFor (direction_refusal role past n) why × (next ≡ At past fed)
+AnswersAt role past fed (act.Write n bytes) (Refused why) next = IsRefusedFor (direction_refusal role past n) why
+    × (why ≡ refused.OutOfMemory → 0 < min (length bytes.items) (credit role past n)) × (next ≡ At past fed)
 AnswersAt role past fed (act.Taken n count) Done next =
     (stream_refusal role past n ≡ None) × (next ≡ At (Did (Take n (min count (untaken role past n))) ∷ past) fed)
-AnswersAt role past fed (act.Taken n count) (Refused why) next = IsRefusedFor (stream_refusal role past n) why × (next ≡ At past fed)
+AnswersAt role past fed (act.Taken n count) (Refused why) next = IsRefusedFor (stream_refusal role past n) why
+    × (why ≡ refused.OutOfMemory → 0 < given_back role n past (Did (Take n (min count (untaken role past n))))) × (next ≡ At past fed)
 AnswersAt role past fed (act.Close n) Done next = (direction_refusal role past n ≡ None) × (next ≡ At (Did (Close n) ∷ past) fed)
 AnswersAt role past fed (act.Close n) (Refused why) next = IsRefusedFor (direction_refusal role past n) why × (next ≡ At past fed)
 AnswersAt role past fed (act.Reset n) Done next = (stream_refusal role past n ≡ None) × (next ≡ At (Did (Reset n) ∷ past) fed)

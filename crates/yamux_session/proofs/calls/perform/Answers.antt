@@ -1,8 +1,9 @@
-use Rattle.std.proofs.Common.{◌≡◌, List, ℕ, [], refl, sym, ap, subst}
+use Rattle.std.proofs.Common.{◌≡◌, ◌<◌, List, ℕ, [], length, min, refl, sym, ap, subst}
 use Rattle.yamux_session.specs.declared.event.Role.{Role}
 use Rattle.yamux_session.specs.declared.event.ActRefused.TheVariants as refused
 use Rattle.yamux_session.specs.declared.calls.Act.TheVariants as act
 use Rattle.yamux_session.specs.declared.calls.ActAnswer.TheVariants.{Events, Count, Refused}
+use Rattle.yamux_session.specs.Windows.{credit}
 use Rattle.yamux_session.specs.State.{State, Feeds, RunsOut}
 use Rattle.yamux_session.specs.Runs.{Point, IsAt}
 use Rattle.yamux_session.specs.Runs.Point.{At, Over}
@@ -12,7 +13,7 @@ use Rattle.yamux_session.proofs.calls.perform.Goals as goal
 pub returns-in-Taken : goal.returns-in-Taken
 returns-in-Taken c = λ role point at.
     leads_as role point _ _ _ _ c.taken.new.self c.in-Taken.is c.done.ensures
-    (takes role point c.in-Taken.stream c.in-Taken.count c.args.session.now c.taken.new.self c.taken.result c.taken.ensures.ok c.taken.ensures.refused c.taken.ensures.err c.taken.ensures.failed at)
+    (takes role point c.in-Taken.stream c.in-Taken.count c.args.session.now c.taken.new.self c.taken.result c.taken.ensures.ok c.taken.ensures.refused c.taken.ensures.memory c.taken.ensures.err c.taken.ensures.failed at)
 
 pub returns-in-Close : goal.returns-in-Close
 returns-in-Close c = λ role point at.
@@ -53,8 +54,9 @@ returns-in-Ok-write c = λ role point at. go role point at
 pub returns-in-Err-write : goal.returns-in-Err-write
 returns-in-Err-write c = λ role point at.
     leads_as role point _ (act.Write c.in-Write.stream c.in-Write.bytes) _ _ c.write.new.self c.in-Write.is refl
-    (write_refused role point (act.Write c.in-Write.stream c.in-Write.bytes) c.in-Write.stream c.args.session.now c.write.new.self c.in-Err-write.refused (λ past fed next why e. (why, e))
-    c.in-Err-write.ensures.refused c.in-Err-write.ensures.err (λ failed. (let e = (c.write.ensures.failed failed).0 in let is = c.in-Err-write.is in cc)) at)
+    (write_refused role point (act.Write c.in-Write.stream c.in-Write.bytes) c.in-Write.stream _ c.args.session.now c.write.new.self c.in-Err-write.refused
+    (λ past fed next why none e. (why, λ wanting. subst (λ (t : List ℕ). 0 < min (length t) (credit role past c.in-Write.stream)) c.deref-in-Write.ensures.value (none wanting), e))
+    c.in-Err-write.ensures.refused c.in-Err-write.ensures.memory c.in-Err-write.ensures.err (λ failed. (let e = (c.write.ensures.failed failed).0 in let is = c.in-Err-write.is in cc)) at)
 
 pub returns-in-Ok : goal.returns-in-Ok
 returns-in-Ok c = λ role point at. go role point at
@@ -73,7 +75,7 @@ returns-in-Err c = λ role point at. go role point at
     go role (At past fed) at =
         let out = c.in-Err.ensures.refused at.going in
         let cut = cut_off_at role past fed c.in-Feed.bytes.items c.args.session.now c.feed.new.self out.1 at (subst (λ (xs : List ℕ). RunsOut c.args.session.now xs c.feed.new.self) c.deref.ensures.value out.2) in
-        leads_as role (At past fed) _ (act.Feed c.in-Feed.bytes) _ _ c.feed.new.self c.in-Feed.is refl (cut.0, (out.0, cut.1), cut.2)
+        leads_as role (At past fed) _ (act.Feed c.in-Feed.bytes) _ _ c.feed.new.self c.in-Feed.is refl (cut.0, (out.0, subst (λ (xs : List ℕ). 0 < length xs) c.deref.ensures.value (c.in-Err.ensures.memory at.going), cut.1), cut.2)
     go role (Over out) at =
         let fails = c.feed.ensures.failed at.0 in
         let why : c.in-Err.refused ≡ refused.Failed = (let e = fails.0 in let is = c.in-Err.is in cc) in
