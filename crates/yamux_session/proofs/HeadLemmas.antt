@@ -456,6 +456,10 @@ module _ (role : Role) (past : List Item) (h : Header) where
       syn_good kind opening remote (row_of role past old h.stream None keeps found)
       ∙ ap (λ b. cond b (window_fault role past h) None) its.2 ∙ opening_fault opening ∙ faulty
 
+  pub opening_opens : (old : Table) → is_of_stream h ≡ true → syn h ≡ true → is_remote role h.stream ≡ true → Keeps role past old → row_at old.rows h.stream ≡ None
+      → nat_lt old.remote 256 && not old.left ≡ true → opens role past (Came (Head h)) h.stream ≡ true
+  opening_opens old kind opening remote keeps found room = opens_here (opening_its old kind opening remote keeps found room).0
+
   pub opening_done : (old new : Table) → is_of_stream h ≡ true → syn h ≡ true → is_go_away h.kind ≡ false → is_remote role h.stream ≡ true → Keeps role past old → row_at old.rows h.stream ≡ None
       → nat_lt old.remote 256 && not old.left ≡ true → row_fault opened h ≡ None
       → ((n : ℕ) → row_at new.rows n ≡ cond (h.stream == n) (Some (charged opened h)) (row_at old.rows n))

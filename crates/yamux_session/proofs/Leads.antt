@@ -1,6 +1,6 @@
 -- Bytes fed one after another lead on.
-use Rattle.std.proofs.Common.{◌≡◌, ℕ, suc, ◌+◌, ◌≤◌, true, false, List, [], ◌∷◌, ◌++◌, length, map, take, drop, refl, sym, ap, ◌∙◌, subst, append_assoc, arith}
-use Rattle.std.proofs.lemmas.List.{length-append, map-append, length-take-le, take-append-drop, take-take}
+use Rattle.std.proofs.Common.{◌≡◌, ℕ, ◌+◌, ◌≤◌, true, false, List, [], ◌∷◌, ◌++◌, length, map, take, drop, refl, sym, ap, ◌∙◌, subst, append_assoc, arith}
+use Rattle.std.proofs.lemmas.List.{length-append, map-append, length-take-le, take-take}
 use Rattle.yamux_session.specs.declared.event.Role.{Role}
 use Rattle.yamux_session.specs.Items.{Item, arrivals}
 use Rattle.yamux_session.specs.Items.Item.{Came}
@@ -9,13 +9,10 @@ use Rattle.yamux_session.specs.declared.event.Event.{Event}
 use Rattle.yamux_session.specs.State.{State, Stands, EndsWith, Led, Steps, HasCome}
 use Rattle.yamux_session.specs.Arrives.{telling, tellings, Tells, HasData}
 use Rattle.yamux_session.proofs.Lists.{append_none}
+use Rattle.yamux_session.proofs.Pieces.{take_over, take_on}
 use Rattle.yamux_frames.specs.Frames.{Reads}
 use Rattle.std.specs.List.{AllByRecursion}
 use Rattle.std.proofs.lemmas.List.Concat.{flat_map-append}
-
-take_over : (xs ys : List ℕ) (n : ℕ) → take (length xs + n) (xs ++ ys) ≡ xs ++ take n ys
-take_over [] ys n = let e : 0 + n ≡ n = omega arith in ap (λ k. take k ys) e
-take_over (x ∷ xs) ys n = let e : suc (length xs) + n ≡ suc (length xs + n) = omega arith in ap (λ k. take k (x ∷ (xs ++ ys))) e ∙ ap (λ (t : List ℕ). x ∷ t) (take_over xs ys n)
 
 take_less : (xs : List ℕ) (m n : ℕ) → m ≤ n → take m (take n xs) ≡ take m xs
 take_less xs m n h = take-take m n xs h
@@ -42,11 +39,6 @@ then_led role past mid now fed first second sent told more_told s t a b =
             ),
           );
     }
-
-take_on : (xs : List ℕ) (i n : ℕ) → i ≤ length xs → take (i + n) xs ≡ take i xs ++ take n (drop i xs)
-take_on xs i n h =
-    let front : length (take i xs) ≡ i = length-take-le i xs h in
-    ap (λ (t : List ℕ). take (i + n) t) (sym (take-append-drop i xs)) ∙ ap (λ k. take (k + n) (take i xs ++ drop i xs)) (sym front) ∙ take_over (take i xs) (drop i xs) n
 
 all_both : (xs ys : List Event) → AllByRecursion HasData xs → AllByRecursion HasData ys → AllByRecursion HasData (xs ++ ys)
 all_both [] ys a b = b

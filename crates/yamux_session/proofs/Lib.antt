@@ -13,3 +13,4 @@ pub mod Telling
 pub mod Stepping
 pub mod CallLemmas
 pub mod Received
+pub mod Growing

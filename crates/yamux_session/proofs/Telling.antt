@@ -61,7 +61,7 @@ tells_head a b c d e h effect one two three four =
 
 -- ---- a head
 
-head_told : (role : Role) (past : List Item) (h : Header) (effect : Effect) (new : Table) → HeadDone role past h effect new → head_events role past h ≡ told_of h effect
+pub head_told : (role : Role) (past : List Item) (h : Header) (effect : Effect) (new : Table) → HeadDone role past h effect new → head_events role past h ≡ told_of h effect
 head_told role past h effect new done =
     let o : Bool = opens role past (Came (Head h)) h.stream in
     let a : Bool = head_belongs role past h h.stream && ack h && is_own role h.stream && not (accepted role past h.stream) in
@@ -103,7 +103,7 @@ one_more : (t : Option ℕ) (b : ℕ) (bytes : List ℕ) → byte_told t b ++ by
 one_more None b bytes = refl
 one_more (Some n) b bytes = refl
 
-bytes_events : (role : Role) (bytes : List ℕ) (past : List Item) → events role (came_bytes bytes past) ≡ events role past ++ bytes_told (taker role past (reading role past)) bytes
+pub bytes_events : (role : Role) (bytes : List ℕ) (past : List Item) → events role (came_bytes bytes past) ≡ events role past ++ bytes_told (taker role past (reading role past)) bytes
 bytes_events role [] past = sym (none (taker role past (reading role past)))
   where
     none : (t : Option ℕ) → events role past ++ bytes_told t [] ≡ events role past

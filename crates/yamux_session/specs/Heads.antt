@@ -1,5 +1,5 @@
 -- What the head of a frame does to the table of live streams.
-use Rattle.std.specs.Prelude.{◌≡◌, ◌+◌, ◌-◌, ◌&&◌, not, nat_lt, if◌then◌else◌, List, ◌∷◌, ◌++◌, Option, Some, None}
+use Rattle.std.specs.Prelude.{◌≡◌, true, ◌+◌, ◌-◌, ◌&&◌, not, nat_lt, if◌then◌else◌, List, ◌∷◌, ◌++◌, Option, Some, None}
 use Rattle.yamux_frames.specs.declared.header.Header.{Header}
 use Rattle.yamux_frames.specs.Frames.Arrival.{Head}
 use Rattle.yamux_session.specs.declared.event.Role.{Role}
@@ -13,7 +13,7 @@ use Rattle.yamux_session.specs.Items.{Item, ack, is_data, is_update, is_go_away,
 use Rattle.yamux_session.specs.Items.Item.{Came}
 use Rattle.yamux_session.specs.Openings.{opens, head_belongs}
 use Rattle.yamux_session.specs.Windows.{accepted}
-use Rattle.yamux_session.specs.Meaning.{Told, when, fault_at}
+use Rattle.yamux_session.specs.Meaning.{Told, when, fault_at, TellsMore}
 use Rattle.yamux_session.specs.Meaning.Told.{Opened, Accepted, Credit, Left}
 use Rattle.yamux_session.specs.Table.{Table}
 use Rattle.yamux_session.specs.Keeps.{Keeps}
@@ -40,15 +40,16 @@ pub record HeadDone (role : Role) (past : List Item) (h : Header) (effect : Effe
   pub accepted : effect.accepted ≡ (head_belongs role past h h.stream && ack h && is_own role h.stream && not (accepted role past h.stream))
   pub credited : effect.credited ≡ (head_belongs role past h h.stream && is_update h.kind && nat_lt 0 h.length)
 
--- why a head isn't taken; memory may be wanting only where it has no fault
+-- why a head isn't taken; memory may be wanting only where it has no fault, and opens a stream
 abbrev pub IsHeadRefused : Role → List Item → Header → HeadRefused → Type 0
 IsHeadRefused role past h (refused.Fault fault) = fault_at role past (Came (Head h)) ≡ Some fault
-IsHeadRefused role past h refused.OutOfMemory = fault_at role past (Came (Head h)) ≡ None
+IsHeadRefused role past h refused.OutOfMemory =
+    (fault_at role past (Came (Head h)) ≡ None) × (opens role past (Came (Head h)) h.stream ≡ true)
 
--- a fault is that of the head
-abbrev pub HasFaultOf : Role → List Item → Header → HeadRefused → Type 0
-HasFaultOf role past h (refused.Fault fault) = fault_at role past (Came (Head h)) ≡ Some fault
-HasFaultOf role past h refused.OutOfMemory = Unit {0}
+-- why the list doesn't become the list now: the head has this fault; memory may be wanting only where there is an event to tell
+abbrev pub IsNotTaken : Role → List Item → Header → List Item → HeadRefused → Type 0
+IsNotTaken role past h now (refused.Fault fault) = fault_at role past (Came (Head h)) ≡ Some fault
+IsNotTaken role past h now refused.OutOfMemory = TellsMore role past now
 
 -- what the effect of a head tells
 abbrev pub told_of : Header → Effect → List Told

@@ -1,5 +1,5 @@
 -- What each item of a session means: a fault, events, and the frames that are sent.
-use Rattle.std.specs.Prelude.{◌≡◌, ℕ, Bool, true, false, ◌&&◌, ◌+◌, not, nat_lt, if◌then◌else◌, List, [], ◌∷◌, ◌++◌, length, Option, Some, None}
+use Rattle.std.specs.Prelude.{◌≡◌, ℕ, ◌<◌, Bool, true, false, ◌&&◌, ◌+◌, not, nat_lt, if◌then◌else◌, List, [], ◌∷◌, ◌++◌, length, Option, Some, None}
 use Rattle.std.specs.List.{flat_map}
 use Rattle.yamux_frames.specs.declared.header.Header.{Header}
 use Rattle.yamux_frames.specs.declared.header.FrameKind.{FrameKind}
@@ -109,6 +109,10 @@ abbrev pub events : Role → List Item → List Told
 events role [] = []
 events role (x ∷ past) = events role past ++ events_at role past x
 
+-- the second list has more events than the first
+abbrev pub TellsMore : Role → List Item → List Item → Type 0
+TellsMore role past now = length (events role past) < length (events role now)
+
 -- the data that arrived for the stream since its opening
 abbrev pub byte_at : Role → List Item → Item → ℕ → List ℕ
 byte_at role past (Came (Byte b)) n = when (byte_belongs role past n) b
@@ -157,3 +161,7 @@ output_at role past x = output_unless (fault_at role past x) (item_output role p
 abbrev pub output : Role → List Item → List ℕ
 output role [] = []
 output role (x ∷ past) = output role past ++ output_at role past x
+
+-- the second list has more output than the first
+abbrev pub SendsMore : Role → List Item → List Item → Type 0
+SendsMore role past now = length (output role past) < length (output role now)

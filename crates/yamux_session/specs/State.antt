@@ -1,5 +1,5 @@
 -- What contracts see of a session, and how it stands to its list.
-use Rattle.std.specs.Prelude.{◌≡◌, ℕ, ◌≤◌, Bool, true, false, List, [], ◌∷◌, ◌++◌, map, length, take, Some}
+use Rattle.std.specs.Prelude.{◌≡◌, ℕ, ◌≤◌, ◌⊎◌, Bool, true, false, List, [], ◌∷◌, ◌++◌, map, length, take, Some}
 use Rattle.std.specs.List.{concat}
 use Rattle.yamux_frames.specs.Frames.{Arrival, spelled, AreFrames, StandsAt, Reads}
 use Rattle.yamux_frames.specs.Place.{Place}
@@ -9,7 +9,7 @@ use Rattle.yamux_session.specs.declared.event.Event.{Event}
 use Rattle.yamux_session.specs.Items.{Item, Act, arrivals}
 use Rattle.yamux_session.specs.Items.Item.{Came, Did}
 use Rattle.yamux_session.specs.Items.Act.{Write}
-use Rattle.yamux_session.specs.Meaning.{Told, HasNoFault, events, output, fault_at}
+use Rattle.yamux_session.specs.Meaning.{Told, HasNoFault, events, output, fault_at, TellsMore, SendsMore}
 use Rattle.yamux_session.specs.Arrives.{Tells, tellings}
 use Rattle.yamux_session.specs.Table.{Table}
 use Rattle.yamux_session.specs.Acts.{AreAnswered}
@@ -88,3 +88,16 @@ abbrev pub RunsOut : State → List ℕ → State → Type 0
 RunsOut old bytes new =
     (role : Role) (past : List Item) (fed sent : List ℕ) → Stands role past fed sent old
     → (used : ℕ) × (used ≤ length bytes) × (now : List Item) × HasCome role past fed (take used bytes) sent now new.pending
+
+-- a front of the bytes makes a list with more events, or with more output
+pub record Brings (role : Role) (past : List Item) (fed bytes : List ℕ) : Type 0 where
+  pub used : ℕ
+  pub within : used ≤ length bytes
+  pub now : List Item
+  pub came : (more : List Arrival) × (now ≡ map Came more ++ past)
+  pub read : (rest : List ℕ) × Reads (fed ++ take used bytes) (arrivals now) rest
+  pub more : TellsMore role past now ⊎ SendsMore role past now
+
+-- the same of every history at which the session stands
+abbrev pub BringsMore : State → List ℕ → Type 0
+BringsMore old bytes = (role : Role) (past : List Item) (fed sent : List ℕ) → Stands role past fed sent old → Brings role past fed bytes

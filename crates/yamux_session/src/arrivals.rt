@@ -7,11 +7,11 @@ ghost use Rattle.yamux_session.specs.declared.event.Role.{Role};
 ghost use Rattle.yamux_session.specs.Items.{Item, arrivals, came_bytes, is_go_away, fin, rst};
 ghost use Rattle.yamux_session.specs.Items.Item.{Came};
 ghost use Rattle.yamux_session.specs.Openings.{reading};
-ghost use Rattle.yamux_session.specs.Meaning.{answer_to, taker, tail_told, tail_events};
+ghost use Rattle.yamux_session.specs.Meaning.{answer_to, taker, tail_told, tail_events, TellsMore};
 ghost use Rattle.yamux_session.specs.Acts.{AreAnswered};
 ghost use Rattle.yamux_session.specs.Keeps.{Keeps};
 ghost use Rattle.yamux_session.specs.Table.{table_of};
-ghost use Rattle.yamux_session.specs.Heads.{HasFaultOf, told_of};
+ghost use Rattle.yamux_session.specs.Heads.{IsNotTaken, told_of};
 ghost use Rattle.yamux_session.specs.Arrives.{Arrives, Tells, HasData, telling, told_of_tail, written_header, began, IsFaultOnly};
 
 use crate::event::Event;
@@ -113,7 +113,8 @@ impl Streams {
 /// Tells an event where the condition holds.
 fn tell_if(told: &mut Vec<Event>, condition: bool, event: Event) -> Result<(), AllocError>
     requires { HasData event }
-    ensures { OnOk result (Tells told.old.items told.new.items (if condition then telling event else [])) }
+    ensures ok { OnOk result (Tells told.old.items told.new.items (if condition then telling event else [])) }
+    ensures memory { OnErr result (condition ≡ true) }
 {
     if condition {
         told.push(event)?;
@@ -130,7 +131,8 @@ fn is_leaving(header: Header) -> bool
 
 /// Tells what a head did.
 fn tell_head(told: &mut Vec<Event>, header: Header, effect: Effect) -> Result<(), AllocError>
-    ensures { OnOk result (Tells told.old.items told.new.items (told_of header effect)) }
+    ensures ok { OnOk result (Tells told.old.items told.new.items (told_of header effect)) }
+    ensures memory { OnErr result (0 < length (told_of header effect)) }
 {
     tell_if(told, is_leaving(header), Event::GoAway(header.length))?;
     tell_if(told, effect.opened, Event::Opened(header.stream))?;
@@ -167,6 +169,7 @@ fn answer(header: Header, opened: bool) -> Option<Header>
 pub fn append_header(output: &mut Vec<u8>, header: Option<Header>) -> Result<(), AllocError>
     ensures ok { OnOk result (output.new.items ≡ output.old.items ++ written_header header) }
     ensures err { OnErr result (output.new.items ≡ output.old.items) }
+    ensures memory { OnErr result (0 < length (written_header header)) }
 {
     match header {
         None => Ok(()),
@@ -185,7 +188,7 @@ fn take_head(
         → Arrives role past (Came (Head header) ∷ past) (table_of streams.new)
         told.old.items told.new.items output (output ++ written_header answer)) }
     ensures refused { IfErr result (λ refused. (role : Role) (past : List Item) → AreAnswered role past
-        → Keeps role past (table_of streams.old) → HasFaultOf role past header refused) }
+        → Keeps role past (table_of streams.old) → IsNotTaken role past header (Came (Head header) ∷ past) refused) }
     ensures told { IfErr result (λ refused. IsFaultOnly refused (told.new.items ≡ told.old.items)) }
 {
     let effect = match streams.head(header) {
@@ -208,10 +211,12 @@ pub fn take_payload(
 ) -> Result<(), AllocError>
     requires some { from < to }
     requires within { to ≤ length piece.now }
-    ensures { OnOk result ((role : Role) (past : List Item) (output : List ℕ) → Keeps role past (table_of streams.old)
+    ensures ok { OnOk result ((role : Role) (past : List Item) (output : List ℕ) → Keeps role past (table_of streams.old)
         → to - from ≤ bytes_left (arrivals past)
         → Arrives role past (came_bytes (take (to - from) (drop from piece.now)) past) (table_of streams.new)
         told.old.items told.new.items output output) }
+    ensures memory { OnErr result ((role : Role) (past : List Item) → Keeps role past (table_of streams.old)
+        → TellsMore role past (came_bytes (take (to - from) (drop from piece.now)) past)) }
 {
     let Some(stream) = streams.arrive(to - from) else {
         return Ok(());
@@ -223,9 +228,11 @@ pub fn take_payload(
 
 /// Takes the tail of a frame.
 pub fn take_tail(streams: &mut Streams, told: &mut Vec<Event>) -> Result<(), AllocError>
-    ensures { OnOk result ((role : Role) (past : List Item) (output : List ℕ) → AreAnswered role past
+    ensures ok { OnOk result ((role : Role) (past : List Item) (output : List ℕ) → AreAnswered role past
         → Keeps role past (table_of streams.old)
         → Arrives role past (Came Tail ∷ past) (table_of streams.new) told.old.items told.new.items output output) }
+    ensures memory { OnErr result ((role : Role) (past : List Item) → Keeps role past (table_of streams.old)
+        → TellsMore role past (Came Tail ∷ past)) }
 {
     match streams.tail() {
         TailEffect::Nothing => Ok(()),
@@ -245,7 +252,7 @@ pub fn take_frame(
         → Arrives role past (began header past) (table_of streams.new)
         told.old.items told.new.items output (output ++ written_header answer)) }
     ensures refused { IfErr result (λ refused. (role : Role) (past : List Item) → AreAnswered role past
-        → Keeps role past (table_of streams.old) → HasFaultOf role past header refused) }
+        → Keeps role past (table_of streams.old) → IsNotTaken role past header (began header past) refused) }
     ensures told { IfErr result (λ refused. IsFaultOnly refused (told.new.items ≡ told.old.items)) }
 {
     let answer = match take_head(streams, told, header) {

@@ -11,7 +11,7 @@ ghost use Rattle.yamux_session.specs.Meaning.{data_frame, frame};
 ghost use Rattle.yamux_frames.specs.Frames.{EndsWithin};
 ghost use Rattle.yamux_session.specs.Arrives.{Tells, HasData};
 ghost use Rattle.yamux_session.specs.Meaning.Told.{Failed};
-ghost use Rattle.yamux_session.specs.State.{Stands, Whenever, Adds, AddsWrite, Steps, Feeds, RunsOut};
+ghost use Rattle.yamux_session.specs.State.{Stands, Whenever, Adds, AddsWrite, Steps, Feeds, RunsOut, BringsMore};
 
 use crate::arrivals::{append_header, take_frame, take_payload, take_tail};
 use crate::event::{ActRefused, Event, Fault, Role};
@@ -209,12 +209,7 @@ impl Session {
         if row.closed {
             return Err(ActRefused::Ended);
         }
-        let credit = row.credit as usize;
-        let count = if bytes.len() < credit {
-            bytes.len()
-        } else {
-            credit
-        };
+        let count = bytes.len().min(row.credit as usize);
         match append_data(self.alloc, &mut self.output, stream, &bytes[..count]) {
             Ok(()) => {}
             Err(_) => return Err(ActRefused::OutOfMemory),
@@ -244,11 +239,7 @@ impl Session {
         let Some(row) = self.streams.row(stream) else {
             return Err(ActRefused::NoStream);
         };
-        let count = if count < row.untaken as usize {
-            count as u32
-        } else {
-            row.untaken
-        };
+        let count = count.min(row.untaken as usize) as u32;
         let owed = row.owed.saturating_add(count);
         let untaken = row.untaken - count;
         if row.finished || owed < GIVE_BACK_FROM {
@@ -380,7 +371,9 @@ impl Session {
         ensures filled { IfOk result (λ told. Whenever self.old (λ role past. AllByRecursion HasData told.items)) }
         ensures refused { IfErr result (λ refused. self.old.failed ≡ false
             → (refused ≡ ActRefused.OutOfMemory) × (self.new.failed ≡ true) × RunsOut self.old piece self.new) }
-        ensures memory { OnErr result (self.old.failed ≡ false → 0 < length piece) }
+        // Memory is asked for only where there is an event to tell or something to send.
+        ensures memory { OnErr result (BringsMore self.old piece) }
+        ensures empty { OnErr result (self.old.failed ≡ false → 0 < length piece) }
         ensures failed { self.old.failed ≡ true → (result ≡ Err ActRefused.Failed) × (self.new ≡ self.old) }
     {
         self.feed_piece(&piece)
@@ -391,7 +384,8 @@ impl Session {
         ensures filled { IfOk result (λ told. Whenever self.old (λ role past. AllByRecursion HasData told.items)) }
         ensures refused { IfErr result (λ refused. self.old.failed ≡ false
             → (refused ≡ ActRefused.OutOfMemory) × (self.new.failed ≡ true) × RunsOut self.old piece.now self.new) }
-        ensures memory { OnErr result (self.old.failed ≡ false → 0 < length piece.now) }
+        ensures memory { OnErr result (BringsMore self.old piece.now) }
+        ensures empty { OnErr result (self.old.failed ≡ false → 0 < length piece.now) }
         ensures failed { self.old.failed ≡ true → (result ≡ Err ActRefused.Failed) × (self.new ≡ self.old) }
     {
         if self.failed {
@@ -419,6 +413,7 @@ impl Session {
         ensures led { IfOk result (λ used. (role : Role) (past : List Item) (fed sent : List ℕ) → Stands role past fed sent self.old
             → Steps role past fed (take used (drop at piece.now)) sent told.old.items told.new.items self.new) }
         ensures kept { OnErr result (self.new.pending ≡ self.old.pending) }
+        ensures memory { OnErr result (BringsMore self.old (drop at piece.now)) }
     {
         match self.cutter.feed(&piece[at..]) {
             Ok((used, Cut::More)) => Ok(used),

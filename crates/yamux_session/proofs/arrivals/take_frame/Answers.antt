@@ -1,9 +1,10 @@
-use Rattle.std.proofs.Common.{◌∷◌, ◌++◌}
+use Rattle.std.proofs.Common.{[], ◌∷◌, ◌++◌}
 use Rattle.yamux_frames.specs.Frames.Arrival.{Head, Tail}
 use Rattle.yamux_session.specs.Items.Item.{Came}
 use Rattle.yamux_session.specs.Table.{table_of}
 use Rattle.yamux_session.specs.Arrives.{written_header}
 use Rattle.yamux_session.proofs.Telling.{arrives_then, begins_whole, begins_bare}
+use Rattle.yamux_session.proofs.Growing.{bare_tells}
 use Rattle.yamux_session.proofs.arrivals.take_frame.Goals as goal
 
 pub returns-then-payload_length-gt0-clause-done : goal.returns-then-payload_length-gt0-clause-done
@@ -16,4 +17,9 @@ returns-in-Ok-take_tail-clause-done c = λ role past output answered keeps.
     let head = c.in-Ok.ensures.done role past output answered keeps in
     begins_bare role past c.args.header (table_of c.take_tail.new.streams) _ _ output (output ++ written_header c.in-Ok.answer) c.payload_length.result c.payload_length.ensures c.if-payload_length-gt0.false
     (arrives_then role past (Came (Head c.args.header) ∷ past) (Came Tail ∷ Came (Head c.args.header) ∷ past) _ _ _ _ _ output (output ++ written_header c.in-Ok.answer) (output ++ written_header c.in-Ok.answer)
-    head (c.in-Ok-take_tail.ensures role (Came (Head c.args.header) ∷ past) (output ++ written_header c.in-Ok.answer) answered head.keeps))
+    head (c.in-Ok-take_tail.ensures.ok role (Came (Head c.args.header) ∷ past) (output ++ written_header c.in-Ok.answer) answered head.keeps))
+
+pub returns-in-Err-take_tail-clause-refused : goal.returns-in-Err-take_tail-clause-refused
+returns-in-Err-take_tail-clause-refused c = λ role past answered keeps.
+    bare_tells role past c.args.header c.payload_length.result c.payload_length.ensures c.if-payload_length-gt0.false
+    (c.in-Err-take_tail.ensures.memory role (Came (Head c.args.header) ∷ past) (c.in-Ok.ensures.done role past [] answered keeps).keeps)

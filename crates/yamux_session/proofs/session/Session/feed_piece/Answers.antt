@@ -4,6 +4,7 @@ use Rattle.yamux_session.specs.State.{State, Led}
 use Rattle.std.specs.List.{AllByRecursion}
 use Rattle.yamux_session.specs.declared.event.Event.{Event}
 use Rattle.yamux_session.specs.Arrives.{tellings, HasData}
+use Rattle.yamux_session.proofs.Growing.{brings_later}
 use Rattle.yamux_session.proofs.Leads.{step_led, step_filled, failed_led, out_led, nothing_led}
 use Rattle.yamux_session.proofs.session.Session.feed_piece.Goals as goal
 use Rattle.yamux_session.proofs.session.Session.feed_piece.Goals.{then-loop-at-test+else-not-self, else-loop-at-test}
@@ -57,3 +58,10 @@ returns-in-Err-clause-refused c = λ going. (
       out_led role past fed c.args.piece.now sent _ c.loop-at.at c.loop-at.told.items c.loop-at.self c.loop-at.invariant.within
       (ap (λ (s : State). s.failed) (sym c.self-in-loop-at.view_is) ∙ c.if-not-self.true) (ap (λ (s : State). s.pending) c.self-in-loop-at-2.view_is ∙ c.in-Err.ensures.kept) (c.loop-at.invariant.led role past fed sent stands),
 )
+
+pub returns-in-Err-clause-memory : goal.returns-in-Err-clause-memory
+returns-in-Err-clause-memory c = λ role past fed sent stands.
+    let led = c.loop-at.invariant.led role past fed sent stands in
+    brings_later role past led.0 fed c.args.piece.now sent c.loop-at.at (tellings c.loop-at.told.items) c.loop-at.self c.loop-at.invariant.within led.1
+    (c.in-Err.ensures.memory role led.0 (fed ++ take c.loop-at.at c.args.piece.now) sent
+    (led.1.goes_on (ap (λ (s : State). s.failed) (sym c.self-in-loop-at.view_is) ∙ c.if-not-self.true)))

@@ -17,22 +17,20 @@ pub returns-then-row-clause-ok : goal.returns-then-row-clause-ok
 returns-then-row-clause-ok c = λ role past fed sent stands.
     let at = subst (λ (s : State). Stands role past fed sent s) (sym c.self.view_is) stands in
     let n : ℕ = c.args.stream in
-    let k : ℕ = c.if-count-row.count in
+    let k : ℕ = c.min-count.result in
     let found = sym c.row.ensures ∙ c.in-Some.is in
     let row = row_of role past (table_of c.self.inside.streams) n (Some c.in-Some.row) at.table found in
     let bound = row.1.bound in
     let there = untaken_is role past n c.in-Some.row row.1 in
-    let size : (k ≤ c.in-Some.row.untaken) × (k ≡ min c.args.count (untaken role past n)) = elim c.if-count-row.branch [
-      | goal.then-count-row w ↦ let e = w.count-is in let less = w.if-count-row.true in (omega arith, omega arith)
-      | goal.else-count-row w ↦ let e = w.count-is in let more = w.if-count-row.false in (omega arith, omega arith)
-    ] in
-    let fits = size.0 in
+    let least = c.min-count.ensures in
+    let size : k ≡ min c.args.count (untaken role past n) = omega arith in
+    let fits : k ≤ c.in-Some.row.untaken = omega arith in
     let sum : c.saturating_add-owed.result ≡ c.in-Some.row.owed + k = (let e = c.saturating_add-owed.ensures in omega arith) in
     let none : given_of c.in-Some.row.finished (c.in-Some.row.owed + k) ≡ 0 = elim c.then-row.branch [
       | goal.then-row-via-then-row w ↦ none_finished c.in-Some.row.finished (c.in-Some.row.owed + k) w.if-row.true
       | goal.then-row-via-else-row+then-owed-lt-GIVE_BACK_FROM w ↦ none_few c.in-Some.row.finished (c.in-Some.row.owed + k) (let few = w.if-owed-lt-GIVE_BACK_FROM.true in omega arith)
     ] in
-    as_counted role past fed sent n k _ _ size.1
+    as_counted role past fed sent n k _ _ size
     (did role past fed sent (Take n k) _ _ at (a_stream role past (table_of c.self.inside.streams) n c.in-Some.row at.table found, omega arith)
     (replaced role past (Take n k) n c.in-Some.row (record c.in-Some.row { owed = c.saturating_add-owed.result; untaken = c.in-Some.row.untaken - k }) (table_of c.self.inside.streams) (table_of c.replace.new.self) at.table found c.replace.ensures
     (taking role past n k 0 c.in-Some.row (record c.in-Some.row { owed = c.saturating_add-owed.result; untaken = c.in-Some.row.untaken - k }) row.1 none (omega arith) fits (omega arith) (omega arith) (omega arith) refl refl refl refl)
@@ -48,22 +46,20 @@ pub returns-clause-ok : goal.returns-clause-ok
 returns-clause-ok c = λ role past fed sent stands.
     let at = subst (λ (s : State). Stands role past fed sent s) (sym c.self.view_is) stands in
     let n : ℕ = c.args.stream in
-    let k : ℕ = c.if-count-row.count in
+    let k : ℕ = c.min-count.result in
     let g : ℕ = c.saturating_add-owed.result in
     let found = sym c.row.ensures ∙ c.in-Some.is in
     let row = row_of role past (table_of c.self.inside.streams) n (Some c.in-Some.row) at.table found in
     let bound = row.1.bound in
     let there = untaken_is role past n c.in-Some.row row.1 in
-    let size : (k ≤ c.in-Some.row.untaken) × (k ≡ min c.args.count (untaken role past n)) = elim c.if-count-row.branch [
-      | goal.then-count-row w ↦ let e = w.count-is in let less = w.if-count-row.true in (omega arith, omega arith)
-      | goal.else-count-row w ↦ let e = w.count-is in let more = w.if-count-row.false in (omega arith, omega arith)
-    ] in
-    let fits = size.0 in
+    let least = c.min-count.ensures in
+    let size : k ≡ min c.args.count (untaken role past n) = omega arith in
+    let fits : k ≤ c.in-Some.row.untaken = omega arith in
     let sum : g ≡ c.in-Some.row.owed + k = (let e = c.saturating_add-owed.ensures in omega arith) in
     let wide : c.saturating_add.result ≡ c.in-Some.row.window + g = (let e = c.saturating_add.ensures in omega arith) in
     let many : 131072 ≤ g = c.if-owed-lt-GIVE_BACK_FROM.false in
     let all : given_of c.in-Some.row.finished (c.in-Some.row.owed + k) ≡ g = all_given c.in-Some.row.finished (c.in-Some.row.owed + k) c.if-row.false (omega arith) ∙ sym sum in
-    as_counted role past fed sent n k _ _ size.1
+    as_counted role past fed sent n k _ _ size
     (did role past fed sent (Take n k) _ _ at (a_stream role past (table_of c.self.inside.streams) n c.in-Some.row at.table found, omega arith)
     (replaced role past (Take n k) n c.in-Some.row (record c.in-Some.row { window = c.saturating_add.result; owed = 0; untaken = c.in-Some.row.untaken - k }) (table_of c.self.inside.streams) (table_of c.replace-2.new.self) at.table found c.replace-2.ensures
     (taking role past n k g c.in-Some.row (record c.in-Some.row { window = c.saturating_add.result; owed = 0; untaken = c.in-Some.row.untaken - k }) row.1 all (omega arith) fits wide (omega arith) (omega arith) refl refl refl refl)
@@ -75,19 +71,17 @@ pub returns-then-is_err-clause-memory : goal.returns-then-is_err-clause-memory
 returns-then-is_err-clause-memory c = λ why role past fed sent stands.
     let at = subst (λ (s : State). Stands role past fed sent s) (sym c.self.view_is) stands in
     let n : ℕ = c.args.stream in
-    let k : ℕ = c.if-count-row.count in
+    let k : ℕ = c.min-count.result in
     let g : ℕ = c.saturating_add-owed.result in
     let found = sym c.row.ensures ∙ c.in-Some.is in
     let row = row_of role past (table_of c.self.inside.streams) n (Some c.in-Some.row) at.table found in
     let bound = row.1.bound in
     let there = untaken_is role past n c.in-Some.row row.1 in
-    let size : (k ≤ c.in-Some.row.untaken) × (k ≡ min c.args.count (untaken role past n)) = elim c.if-count-row.branch [
-      | goal.then-count-row w ↦ let e = w.count-is in let less = w.if-count-row.true in (omega arith, omega arith)
-      | goal.else-count-row w ↦ let e = w.count-is in let more = w.if-count-row.false in (omega arith, omega arith)
-    ] in
-    let fits = size.0 in
+    let least = c.min-count.ensures in
+    let size : k ≡ min c.args.count (untaken role past n) = omega arith in
+    let fits : k ≤ c.in-Some.row.untaken = omega arith in
     let sum : g ≡ c.in-Some.row.owed + k = (let e = c.saturating_add-owed.ensures in omega arith) in
     let many : 131072 ≤ g = c.if-owed-lt-GIVE_BACK_FROM.false in
     let all : given_of c.in-Some.row.finished (c.in-Some.row.owed + k) ≡ g = all_given c.in-Some.row.finished (c.in-Some.row.owed + k) c.if-row.false (omega arith) ∙ sym sum in
     let some : 0 < g = omega arith in
-    subst (λ j. 0 < given_back role n past (Did (Take n j))) size.1 (subst (λ t. 0 < t) (sym (giving role past n k g c.in-Some.row row.1 all)) some)
+    subst (λ j. 0 < given_back role n past (Did (Take n j))) size (subst (λ t. 0 < t) (sym (giving role past n k g c.in-Some.row row.1 all)) some)

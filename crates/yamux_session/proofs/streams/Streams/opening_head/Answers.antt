@@ -3,7 +3,7 @@ use Rattle.yamux_frames.specs.declared.header.Header.{Header}
 use Rattle.yamux_session.specs.declared.streams.Stream.{Stream}
 use Rattle.yamux_session.specs.Table.{Table, table_of, row_at}
 use Rattle.yamux_session.specs.Heads.{HeadDone}
-use Rattle.yamux_session.proofs.HeadLemmas.{wrong_parity, duplicate, opening_refused, opening_faults, opening_done, stays_there}
+use Rattle.yamux_session.proofs.HeadLemmas.{wrong_parity, duplicate, opening_refused, opening_faults, opening_opens, opening_done, stays_there}
 use Rattle.yamux_session.proofs.Refusals.{none_of, some_of}
 use Rattle.yamux_session.proofs.streams.Streams.opening_head.Goals as goal
 
@@ -33,9 +33,12 @@ returns-in-Err-clause-refused c = λ role past answered keeps.
 
 pub returns-in-Err-add-clause-refused : goal.returns-in-Err-add-clause-refused
 returns-in-Err-add-clause-refused c = λ role past answered keeps.
-    opening_faults role past c.args.header None (table_of c.args.self.now) c.requires.kind c.requires.opening
-    (ap (λ r. Rattle.yamux_session.specs.Items.is_remote r c.args.header.stream) (sym keeps.role_is) ∙ sym c.is_remote_number.ensures ∙ c.if-not-is_remote_number.false)
-    keeps (sym c.row.ensures ∙ none_of c.row.result (sym c.is_some.ensures ∙ c.if-is_some.false)) (sym c.has_room.ensures ∙ c.if-not-has_room.false) c.in-Ok.ensures.good
+    let remote = ap (λ r. Rattle.yamux_session.specs.Items.is_remote r c.args.header.stream) (sym keeps.role_is) ∙ sym c.is_remote_number.ensures ∙ c.if-not-is_remote_number.false in
+    let found = sym c.row.ensures ∙ none_of c.row.result (sym c.is_some.ensures ∙ c.if-is_some.false) in
+    let room = sym c.has_room.ensures ∙ c.if-not-has_room.false in (
+      opening_faults role past c.args.header None (table_of c.args.self.now) c.requires.kind c.requires.opening remote keeps found room c.in-Ok.ensures.good,
+      opening_opens role past c.args.header (table_of c.args.self.now) c.requires.kind c.requires.opening remote keeps found room,
+    )
 
 pub returns-clause-done : goal.returns-clause-done
 returns-clause-done c = λ role past answered keeps.
