@@ -31,22 +31,27 @@ proposals (name ∷ names) count = spelled (header ∷ take (count + 1) (name �
 abbrev pub IsNotAnswer : List (List ℕ) → List (List ℕ) → List ℕ → SelectFault → Type 0
 IsNotAnswer names [] rest fault = ReadsMessage rest (Err fault) ⊎ ((text : List ℕ) × ReadsMessage rest (Ok (Some text)) × (text ≢ header) × (fault ≡ BadHeader))
 IsNotAnswer names (first ∷ answers) rest fault =
-    ReadsMessage rest (Err fault) ⊎ ((text : List ℕ) × ReadsMessage rest (Ok (Some text)) × (text ≢ na) × (slice_get names (length answers) ≢ Some text) × (fault ≡ NotProposed))
+    ReadsMessage rest (Err fault) ⊎ ((text : List ℕ) × ReadsMessage rest (Ok (Some text)) × (text ≢ na)
+    × (slice_get names (length answers) ≢ Some text) × (fault ≡ NotProposed))
 
 -- A dialer of these names, told this whole input, stands here, has used so many bytes of it, and has written this.
 abbrev pub Dials : List (List ℕ) → List ℕ → Result Answer SelectFault → ℕ → List ℕ → Type 0
 -- a message isn't whole, and nothing is decided
 Dials names input (Ok Going) used output =
-    (texts : List (List ℕ)) × (rest : List ℕ) × Answered input texts rest × (refused texts < length names) × ReadsMessage rest (Ok None) × (used ≡ length input) × (output ≡ proposals names (refused texts))
+    (texts : List (List ℕ)) × (rest : List ℕ) × Answered input texts rest × (refused texts < length names) × ReadsMessage rest (Ok None)
+    × (used ≡ length input) × (output ≡ proposals names (refused texts))
 -- the standing proposal is echoed
 Dials names input (Ok (Agreed index)) used output =
-    (answers : List (List ℕ)) × (name : List ℕ) × (after : List ℕ) × Answered input (header ∷ answers) (message name ++ after) × IsShort name × (length answers ≡ index) × (slice_get names index ≡ Some name) × (name ≢ na)
+    (answers : List (List ℕ)) × (name : List ℕ) × (after : List ℕ) × Answered input (header ∷ answers) (message name ++ after)
+    × IsShort name × (length answers ≡ index) × (slice_get names index ≡ Some name) × (name ≢ na)
     × (used + length after ≡ length input) × (output ≡ proposals names index)
 -- each name got na
 Dials names input (Ok NoneLeft) used output =
-    (texts : List (List ℕ)) × (after : List ℕ) × Answered input texts after × (refused texts ≡ length names) × (names ≡ [] → texts ≡ []) × (used + length after ≡ length input) × (output ≡ proposals names (length names))
+    (texts : List (List ℕ)) × (after : List ℕ) × Answered input texts after × (refused texts ≡ length names) × (names ≡ [] → texts ≡ [])
+    × (used + length after ≡ length input) × (output ≡ proposals names (length names))
 Dials names input (Err fault) used output =
-    (texts : List (List ℕ)) × (rest : List ℕ) × Answered input texts rest × (refused texts < length names) × IsNotAnswer names texts rest fault × (used ≡ length input) × (output ≡ proposals names (refused texts))
+    (texts : List (List ℕ)) × (rest : List ℕ) × Answered input texts rest × (refused texts < length names)
+    × IsNotAnswer names texts rest fault × (used ≡ length input) × (output ≡ proposals names (refused texts))
 
 -- a dialer of these names comes to no fault by this input
 abbrev pub DialsWell : List (List ℕ) → List ℕ → Type 0
@@ -104,9 +109,11 @@ MaySend names None = ⊥
 -- Names and input determine where a dialer stands, what it has used and what it has written.
 abbrev pub OneDialer : Type 0
 OneDialer =
-    (names : List (List ℕ)) (input : List ℕ) (a b : Result Answer SelectFault) (used more : ℕ) (output other : List ℕ) → Dials names input a used output → Dials names input b more other
+    (names : List (List ℕ)) (input : List ℕ) (a b : Result Answer SelectFault) (used more : ℕ) (output other : List ℕ)
+    → Dials names input a used output → Dials names input b more other
     → (a ≡ b) × (used ≡ more) × (output ≡ other)
 
 -- Each input of bytes comes to something.
 abbrev pub SomeDialer : Type 0
-SomeDialer = (names : List (List ℕ)) (input : List ℕ) → ((i : ℕ) → slice_index input i < 256) → (standing : Result Answer SelectFault) × (used : ℕ) × (output : List ℕ) × Dials names input standing used output
+SomeDialer = (names : List (List ℕ)) (input : List ℕ) → ((i : ℕ) → slice_index input i < 256)
+    → (standing : Result Answer SelectFault) × (used : ℕ) × (output : List ℕ) × Dials names input standing used output

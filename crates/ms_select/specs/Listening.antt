@@ -47,7 +47,8 @@ Listens names input (Ok Going) used output =
     (texts : List (List ℕ)) × (rest : List ℕ) × Heard names input texts rest × ReadsMessage rest (Ok None) × (used ≡ length input) × (output ≡ refusals texts)
 -- a proposal is supported, and the output ends with its echo
 Listens names input (Ok (Agreed index)) used output =
-    (proposals : List (List ℕ)) × (name : List ℕ) × (after : List ℕ) × Heard names input (header ∷ proposals) (message name ++ after) × IsShort name × (choice names name ≡ Some index)
+    (proposals : List (List ℕ)) × (name : List ℕ) × (after : List ℕ) × Heard names input (header ∷ proposals) (message name ++ after) × IsShort name
+    × (choice names name ≡ Some index)
     × (used + length after ≡ length input) × (output ≡ refusals (header ∷ proposals) ++ message name)
 -- a listener never gives up
 Listens names input (Ok NoneLeft) used output = ⊥
@@ -101,9 +102,11 @@ HasRoom answer len capacity = answer ≡ Some Going → len < capacity
 -- Names and input determine where a listener stands, what it has used and what it has written.
 abbrev pub OneListener : Type 0
 OneListener =
-    (names : List (List ℕ)) (input : List ℕ) (a b : Result Answer SelectFault) (used more : ℕ) (output other : List ℕ) → Listens names input a used output → Listens names input b more other
+    (names : List (List ℕ)) (input : List ℕ) (a b : Result Answer SelectFault) (used more : ℕ) (output other : List ℕ)
+    → Listens names input a used output → Listens names input b more other
     → (a ≡ b) × (used ≡ more) × (output ≡ other)
 
 -- Each input of bytes comes to something.
 abbrev pub SomeListener : Type 0
-SomeListener = (names : List (List ℕ)) (input : List ℕ) → ((i : ℕ) → slice_index input i < 256) → (standing : Result Answer SelectFault) × (used : ℕ) × (output : List ℕ) × Listens names input standing used output
+SomeListener = (names : List (List ℕ)) (input : List ℕ) → ((i : ℕ) → slice_index input i < 256)
+    → (standing : Result Answer SelectFault) × (used : ℕ) × (output : List ℕ) × Listens names input standing used output

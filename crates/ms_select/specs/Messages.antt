@@ -42,7 +42,8 @@ ReadsMessage bytes (Ok (Some text)) = (rest : List ℕ) × IsMessage bytes text 
 -- the length isn't whole, or fewer bytes follow it
 ReadsMessage bytes (Ok None) = ReadsShortest bytes (Ok None) ⊎ ((len : ℕ) × (part : List ℕ) × BeginsShortest bytes len part × IsLength len × (length part < len))
 -- the length is badly spelt, or none that a message may have
-ReadsMessage bytes (Err BadLength) = ((fault : WireFault) × ReadsShortest bytes (Err fault)) ⊎ ((len : ℕ) × (rest : List ℕ) × BeginsShortest bytes len rest × ((len ≡ 0) ⊎ (1024 < len)))
+ReadsMessage bytes (Err BadLength) = ((fault : WireFault) × ReadsShortest bytes (Err fault))
+    ⊎ ((len : ℕ) × (rest : List ℕ) × BeginsShortest bytes len rest × ((len ≡ 0) ⊎ (1024 < len)))
 -- the message is whole, and its last byte is no newline
 ReadsMessage bytes (Err NoNewline) = (len : ℕ) × (rest : List ℕ) × BeginsShortest bytes len rest × IsLength len × (len ≤ length rest) × (slice_index rest (len - 1) ≢ 10)
 ReadsMessage bytes (Err Failed) = ⊥

@@ -64,7 +64,8 @@ impl Listener {
     pub fn feed(&mut self, piece: &[u8]) -> Result<Step, SelectFault>
         ensures names { self.new.names ≡ self.old.names }
         // What is decided stands, and nothing more is used.
-        ensures decided { (answer : Answer) → self.old.answer ≡ Some answer → answer ≢ Answer.Going → (result ≡ Ok (record { used = 0; answer = answer })) × (self.new ≡ self.old) }
+        ensures decided { (answer : Answer) → self.old.answer ≡ Some answer → answer ≢ Answer.Going
+            → (result ≡ Ok (record { used = 0; answer = answer })) × (self.new ≡ self.old) }
         ensures failed { self.old.answer ≡ None → (result ≡ Err SelectFault.Failed) × (self.new ≡ self.old) }
         ensures answer { IfOk result (λ step. self.new.answer ≡ Some step.answer) }
         ensures fails { OnErr result (self.new.answer ≡ None) }
@@ -72,13 +73,16 @@ impl Listener {
         ensures all_used { IfOk result (λ step. step.answer ≡ Answer.Going → step.used ≡ length piece.now) }
 
         // The answer, the bytes used and the output are those of the whole input so far, however it was cut.
-        ensures follows { (input : List ℕ) (used : ℕ) (taken : List ℕ) → Follows self.old input used taken → IfOk result (λ step. Follows self.new (input ++ piece.now) (used + step.used) taken) }
+        ensures follows { (input : List ℕ) (used : ℕ) (taken : List ℕ) → Follows self.old input used taken
+            → IfOk result (λ step. Follows self.new (input ++ piece.now) (used + step.used) taken) }
         ensures listens { (input : List ℕ) (used : ℕ) (taken : List ℕ) → Follows self.old input used taken
             → IfOk result (λ step. Listens self.old.names (input ++ piece.now) (Ok step.answer) (used + step.used) (taken ++ self.new.pending)) }
         ensures fault { (input : List ℕ) (used : ℕ) (taken : List ℕ) → self.old.answer ≡ Some Answer.Going → Follows self.old input used taken
-            → IfErr result (λ fault. fault ≢ SelectFault.OutOfMemory → Listens self.old.names (input ++ piece.now) (Err fault) (length (input ++ piece.now)) (taken ++ self.new.pending)) }
+            → IfErr result (λ fault. fault ≢ SelectFault.OutOfMemory
+            → Listens self.old.names (input ++ piece.now) (Err fault) (length (input ++ piece.now)) (taken ++ self.new.pending)) }
         // Where memory is refused a front of the piece was heard and answered, and the byte behind it has no fault either.
-        ensures memory { (input : List ℕ) (used : ℕ) (taken : List ℕ) → self.old.answer ≡ Some Answer.Going → Follows self.old input used taken → result ≡ Err SelectFault.OutOfMemory
+        ensures memory { (input : List ℕ) (used : ℕ) (taken : List ℕ) → self.old.answer ≡ Some Answer.Going → Follows self.old input used taken
+            → result ≡ Err SelectFault.OutOfMemory
             → (n : ℕ) × (n < length piece.now) × Listens self.old.names (input ++ take n piece.now) (Ok Answer.Going) (length (input ++ take n piece.now)) (taken ++ self.new.pending)
             × ListensWell self.old.names (input ++ take (n + 1) piece.now) }
     {
@@ -108,11 +112,14 @@ impl Listener {
         ensures names { self.new.names ≡ self.old.names }
         ensures answer { IfOk result (λ answer. self.new.answer ≡ Some answer) }
         ensures fails { OnErr result (self.new.answer ≡ None) }
-        ensures follows { (input taken : List ℕ) → Follows self.old input (length input) taken → IfOk result (λ answer. Follows self.new (input ++ byte ∷ []) (length (input ++ byte ∷ [])) taken) }
+        ensures follows { (input taken : List ℕ) → Follows self.old input (length input) taken
+            → IfOk result (λ answer. Follows self.new (input ++ byte ∷ []) (length (input ++ byte ∷ [])) taken) }
         ensures fault { (input taken : List ℕ) → Follows self.old input (length input) taken
-            → IfErr result (λ fault. fault ≢ SelectFault.OutOfMemory → Listens self.old.names (input ++ byte ∷ []) (Err fault) (length (input ++ byte ∷ [])) (taken ++ self.new.pending)) }
+            → IfErr result (λ fault. fault ≢ SelectFault.OutOfMemory
+            → Listens self.old.names (input ++ byte ∷ []) (Err fault) (length (input ++ byte ∷ [])) (taken ++ self.new.pending)) }
         ensures kept { result ≡ Err SelectFault.OutOfMemory → self.new.pending ≡ self.old.pending }
-        ensures memory { (input taken : List ℕ) → Follows self.old input (length input) taken → result ≡ Err SelectFault.OutOfMemory → ListensWell self.old.names (input ++ byte ∷ []) }
+        ensures memory { (input taken : List ℕ) → Follows self.old input (length input) taken → result ≡ Err SelectFault.OutOfMemory
+            → ListensWell self.old.names (input ++ byte ∷ []) }
     {
         self.answer = None;
         self.held.push_reserved(byte);

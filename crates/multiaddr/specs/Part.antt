@@ -91,7 +91,8 @@ abbrev pub ValueFault : Protocol → List ℕ → AddrFault → Type 0
 ValueFault Ip4 bytes fault = (fault ≡ Cut) × (length bytes < 4)
 ValueFault Tcp bytes fault = (fault ≡ Cut) × (length bytes < 2)
 ValueFault Ip6 bytes fault = (fault ≡ Cut) × (length bytes < 16)
-ValueFault p bytes fault = BodyFault bytes fault ⊎ ((fault ≡ BadValue) × (value : List ℕ) × (rest : List ℕ) × (length value < 2 ^ 63) × (bytes ≡ sized p value ++ rest) × ¬ IsValue p value)
+ValueFault p bytes fault = BodyFault bytes fault ⊎ ((fault ≡ BadValue) × (value : List ℕ) × (rest : List ℕ) × (length value < 2 ^ 63)
+    × (bytes ≡ sized p value ++ rest) × ¬ IsValue p value)
 
 -- What keeps the bytes from beginning with a part.
 abbrev pub PartFault : List ℕ → AddrFault → Type 0
@@ -101,7 +102,8 @@ PartFault bytes fault = NumberFault bytes fault ⊎ ((p : Protocol) × (rest : L
 abbrev pub AddressFault : List ℕ → AddrFault → Type 0
 AddressFault bytes fault =
     ((fault ≡ Empty) × (bytes ≡ []))
-    ⊎ ((parts : List Part) × (rest : List ℕ) × AllByRecursion (λ p. IsValue p.protocol p.value) parts × (bytes ≡ flat_map spelling parts ++ rest) × (0 < length rest) × PartFault rest fault)
+    ⊎ ((parts : List Part) × (rest : List ℕ) × AllByRecursion (λ p. IsValue p.protocol p.value) parts × (bytes ≡ flat_map spelling parts ++ rest)
+    × (0 < length rest) × PartFault rest fault)
 
 abbrev pub SpellsAddress : List ℕ → Address → Type 0
 SpellsAddress bytes a = IsAddress a × (bytes ≡ bytes_of a)

@@ -106,7 +106,8 @@ impl Multiaddr {
     /// The text. An address with an opaque part has none. Memory is asked for only where a part stands before that.
     pub fn print(&self, alloc: Global) -> Result<String, AddrFault>
         ensures found { IfOk result (λ text. (a : Address) × SpellsAddress self.now a × (a.opaque ≡ []) × PrintsParts (string_bytes text) a.parts) }
-        ensures fault { IfErr result (λ fault. (fault ≡ AddrFault.OutOfMemory) ⊎ ((fault ≡ AddrFault.UnknownProtocol) × (a : Address) × SpellsAddress self.now a × IsOpaque a.opaque)) }
+        ensures fault { IfErr result (λ fault. (fault ≡ AddrFault.OutOfMemory)
+            ⊎ ((fault ≡ AddrFault.UnknownProtocol) × (a : Address) × SpellsAddress self.now a × IsOpaque a.opaque)) }
         ensures memory { result ≡ Err AddrFault.OutOfMemory → HasPart self.now }
     {
         print(alloc, &self.bytes)

@@ -22,7 +22,8 @@ pub struct AddrLines {
 
 /// The bytes and the printed text of the address that a text spells.
 pub fn addr_lines(alloc: Global, text: &str) -> Result<AddrLines, AddrFault>
-    ensures found { IfOk result (λ lines. (parts : List Part) × ReadsParts text.now parts × (string_bytes lines.bytes ≡ encode_lower (flat_map spelling parts)) × PrintsParts (string_bytes lines.text) parts) }
+    ensures found { IfOk result (λ lines. (parts : List Part) × ReadsParts text.now parts
+        × (string_bytes lines.bytes ≡ encode_lower (flat_map spelling parts)) × PrintsParts (string_bytes lines.text) parts) }
     ensures refused { (fault : AddrFault) → result ≡ Err fault → (fault ≡ OutOfMemory) ⊎ TextFault text.now fault }
 {
     let address = match Multiaddr::parse(alloc, text) {

@@ -34,7 +34,8 @@ pub enum HashRefused {
 
 /// The text of the id of the key that a message in hexadecimal spells.
 pub fn id_text(alloc: Global, hex: &str) -> Result<String, IdRefused>
-    ensures found { IfOk result (λ text. (bytes : List ℕ) × (key : Key) × (decode_of hex.now ≡ Ok bytes) × SpellsKey bytes key × IsIdText (string_bytes text) (id_of key)) }
+    ensures found { IfOk result (λ text. (bytes : List ℕ) × (key : Key) × (decode_of hex.now ≡ Ok bytes) × SpellsKey bytes key
+        × IsIdText (string_bytes text) (id_of key)) }
     ensures not_hex { result ≡ Err IdRefused.NotHex → (bytes : List ℕ) → ¬ (decode_of hex.now ≡ Ok bytes) }
     ensures no_key { (fault : KeyFault) → result ≡ Err (IdRefused.Key fault) → (bytes : List ℕ) × (decode_of hex.now ≡ Ok bytes) × RefusesKey bytes fault }
 {

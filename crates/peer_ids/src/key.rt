@@ -31,7 +31,8 @@ impl Model for PublicKey {
 
 /// The last type and the last data of a message.
 fn last_parts(bytes: &[u8]) -> Result<(Option<u64>, Option<&[u8]>), WireFault>
-    ensures found { IfOk result (λ parts. (fields : List Entry) × IsMessage bytes.now fields × (parts.0 ≡ last_varint 1 fields) × (option_copied parts.1 ≡ last_body 2 fields)) }
+    ensures found { IfOk result (λ parts. (fields : List Entry) × IsMessage bytes.now fields × (parts.0 ≡ last_varint 1 fields)
+        × (option_copied parts.1 ≡ last_body 2 fields)) }
     ensures fault { IfErr result (FaultIn bytes.now) }
 {
     let mut kind = None;

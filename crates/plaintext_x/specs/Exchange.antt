@@ -137,7 +137,8 @@ is_proven (Some (Some key)) = true
 
 -- The input determines what an exchange comes to, and what it has used.
 abbrev pub OneOutcome : Type 0
-OneOutcome = (input : List ℕ) (a b : Result (Option Key) ExchangeFault) (m n : ℕ) → a ≢ Err OutOfMemory → b ≢ Err OutOfMemory → Exchanges input a m → Exchanges input b n → (a ≡ b) × (m ≡ n)
+OneOutcome = (input : List ℕ) (a b : Result (Option Key) ExchangeFault) (m n : ℕ) → a ≢ Err OutOfMemory → b ≢ Err OutOfMemory → Exchanges input a m
+    → Exchanges input b n → (a ≡ b) × (m ≡ n)
 
 -- Each input comes to something.
 abbrev pub SomeOutcome : Type 0

@@ -101,14 +101,17 @@ impl Exchange {
         ensures within { IfOk result (λ step. step.0 ≤ length piece.now) }
 
         // The answer and the bytes used are those of the whole input so far, however it was cut.
-        ensures follows { (own : Key) (input : List ℕ) (used : ℕ) (taken : List ℕ) → Follows own self.old input used taken → IfOk result (λ step. Follows own self.new (input ++ piece.now) (used + step.0) taken) }
+        ensures follows { (own : Key) (input : List ℕ) (used : ℕ) (taken : List ℕ) → Follows own self.old input used taken
+            → IfOk result (λ step. Follows own self.new (input ++ piece.now) (used + step.0) taken) }
         ensures outcome { (own : Key) (input : List ℕ) (used : ℕ) (taken : List ℕ) → Follows own self.old input used taken
             → IfOk result (λ step. IfSome self.new.answer (λ answer. Exchanges (input ++ piece.now) (Ok answer) (used + step.0))) }
         ensures fault { (own : Key) (input : List ℕ) (used : ℕ) (taken : List ℕ) → self.old.answer ≡ Some None → Follows own self.old input used taken
             → IfErr result (λ fault. fault ≢ ExchangeFault.OutOfMemory → Exchanges (input ++ piece.now) (Err fault) (length (input ++ piece.now))) }
         // Where memory is refused a front of the piece was read, and the byte behind it asks for memory.
-        ensures memory { (own : Key) (input : List ℕ) (used : ℕ) (taken : List ℕ) → self.old.answer ≡ Some None → Follows own self.old input used taken → result ≡ Err ExchangeFault.OutOfMemory
-            → (n : ℕ) × (n < length piece.now) × Exchanges (input ++ take n piece.now) (Ok None) (length (input ++ take n piece.now)) × AsksMemory (input ++ take (n + 1) piece.now) }
+        ensures memory { (own : Key) (input : List ℕ) (used : ℕ) (taken : List ℕ) → self.old.answer ≡ Some None
+            → Follows own self.old input used taken → result ≡ Err ExchangeFault.OutOfMemory
+            → (n : ℕ) × (n < length piece.now) × Exchanges (input ++ take n piece.now) (Ok None) (length (input ++ take n piece.now))
+            × AsksMemory (input ++ take (n + 1) piece.now) }
     {
         match &self.standing {
             Standing::Failed => return Err(ExchangeFault::Failed),
@@ -130,9 +133,12 @@ impl Exchange {
         ensures more { result ≡ Ok false → self.new.answer ≡ Some None }
         ensures done { result ≡ Ok true → (key : Key) × (self.new.answer ≡ Some (Some key)) }
         ensures fails { OnErr result (self.new.answer ≡ None) }
-        ensures read { (input : List ℕ) → IsAt self.old.answer self.old input (length input) → IfOk result (λ done. IsAt self.new.answer self.new (input ++ byte ∷ []) (length (input ++ byte ∷ []))) }
-        ensures fault { (input : List ℕ) → IsAt self.old.answer self.old input (length input) → IfErr result (λ fault. fault ≢ ExchangeFault.OutOfMemory → HasFault (input ++ byte ∷ []) fault) }
-        ensures memory { (input : List ℕ) → IsAt self.old.answer self.old input (length input) → result ≡ Err ExchangeFault.OutOfMemory → AsksMemory (input ++ byte ∷ []) }
+        ensures read { (input : List ℕ) → IsAt self.old.answer self.old input (length input)
+            → IfOk result (λ done. IsAt self.new.answer self.new (input ++ byte ∷ []) (length (input ++ byte ∷ []))) }
+        ensures fault { (input : List ℕ) → IsAt self.old.answer self.old input (length input)
+            → IfErr result (λ fault. fault ≢ ExchangeFault.OutOfMemory → HasFault (input ++ byte ∷ []) fault) }
+        ensures memory { (input : List ℕ) → IsAt self.old.answer self.old input (length input) → result ≡ Err ExchangeFault.OutOfMemory
+            → AsksMemory (input ++ byte ∷ []) }
     {
         self.standing = Standing::Failed;
         if !self.incoming.take(byte)? {
@@ -148,7 +154,8 @@ impl Exchange {
     pub fn take_output(&mut self) -> Vec<u8>
         ensures output { result.items ≡ self.old.pending }
         ensures kept { self.new ≡ record self.old { pending = [] } }
-        ensures follows { (own : Key) (input : List ℕ) (used : ℕ) (taken : List ℕ) → Follows own self.old input used taken → Follows own self.new input used (taken ++ result.items) }
+        ensures follows { (own : Key) (input : List ℕ) (used : ℕ) (taken : List ℕ) → Follows own self.old input used taken
+            → Follows own self.new input used (taken ++ result.items) }
     {
         mem::replace(&mut self.output, Vec::new(self.alloc))
     }

@@ -73,10 +73,13 @@ impl Incoming {
     pub(crate) fn take(&mut self, byte: u8) -> Result<bool, ExchangeFault>
         requires { IsPartial self.old.expected self.old.bytes }
         ensures partial { result ≡ Ok false → IsPartial self.new.expected self.new.bytes }
-        ensures more { (input : List ℕ) → IsHeld self.old.expected self.old.bytes input → result ≡ Ok false → IsHeld self.new.expected self.new.bytes (input ++ byte ∷ []) }
+        ensures more { (input : List ℕ) → IsHeld self.old.expected self.old.bytes input → result ≡ Ok false
+            → IsHeld self.new.expected self.new.bytes (input ++ byte ∷ []) }
         ensures whole { (input : List ℕ) → IsHeld self.old.expected self.old.bytes input → result ≡ Ok true → Frames (input ++ byte ∷ []) self.new.bytes [] }
-        ensures fault { (input : List ℕ) → IsHeld self.old.expected self.old.bytes input → IfErr result (λ fault. fault ≢ ExchangeFault.OutOfMemory → HasFault (input ++ byte ∷ []) fault) }
-        ensures memory { (input : List ℕ) → IsHeld self.old.expected self.old.bytes input → result ≡ Err ExchangeFault.OutOfMemory → (len : ℕ) × (0 < len) × Announces (input ++ byte ∷ []) len [] }
+        ensures fault { (input : List ℕ) → IsHeld self.old.expected self.old.bytes input
+            → IfErr result (λ fault. fault ≢ ExchangeFault.OutOfMemory → HasFault (input ++ byte ∷ []) fault) }
+        ensures memory { (input : List ℕ) → IsHeld self.old.expected self.old.bytes input → result ≡ Err ExchangeFault.OutOfMemory → (len : ℕ)
+            × (0 < len) × Announces (input ++ byte ∷ []) len [] }
     {
         self.bytes.push_reserved(byte);
         if let Some(len) = self.expected {

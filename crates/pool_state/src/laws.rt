@@ -29,5 +29,7 @@ pub fn lowest_first()
 
 /// What `Listing::add` leaves is what the longer history shows.
 pub fn added_is_shown()
-    ensures { (config : Config) (history : List Entry) (caller : ℕ) (call : Call) (reply : Reply) → IsLegal config (history ++ entry caller call reply ∷ []) → added (Shown config history) call reply ≡ Shown config (history ++ entry caller call reply ∷ []) }
+    ensures { (config : Config) (history : List Entry) (caller : ℕ) (call : Call) (reply : Reply)
+        → IsLegal config (history ++ entry caller call reply ∷ [])
+        → added (Shown config history) call reply ≡ Shown config (history ++ entry caller call reply ∷ []) }
 {}

@@ -289,7 +289,8 @@ impl Pool {
     /// is.
     pub fn apply(&mut self, call: Call) -> Reply
         ensures reply { (config : Config) (history : List Entry) → IsAt config history self.old → result ≡ reply_after config history call }
-        ensures moved { (config : Config) (history : List Entry) (caller : ℕ) → IsAt config history self.old → result ≢ Refused Spent → IsAt config (history ++ entry caller call result ∷ []) self.new }
+        ensures moved { (config : Config) (history : List Entry) (caller : ℕ) → IsAt config history self.old → result ≢ Refused Spent
+            → IsAt config (history ++ entry caller call result ∷ []) self.new }
         ensures spent { result ≡ Refused Spent → self.new ≡ self.old }
     {
         let reply = self.reply(call);

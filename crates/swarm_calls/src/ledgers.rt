@@ -136,7 +136,8 @@ pub struct BlankLedgers {
     pub sixth: Blank,
     pub seventh: Blank,
     pub eighth: Blank,
-    ghost parts: { (first.parts ≡ 1) × (second.parts ≡ 1) × (third.parts ≡ 1) × (fourth.parts ≡ 1) × (fifth.parts ≡ 1) × (sixth.parts ≡ 1) × (seventh.parts ≡ 1) × (eighth.parts ≡ 1) },
+    ghost parts: { (first.parts ≡ 1) × (second.parts ≡ 1) × (third.parts ≡ 1) × (fourth.parts ≡ 1) × (fifth.parts ≡ 1) × (sixth.parts ≡ 1)
+        × (seventh.parts ≡ 1) × (eighth.parts ≡ 1) },
 }
 
 impl BlankLedgers {

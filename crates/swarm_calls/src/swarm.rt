@@ -267,7 +267,8 @@ impl<G: Gate, J: Identity, L: Ledgers> Swarm<G, J, L> {
         ensures here { IfOk result (λ r. AllHere self passes.items) }
         ensures missing { IfErr result (λ r. ¬ AllHere self passes.items) }
         ensures back { IfErr result (λ r. (r.0 ≡ self) × (r.1.items ≡ passes.items)) }
-        ensures closed { IfOk result (λ r. (history : List Entry) × IsWhole J.config self passes.items history × (r.listing ≡ Shown J.config history) × (r.calls ≡ length history)) }
+        ensures closed { IfOk result (λ r. (history : List Entry) × IsWhole J.config self passes.items history
+            × (r.listing ≡ Shown J.config history) × (r.calls ≡ length history)) }
     {
         if !all_here(passes.as_slice(), self.callers) {
             return Err((self, passes));

@@ -82,7 +82,8 @@ IsShortOfLength bytes = (len : ℕ) × (rest : List ℕ) × BeginsWide bytes len
 -- What keeps the bytes behind a tag from beginning with a value of this wire type.
 abbrev pub ValueFault : ℕ → List ℕ → WireFault → Type 0
 ValueFault wire bytes TooLong = ((wire ≡ 0) ⊎ (wire ≡ 2)) × WideFault bytes TooLong
-ValueFault wire bytes Cut = (((wire ≡ 0) ⊎ (wire ≡ 2)) × WideFault bytes Cut) ⊎ ((wire ≡ 1) × (length bytes < 8)) ⊎ ((wire ≡ 2) × IsShortOfLength bytes) ⊎ ((wire ≡ 5) × (length bytes < 4))
+ValueFault wire bytes Cut = (((wire ≡ 0) ⊎ (wire ≡ 2)) × WideFault bytes Cut) ⊎ ((wire ≡ 1) × (length bytes < 8))
+    ⊎ ((wire ≡ 2) × IsShortOfLength bytes) ⊎ ((wire ≡ 5) × (length bytes < 4))
 ValueFault wire bytes BadWire = (wire ≢ 0) × (wire ≢ 1) × (wire ≢ 2) × (wire ≢ 5)
 ValueFault wire bytes BadNumber = ⊥
 ValueFault wire bytes NotShortest = ⊥

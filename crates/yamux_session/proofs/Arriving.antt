@@ -46,7 +46,7 @@ abbrev pub grown : ℕ → Option Stream → Option Stream
 grown k None = None
 grown k (Some s) = Some (record s { untaken = s.untaken + k })
 
-grown_once : (role : Role) (past : List Item) (b n : ℕ) (row : Option Stream) → 0 < bytes_left (arrivals past) → IsRowAt role past n row → IsRowAt role (Came (Byte b) ∷ past) n (grown (one_if (byte_belongs role past n)) row)
+pub grown_once : (role : Role) (past : List Item) (b n : ℕ) (row : Option Stream) → 0 < bytes_left (arrivals past) → IsRowAt role past n row → IsRowAt role (Came (Byte b) ∷ past) n (grown (one_if (byte_belongs role past n)) row)
 grown_once role past b n None some at = ap (λ ns. contains ns n) (quiet (live role past)) ∙ at
 grown_once role past b n (Some s) some at = (ap (λ ns. contains ns n) (quiet (live role past)) ∙ at.0, after role past (Came (Byte b)) n s (record s { untaken = s.untaken + one_if (byte_belongs role past n) }) (byte_moves role past b n s some) at.1)
 

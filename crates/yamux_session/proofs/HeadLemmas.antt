@@ -19,7 +19,7 @@ use Rattle.yamux_session.specs.Windows.{initial_window, written_length, update_l
 use Rattle.yamux_session.specs.Meaning.{fault_at, syn_fault, window_fault, window_at, credit_at, or_else}
 use Rattle.yamux_session.specs.Keeps.{Keeps, IsRow, IsRowAt}
 use Rattle.yamux_session.specs.Heads.{charged, row_fault, HeadDone}
-use Rattle.yamux_session.proofs.Lists.{filter_true, one_if, count_then}
+use Rattle.yamux_session.proofs.Lists.{and_parts, filter_true, one_if, count_then}
 use Rattle.yamux_session.proofs.Live.{not_both}
 use Rattle.yamux_session.proofs.Refusals.{row_of, credit_is}
 use Rattle.yamux_session.proofs.Keeping.{Moves, after, quiet, and_true, and_false, since_first, here_after, other_after}
@@ -481,6 +481,69 @@ module _ (role : Role) (past : List Item) (h : Header) where
       not_own : (b : Bool) → is_own role h.stream ≡ b → is_remote role h.stream ≡ true → is_own role h.stream ≡ false
       not_own true e remote = absurd (not_both role h.stream e remote)
       not_own false e remote = e
+
+  -- ---- the row of a stream, where the head has no fault
+
+  belongs_for : head_belongs role past h h.stream ≡ true → for_it ≡ true
+  belongs_for its = (and_parts (h.stream == h.stream) for_it (and_parts ((h.stream == h.stream) && for_it) (not ((is_data h.kind && not (syn h)) && finished role past h.stream)) its).0).1
+
+  for_kind : for_it ≡ true → (is_of_stream h ≡ true) × (cond (syn h) (is_let_in role (live role past) (has_left past) h) (contains (live role past) h.stream) ≡ true)
+  for_kind e = and_parts (is_of_stream h) (cond (syn h) (is_let_in role (live role past) (has_left past) h) (contains (live role past) h.stream)) e
+
+  -- a head for a stream that it doesn't open has no SYN
+  plain_unless : (b : Bool) → syn h ≡ b → lets ≡ false → for_it ≡ true → syn h ≡ false
+  plain_unless false e none is_for = e
+  plain_unless true e none is_for =
+      let parts = for_kind is_for in
+      let entry : is_let_in role (live role past) (has_left past) h ≡ true = sym (ap (λ t. cond t (is_let_in role (live role past) (has_left past) h) (contains (live role past) h.stream)) e) ∙ parts.1 in
+      absurd (let both : true ≡ false = sym (lets_is true parts.0 e entry) ∙ none in cc)
+
+  good_windows : fault_at role past (Came (Head h)) ≡ None → head_belongs role past h h.stream ≡ true → window_fault role past h ≡ None
+  good_windows good its =
+      sym (ap (λ b. cond b (window_fault role past h) None) its)
+      ∙ second (cond (is_of_stream h && syn h) (syn_fault role past h) None) (cond (head_belongs role past h h.stream) (window_fault role past h) None) good
+    where
+      second : (a b : Option Fault) → or_else a b ≡ None → b ≡ None
+      second (Some f) b e = absurd cc
+      second None b e = e
+
+  opened_row : fault_at role past (Came (Head h)) ≡ None → lets ≡ true → IsRowAt role (Came (Head h) ∷ past) h.stream (Some (charged opened h))
+  opened_row good lets_it =
+      let parts = and_parts (is_of_stream h && syn h) (is_let_in role (live role past) (has_left past) h) lets_it in
+      let both = and_parts (is_of_stream h) (syn h) parts.0 in
+      let its = belongs_if true false (finished role past h.stream) (opening_for true both.0 both.1 parts.1) (opening_data both.1) refl in (
+        ap (λ ns. contains ns h.stream) (live_opened lets_it) ∙ here_after h.stream (live role past),
+        first (opens_here lets_it) its (data_fits opened (sym (opening_fault both.1) ∙ good_windows good its)),
+      )
+
+  belonging_row : (row : Option Stream) → fault_at role past (Came (Head h)) ≡ None → lets ≡ false → head_belongs role past h h.stream ≡ true
+      → IsRowAt role past h.stream row → (new : Option Stream) × IsRowAt role (Came (Head h) ∷ past) h.stream new
+  belonging_row None good none its off =
+      let is_for = belongs_for its in
+      let plain = plain_unless (syn h) refl none is_for in
+      absurd (let e : true ≡ false = sym is_for ∙ plain_for (for_kind is_for).0 plain false off in cc)
+  belonging_row (Some s) good none its at =
+      let plain = plain_unless (syn h) refl none (belongs_for its) in (
+        Some (record (charged s h) { accepted = ack h || s.accepted }),
+        (
+          ap (λ ns. contains ns h.stream) (live_not none) ∙ at.0,
+          after role past (Came (Head h)) h.stream s (record (charged s h) { accepted = ack h || s.accepted })
+              (moved s (opens_not none h.stream) its (data_fits s (sym (plain_fault s plain at.1) ∙ good_windows good its))) at.1,
+        ),
+      )
+
+  row_here : (row : Option Stream) (b c : Bool) → lets ≡ b → head_belongs role past h h.stream ≡ c → fault_at role past (Came (Head h)) ≡ None
+      → IsRowAt role past h.stream row → (new : Option Stream) × IsRowAt role (Came (Head h) ∷ past) h.stream new
+  row_here row true c lets_it its good at = (Some (charged opened h), opened_row good lets_it)
+  row_here row false true none its good at = belonging_row row good none its at
+  row_here row false false none off good at = (row, still row none off at)
+
+  pub head_row : (n : ℕ) (row : Option Stream) (b : Bool) → (h.stream == n) ≡ b → fault_at role past (Came (Head h)) ≡ None
+      → IsRowAt role past n row → (new : Option Stream) × IsRowAt role (Came (Head h) ∷ past) n new
+  head_row n row false other good at = (row, apart n row other at)
+  head_row n row true same good at =
+      subst (λ k. IsRowAt role past k row → (new : Option Stream) × IsRowAt role (Came (Head h) ∷ past) k new) (eqb-true h.stream n same)
+      (row_here row lets (head_belongs role past h h.stream) refl refl good) at
 
   -- ---- Ping and GoAway
 

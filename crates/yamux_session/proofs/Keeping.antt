@@ -139,7 +139,7 @@ stays role past (Leave code) m s h same = record {
 }
 
 -- a stream that the act isn't about
-apart : (role : Role) (past : List Item) (act : Act) (m : ℕ) (row : Option Stream) → acts_on act m ≡ false → is_live role (Did act ∷ past) m ≡ is_live role past m → IsRowAt role past m row → IsRowAt role (Did act ∷ past) m row
+pub apart : (role : Role) (past : List Item) (act : Act) (m : ℕ) (row : Option Stream) → acts_on act m ≡ false → is_live role (Did act ∷ past) m ≡ is_live role past m → IsRowAt role past m row → IsRowAt role (Did act ∷ past) m row
 apart role past act m None h same at = same ∙ at
 apart role past act m (Some s) h same at = (same ∙ at.0, after role past (Did act) m s s (stays role past act m s h same) at.1)
 
@@ -253,7 +253,7 @@ did role past fed sent act old new at answered keeps place going pending =
 pub since_first : (amount : List Item → Item → ℕ) (role : Role) (past : List Item) (x : Item) (n : ℕ) → opens role past x n ≡ true → since_opening amount role (x ∷ past) n ≡ amount past x + 0
 since_first amount role past x n e = ap (λ b. amount past x + cond b 0 (since_opening amount role past n)) e
 
-first_row : (role : Role) (past : List Item) (n : ℕ) → is_reading (reading role past) n ≡ false → IsRow role (Did (Start n) ∷ past) n opened
+pub first_row : (role : Role) (past : List Item) (n : ℕ) → is_reading (reading role past) n ≡ false → IsRow role (Did (Start n) ∷ past) n opened
 first_row role past n unread =
     let x : Item = Did (Start n) in
     let here : opens role past x n ≡ true = ap (λ t. t || false) (eq-eqb n n refl) in
@@ -269,7 +269,7 @@ first_row role past n unread =
       bound = let none : coming role (x ∷ past) n ≡ 0 = ap (λ r. cond ((r && is_live role (x ∷ past) n) && not (finished role (x ∷ past) n)) (bytes_left (arrivals past)) 0) unread in omega arith;
     }
 
-start_live : (role : Role) (past : List Item) (n : ℕ) → live role (Did (Start n) ∷ past) ≡ live role past ++ n ∷ []
+pub start_live : (role : Role) (past : List Item) (n : ℕ) → live role (Did (Start n) ∷ past) ≡ live role past ++ n ∷ []
 start_live role past n = ap (λ (ns : List ℕ). ns ++ n ∷ []) (filter_true (live role past))
 
 or_here : (b : Bool) → b || (true || false) ≡ true

@@ -14,3 +14,4 @@ pub mod Stepping
 pub mod CallLemmas
 pub mod Received
 pub mod Growing
+pub mod Untaken

@@ -145,6 +145,15 @@ tail_absent role past h old new keeps some found rest =
     gone m true is = ap (row_at old.rows) (sym (eqb-true h.stream m is)) ∙ found ∙ sym (ap (λ b. cond b None (row_at old.rows m)) is)
     gone m false is = sym (ap (λ b. cond b None (row_at old.rows m)) is)
 
+-- the row of the stream whose frame it was, which goes on
+finished_row : (role : Role) (past : List Item) (h : Header) (s : Stream) → reading role past ≡ Some h → live role (Came Tail ∷ past) ≡ live role past
+    → IsRowAt role past h.stream (Some s) → IsRowAt role (Came Tail ∷ past) h.stream (Some (record s { finished = fin h || s.finished }))
+finished_row role past h s read same at =
+    let n : ℕ = h.stream in (
+      ap (λ ns. contains ns n) same ∙ at.0,
+      after role past (Came Tail) n s (record s { finished = fin h || s.finished }) (tail_moves role past n s (fin h) (ap (λ r. tail_finishes r n) read ∙ ap (λ t. t && fin h) (eq-eqb n n refl))) at.1,
+    )
+
 -- FIN: the other end's direction has ended
 pub tail_finished : (role : Role) (past : List Item) (h : Header) (s : Stream) (old new : Table) → Keeps role past old → old.reading ≡ Some h → row_at old.rows h.stream ≡ Some s
     → (rst h || fin h && s.closed) ≡ false → ((m : ℕ) → row_at new.rows m ≡ cond (h.stream == m) (Some (record s { finished = fin h || s.finished })) (row_at old.rows m))
@@ -154,10 +163,34 @@ tail_finished role past h s old new keeps some found open_still writes rest =
     let read : reading role past ≡ Some h = sym keeps.reading_is ∙ some in
     let before = row_of role past old n (Some s) keeps found in
     let same : live role (Came Tail ∷ past) ≡ live role past = tail_live role past h false read (ap (λ c. rst h || fin h && c) (sym before.1.closed_is) ∙ open_still) in
-    tail_stays role past h (Some (record s { finished = fin h || s.finished })) old new keeps some same writes (
-      ap (λ ns. contains ns n) same ∙ before.0,
-      after role past (Came Tail) n s (record s { finished = fin h || s.finished }) (tail_moves role past n s (fin h) (ap (λ r. tail_finishes r n) read ∙ ap (λ t. t && fin h) (eq-eqb n n refl))) before.1,
-    ) rest
+    tail_stays role past h (Some (record s { finished = fin h || s.finished })) old new keeps some same writes (finished_row role past h s read same before) rest
+
+-- ---- the row of a stream after it
+
+ended_row : (role : Role) (past : List Item) (h : Header) (row : Option Stream) (b : Bool) → reading role past ≡ Some h → (rst h || fin h && closed role past h.stream) ≡ b
+    → IsRowAt role past h.stream row → (new : Option Stream) × IsRowAt role (Came Tail ∷ past) h.stream new
+ended_row role past h row true read is at = (None, ap (λ ns. contains ns h.stream) (tail_live role past h true read is) ∙ not_here h.stream (live role past))
+ended_row role past h None false read is at = (None, ap (λ ns. contains ns h.stream) (tail_live role past h false read is) ∙ at)
+ended_row role past h (Some s) false read is at = (Some (record s { finished = fin h || s.finished }), finished_row role past h s read (tail_live role past h false read is) at)
+
+other_row : (role : Role) (past : List Item) (h : Header) (n : ℕ) (row : Option Stream) (b : Bool) → reading role past ≡ Some h → (rst h || fin h && closed role past h.stream) ≡ b
+    → (h.stream == n) ≡ false → IsRowAt role past n row → IsRowAt role (Came Tail ∷ past) n row
+other_row role past h n row true read is other at =
+    tail_apart role past n row (finishes_apart role past h n read other) (ap (λ ns. contains ns n) (tail_live role past h true read is) ∙ still_there h.stream n (live role past) other) at
+other_row role past h n row false read is other at =
+    tail_apart role past n row (finishes_apart role past h n read other) (ap (λ ns. contains ns n) (tail_live role past h false read is)) at
+
+row_of_frame : (role : Role) (past : List Item) (h : Header) (n : ℕ) (row : Option Stream) (b : Bool) → reading role past ≡ Some h → (h.stream == n) ≡ b
+    → IsRowAt role past n row → (new : Option Stream) × IsRowAt role (Came Tail ∷ past) n new
+row_of_frame role past h n row false read other at = (row, other_row role past h n row (rst h || fin h && closed role past h.stream) read refl other at)
+row_of_frame role past h n row true read same at =
+    subst (λ k. IsRowAt role past k row → (new : Option Stream) × IsRowAt role (Came Tail ∷ past) k new) (eqb-true h.stream n same)
+    (ended_row role past h row (rst h || fin h && closed role past h.stream) read refl) at
+
+pub tail_row : (role : Role) (past : List Item) (n : ℕ) (row : Option Stream) (r : Option Header) → reading role past ≡ r
+    → IsRowAt role past n row → (new : Option Stream) × IsRowAt role (Came Tail ∷ past) n new
+tail_row role past n row None read at = (row, tail_apart role past n row (ap (λ t. tail_finishes t n) read) (ap (λ ns. contains ns n) (none_live role past read)) at)
+tail_row role past n row (Some h) read at = row_of_frame role past h n row (h.stream == n) read refl at
 
 -- ---- what it tells
 

@@ -46,10 +46,10 @@ IsHeadRefused role past h (refused.Fault fault) = fault_at role past (Came (Head
 IsHeadRefused role past h refused.OutOfMemory =
     (fault_at role past (Came (Head h)) ≡ None) × (opens role past (Came (Head h)) h.stream ≡ true)
 
--- why the list doesn't become the list now: the head has this fault; memory may be wanting only where there is an event to tell
+-- why the list doesn't become the list now: the head has this fault; or it has none, there is an event to tell, and memory is wanting
 abbrev pub IsNotTaken : Role → List Item → Header → List Item → HeadRefused → Type 0
 IsNotTaken role past h now (refused.Fault fault) = fault_at role past (Came (Head h)) ≡ Some fault
-IsNotTaken role past h now refused.OutOfMemory = TellsMore role past now
+IsNotTaken role past h now refused.OutOfMemory = (fault_at role past (Came (Head h)) ≡ None) × TellsMore role past now
 
 -- what the effect of a head tells
 abbrev pub told_of : Header → Effect → List Told

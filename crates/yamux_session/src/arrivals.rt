@@ -7,7 +7,7 @@ ghost use Rattle.yamux_session.specs.declared.event.Role.{Role};
 ghost use Rattle.yamux_session.specs.Items.{Item, arrivals, came_bytes, is_go_away, fin, rst};
 ghost use Rattle.yamux_session.specs.Items.Item.{Came};
 ghost use Rattle.yamux_session.specs.Openings.{reading};
-ghost use Rattle.yamux_session.specs.Meaning.{answer_to, taker, tail_told, tail_events, TellsMore};
+ghost use Rattle.yamux_session.specs.Meaning.{answer_to, taker, tail_told, tail_events, HasNoFault, TellsMore};
 ghost use Rattle.yamux_session.specs.Acts.{AreAnswered};
 ghost use Rattle.yamux_session.specs.Keeps.{Keeps};
 ghost use Rattle.yamux_session.specs.Table.{table_of};
@@ -251,7 +251,7 @@ pub fn take_frame(
         → Keeps role past (table_of streams.old)
         → Arrives role past (began header past) (table_of streams.new)
         told.old.items told.new.items output (output ++ written_header answer)) }
-    ensures refused { IfErr result (λ refused. (role : Role) (past : List Item) → AreAnswered role past
+    ensures refused { IfErr result (λ refused. (role : Role) (past : List Item) → HasNoFault role past → AreAnswered role past
         → Keeps role past (table_of streams.old) → IsNotTaken role past header (began header past) refused) }
     ensures told { IfErr result (λ refused. IsFaultOnly refused (told.new.items ≡ told.old.items)) }
 {

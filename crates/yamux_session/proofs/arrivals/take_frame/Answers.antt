@@ -20,6 +20,9 @@ returns-in-Ok-take_tail-clause-done c = λ role past output answered keeps.
     head (c.in-Ok-take_tail.ensures.ok role (Came (Head c.args.header) ∷ past) (output ++ written_header c.in-Ok.answer) answered head.keeps))
 
 pub returns-in-Err-take_tail-clause-refused : goal.returns-in-Err-take_tail-clause-refused
-returns-in-Err-take_tail-clause-refused c = λ role past answered keeps.
-    bare_tells role past c.args.header c.payload_length.result c.payload_length.ensures c.if-payload_length-gt0.false
-    (c.in-Err-take_tail.ensures.memory role (Came (Head c.args.header) ∷ past) (c.in-Ok.ensures.done role past [] answered keeps).keeps)
+returns-in-Err-take_tail-clause-refused c = λ role past good answered keeps.
+    let head = c.in-Ok.ensures.done role past [] answered keeps in (
+      (head.no_fault good).0,
+      bare_tells role past c.args.header c.payload_length.result c.payload_length.ensures c.if-payload_length-gt0.false
+          (c.in-Err-take_tail.ensures.memory role (Came (Head c.args.header) ∷ past) head.keeps),
+    )

@@ -33,7 +33,7 @@ returns-in-Err-Fault-clause-led c = λ role past fed sent stands.
     let same : c.take_frame.new.told.items ≡ c.args.told.now.items =
     subst (λ (r : HeadRefused). IsFaultOnly r (c.take_frame.new.told.items ≡ c.args.told.now.items)) c.in-Err-Fault.field-0-is c.in-Err-Fault.ensures.told in
     fell_at_head role past fed (take used (drop c.args.at c.args.piece.now)) sent _ _ _ _ c.in-Ok-default-Head.header c.in-Err-Fault.fault _ at
-    (subst (IsNotTaken role past c.in-Ok-default-Head.header (began c.in-Ok-default-Head.header past)) c.in-Err-Fault.field-0-is (c.in-Err-Fault.ensures.refused role past at.answered at.table))
+    (subst (IsNotTaken role past c.in-Ok-default-Head.header (began c.in-Ok-default-Head.header past)) c.in-Err-Fault.field-0-is (c.in-Err-Fault.ensures.refused role past at.no_fault at.answered at.table))
     (framed fed _ _ used _ _ (arrivals past) _ c.in-Ok-default-Head.field-0-1-is rest (c.in-Ok-default-Head.ensures.frames fed (arrivals past) at.frames))
     (subst (λ (a : Cut). EndsExactly a c.feed.new.self) c.in-Ok-default-Head.field-0-1-is c.in-Ok-default-Head.ensures.exact)
     (subst (λ (xs : List Event). Tells xs c.fail.new.told.items (Failed c.in-Err-Fault.fault ∷ [])) same
@@ -96,7 +96,7 @@ returns-in_err-fail-in-Err-Fault-clause-memory c = on_err c.from_residual.result
     fault_brings role past fed (drop c.args.at c.args.piece.now) used c.in-Ok-default-Head.header c.in-Err-Fault.fault _
     (framed fed _ _ used _ _ (arrivals past) _ c.in-Ok-default-Head.field-0-1-is rest (c.in-Ok-default-Head.ensures.frames fed (arrivals past) at.frames))
     (uses_some c.deref.result.now c.args.piece.now c.args.at used _ c.deref.ensures c.in-Ok-default-Head.ensures.uses)
-    (subst (IsNotTaken role past c.in-Ok-default-Head.header (began c.in-Ok-default-Head.header past)) c.in-Err-Fault.field-0-is (c.in-Err-Fault.ensures.refused role past at.answered at.table))
+    (subst (IsNotTaken role past c.in-Ok-default-Head.header (began c.in-Ok-default-Head.header past)) c.in-Err-Fault.field-0-is (c.in-Err-Fault.ensures.refused role past at.no_fault at.answered at.table))
 
 pub returns-in-Err-OutOfMemory-clause-memory : goal.returns-in-Err-OutOfMemory-clause-memory
 returns-in-Err-OutOfMemory-clause-memory c = λ role past fed sent stands.
@@ -106,7 +106,7 @@ returns-in-Err-OutOfMemory-clause-memory c = λ role past fed sent stands.
     frame_brings role past fed (drop c.args.at c.args.piece.now) used c.in-Ok-default-Head.header _ _ refl
     (framed fed _ _ used _ _ (arrivals past) _ c.in-Ok-default-Head.field-0-1-is rest (c.in-Ok-default-Head.ensures.frames fed (arrivals past) at.frames))
     (uses_some c.deref.result.now c.args.piece.now c.args.at used _ c.deref.ensures c.in-Ok-default-Head.ensures.uses)
-    (inl (subst (IsNotTaken role past c.in-Ok-default-Head.header (began c.in-Ok-default-Head.header past)) c.in-Err-OutOfMemory.field-0-is (c.in-Err-OutOfMemory.ensures.refused role past at.answered at.table)))
+    (inl (subst (IsNotTaken role past c.in-Ok-default-Head.header (began c.in-Ok-default-Head.header past)) c.in-Err-OutOfMemory.field-0-is (c.in-Err-OutOfMemory.ensures.refused role past at.no_fault at.answered at.table)).1)
 
 pub returns-in_err-append_header-in-Ok-default-Head-clause-memory : goal.returns-in_err-append_header-in-Ok-default-Head-clause-memory
 returns-in_err-append_header-in-Ok-default-Head-clause-memory c = on_err c.from_residual-in_err-append_header-in-Ok-default-Head.result λ role past fed sent stands.
