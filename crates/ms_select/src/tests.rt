@@ -298,16 +298,27 @@ fn whole_talks_of_two_ends(rt: HostRuntime) -> Result<(), Fail> {
 }
 
 #[test]
-fn numbers_of_faults(rt: HostRuntime) {
+fn numbers_and_texts_of_faults(rt: HostRuntime) -> Result<(), Fail> {
     let faults = [
-        SelectFault::Failed,
-        SelectFault::BadLength,
-        SelectFault::NoNewline,
-        SelectFault::BadHeader,
-        SelectFault::NotProposed,
-        SelectFault::OutOfMemory,
+        (SelectFault::Failed, "the negotiation failed before"),
+        (
+            SelectFault::BadLength,
+            "a message or a name has a bad length",
+        ),
+        (SelectFault::NoNewline, "a message has no newline"),
+        (
+            SelectFault::BadHeader,
+            "the first message is not the header",
+        ),
+        (SelectFault::NotProposed, "the answer is no proposal"),
+        (SelectFault::OutOfMemory, "out of memory"),
     ];
-    for (index, fault) in faults.iter().enumerate() {
+    for (index, (fault, text)) in faults.iter().enumerate() {
         assert_eq!(rt; *fault as usize, index + 1);
+        assert_eq!(rt; format!(in rt.alloc(); "{fault}")?.as_str(), *text);
+        for (place, (other, _)) in faults.iter().enumerate() {
+            assert_eq!(rt; fault == other, index == place);
+        }
     }
+    Ok(())
 }

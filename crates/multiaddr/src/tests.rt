@@ -196,15 +196,23 @@ fn sockets_and_peers(rt: HostRuntime) -> Result<(), Fail> {
 }
 
 #[test]
-fn numbers_of_faults(rt: HostRuntime) {
+fn numbers_and_texts_of_faults(rt: HostRuntime) -> Result<(), Fail> {
     let faults = [
-        AddrFault::Empty,
-        AddrFault::UnknownProtocol,
-        AddrFault::Cut,
-        AddrFault::BadValue,
-        AddrFault::OutOfMemory,
+        (AddrFault::Empty, "an address has no parts"),
+        (
+            AddrFault::UnknownProtocol,
+            "an address has an unknown protocol",
+        ),
+        (AddrFault::Cut, "an address ends within a part"),
+        (AddrFault::BadValue, "an address has a bad value"),
+        (AddrFault::OutOfMemory, "out of memory"),
     ];
-    for (index, fault) in faults.iter().enumerate() {
+    for (index, (fault, text)) in faults.iter().enumerate() {
         assert_eq!(rt; *fault as usize, index + 1);
+        assert_eq!(rt; format!(in rt.alloc(); "{fault}")?.as_str(), *text);
+        for (place, (other, _)) in faults.iter().enumerate() {
+            assert_eq!(rt; fault == other, index == place);
+        }
     }
+    Ok(())
 }

@@ -204,27 +204,42 @@ fn ids_of_every_length_are_printed(rt: HostRuntime) -> Result<(), Fail> {
 }
 
 #[test]
-fn numbers_of_faults(rt: HostRuntime) {
+fn numbers_and_texts_of_faults(rt: HostRuntime) -> Result<(), Fail> {
     let of_keys = [
-        KeyFault::Wire,
-        KeyFault::NoType,
-        KeyFault::NoData,
-        KeyFault::UnknownType,
-        KeyFault::BadLength,
-        KeyFault::OutOfMemory,
+        (KeyFault::Wire, "a key is no protobuf message"),
+        (KeyFault::NoType, "a key has no type"),
+        (KeyFault::NoData, "a key has no data"),
+        (KeyFault::UnknownType, "a key has an unknown type"),
+        (KeyFault::BadLength, "a key has data of a wrong length"),
+        (KeyFault::OutOfMemory, "out of memory"),
     ];
-    for (index, fault) in of_keys.iter().enumerate() {
+    for (index, (fault, text)) in of_keys.iter().enumerate() {
         assert_eq!(rt; *fault as usize, index + 1);
+        assert_eq!(rt; format!(in rt.alloc(); "{fault}")?.as_str(), *text);
+        for (place, (other, _)) in of_keys.iter().enumerate() {
+            assert_eq!(rt; fault == other, index == place);
+        }
     }
     let of_ids = [
-        IdFault::NotB,
-        IdFault::NotBase32,
-        IdFault::BadLength,
-        IdFault::TrailingBits,
-        IdFault::BadPrefix,
-        IdFault::BadHash,
+        (IdFault::NotB, "a peer id doesn't begin with b"),
+        (
+            IdFault::NotBase32,
+            "a peer id has a letter that isn't base32",
+        ),
+        (
+            IdFault::BadLength,
+            "a peer id has a wrong number of letters",
+        ),
+        (IdFault::TrailingBits, "a peer id has unused bits set"),
+        (IdFault::BadPrefix, "a peer id doesn't begin with 01 72"),
+        (IdFault::BadHash, "a peer id has no multihash of one"),
     ];
-    for (index, fault) in of_ids.iter().enumerate() {
+    for (index, (fault, text)) in of_ids.iter().enumerate() {
         assert_eq!(rt; *fault as usize, index + 1);
+        assert_eq!(rt; format!(in rt.alloc(); "{fault}")?.as_str(), *text);
+        for (place, (other, _)) in of_ids.iter().enumerate() {
+            assert_eq!(rt; fault == other, index == place);
+        }
     }
+    Ok(())
 }

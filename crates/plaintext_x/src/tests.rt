@@ -131,18 +131,23 @@ fn a_whole_exchange(rt: HostRuntime) -> Result<(), Fail> {
 }
 
 #[test]
-fn numbers_of_faults(rt: HostRuntime) {
+fn numbers_and_texts_of_faults(rt: HostRuntime) -> Result<(), Fail> {
     let faults = [
-        ExchangeFault::Failed,
-        ExchangeFault::TooLong,
-        ExchangeFault::Wire,
-        ExchangeFault::NoId,
-        ExchangeFault::NoKey,
-        ExchangeFault::BadKey,
-        ExchangeFault::Differs,
-        ExchangeFault::OutOfMemory,
+        (ExchangeFault::Failed, "the exchange failed before"),
+        (ExchangeFault::TooLong, "the message is too long"),
+        (ExchangeFault::Wire, "the message is badly spelt"),
+        (ExchangeFault::NoId, "the message has no id"),
+        (ExchangeFault::NoKey, "the message has no key"),
+        (ExchangeFault::BadKey, "the key is not read"),
+        (ExchangeFault::Differs, "the id is not that of the key"),
+        (ExchangeFault::OutOfMemory, "out of memory"),
     ];
-    for (index, fault) in faults.iter().enumerate() {
+    for (index, (fault, text)) in faults.iter().enumerate() {
         assert_eq!(rt; *fault as usize, index + 1);
+        assert_eq!(rt; format!(in rt.alloc(); "{fault}")?.as_str(), *text);
+        for (place, (other, _)) in faults.iter().enumerate() {
+            assert_eq!(rt; fault == other, index == place);
+        }
     }
+    Ok(())
 }

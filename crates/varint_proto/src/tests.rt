@@ -130,19 +130,34 @@ fn faults_of_messages(rt: HostRuntime) -> Result<(), Fail> {
 }
 
 #[test]
-fn numbers_of_faults_and_refusals(rt: HostRuntime) {
+fn numbers_and_texts_of_faults_and_refusals(rt: HostRuntime) -> Result<(), Fail> {
     let faults = [
-        WireFault::TooLong,
-        WireFault::NotShortest,
-        WireFault::Cut,
-        WireFault::BadNumber,
-        WireFault::BadWire,
+        (WireFault::TooLong, "a varint is too long"),
+        (WireFault::NotShortest, "a varint has a shorter spelling"),
+        (WireFault::Cut, "the bytes end within a field"),
+        (WireFault::BadNumber, "a field has a number out of range"),
+        (WireFault::BadWire, "a field has an unknown wire type"),
     ];
-    for (index, fault) in faults.iter().enumerate() {
+    for (index, (fault, text)) in faults.iter().enumerate() {
         assert_eq!(rt; *fault as usize, index + 1);
+        assert_eq!(rt; format!(in rt.alloc(); "{fault}")?.as_str(), *text);
+        for (place, (other, _)) in faults.iter().enumerate() {
+            assert_eq!(rt; fault == other, index == place);
+        }
     }
-    let refusals = [VarintRefused::TooLarge, VarintRefused::OutOfMemory];
-    for (index, refused) in refusals.iter().enumerate() {
+    let refusals = [
+        (
+            VarintRefused::TooLarge,
+            "a number of 2^63 or more has no varint",
+        ),
+        (VarintRefused::OutOfMemory, "out of memory"),
+    ];
+    for (index, (refused, text)) in refusals.iter().enumerate() {
         assert_eq!(rt; *refused as usize, index + 1);
+        assert_eq!(rt; format!(in rt.alloc(); "{refused}")?.as_str(), *text);
+        for (place, (other, _)) in refusals.iter().enumerate() {
+            assert_eq!(rt; refused == other, index == place);
+        }
     }
+    Ok(())
 }

@@ -9,7 +9,7 @@ use thiserror::Error;
 #[derive(Clone, Copy, Debug, PartialEq, Eq)]
 pub enum FrameKind {
     /// Data, type 0: bytes of a stream follow the header.
-    Payload,
+    Payload = 0,
     /// WindowUpdate, type 1: adds to the credit of a stream.
     Window,
     /// Ping, type 2: asks for an answer, or is one.

@@ -1,6 +1,7 @@
 //! Worked rows of headers and of cut streams.
 
 use super::*;
+use std::test::Fail;
 
 /// A frame of the table: its bytes, and what they spell.
 fn headers() -> [([u8; 12], Header); 6] {
@@ -139,4 +140,64 @@ fn fault_comes_with_its_last_byte_and_stays(rt: HostRuntime) {
     assert_eq!(rt; cutter.feed(&[0]), Err(FrameFault::BadType));
     assert_eq!(rt; cutter.feed(&INPUT), Err(FrameFault::BadType));
     assert!(rt; !cutter.is_mid_frame());
+}
+
+#[test]
+fn numbers_and_texts_of_faults(rt: HostRuntime) -> Result<(), Fail> {
+    let faults = [
+        (FrameFault::BadVersion, "a frame has another version than 0"),
+        (FrameFault::BadType, "a frame has an unknown type"),
+    ];
+    for (index, (fault, text)) in faults.iter().enumerate() {
+        assert_eq!(rt; *fault as usize, index + 1);
+        assert_eq!(rt; format!(in rt.alloc(); "{fault}")?.as_str(), *text);
+        for (place, (other, _)) in faults.iter().enumerate() {
+            assert_eq!(rt; fault == other, index == place);
+        }
+    }
+    Ok(())
+}
+
+#[test]
+fn numbers_of_kinds(rt: HostRuntime) {
+    let kinds = [
+        FrameKind::Payload,
+        FrameKind::Window,
+        FrameKind::Ping,
+        FrameKind::GoAway,
+    ];
+    for (index, kind) in kinds.iter().enumerate() {
+        assert_eq!(rt; *kind as usize, index);
+    }
+}
+
+#[test]
+fn headers_are_told_apart(rt: HostRuntime) -> Result<(), Fail> {
+    let header = Header {
+        kind: FrameKind::Payload,
+        flags: 0,
+        stream: 1,
+        length: 2,
+    };
+    assert_eq!(rt; header.clone()?, header);
+    let others = [
+        Header {
+            kind: FrameKind::Ping,
+            ..header
+        },
+        Header { flags: 4, ..header },
+        Header {
+            stream: 3,
+            ..header
+        },
+        Header {
+            length: 1,
+            ..header
+        },
+    ];
+    for other in &others {
+        assert!(rt; *other != header);
+        assert_eq!(rt; other.clone()?, *other);
+    }
+    Ok(())
 }

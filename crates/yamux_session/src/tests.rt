@@ -32,29 +32,53 @@ fn payload_outlives_the_session(rt: HostRuntime) -> Result<(), Fail> {
 }
 
 #[test]
-fn numbers_of_faults_and_refusals(rt: HostRuntime) {
+fn numbers_and_texts_of_faults_and_refusals(rt: HostRuntime) -> Result<(), Fail> {
     let faults = [
-        Fault::BadFrame,
-        Fault::WrongParity,
-        Fault::DuplicateStream,
-        Fault::WindowExceeded,
-        Fault::WindowTooLarge,
+        (Fault::BadFrame, "a frame has no header"),
+        (
+            Fault::WrongParity,
+            "a stream was opened with a number of the wrong end",
+        ),
+        (Fault::DuplicateStream, "a live stream was opened again"),
+        (
+            Fault::WindowExceeded,
+            "data is longer than the window of its stream",
+        ),
+        (
+            Fault::WindowTooLarge,
+            "the credit of a stream is above 2^32 - 1",
+        ),
     ];
-    for (index, fault) in faults.iter().enumerate() {
+    for (index, (fault, text)) in faults.iter().enumerate() {
         assert_eq!(rt; *fault as usize, index + 1);
+        assert_eq!(rt; format!(in rt.alloc(); "{fault}")?.as_str(), *text);
+        for (place, (other, _)) in faults.iter().enumerate() {
+            assert_eq!(rt; fault == other, index == place);
+        }
     }
     let refusals = [
-        ActRefused::Failed,
-        ActRefused::NoStream,
-        ActRefused::Ended,
-        ActRefused::GoneAway,
-        ActRefused::StreamsExhausted,
-        ActRefused::StreamsFull,
-        ActRefused::OutOfMemory,
+        (ActRefused::Failed, "the session has failed"),
+        (ActRefused::NoStream, "the stream isn't live"),
+        (
+            ActRefused::Ended,
+            "this end's direction of the stream is closed",
+        ),
+        (ActRefused::GoneAway, "the other end takes no more streams"),
+        (
+            ActRefused::StreamsExhausted,
+            "there is no number left for a stream",
+        ),
+        (ActRefused::StreamsFull, "256 streams of this end are live"),
+        (ActRefused::OutOfMemory, "a growth was refused"),
     ];
-    for (index, refused) in refusals.iter().enumerate() {
+    for (index, (refused, text)) in refusals.iter().enumerate() {
         assert_eq!(rt; *refused as usize, index + 1);
+        assert_eq!(rt; format!(in rt.alloc(); "{refused}")?.as_str(), *text);
+        for (place, (other, _)) in refusals.iter().enumerate() {
+            assert_eq!(rt; refused == other, index == place);
+        }
     }
+    Ok(())
 }
 
 #[test]
@@ -76,5 +100,18 @@ fn whole_run(rt: HostRuntime) -> Result<(), Fail> {
     assert!(rt; matches!(ran.answers[1], ActAnswer::Count(2)));
     assert!(rt; matches!(ran.answers[4], ActAnswer::Refused(ActRefused::Ended)));
     assert!(rt; matches!(ran.answers[6], ActAnswer::Done));
+    Ok(())
+}
+
+fn is_sent<T: Send>(_value: &T) {}
+
+#[test]
+fn session_moves_between_threads(rt: HostRuntime) -> Result<(), Fail> {
+    let session = Session::new(rt.alloc(), Role::Client);
+    is_sent(&session);
+    assert_eq!(rt; session.credit(1), None);
+    assert!(rt; Role::Client != Role::Server);
+    assert_eq!(rt; Role::Client.clone()?, Role::Client);
+    assert_eq!(rt; Role::Server.clone()?, Role::Server);
     Ok(())
 }
