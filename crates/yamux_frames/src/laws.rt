@@ -1,6 +1,9 @@
-//! What the frames of a whole input are, said of every list of bytes.
+//! What the frames of a whole input are, said of every list of bytes, and the bits of the flags.
 
+ghost use Rattle.std.specs.Prelude.{◌≡◌};
 ghost use Rattle.yamux_frames.specs.Frames.{OneReading, SomeReading};
+
+use crate::header::Header;
 
 /// No bytes are read in two ways: their frames, the fault among them, and what is left over are determined.
 pub fn one_reading()
@@ -10,4 +13,12 @@ pub fn one_reading()
 /// Every list of bytes is read: as frames, and then as too little for the next, or as what is no header.
 pub fn some_reading()
     ensures { SomeReading }
+{}
+
+/// The bits of the flags (hashicorp yamux specification, "Flag Field").
+pub fn flags()
+    ensures syn { Header.SYN ≡ 1 }
+    ensures ack { Header.ACK ≡ 2 }
+    ensures fin { Header.FIN ≡ 4 }
+    ensures rst { Header.RST ≡ 8 }
 {}

@@ -168,6 +168,32 @@ fn numbers_of_kinds(rt: HostRuntime) {
     ];
     for (index, kind) in kinds.iter().enumerate() {
         assert_eq!(rt; *kind as usize, index);
+        for (place, other) in kinds.iter().enumerate() {
+            assert_eq!(rt; kind == other, index == place);
+        }
+    }
+}
+
+#[test]
+fn cuts_are_told_apart(rt: HostRuntime) {
+    let part = |stream, from, to, last| Cut::Part {
+        stream,
+        from,
+        to,
+        last,
+    };
+    let cuts = [
+        Cut::More,
+        part(1, 0, 2, false),
+        part(3, 0, 2, false),
+        part(1, 1, 2, false),
+        part(1, 0, 3, false),
+        part(1, 0, 2, true),
+    ];
+    for (index, cut) in cuts.iter().enumerate() {
+        for (place, other) in cuts.iter().enumerate() {
+            assert_eq!(rt; cut == other, index == place);
+        }
     }
 }
 
