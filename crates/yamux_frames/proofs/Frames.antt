@@ -17,7 +17,7 @@ append_none : (xs : List ℕ) → xs ++ [] ≡ xs
 append_none [] = refl
 append_none (x ∷ xs) = ap (λ (t : List ℕ). x ∷ t) (append_none xs)
 
-take_whole : (xs : List ℕ) → take (length xs) xs ≡ xs
+pub take_whole : (xs : List ℕ) → take (length xs) xs ≡ xs
 take_whole [] = refl
 take_whole (x ∷ xs) = ap (λ (t : List ℕ). x ∷ t) (take_whole xs)
 
@@ -48,11 +48,11 @@ within (Garbled bytes ∷ past) part rest some = absurd (omega arith)
 
 -- ---- bytes of a payload
 
-bytes_spelled : (xs : List ℕ) (past : List Arrival) → spelled (with_bytes xs past) ≡ spelled past ++ xs
+pub bytes_spelled : (xs : List ℕ) (past : List Arrival) → spelled (with_bytes xs past) ≡ spelled past ++ xs
 bytes_spelled [] past = sym (append_none (spelled past))
 bytes_spelled (x ∷ xs) past = bytes_spelled xs (Byte x ∷ past) ∙ append_assoc (spelled past) (x ∷ []) xs
 
-bytes_after : (xs : List ℕ) (past : List Arrival) → bytes_left (with_bytes xs past) ≡ bytes_left past - length xs
+pub bytes_after : (xs : List ℕ) (past : List Arrival) → bytes_left (with_bytes xs past) ≡ bytes_left past - length xs
 bytes_after [] past = omega arith
 bytes_after (x ∷ xs) past = let e = bytes_after xs (Byte x ∷ past) in omega arith
 
@@ -64,11 +64,11 @@ bytes_stream : (xs : List ℕ) (past : List Arrival) → last_stream (with_bytes
 bytes_stream [] past = refl
 bytes_stream (x ∷ xs) past = bytes_stream xs (Byte x ∷ past)
 
-bytes_within : (xs : List ℕ) (past : List Arrival) → IsWithin past → IsWithin (with_bytes xs past)
+pub bytes_within : (xs : List ℕ) (past : List Arrival) → IsWithin past → IsWithin (with_bytes xs past)
 bytes_within [] past w = w
 bytes_within (x ∷ xs) past w = bytes_within xs (Byte x ∷ past) tt
 
-bytes_good : (xs : List ℕ) (past : List Arrival) → IsSound past → IsSound (with_bytes xs past)
+pub bytes_good : (xs : List ℕ) (past : List Arrival) → IsSound past → IsSound (with_bytes xs past)
 bytes_good [] past g = g
 bytes_good (x ∷ xs) past g = bytes_good xs (Byte x ∷ past) tt
 

@@ -45,7 +45,7 @@ pub twelve : (bytes : List ℕ) (fault : FrameFault) → HasFault bytes fault �
 twelve bytes BadVersion bad = bad.0
 twelve bytes BadType bad = bad.0
 
-no_header : (h : Header) (bytes xs ys : List ℕ) (fault : FrameFault) → HasFault bytes fault → header_bytes h ++ xs ≡ bytes ++ ys → ⊥
+pub no_header : (h : Header) (bytes xs ys : List ℕ) (fault : FrameFault) → HasFault bytes fault → header_bytes h ++ xs ≡ bytes ++ ys → ⊥
 no_header h [] xs ys fault bad e = absurd (let none = twelve [] fault bad in omega arith)
 no_header h (v ∷ []) xs ys fault bad e = absurd (let none = twelve (v ∷ []) fault bad in omega arith)
 no_header h (v ∷ k ∷ bytes) xs ys BadVersion bad e = bad.1 (sym (ap (λ (t : List ℕ). get_or t 0 0) e))
@@ -95,14 +95,14 @@ pub older_frames : (xs past : List Arrival) → AreFrames (xs ++ past) → AreFr
 older_frames [] past are = are
 older_frames (x ∷ xs) past are = older_frames xs past (past_frames x (xs ++ past) are)
 
-between_none : (past : List Arrival) → IsBetween past → bytes_left past ≡ 0
+pub between_none : (past : List Arrival) → IsBetween past → bytes_left past ≡ 0
 between_none [] b = refl
 between_none (Tail ∷ past) b = refl
 between_none (Head h ∷ past) b = absurd b
 between_none (Byte x ∷ past) b = absurd b
 between_none (Garbled bytes ∷ past) b = absurd b
 
-not_both : (past : List Arrival) → IsBetween past → IsWithin past → ⊥
+pub not_both : (past : List Arrival) → IsBetween past → IsWithin past → ⊥
 not_both [] b w = w
 not_both (Tail ∷ past) b w = w
 not_both (Head h ∷ past) b w = b
@@ -136,7 +136,7 @@ good_past (Byte b) past are = good_left past are.0
 good_past Tail past are = good_within past are.0
 good_past (Garbled bytes) past are = good_between past are.0
 
-same_front : (xs ys us vs : List ℕ) → length xs ≡ length ys → xs ++ us ≡ ys ++ vs → xs ≡ ys
+pub same_front : (xs ys us vs : List ℕ) → length xs ≡ length ys → xs ++ us ≡ ys ++ vs → xs ≡ ys
 same_front [] [] us vs n e = refl
 same_front [] (y ∷ ys) us vs n e = absurd (omega arith)
 same_front (x ∷ xs) [] us vs n e = absurd (omega arith)

@@ -3,3 +3,4 @@ pub mod Frames
 pub mod Front
 pub mod Readings
 pub mod Ends
+pub mod OneAnswer

@@ -21,7 +21,7 @@ use Rattle.yamux_frames.proofs.Front.{append_none, cancel, oldest_of, past_frame
 -- ---- in one way
 
 -- of two readings of the same bytes one goes on where the other stops
-both : (frames others : List Arrival) (rest more : List ℕ) → AreFrames frames → AreFrames others → spelled frames ++ rest ≡ spelled others ++ more
+pub both : (frames others : List Arrival) (rest more : List ℕ) → AreFrames frames → AreFrames others → spelled frames ++ rest ≡ spelled others ++ more
     → ((way : List Arrival) × (others ≡ way ++ frames)) ⊎ ((way : List Arrival) × (frames ≡ way ++ others))
 both [] others rest more are those e = inl (others, sym (append_none others))
 both (x ∷ past) others rest more are those e =
@@ -56,7 +56,7 @@ not_done (Byte x ∷ past) rest w r = r.0
 not_done (Garbled g ∷ past) rest w r = absurd w
 
 -- what is left doesn't begin with another arrival
-no_more : (past : List Arrival) (x : Arrival) (rest t : List ℕ) → IsRest past rest → AreFrames (x ∷ past) → rest ≡ spelling x ++ t → ⊥
+pub no_more : (past : List Arrival) (x : Arrival) (rest t : List ℕ) → IsRest past rest → AreFrames (x ∷ past) → rest ≡ spelling x ++ t → ⊥
 no_more past (Head h) rest t r are e =
     let few = short past rest are.0 r in
     let many : length rest ≡ length (header_bytes h ++ t) = ap length e in
@@ -69,7 +69,7 @@ no_more past (Garbled g) rest t r are e =
     let many : length rest ≡ length (g ++ t) = ap length e in
     omega (arith, length-append g t)
 
-ends : (frames : List Arrival) (rest more : List ℕ) (way : List Arrival) → IsRest frames rest → AreFrames (way ++ frames) → spelled frames ++ rest ≡ spelled (way ++ frames) ++ more → way ≡ []
+pub ends : (frames : List Arrival) (rest more : List ℕ) (way : List Arrival) → IsRest frames rest → AreFrames (way ++ frames) → spelled frames ++ rest ≡ spelled (way ++ frames) ++ more → way ≡ []
 ends frames rest more way r are e =
     elim (oldest_of way) [
       | inl none ↦ none

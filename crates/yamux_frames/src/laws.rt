@@ -2,6 +2,7 @@
 
 ghost use Rattle.std.specs.Prelude.{◌≡◌};
 ghost use Rattle.yamux_frames.specs.Frames.{OneReading, SomeReading};
+ghost use Rattle.yamux_frames.specs.OneAnswer.{OneAnswer, AnswerOrFault, OneFault};
 
 use crate::header::Header;
 
@@ -13,6 +14,14 @@ pub fn one_reading()
 /// Every list of bytes is read: as frames, and then as too little for the next, or as what is no header.
 pub fn some_reading()
     ensures { SomeReading }
+{}
+
+/// The clauses of `Cutter::feed` determine its answer: from where a cutter stands, no two answers to a piece are allowed, no two faults,
+/// and not both an answer and a fault.
+pub fn one_answer()
+    ensures answer { OneAnswer }
+    ensures either { AnswerOrFault }
+    ensures fault { OneFault }
 {}
 
 /// The bits of the flags (hashicorp yamux specification, "Flag Field").

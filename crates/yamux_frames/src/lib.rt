@@ -12,4 +12,4 @@ mod tests;
 
 pub use cutter::{Cut, Cutter};
 pub use header::{FrameFault, FrameKind, Header};
-pub use laws::{one_reading, some_reading};
+pub use laws::{flags, one_answer, one_reading, some_reading};

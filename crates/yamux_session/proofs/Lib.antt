@@ -15,3 +15,12 @@ pub mod CallLemmas
 pub mod Received
 pub mod Growing
 pub mod Untaken
+pub mod Sent
+pub mod Totals
+pub mod Once
+pub mod WholeFrames
+pub mod Joining
+pub mod InTurn
+pub mod Coming
+pub mod Delivered
+pub mod OneOutcome

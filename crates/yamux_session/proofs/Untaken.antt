@@ -27,15 +27,15 @@ use Rattle.yamux_session.proofs.Tails.{tail_row}
 
 -- ---- an act that is about the stream
 
-live_unless : (b c : Bool) → cond b (cond c (Some Ended) None) (Some NoStream) ≡ None → b ≡ true
+pub live_unless : (b c : Bool) → cond b (cond c (Some Ended) None) (Some NoStream) ≡ None → b ≡ true
 live_unless true c e = refl
 live_unless false c e = absurd cc
 
-live_if : (b : Bool) → cond b None (Some NoStream) ≡ None → b ≡ true
+pub live_if : (b : Bool) → cond b None (Some NoStream) ≡ None → b ≡ true
 live_if true e = refl
 live_if false e = absurd cc
 
-small_given : (f : Bool) (amount : ℕ) → given_of f amount ≤ amount
+pub small_given : (f : Bool) (amount : ℕ) → given_of f amount ≤ amount
 small_given f amount = by (not f && nat_le 131072 amount)
   where
     by : (b : Bool) → cond b amount 0 ≤ amount
@@ -111,7 +111,7 @@ act_row role past (Leave code) n row can before at = (row, apart role past (Leav
 
 -- ---- every item
 
-frames_before : (x : Item) (past : List Item) → AreFrames (arrivals (x ∷ past)) → AreFrames (arrivals past)
+pub frames_before : (x : Item) (past : List Item) → AreFrames (arrivals (x ∷ past)) → AreFrames (arrivals past)
 frames_before (Did act) past frames = frames
 frames_before (Came (Head h)) past frames = frames.2
 frames_before (Came (Byte b)) past frames = frames.1
@@ -119,7 +119,7 @@ frames_before (Came Tail) past frames = frames.2
 frames_before (Came (Garbled bytes)) past frames = frames.2
 
 -- each stream has the row that a table would have for it
-row_there : (role : Role) (past : List Item) (n : ℕ) → AreAnswered role past → HasNoFault role past → AreFrames (arrivals past) → (row : Option Stream) × IsRowAt role past n row
+pub row_there : (role : Role) (past : List Item) (n : ℕ) → AreAnswered role past → HasNoFault role past → AreFrames (arrivals past) → (row : Option Stream) × IsRowAt role past n row
 row_there role [] n answered good frames = (None, refl)
 row_there role (Did act ∷ past) n answered good frames =
     let before = row_there role past n answered.1 good.1 frames in

@@ -11,6 +11,8 @@ pub mod State
 pub mod Runs
 pub mod Limits
 pub mod Received
+pub mod Joined
+pub mod OneOutcome
 pub use Rattle.yamux_frames.specs.Spelling
 pub use Rattle.yamux_frames.specs.Place
 pub use Rattle.yamux_frames.specs.Frames

@@ -17,5 +17,5 @@ mod tests;
 
 pub use calls::{Act, ActAnswer, Ran, run};
 pub use event::{ActRefused, Event, Fault, Role};
-pub use laws::{live_limit, received_data, untaken_limit};
+pub use laws::{balance, live_limit, no_fault, one_outcome, received_data, untaken_limit};
 pub use session::Session;

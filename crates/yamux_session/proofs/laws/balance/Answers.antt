@@ -1,0 +1,5 @@
+use Rattle.yamux_session.proofs.Joining.{balance}
+use Rattle.yamux_session.proofs.laws.balance.Goals as goal
+
+pub returns : goal.returns
+returns c = balance

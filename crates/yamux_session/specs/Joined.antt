@@ -1,0 +1,85 @@
+-- Two sessions, one of each role, joined by pipes that deliver what was sent, under any schedule.
+use Rattle.std.specs.Prelude.{◌≡◌, ℕ, ◌==◌, ◌&&◌, true, ◌+◌, if◌then◌else◌, List, [], ◌∷◌, ◌++◌, map, sum_by}
+use Rattle.std.specs.List.{concat}
+use mathlib.Core.List.{IsPrefix}
+use Rattle.yamux_frames.specs.Frames.{Arrival, Reads}
+use Rattle.yamux_frames.specs.Frames.Arrival.{Head}
+use Rattle.yamux_session.specs.declared.event.Role.{Role}
+use Rattle.yamux_session.specs.declared.event.Role.TheVariants.{Client, Server}
+use Rattle.yamux_session.specs.Items.{Item, Act, arrivals, is_data, is_update}
+use Rattle.yamux_session.specs.Items.Item.{Came, Did}
+use Rattle.yamux_session.specs.Items.Act.{Write}
+use Rattle.yamux_session.specs.Openings.{is_live, opens}
+use Rattle.yamux_session.specs.Windows.{credit, receiving_window}
+use Rattle.yamux_session.specs.Meaning.{HasNoFault, output, inbound}
+use Rattle.yamux_session.specs.Acts.{IsAnswered}
+
+-- an end: its list, and the bytes that it was fed
+pub record End : Type 0 where
+  pub items : List Item
+  pub fed : List ℕ
+
+-- a byte is fed: what was fed is a front of what the other end has sent, and the list has its frames
+pub record IsFed (role : Role) (other : Role) (old new from : End) (byte : ℕ) : Type 0 where
+  pub fed : new.fed ≡ old.fed ++ byte ∷ []
+  pub sent : IsPrefix new.fed (output other from.items)
+  pub came : (came : List Arrival) × (new.items ≡ map Came came ++ old.items)
+  pub read : (rest : List ℕ) × Reads new.fed (arrivals new.items) rest
+
+-- the owner of an end makes a call there, which isn't refused
+pub record IsDone (role : Role) (old new : End) (act : Act) : Type 0 where
+  pub answered : IsAnswered role old.items act
+  pub items : new.items ≡ Did act ∷ old.items
+  pub fed : new.fed ≡ old.fed
+
+abbrev pub at_first : End
+at_first = record { items = []; fed = [] }
+
+-- one step after another, in any order: a byte for one end, or an act of its owner
+pub data Joined : End → End → Type 0 where
+  Begin : Joined at_first at_first
+  Client_fed : {client server new : End} {byte : ℕ} → Joined client server → IsFed Client Server client new server byte → Joined new server
+  Server_fed : {client server new : End} {byte : ℕ} → Joined client server → IsFed Server Client server new client byte → Joined client new
+  Client_acts : {client server new : End} {act : Act} → Joined client server → IsDone Client client new act → Joined new server
+  Server_acts : {client server new : End} {act : Act} → Joined client server → IsDone Server server new act → Joined client new
+
+-- what was let through for a stream since its opening
+abbrev pub written_by : ℕ → Item → List ℕ
+written_by n (Did (Write m pieces)) = if m == n then concat pieces else []
+written_by n x = []
+
+abbrev pub written : Role → List Item → ℕ → List ℕ
+written role [] n = []
+written role (x ∷ past) n = (if opens role past x n then [] else written role past n) ++ written_by n x
+
+-- Neither end meets a fault, and the data that arrived for a stream at one end is a front of what was let through at the other
+abbrev pub NoFault : Type 0
+NoFault = (client server : End) → Joined client server
+    → HasNoFault Client client.items × HasNoFault Server server.items
+    × ((n : ℕ) → IsPrefix (inbound Server server.items n) (written Client client.items n))
+    × ((n : ℕ) → IsPrefix (inbound Client client.items n) (written Server server.items n))
+
+-- the length of a frame's head: of Data of a stream, of its WindowUpdate
+abbrev pub length_of_data : ℕ → Arrival → ℕ
+length_of_data n (Head h) = if h.stream == n && is_data h.kind then h.length else 0
+length_of_data n x = 0
+
+abbrev pub length_of_update : ℕ → Arrival → ℕ
+length_of_update n (Head h) = if h.stream == n && is_update h.kind then h.length else 0
+length_of_update n x = 0
+
+-- frames that one end has sent and the other hasn't read yet, the newest first
+abbrev pub IsOnTheWay : Role → List Item → List Item → List Arrival → Type 0
+IsOnTheWay role from to way = (rest : List ℕ) × Reads (output role from) (way ++ arrivals to) rest
+
+-- while a stream is live at both ends, the reader's receiving window is the writer's credit and what is on its way: Data to the
+-- reader, and the reader's WindowUpdates
+abbrev pub IsBalanced : Role → Role → List Item → List Item → Type 0
+IsBalanced writer reader out come =
+    (n : ℕ) (way back : List Arrival) → is_live writer out n ≡ true → is_live reader come n ≡ true
+    → IsOnTheWay writer out come way → IsOnTheWay reader come out back
+    → receiving_window reader come n ≡ credit writer out n + sum_by (length_of_data n) way + sum_by (length_of_update n) back
+
+abbrev pub Balance : Type 0
+Balance = (client server : End) → Joined client server
+    → IsBalanced Client Server client.items server.items × IsBalanced Server Client server.items client.items
