@@ -1,7 +1,7 @@
 -- What a cutter answers are the frames of the bytes that it has used.
 use Rattle.std.proofs.Common.{◌≡◌, ℕ, ◌-◌, ◌<◌, ◌≤◌, ◌↔◌, Bool, true, false, cond, nat_lt, IsTrue, List, [], ◌∷◌, ◌++◌, length, take, Option, Some, None, Result, Ok, Err, IfOk, IfErr, refl, sym, ap, ◌∙◌, subst, append_assoc, arith}
 use Rattle.std.proofs.lemmas.Bool.{ltb-true, ltb-false}
-use Rattle.std.proofs.lemmas.List.{length-take}
+use Rattle.std.proofs.lemmas.List.{append-nil, length-take}
 use Rattle.yamux_frames.specs.declared.header.Header.{Header}
 use Rattle.yamux_frames.specs.declared.header.FrameFault.{FrameFault}
 use Rattle.yamux_frames.specs.declared.cutter.Cut.{Cut}
@@ -12,10 +12,6 @@ use Rattle.yamux_frames.specs.Place.{Place}
 use Rattle.yamux_frames.specs.Cuts.{CutsAt, Answers, NeedsMore, HasHead, HasPart, IsRefused}
 use Rattle.yamux_frames.specs.Frames.{Arrival, spelled, bytes_left, last_stream, IsBetween, IsWithin, AreFrames, IsRest, IsSound, StandsAt, StopsIn, Uses, IsLongest, EndsExactly, IsOfLast, with_bytes, with_cut}
 use Rattle.yamux_frames.specs.Frames.Arrival.{Head, Byte, Tail, Garbled}
-
-append_none : (xs : List ℕ) → xs ++ [] ≡ xs
-append_none [] = refl
-append_none (x ∷ xs) = ap (λ (t : List ℕ). x ∷ t) (append_none xs)
 
 pub take_whole : (xs : List ℕ) → take (length xs) xs ≡ xs
 take_whole [] = refl
@@ -49,7 +45,7 @@ within (Garbled bytes ∷ past) part rest some = absurd (omega arith)
 -- ---- bytes of a payload
 
 pub bytes_spelled : (xs : List ℕ) (past : List Arrival) → spelled (with_bytes xs past) ≡ spelled past ++ xs
-bytes_spelled [] past = sym (append_none (spelled past))
+bytes_spelled [] past = sym (append-nil (spelled past))
 bytes_spelled (x ∷ xs) past = bytes_spelled xs (Byte x ∷ past) ∙ append_assoc (spelled past) (x ∷ []) xs
 
 pub bytes_after : (xs : List ℕ) (past : List Arrival) → bytes_left (with_bytes xs past) ≡ bytes_left past - length xs
@@ -59,6 +55,18 @@ bytes_after (x ∷ xs) past = let e = bytes_after xs (Byte x ∷ past) in omega 
 bytes_frames : (xs : List ℕ) (past : List Arrival) → AreFrames past → length xs ≤ bytes_left past → AreFrames (with_bytes xs past)
 bytes_frames [] past frames fits = frames
 bytes_frames (x ∷ xs) past frames fits = bytes_frames xs (Byte x ∷ past) (omega arith, frames) (omega arith)
+
+pub bytes_older : (xs : List ℕ) (past : List Arrival) → AreFrames (with_bytes xs past) → AreFrames past
+bytes_older [] past are = are
+bytes_older (x ∷ xs) past are = (bytes_older xs (Byte x ∷ past) are).1
+
+-- they are within it
+pub bytes_fit : (xs : List ℕ) (past : List Arrival) → AreFrames (with_bytes xs past) → length xs ≤ bytes_left past
+bytes_fit [] past are = omega arith
+bytes_fit (x ∷ xs) past are =
+    let fits = bytes_fit xs (Byte x ∷ past) are in
+    let some = (bytes_older xs (Byte x ∷ past) are).0 in
+    omega arith
 
 bytes_stream : (xs : List ℕ) (past : List Arrival) → last_stream (with_bytes xs past) ≡ last_stream past
 bytes_stream [] past = refl
@@ -103,7 +111,7 @@ head_at bytes piece past old used h true some at none head fits =
     record {
       going = refl;
       reads = record {
-        whole = ap (λ (t : List ℕ). t ++ take used piece) at.reads.whole ∙ append_assoc (spelled past) old.part (take used piece) ∙ ap (λ (t : List ℕ). spelled past ++ t) head ∙ sym (append_none (spelled past ++ header_bytes h));
+        whole = ap (λ (t : List ℕ). t ++ take used piece) at.reads.whole ∙ append_assoc (spelled past) old.part (take used piece) ∙ ap (λ (t : List ℕ). spelled past ++ t) head ∙ sym (append-nil (spelled past ++ header_bytes h));
         frames_are = (between past old.part at.sound at.reads.rest_is (let e = at.left in omega arith), fits, at.reads.frames_are);
         rest_is = (ltb-true 0 (payload_length h) some, refl);
       };
@@ -117,7 +125,7 @@ head_at bytes piece past old used h false some at none head fits =
       going = refl;
       reads = record {
         whole = ap (λ (t : List ℕ). t ++ take used piece) at.reads.whole ∙ append_assoc (spelled past) old.part (take used piece) ∙ ap (λ (t : List ℕ). spelled past ++ t) head
-            ∙ sym (append_none (spelled past ++ header_bytes h)) ∙ sym (append_none ((spelled past ++ header_bytes h) ++ []));
+            ∙ sym (append-nil (spelled past ++ header_bytes h)) ∙ sym (append-nil ((spelled past ++ header_bytes h) ++ []));
         frames_are = (tt, omega arith, (between past old.part at.sound at.reads.rest_is (let e = at.left in omega arith), fits, at.reads.frames_are));
         rest_is = omega arith;
       };
@@ -135,8 +143,8 @@ has_head bytes piece past old new used h at head =
 -- the payload so far
 part_whole : (bytes xs part : List ℕ) (past : List Arrival) → bytes ≡ spelled past ++ part → part ≡ [] → bytes ++ xs ≡ spelled (with_bytes xs past) ++ part
 part_whole bytes xs part past whole none =
-    ap (λ (t : List ℕ). t ++ xs) whole ∙ ap (λ (t : List ℕ). (spelled past ++ t) ++ xs) none ∙ ap (λ (t : List ℕ). t ++ xs) (append_none (spelled past))
-    ∙ sym (bytes_spelled xs past) ∙ sym (append_none (spelled (with_bytes xs past))) ∙ ap (λ (t : List ℕ). spelled (with_bytes xs past) ++ t) (sym none)
+    ap (λ (t : List ℕ). t ++ xs) whole ∙ ap (λ (t : List ℕ). (spelled past ++ t) ++ xs) none ∙ ap (λ (t : List ℕ). t ++ xs) (append-nil (spelled past))
+    ∙ sym (bytes_spelled xs past) ∙ sym (append-nil (spelled (with_bytes xs past))) ∙ ap (λ (t : List ℕ). spelled (with_bytes xs past) ++ t) (sym none)
 
 has_part : (bytes piece : List ℕ) (past : List Arrival) (old new : Place) (used stream from to : ℕ) (last : Bool) → StandsAt bytes past old → HasPart old piece used stream from to new
     → (IsTrue last ↔ (used ≡ old.left)) → StandsAt (bytes ++ take used piece) (with_cut (take used piece) (Part stream from to last) past) new
@@ -151,7 +159,7 @@ has_part bytes piece past old new used stream from to true at part ends =
     subst (StandsAt (bytes ++ xs) (Tail ∷ with_bytes xs past)) (sym part.new_is) (record {
       going = refl;
       reads = record {
-        whole = part_whole bytes xs old.part past at.reads.whole open_frame.1 ∙ ap (λ (t : List ℕ). t ++ old.part) (sym (append_none (spelled (with_bytes xs past))));
+        whole = part_whole bytes xs old.part past at.reads.whole open_frame.1 ∙ ap (λ (t : List ℕ). t ++ old.part) (sym (append-nil (spelled (with_bytes xs past))));
         frames_are = (bytes_within xs past open_frame.0, (let e = bytes_after xs past in omega arith), bytes_frames xs past at.reads.frames_are (omega arith));
         rest_is = subst (λ (t : List ℕ). length t < 12) (sym open_frame.1) (omega arith);
       };
@@ -259,7 +267,7 @@ stops_in bytes piece past old new fault at refused =
       within = refused.bytes.1;
       why = refused.bytes.2;
       reads = record {
-        whole = ap (λ (t : List ℕ). t ++ take used piece) at.reads.whole ∙ append_assoc (spelled past) old.part (take used piece) ∙ sym (append_none (spelled past ++ garbled));
+        whole = ap (λ (t : List ℕ). t ++ take used piece) at.reads.whole ∙ append_assoc (spelled past) old.part (take used piece) ∙ sym (append-nil (spelled past ++ garbled));
         frames_are = (between past old.part at.sound at.reads.rest_is (let e = at.left in let none = refused.between in omega arith), (fault, refused.bytes.2), at.reads.frames_are);
         rest_is = tt;
       };

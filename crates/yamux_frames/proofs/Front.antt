@@ -1,5 +1,6 @@
 -- A front of the bytes of whole frames is read as a front of these frames.
 use Rattle.std.proofs.Common.{◌≡◌, ℕ, ◌<◌, ◌≤◌, ◌⊎◌, inl, inr, cond, ◌==◌, List, [], ◌∷◌, ◌++◌, length, get_or, take, drop, refl, sym, ap, ◌∙◌, subst, append_assoc, arith}
+use Rattle.std.proofs.lemmas.List.{append-nil, append_cancel_left}
 use Rattle.std.specs.Int.{w16, w32, from_be_bytes}
 use Rattle.std.proofs.lemmas.Nat.{from_be_bytes-to_be_bytes_2, from_be_bytes-to_be_bytes_4}
 use Rattle.yamux_frames.specs.declared.header.Header.{Header}
@@ -57,16 +58,8 @@ no_header h (v ∷ k ∷ bytes) xs ys BadType bad e =
 
 -- ---- lists
 
-pub append_none : {A : Type 0} (xs : List A) → xs ++ [] ≡ xs
-append_none [] = refl
-append_none (x ∷ xs) = ap (λ t. x ∷ t) (append_none xs)
-
-pub cancel : (xs ys zs : List ℕ) → xs ++ ys ≡ xs ++ zs → ys ≡ zs
-cancel [] ys zs e = e
-cancel (x ∷ xs) ys zs e = cancel xs ys zs (ap (λ (t : List ℕ). drop 1 t) e)
-
 pub spelled_both : (xs ys : List Arrival) → spelled (xs ++ ys) ≡ spelled ys ++ spelled xs
-spelled_both [] ys = sym (append_none (spelled ys))
+spelled_both [] ys = sym (append-nil (spelled ys))
 spelled_both (x ∷ xs) ys = ap (λ (t : List ℕ). t ++ spelling x) (spelled_both xs ys) ∙ append_assoc (spelled ys) (spelled xs) (spelling x)
 
 -- the oldest of a list, which stands last
@@ -173,20 +166,20 @@ no_end (Garbled bytes) past xs are good between e = good
 
 pub front : (frames some : List Arrival) (rest : List ℕ) → AreFrames frames → IsBetween frames → AreFrames some → IsSound some → spelled frames ≡ spelled some ++ rest
     → (way : List Arrival) × (frames ≡ way ++ some)
-front frames [] rest are whole some good e = (frames, sym (append_none frames))
+front frames [] rest are whole some good e = (frames, sym (append-nil frames))
 front frames (x ∷ past) rest are whole some good e =
     let before = front frames past (spelling x ++ rest) are whole (past_frames x past some) (good_past x past some) (e ∙ append_assoc (spelled past) (spelling x) rest) in
     elim (oldest_of before.0) [
       | inl none ↦
           let same : frames ≡ past = before.1 ∙ ap (λ (t : List Arrival). t ++ past) none in
           absurd (no_end x past rest some good (subst IsBetween same whole)
-          (cancel (spelled past) [] (spelling x ++ rest) (append_none (spelled past) ∙ sym (ap spelled same) ∙ e ∙ append_assoc (spelled past) (spelling x) rest)))
+          (append_cancel_left (spelled past) [] (spelling x ++ rest) (append-nil (spelled past) ∙ sym (ap spelled same) ∙ e ∙ append_assoc (spelled past) (spelling x) rest)))
       | inr more ↦
           let w : List Arrival = more.newer in
           let y : Arrival = more.oldest in
           let split : frames ≡ w ++ (y ∷ past) = before.1 ∙ ap (λ (t : List Arrival). t ++ past) more.whole ∙ append_assoc w (y ∷ []) past in
           let same : x ≡ y = same_next x y past rest (spelled w) some (older_frames w (y ∷ past) (subst AreFrames split are))
-          (cancel (spelled past) (spelling x ++ rest) (spelling y ++ spelled w)
+          (append_cancel_left (spelled past) (spelling x ++ rest) (spelling y ++ spelled w)
           (sym (append_assoc (spelled past) (spelling x) rest) ∙ sym e ∙ ap spelled split ∙ spelled_both w (y ∷ past) ∙ append_assoc (spelled past) (spelling y) (spelled w))) in
           (w, split ∙ ap (λ z. w ++ (z ∷ past)) (sym same))
     ]

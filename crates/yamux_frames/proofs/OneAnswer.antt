@@ -1,6 +1,6 @@
 -- The clauses of a cutter determine its answer.
 use Rattle.std.proofs.Common.{◌≡◌, ℕ, ◌-◌, ◌<◌, ◌≤◌, Bool, true, false, cond, nat_lt, List, [], ◌∷◌, ◌++◌, length, take, drop, refl, sym, ap, ◌∙◌, subst, append_assoc, arith}
-use Rattle.std.proofs.lemmas.List.{length-append, length-take-le, take-append-drop, length-drop}
+use Rattle.std.proofs.lemmas.List.{append-nil, length-append, length-take-le, take-append-drop, length-drop, append_cancel_left}
 use Rattle.std.proofs.lemmas.Bool.{ltb-true, ltb-false}
 use Rattle.yamux_frames.specs.declared.header.Header.{Header}
 use Rattle.yamux_frames.specs.declared.header.FrameFault.{FrameFault}
@@ -13,8 +13,8 @@ use Rattle.yamux_frames.specs.Place.{Place}
 use Rattle.yamux_frames.specs.Frames.{Arrival, spelled, bytes_left, IsWithin, AreFrames, IsRest, IsSound, StandsAt, StopsIn, with_bytes}
 use Rattle.yamux_frames.specs.Frames.Arrival.{Head, Byte, Tail, Garbled}
 use Rattle.yamux_frames.specs.OneAnswer.{IsAllowed, OneAnswer, AnswerOrFault, OneFault}
-use Rattle.yamux_frames.proofs.Front.{append_none, cancel, one_header, no_header, twelve, between_none, not_both, same_front}
-use Rattle.yamux_frames.proofs.Frames.{within, between, bytes_spelled, bytes_after, bytes_within, take_whole}
+use Rattle.yamux_frames.proofs.Front.{one_header, no_header, twelve, between_none, not_both, same_front}
+use Rattle.yamux_frames.proofs.Frames.{within, between, bytes_spelled, bytes_after, bytes_within, take_whole, bytes_older, bytes_fit}
 use Rattle.yamux_frames.proofs.Readings.{no_more}
 
 -- ---- what each answer says
@@ -53,7 +53,7 @@ is_more bytes past piece used new ok = record {
 on : (bytes piece ys : List ℕ) (used : ℕ) (part : List ℕ) → bytes ++ take used piece ≡ ys ++ part → part ≡ [] → bytes ++ piece ≡ ys ++ drop used piece
 on bytes piece ys used part e none =
     ap (λ (t : List ℕ). bytes ++ t) (sym (take-append-drop used piece)) ∙ sym (append_assoc bytes (take used piece) (drop used piece))
-    ∙ ap (λ (t : List ℕ). t ++ drop used piece) (e ∙ ap (λ (t : List ℕ). ys ++ t) none ∙ append_none ys)
+    ∙ ap (λ (t : List ℕ). t ++ drop used piece) (e ∙ ap (λ (t : List ℕ). ys ++ t) none ∙ append-nil ys)
 
 head_at : (bytes : List ℕ) (past : List Arrival) (piece : List ℕ) (used : ℕ) (h : Header) (new : Place) (b : Bool) → nat_lt 0 (payload_length h) ≡ b → used ≤ length piece → new.part ≡ []
     → StandsAt (bytes ++ take used piece) (cond b (Head h ∷ past) (Tail ∷ Head h ∷ past)) new → IsHead bytes past piece used h new
@@ -67,7 +67,7 @@ head_at bytes past piece used h new true is fits none at = record {
 head_at bytes past piece used h new false is fits none at = record {
   fits = fits;
   whole = on bytes piece ((spelled past ++ header_bytes h) ++ []) used new.part at.reads.whole none
-      ∙ ap (λ (t : List ℕ). t ++ drop used piece) (append_none (spelled past ++ header_bytes h)) ∙ append_assoc (spelled past) (header_bytes h) (drop used piece);
+      ∙ ap (λ (t : List ℕ). t ++ drop used piece) (append-nil (spelled past ++ header_bytes h)) ∙ append_assoc (spelled past) (header_bytes h) (drop used piece);
   are = at.reads.frames_are.2;
   part = none;
   left = at.left ∙ (let e = ltb-false 0 (payload_length h) is in omega arith);
@@ -75,14 +75,6 @@ head_at bytes past piece used h new false is fits none at = record {
 
 is_head : (bytes : List ℕ) (past : List Arrival) (piece : List ℕ) (used : ℕ) (h : Header) (new : Place) → IsAllowed bytes past piece used (cut.Head h) new → IsHead bytes past piece used h new
 is_head bytes past piece used h new ok = head_at bytes past piece used h new (nat_lt 0 (payload_length h)) refl ok.uses.1 ok.exact ok.frames
-
-bytes_older : (xs : List ℕ) (past : List Arrival) → AreFrames (with_bytes xs past) → AreFrames past
-bytes_older [] past are = are
-bytes_older (x ∷ xs) past are = (bytes_older xs (Byte x ∷ past) are).1
-
-bytes_fit : (xs : List ℕ) (past : List Arrival) → AreFrames (with_bytes xs past) → length xs ≤ bytes_left past
-bytes_fit [] past are = omega arith
-bytes_fit (x ∷ xs) past are = let a = bytes_fit xs (Byte x ∷ past) are in let b = (bytes_older xs (Byte x ∷ past) are).0 in omega arith
 
 nothing : (xs : List ℕ) → length xs ≡ 0 → xs ≡ []
 nothing [] e = refl
@@ -143,7 +135,7 @@ is_part bytes past piece old used s f t last new was ok = part_at bytes past pie
 
 more_head : (bytes : List ℕ) (past : List Arrival) (piece : List ℕ) (used n : ℕ) (h : Header) (new place : Place) → IsMore bytes past piece used new → IsHead bytes past piece n h place → ⊥
 more_head bytes past piece used n h new place m k =
-    no_more past (Head h) new.part (drop n piece) m.rest k.are (cancel (spelled past) new.part (header_bytes h ++ drop n piece) (sym m.whole ∙ k.whole))
+    no_more past (Head h) new.part (drop n piece) m.rest k.are (append_cancel_left (spelled past) new.part (header_bytes h ++ drop n piece) (sym m.whole ∙ k.whole))
 
 more_part : (bytes : List ℕ) (past : List Arrival) (piece : List ℕ) (old : Place) (used n : ℕ) (last : Bool) (new place : Place) → StandsAt bytes past old → IsMore bytes past piece used new → IsPart bytes past piece n last place → ⊥
 more_part bytes past piece old used n last new place was m p =
@@ -176,7 +168,7 @@ by_cuts : (bytes : List ℕ) (past : List Arrival) (piece : List ℕ) (old : Pla
 by_cuts bytes past piece old used n More More new place was a b =
     let x = is_more bytes past piece used new a in
     let y = is_more bytes past piece n place b in
-    (x.all ∙ sym y.all, refl, cancel (spelled past) new.part place.part (sym x.whole ∙ y.whole), x.left ∙ sym y.left)
+    (x.all ∙ sym y.all, refl, append_cancel_left (spelled past) new.part place.part (sym x.whole ∙ y.whole), x.left ∙ sym y.left)
 by_cuts bytes past piece old used n More (cut.Head h) new place was a b = absurd (more_head bytes past piece used n h new place (is_more bytes past piece used new a) (is_head bytes past piece n h place b))
 by_cuts bytes past piece old used n (cut.Head h) More new place was a b = absurd (more_head bytes past piece n used h place new (is_more bytes past piece n place b) (is_head bytes past piece used h new a))
 by_cuts bytes past piece old used n More (Part s f t last) new place was a b =
@@ -190,7 +182,7 @@ by_cuts bytes past piece old used n (Part s f t last) (cut.Head h) new place was
 by_cuts bytes past piece old used n (cut.Head h) (cut.Head g) new place was a b =
     let x = is_head bytes past piece used h new a in
     let y = is_head bytes past piece n g place b in
-    let both = one_header h g (drop used piece) (drop n piece) x.are.1 y.are.1 (cancel (spelled past) (header_bytes h ++ drop used piece) (header_bytes g ++ drop n piece) (sym x.whole ∙ y.whole)) in
+    let both = one_header h g (drop used piece) (drop n piece) x.are.1 y.are.1 (append_cancel_left (spelled past) (header_bytes h ++ drop used piece) (header_bytes g ++ drop n piece) (sym x.whole ∙ y.whole)) in
     let long : length (drop used piece) ≡ length (drop n piece) = ap length both.1 in
     let i = x.fits in let j = y.fits in
     (omega (arith, length-drop used piece, length-drop n piece), ap cut.Head both.0, x.part ∙ sym y.part, x.left ∙ ap payload_length both.0 ∙ sym y.left)
@@ -213,11 +205,11 @@ pub answer_or_fault : AnswerOrFault
 answer_or_fault bytes past piece old used More new fault was ok stop =
     let m = is_more bytes past piece used new ok in
     no_more past (Garbled stop.garbled) new.part (drop stop.used piece) m.rest stop.reads.frames_are
-    (cancel (spelled past) new.part (stop.garbled ++ drop stop.used piece) (sym m.whole ∙ stop_whole bytes past piece fault stop))
+    (append_cancel_left (spelled past) new.part (stop.garbled ++ drop stop.used piece) (sym m.whole ∙ stop_whole bytes past piece fault stop))
 answer_or_fault bytes past piece old used (cut.Head h) new fault was ok stop =
     let k = is_head bytes past piece used h new ok in
     no_header h stop.garbled (drop used piece) (drop stop.used piece) fault stop.why
-    (cancel (spelled past) (header_bytes h ++ drop used piece) (stop.garbled ++ drop stop.used piece) (sym k.whole ∙ stop_whole bytes past piece fault stop))
+    (append_cancel_left (spelled past) (header_bytes h ++ drop used piece) (stop.garbled ++ drop stop.used piece) (sym k.whole ∙ stop_whole bytes past piece fault stop))
 answer_or_fault bytes past piece old used (Part s f t last) new fault was ok stop =
     let p = is_part bytes past piece old used s f t last new was ok in
     let none = between_none past stop.reads.frames_are.0 in let some = p.there in omega arith
@@ -230,6 +222,6 @@ one_why g BadType BadVersion a b = absurd (b.1 a.1)
 
 pub one_fault : OneFault
 one_fault bytes past piece fault other a b =
-    let e = cancel (spelled past) (a.garbled ++ drop a.used piece) (b.garbled ++ drop b.used piece) (sym (stop_whole bytes past piece fault a) ∙ stop_whole bytes past piece other b) in
+    let e = append_cancel_left (spelled past) (a.garbled ++ drop a.used piece) (b.garbled ++ drop b.used piece) (sym (stop_whole bytes past piece fault a) ∙ stop_whole bytes past piece other b) in
     let same : a.garbled ≡ b.garbled = same_front a.garbled b.garbled (drop a.used piece) (drop b.used piece) (twelve a.garbled fault a.why ∙ sym (twelve b.garbled other b.why)) e in
     one_why a.garbled fault other a.why (subst (λ (t : List ℕ). HasFault t other) (sym same) b.why)

@@ -2,7 +2,7 @@
 use Rattle.std.proofs.Common.{◌≡◌, ℕ, zero, suc, ◌-◌, ◌<◌, ◌≤◌, ◌↔◌, ◌⊎◌, inl, inr, Bool, true, false, nat_lt, ◌==◌, IsTrue, List, [], ◌∷◌, ◌++◌, length, get_or, None, refl, sym, ap, ◌∙◌, subst, append_assoc, arith}
 use Rattle.std.specs.Int.{w16, w32, from_be_bytes}
 use Rattle.std.specs.List.{AllByRecursion}
-use Rattle.std.proofs.lemmas.List.{length-append}
+use Rattle.std.proofs.lemmas.List.{append-nil, length-append, append_cancel_left}
 use Rattle.std.proofs.lemmas.Bool.{eqb-true, eqb-false, ltb-true, ltb-false}
 use Rattle.yamux_frames.specs.declared.header.Header.{Header}
 use Rattle.yamux_frames.specs.declared.header.FrameFault.{FrameFault}
@@ -16,14 +16,14 @@ use Rattle.yamux_frames.specs.Frames.{Arrival, spelling, spelled, bytes_left, la
 use Rattle.yamux_frames.specs.Frames.Arrival.{Head, Byte, Tail, Garbled}
 use Rattle.yamux_frames.proofs.Bytes as bytes
 use Rattle.yamux_frames.proofs.Frames.{within, between, stands}
-use Rattle.yamux_frames.proofs.Front.{append_none, cancel, oldest_of, past_frames, older_frames, spelled_both, same_next, twelve, kind_of}
+use Rattle.yamux_frames.proofs.Front.{oldest_of, past_frames, older_frames, spelled_both, same_next, twelve, kind_of}
 
 -- ---- in one way
 
 -- of two readings of the same bytes one goes on where the other stops
 pub both : (frames others : List Arrival) (rest more : List ℕ) → AreFrames frames → AreFrames others → spelled frames ++ rest ≡ spelled others ++ more
     → ((way : List Arrival) × (others ≡ way ++ frames)) ⊎ ((way : List Arrival) × (frames ≡ way ++ others))
-both [] others rest more are those e = inl (others, sym (append_none others))
+both [] others rest more are those e = inl (others, sym (append-nil others))
 both (x ∷ past) others rest more are those e =
     elim (both past others (spelling x ++ rest) more (past_frames x past are) those (sym (append_assoc (spelled past) (spelling x) rest) ∙ e)) [
       | inr back ↦ inr (x ∷ back.0, ap (λ (t : List Arrival). x ∷ t) back.1)
@@ -34,7 +34,7 @@ both (x ∷ past) others rest more are those e =
             let y : Arrival = some.oldest in
             let split : others ≡ w ++ (y ∷ past) = on.1 ∙ ap (λ (t : List Arrival). t ++ past) some.whole ∙ append_assoc w (y ∷ []) past in
             let same : x ≡ y = same_next x y past rest (spelled w ++ more) are (older_frames w (y ∷ past) (subst AreFrames split those))
-            (cancel (spelled past) (spelling x ++ rest) (spelling y ++ (spelled w ++ more))
+            (append_cancel_left (spelled past) (spelling x ++ rest) (spelling y ++ (spelled w ++ more))
             (sym (append_assoc (spelled past) (spelling x) rest) ∙ e ∙ ap (λ (t : List Arrival). spelled t ++ more) split ∙ ap (λ (t : List ℕ). t ++ more) (spelled_both w (y ∷ past))
             ∙ append_assoc (spelled past ++ spelling y) (spelled w) more ∙ append_assoc (spelled past) (spelling y) (spelled w ++ more))) in
             inl (w, split ∙ ap (λ z. w ++ (z ∷ past)) (sym same))
@@ -78,7 +78,7 @@ ends frames rest more way r are e =
           let y : Arrival = some.oldest in
           let split : way ++ frames ≡ w ++ (y ∷ frames) = ap (λ (t : List Arrival). t ++ frames) some.whole ∙ append_assoc w (y ∷ []) frames in
           absurd (no_more frames y rest (spelled w ++ more) r (older_frames w (y ∷ frames) (subst AreFrames split are))
-          (cancel (spelled frames) rest (spelling y ++ (spelled w ++ more))
+          (append_cancel_left (spelled frames) rest (spelling y ++ (spelled w ++ more))
           (e ∙ ap (λ (t : List Arrival). spelled t ++ more) split ∙ ap (λ (t : List ℕ). t ++ more) (spelled_both w (y ∷ frames))
           ∙ append_assoc (spelled frames ++ spelling y) (spelled w) more ∙ append_assoc (spelled frames) (spelling y) (spelled w ++ more))))
     ]
@@ -98,7 +98,7 @@ pub one_reading : OneReading
 one_reading bytes frames others rest more a b =
     let e : spelled frames ++ rest ≡ spelled others ++ more = sym a.whole ∙ b.whole in
     let same : frames ≡ others = same_frames frames others rest more a.frames_are b.frames_are a.rest_is b.rest_is e in
-    (same, cancel (spelled others) rest more (ap (λ (t : List Arrival). spelled t ++ rest) (sym same) ∙ e))
+    (same, append_cancel_left (spelled others) rest more (ap (λ (t : List Arrival). spelled t ++ rest) (sym same) ∙ e))
 
 -- ---- all bytes
 
@@ -111,7 +111,7 @@ all_back : (xs ys : List ℕ) → AllByRecursion (λ b. b < 256) (xs ++ ys) → 
 all_back [] ys all = all
 all_back (x ∷ xs) ys all = all_back xs ys all.1
 
-all_front : (xs ys : List ℕ) → AllByRecursion (λ b. b < 256) (xs ++ ys) → AllByRecursion (λ b. b < 256) xs
+pub all_front : (xs ys : List ℕ) → AllByRecursion (λ b. b < 256) (xs ++ ys) → AllByRecursion (λ b. b < 256) xs
 all_front [] ys all = tt
 all_front (x ∷ xs) ys all = (all.0, all_front xs ys all.1)
 
@@ -199,7 +199,7 @@ on_fault xs b frames rest reads ready fault bad = (
   Garbled (rest ++ b ∷ []) ∷ frames,
   [],
   record {
-    whole = ap (λ (t : List ℕ). t ++ b ∷ []) reads.whole ∙ append_assoc (spelled frames) rest (b ∷ []) ∙ sym (append_none (spelled frames ++ (rest ++ b ∷ [])));
+    whole = ap (λ (t : List ℕ). t ++ b ∷ []) reads.whole ∙ append_assoc (spelled frames) rest (b ∷ []) ∙ sym (append-nil (spelled frames ++ (rest ++ b ∷ [])));
     frames_are = (ready, (fault, bad), reads.frames_are);
     rest_is = tt;
   },
@@ -253,7 +253,7 @@ one_more xs b all old =
     ]
 
 all_more : (more xs : List ℕ) → AllByRecursion (λ k. k < 256) (xs ++ more) → HasReading xs → HasReading (xs ++ more)
-all_more [] xs all old = subst HasReading (sym (append_none xs)) old
+all_more [] xs all old = subst HasReading (sym (append-nil xs)) old
 all_more (b ∷ more) xs all old =
     let again : (xs ++ b ∷ []) ++ more ≡ xs ++ b ∷ more = append_assoc xs (b ∷ []) more in
     let all_bytes : AllByRecursion (λ k. k < 256) ((xs ++ b ∷ []) ++ more) = subst (AllByRecursion (λ k. k < 256)) (sym again) all in

@@ -13,10 +13,11 @@ use Rattle.yamux_session.specs.Items.Item.{Came, Did}
 use Rattle.yamux_session.specs.Openings.{live, is_live, contains, has_left, is_let_in, opens, reading, is_for_stream, finished, finishes, tail_finishes, head_belongs}
 use Rattle.yamux_session.specs.Windows.{since_opening, data_length, update_length}
 use Rattle.yamux_session.specs.Meaning.{HasNoFault, fault_at, syn_fault, window_fault, or_else}
+use Rattle.yamux_session.specs.Joined.{length_of_data, length_of_update}
 use Rattle.yamux_session.proofs.Lists.{and_parts}
 use Rattle.yamux_session.proofs.Keeping.{and_false}
 use Rattle.yamux_session.proofs.Live.{was_or_opens}
-use Rattle.yamux_session.proofs.Totals.{total, data_of, update_of}
+use Rattle.yamux_session.proofs.Totals.{total}
 use Rattle.yamux_session.proofs.InTurn.{head_of, fin_of, AreInTurn}
 
 -- none of the stream's heads came before it was opened
@@ -40,7 +41,7 @@ small_update true Ping len none = refl
 small_update true GoAway len none = refl
 small_update false k len none = refl
 
-pub no_data : (n : ℕ) (xs : List Arrival) → total (head_of n) xs ≡ 0 → total (data_of n) xs ≡ 0
+pub no_data : (n : ℕ) (xs : List Arrival) → total (head_of n) xs ≡ 0 → total (length_of_data n) xs ≡ 0
 no_data n [] none = refl
 no_data n (Head h ∷ xs) none =
     let rest = no_data n xs (omega arith) in
@@ -50,7 +51,7 @@ no_data n (Byte b ∷ xs) none = let rest = no_data n xs (omega arith) in omega 
 no_data n (Tail ∷ xs) none = let rest = no_data n xs (omega arith) in omega arith
 no_data n (Garbled bytes ∷ xs) none = let rest = no_data n xs (omega arith) in omega arith
 
-pub no_update : (n : ℕ) (xs : List Arrival) → total (head_of n) xs ≡ 0 → total (update_of n) xs ≡ 0
+pub no_update : (n : ℕ) (xs : List Arrival) → total (head_of n) xs ≡ 0 → total (length_of_update n) xs ≡ 0
 no_update n [] none = refl
 no_update n (Head h ∷ xs) none =
     let rest = no_update n xs (omega arith) in
@@ -216,7 +217,7 @@ amount_adds f (Came x) past = refl
 amount_adds f (Did act) past = omega arith
 
 data_belongs : (role : Role) (past : List Item) (x : Item) (n : ℕ) → HasNoFault role (x ∷ past) → AreInTurn (arrivals (x ∷ past)) → is_live role (x ∷ past) n ≡ true
-    → data_length role n past x ≡ amount_of (data_of n) x
+    → data_length role n past x ≡ amount_of (length_of_data n) x
 data_belongs role past (Came (Head h)) n good turn now =
     same_if (head_belongs role past h n) (h.stream == n) (is_data h.kind) h.length
     (λ s k. let same = eqb-true h.stream n s in
@@ -229,7 +230,7 @@ data_belongs role past (Came Tail) n good turn now = refl
 data_belongs role past (Came (Garbled bytes)) n good turn now = refl
 data_belongs role past (Did act) n good turn now = refl
 
-update_belongs : (role : Role) (past : List Item) (x : Item) (n : ℕ) → HasNoFault role (x ∷ past) → is_live role (x ∷ past) n ≡ true → update_length role n past x ≡ amount_of (update_of n) x
+update_belongs : (role : Role) (past : List Item) (x : Item) (n : ℕ) → HasNoFault role (x ∷ past) → is_live role (x ∷ past) n ≡ true → update_length role n past x ≡ amount_of (length_of_update n) x
 update_belongs role past (Came (Head h)) n good now =
     same_if (head_belongs role past h n) (h.stream == n) (is_update h.kind) h.length
     (λ s k. let kind = update_kind h.kind k in belongs role past h n good.0 now (eqb-true h.stream n s) kind.0 (ap (λ b. b && finished role past n) kind.1))
@@ -253,17 +254,17 @@ sum_on role past x n false true amount here since all is was now same first late
 sum_on role past x n false false amount here since all is was now same first later = absurd (let e : true ≡ false = sym (was_or_opens role x past n now was) ∙ is in cc)
 
 pub all_data : (role : Role) (past : List Item) (n : ℕ) → HasNoFault role past → NoneBefore role n past → AreInTurn (arrivals past) → is_live role past n ≡ true
-    → since_opening (data_length role n) role past n ≡ total (data_of n) (arrivals past)
+    → since_opening (data_length role n) role past n ≡ total (length_of_data n) (arrivals past)
 all_data role [] n good none turn now = refl
 all_data role (x ∷ past) n good none turn now =
-    sum_on role past x n (opens role past x n) (is_live role past n) (data_length role n past x) (amount_of (data_of n) x) (since_opening (data_length role n) role past n) (total (data_of n) (arrivals past))
+    sum_on role past x n (opens role past x n) (is_live role past n) (data_length role n past x) (amount_of (length_of_data n) x) (since_opening (data_length role n) role past n) (total (length_of_data n) (arrivals past))
     refl refl now (data_belongs role past x n good turn now) (λ o. no_data n (arrivals past) (none.0 o)) (all_data role past n good.1 none.1 (past_turn x past turn))
-    ∙ sym (amount_adds (data_of n) x past)
+    ∙ sym (amount_adds (length_of_data n) x past)
 
 pub all_updates : (role : Role) (past : List Item) (n : ℕ) → HasNoFault role past → NoneBefore role n past → is_live role past n ≡ true
-    → since_opening (update_length role n) role past n ≡ total (update_of n) (arrivals past)
+    → since_opening (update_length role n) role past n ≡ total (length_of_update n) (arrivals past)
 all_updates role [] n good none now = refl
 all_updates role (x ∷ past) n good none now =
-    sum_on role past x n (opens role past x n) (is_live role past n) (update_length role n past x) (amount_of (update_of n) x) (since_opening (update_length role n) role past n) (total (update_of n) (arrivals past))
+    sum_on role past x n (opens role past x n) (is_live role past n) (update_length role n past x) (amount_of (length_of_update n) x) (since_opening (update_length role n) role past n) (total (length_of_update n) (arrivals past))
     refl refl now (update_belongs role past x n good now) (λ o. no_update n (arrivals past) (none.0 o)) (all_updates role past n good.1 none.1)
-    ∙ sym (amount_adds (update_of n) x past)
+    ∙ sym (amount_adds (length_of_update n) x past)

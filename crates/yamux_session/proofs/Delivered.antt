@@ -1,5 +1,6 @@
 -- The data that arrives for a stream is a front of what was written on it.
 use Rattle.std.proofs.Common.{◌≡◌, ℕ, ◌<◌, ◌≤◌, Bool, true, false, not, ◌||◌, ◌&&◌, ◌==◌, nat_lt, cond, List, [], ◌∷◌, ◌++◌, length, Option, Some, None, refl, sym, ap, ◌∙◌, subst, append_assoc, arith}
+use Rattle.std.proofs.lemmas.List.{append-nil}
 use Rattle.std.specs.List.{concat}
 use mathlib.Core.List.{IsPrefix}
 use Rattle.std.proofs.lemmas.Bool.{eqb-true}
@@ -18,7 +19,7 @@ use Rattle.yamux_session.specs.Windows.{given_back}
 use Rattle.yamux_session.specs.Acts.{AreAnswered}
 use Rattle.yamux_session.specs.Meaning.{HasNoFault, when, inbound, byte_at}
 use Rattle.yamux_session.specs.Joined.{written_by, written}
-use Rattle.yamux_session.proofs.Lists.{append_none, and_parts, or_parts, not_true}
+use Rattle.yamux_session.proofs.Lists.{either_way, and_parts, or_parts, not_true}
 use Rattle.yamux_session.proofs.Live.{past_answered, was_or_opens}
 use Rattle.yamux_session.proofs.Keeping.{quiet}
 use Rattle.yamux_session.proofs.Untaken.{live_unless}
@@ -42,12 +43,8 @@ bytes_if : (b : Bool) (x : ℕ) (xs : List ℕ) → cond b (x ∷ []) [] ++ cond
 bytes_if true x xs = refl
 bytes_if false x xs = refl
 
-none_if : (b : Bool) → (let none : List ℕ = [] in cond b none none ≡ none)
-none_if true = refl
-none_if false = refl
-
 bytes_with : (n : ℕ) (bytes : List ℕ) (xs : List Arrival) → bytes_of n (with_bytes bytes xs) ≡ bytes_of n xs ++ cond (is_reading (head_at xs) n) bytes []
-bytes_with n [] xs = sym (append_none (bytes_of n xs)) ∙ ap (λ (t : List ℕ). bytes_of n xs ++ t) (sym (none_if (is_reading (head_at xs) n)))
+bytes_with n [] xs = sym (append-nil (bytes_of n xs)) ∙ ap (λ (t : List ℕ). bytes_of n xs ++ t) (sym (either_way (is_reading (head_at xs) n) []))
 bytes_with n (b ∷ bytes) xs =
     bytes_with n bytes (Byte b ∷ xs)
     ∙ append_assoc (bytes_of n xs) (cond (is_reading (head_at xs) n) (b ∷ []) []) (cond (is_reading (head_at xs) n) bytes [])
@@ -58,7 +55,7 @@ both_if true ps qs = refl
 both_if false ps qs = refl
 
 data_bytes : (n k : ℕ) (pieces : List (List ℕ)) (xs : List Arrival) → bytes_of n (data_on k pieces xs) ≡ bytes_of n xs ++ cond (k == n) (concat pieces) []
-data_bytes n k [] xs = sym (append_none (bytes_of n xs)) ∙ ap (λ (t : List ℕ). bytes_of n xs ++ t) (sym (none_if (k == n)))
+data_bytes n k [] xs = sym (append-nil (bytes_of n xs)) ∙ ap (λ (t : List ℕ). bytes_of n xs ++ t) (sym (either_way (k == n) []))
 data_bytes n k (piece ∷ pieces) xs =
     let h : Header = header Payload 0 k (length piece) in
     data_bytes n k pieces (Tail ∷ with_bytes piece (Head h ∷ xs))
@@ -75,18 +72,18 @@ bytes_on n role past (Came (Head h)) xs =
     let opened : Bool = opens role past (Came (Head h)) h.stream in
     same_bytes n (not (syn h)) xs _ xs refl
     (same_bytes n (is_ping h.kind) (bare Ping 2 0 h.length xs) _ xs refl (same_bytes n (not (is_of_stream h)) xs (bare Window (cond opened 2 8) h.stream 0 xs) xs refl refl))
-    ∙ sym (append_none (bytes_of n xs))
-bytes_on n role past (Came (Byte b)) xs = sym (append_none (bytes_of n xs))
-bytes_on n role past (Came Tail) xs = sym (append_none (bytes_of n xs))
-bytes_on n role past (Came (Garbled bytes)) xs = sym (append_none (bytes_of n xs))
-bytes_on n role past (Did (Start k)) xs = sym (append_none (bytes_of n xs))
+    ∙ sym (append-nil (bytes_of n xs))
+bytes_on n role past (Came (Byte b)) xs = sym (append-nil (bytes_of n xs))
+bytes_on n role past (Came Tail) xs = sym (append-nil (bytes_of n xs))
+bytes_on n role past (Came (Garbled bytes)) xs = sym (append-nil (bytes_of n xs))
+bytes_on n role past (Did (Start k)) xs = sym (append-nil (bytes_of n xs))
 bytes_on n role past (Did (Write k pieces)) xs = data_bytes n k pieces xs
 bytes_on n role past (Did (Take k count)) xs =
     let amount : ℕ = given_back role k past (Did (Take k count)) in
-    same_bytes n (nat_lt 0 amount) (bare Window 0 k amount xs) xs xs refl refl ∙ sym (append_none (bytes_of n xs))
-bytes_on n role past (Did (Close k)) xs = sym (append_none (bytes_of n xs))
-bytes_on n role past (Did (Reset k)) xs = sym (append_none (bytes_of n xs))
-bytes_on n role past (Did (Leave code)) xs = sym (append_none (bytes_of n xs))
+    same_bytes n (nat_lt 0 amount) (bare Window 0 k amount xs) xs xs refl refl ∙ sym (append-nil (bytes_of n xs))
+bytes_on n role past (Did (Close k)) xs = sym (append-nil (bytes_of n xs))
+bytes_on n role past (Did (Reset k)) xs = sym (append-nil (bytes_of n xs))
+bytes_on n role past (Did (Leave code)) xs = sym (append-nil (bytes_of n xs))
 
 -- nothing is written on a stream that was never opened
 none_written : (role : Role) (past : List Item) (x : Item) (n : ℕ) → AreAnswered role (x ∷ past) → is_live role past n ≡ false → written_by n x ≡ []
@@ -131,7 +128,7 @@ pub prefix_on : (xs ys zs : List ℕ) → IsPrefix xs ys → IsPrefix xs (ys ++ 
 prefix_on xs ys zs p = (p.0 ++ zs, sym (append_assoc xs p.0 zs) ∙ ap (λ (t : List ℕ). t ++ zs) p.1)
 
 pub older_bytes : (n : ℕ) (newer older : List Arrival) → IsPrefix (bytes_of n older) (bytes_of n (newer ++ older))
-older_bytes n [] older = ([], append_none (bytes_of n older))
+older_bytes n [] older = ([], append-nil (bytes_of n older))
 older_bytes n (Byte b ∷ newer) older = prefix_on (bytes_of n older) (bytes_of n (newer ++ older)) (cond (is_reading (head_at (newer ++ older)) n) (b ∷ []) []) (older_bytes n newer older)
 older_bytes n (Head h ∷ newer) older = older_bytes n newer older
 older_bytes n (Tail ∷ newer) older = older_bytes n newer older
@@ -196,7 +193,7 @@ pub record IsDelivered (role : Role) (n : ℕ) (past : List Item) : Type 0 where
   pub whole : is_live role past n ≡ true → finished role past n ≡ false → inbound role past n ≡ bytes_of n (arrivals past)
 
 prefix_all : (xs ys : List ℕ) → xs ≡ ys → IsPrefix xs ys
-prefix_all xs ys e = ([], append_none xs ∙ e)
+prefix_all xs ys e = ([], append-nil xs ∙ e)
 
 byte_in : (role : Role) (past : List Item) (b n : ℕ) (c : Bool) → byte_belongs role past n ≡ c → HasNoFault role past → NoneBefore role n past → 0 < bytes_left (arrivals past)
     → IsDelivered role n past → IsDelivered role n (Came (Byte b) ∷ past)
@@ -209,13 +206,13 @@ byte_in role past b n true is good none some before =
     ∙ ap (λ c. bytes_of n (arrivals past) ++ when c b) is ∙ ap (λ c. bytes_of n (arrivals past) ++ cond c (b ∷ []) []) (sym head) in
     record { front = prefix_all _ _ same; whole = λ on open_still. same }
 byte_in role past b n false is good none some before =
-    let same : inbound role past n ++ when (byte_belongs role past n) b ≡ inbound role past n = ap (λ c. inbound role past n ++ when c b) is ∙ append_none (inbound role past n) in
+    let same : inbound role past n ++ when (byte_belongs role past n) b ≡ inbound role past n = ap (λ c. inbound role past n ++ when c b) is ∙ append-nil (inbound role past n) in
     record {
       front = subst (λ (t : List ℕ). IsPrefix t (bytes_of n (arrivals past) ++ cond (is_reading (head_at (arrivals past)) n) (b ∷ []) [])) (sym same)
           (prefix_on (inbound role past n) (bytes_of n (arrivals past)) (cond (is_reading (head_at (arrivals past)) n) (b ∷ []) []) before.front);
       whole = λ on open_still.
           let was : is_live role past n ≡ true = sym (ap (λ ns. contains ns n) (quiet (live role past))) ∙ on in
-          same ∙ before.whole was open_still ∙ sym (append_none (bytes_of n (arrivals past)))
+          same ∙ before.whole was open_still ∙ sym (append-nil (bytes_of n (arrivals past)))
           ∙ ap (λ (t : List ℕ). bytes_of n (arrivals past) ++ t) (sym (unread (is_reading (head_at (arrivals past)) n) refl was open_still));
     }
   where
@@ -230,12 +227,12 @@ other_in : (role : Role) (past : List Item) (x : Item) (n : ℕ) (o l : Bool) �
     → NoneBefore role n (x ∷ past) → AreFrames (arrivals past) → IsDelivered role n past → IsDelivered role n (x ∷ past)
 other_in role past x n true l is was no_byte same none frames before =
     let empty : cond (opens role past x n) [] (inbound role past n) ++ byte_at role past x n ≡ [] =
-    ap (λ (t : List ℕ). cond (opens role past x n) [] (inbound role past n) ++ t) no_byte ∙ append_none (cond (opens role past x n) [] (inbound role past n)) ∙ ap (λ b. cond b [] (inbound role past n)) is in
+    ap (λ (t : List ℕ). cond (opens role past x n) [] (inbound role past n) ++ t) no_byte ∙ append-nil (cond (opens role past x n) [] (inbound role past n)) ∙ ap (λ b. cond b [] (inbound role past n)) is in
     let zero : bytes_of n (arrivals (x ∷ past)) ≡ [] = same ∙ no_bytes n (arrivals past) frames (none.0 is) in
     record { front = prefix_all _ _ (empty ∙ sym zero); whole = λ on open_still. empty ∙ sym zero }
 other_in role past x n false l is was no_byte same none frames before =
     let kept : cond (opens role past x n) [] (inbound role past n) ++ byte_at role past x n ≡ inbound role past n =
-    ap (λ (t : List ℕ). cond (opens role past x n) [] (inbound role past n) ++ t) no_byte ∙ append_none (cond (opens role past x n) [] (inbound role past n)) ∙ ap (λ b. cond b [] (inbound role past n)) is in
+    ap (λ (t : List ℕ). cond (opens role past x n) [] (inbound role past n) ++ t) no_byte ∙ append-nil (cond (opens role past x n) [] (inbound role past n)) ∙ ap (λ b. cond b [] (inbound role past n)) is in
     record {
       front = subst (λ (t : List ℕ). IsPrefix t (bytes_of n (arrivals (x ∷ past)))) (sym kept) (subst (λ (t : List ℕ). IsPrefix (inbound role past n) t) (sym same) before.front);
       whole = λ on open_still. kept ∙ before.whole (still_on l was on) (still_open open_still) ∙ sym same;

@@ -21,7 +21,7 @@ use Rattle.yamux_session.proofs.Keeping.{and_true, and_false}
 use Rattle.yamux_session.proofs.Live.{past_answered, was_or_opens, not_both, own_next}
 use Rattle.yamux_session.proofs.Untaken.{live_unless, live_if}
 use Rattle.yamux_session.proofs.Sent.{header, bare, data_on, answer_on, sent_on, sent}
-use Rattle.yamux_session.proofs.Totals.{total, all_time, syn_of, starts}
+use Rattle.yamux_session.proofs.Totals.{total, all_time, syn_of, starts, bytes_total, data_else, same_total}
 use Rattle.yamux_session.proofs.Once.{openings, IsOfLive, never_live, never_any, own_openings, other_openings, started_below, none_unless, no_one}
 
 -- a head for the stream n
@@ -31,25 +31,17 @@ head_of n (Byte b) = 0
 head_of n Tail = 0
 head_of n (Garbled bytes) = 0
 
-bytes_heads : (n : ℕ) (bytes : List ℕ) (xs : List Arrival) → total (head_of n) (with_bytes bytes xs) ≡ total (head_of n) xs
-bytes_heads n [] xs = refl
-bytes_heads n (b ∷ bytes) xs = let rest = bytes_heads n bytes (Byte b ∷ xs) in omega arith
-
 data_heads : (n k : ℕ) (pieces : List (List ℕ)) (xs : List Arrival) → (k == n) ≡ false → total (head_of n) (data_on k pieces xs) ≡ total (head_of n) xs
 data_heads n k [] xs off = refl
 data_heads n k (piece ∷ pieces) xs off =
     let h : Header = header Payload 0 k (length piece) in
     let rest = data_heads n k pieces (Tail ∷ with_bytes piece (Head h ∷ xs)) off in
-    let part = bytes_heads n piece (Head h ∷ xs) in
+    let part = bytes_total (head_of n) (λ b. refl) piece (Head h ∷ xs) in
     let none : head_of n (Head h) ≡ 0 = ap (λ b. cond (b && true) 1 0) off in
     omega arith
 
 bare_off : (n k flags len : ℕ) (xs : List Arrival) → (k == n) ≡ false → total (head_of n) (bare Window flags k len xs) ≡ total (head_of n) xs
 bare_off n k flags len xs off = let none : head_of n (Head (header Window flags k len)) ≡ 0 = ap (λ b. cond (b && true) 1 0) off in omega arith
-
-if_heads : (n : ℕ) (b : Bool) (us vs xs : List Arrival) → total (head_of n) us ≡ total (head_of n) xs → total (head_of n) vs ≡ total (head_of n) xs → total (head_of n) (cond b us vs) ≡ total (head_of n) xs
-if_heads n true us vs xs e g = e
-if_heads n false us vs xs e g = g
 
 -- the frames of an item that is about another stream, or none
 answer_off : (n : ℕ) (h : Header) (opened : Bool) (xs : List Arrival) → (h.stream == n && (is_of_stream h && syn h)) ≡ false → total (head_of n) (answer_on h opened xs) ≡ total (head_of n) xs
@@ -91,7 +83,7 @@ silent role past (Did (Write k pieces)) n xs answered off shut =
     data_heads n k pieces xs (apart_if role past n k (k == n) refl (live_unless (is_live role past k) (closed role past k) answered.0.0) off)
 silent role past (Did (Take k count)) n xs answered off shut =
     let amount : ℕ = given_back role k past (Did (Take k count)) in
-    if_heads n (nat_lt 0 amount) (bare Window 0 k amount xs) xs xs (bare_off n k 0 amount xs (apart_if role past n k (k == n) refl (live_if (is_live role past k) answered.0.0) off)) refl
+    same_total (head_of n) (nat_lt 0 amount) (bare Window 0 k amount xs) xs xs (bare_off n k 0 amount xs (apart_if role past n k (k == n) refl (live_if (is_live role past k) answered.0.0) off)) refl
 silent role past (Did (Close k)) n xs answered off shut = bare_off n k 4 0 xs (apart_if role past n k (k == n) refl (live_unless (is_live role past k) (closed role past k) answered.0) off)
 silent role past (Did (Reset k)) n xs answered off shut = bare_off n k 8 0 xs (apart_if role past n k (k == n) refl (live_if (is_live role past k) answered.0) off)
 silent role past (Did (Leave code)) n xs answered off shut = let none : head_of n (Head (header GoAway 0 0 code)) ≡ 0 = ap (λ b. cond b 1 0) (and_false (0 == n)) in omega arith
@@ -202,23 +194,6 @@ closed_of_live role n past (Did (Reset k)) answered off = refl
 closed_of_live role n past (Did (Leave code)) answered off = refl
 closed_of_live role n past (Came x) answered off = refl
 
-bytes_fins : (n : ℕ) (bytes : List ℕ) (xs : List Arrival) → total (fin_of n) (with_bytes bytes xs) ≡ total (fin_of n) xs
-bytes_fins n [] xs = refl
-bytes_fins n (b ∷ bytes) xs = let rest = bytes_fins n bytes (Byte b ∷ xs) in omega arith
-
-data_fins : (n k : ℕ) (pieces : List (List ℕ)) (xs : List Arrival) → total (fin_of n) (data_on k pieces xs) ≡ total (fin_of n) xs
-data_fins n k [] xs = refl
-data_fins n k (piece ∷ pieces) xs =
-    let h : Header = header Payload 0 k (length piece) in
-    let rest = data_fins n k pieces (Tail ∷ with_bytes piece (Head h ∷ xs)) in
-    let part = bytes_fins n piece (Head h ∷ xs) in
-    let none : fin_of n (Head h) ≡ 0 = ap (λ b. cond b 1 0) (and_false (k == n)) in
-    omega arith
-
-if_fins : (n : ℕ) (b : Bool) (us vs xs : List Arrival) → total (fin_of n) us ≡ total (fin_of n) xs → total (fin_of n) vs ≡ total (fin_of n) xs → total (fin_of n) (cond b us vs) ≡ total (fin_of n) xs
-if_fins n true us vs xs e g = e
-if_fins n false us vs xs e g = g
-
 no_fin : (n k flags len : ℕ) (kind : FrameKind) → (is_of_stream (header kind flags k len) && fin (header kind flags k len)) ≡ false → fin_of n (Head (header kind flags k len)) ≡ 0
 no_fin n k flags len kind off = ap (λ c. cond ((k == n) && c) 1 0) off ∙ ap (λ c. cond c 1 0) (and_false (k == n))
 
@@ -229,18 +204,18 @@ flag_fin false k = refl
 fins_on : (n : ℕ) (role : Role) (past : List Item) (x : Item) (xs : List Arrival) → total (fin_of n) (sent_on role past x xs) ≡ total (fin_of n) xs + closings n past x
 fins_on n role past (Came (Head h)) xs =
     let opened : Bool = opens role past (Came (Head h)) h.stream in
-    let e = if_fins n (not (syn h)) xs _ xs refl
-    (if_fins n (is_ping h.kind) (bare Ping 2 0 h.length xs) _ xs (let none = no_fin n 0 2 h.length Ping refl in omega arith)
-    (if_fins n (not (is_of_stream h)) xs (bare Window (cond opened 2 8) h.stream 0 xs) xs refl (let none = no_fin n h.stream (cond opened 2 8) 0 Window (flag_fin opened h.stream) in omega arith))) in
+    let e = same_total (fin_of n) (not (syn h)) xs _ xs refl
+    (same_total (fin_of n) (is_ping h.kind) (bare Ping 2 0 h.length xs) _ xs (let none = no_fin n 0 2 h.length Ping refl in omega arith)
+    (same_total (fin_of n) (not (is_of_stream h)) xs (bare Window (cond opened 2 8) h.stream 0 xs) xs refl (let none = no_fin n h.stream (cond opened 2 8) 0 Window (flag_fin opened h.stream) in omega arith))) in
     omega arith
 fins_on n role past (Came (Byte b)) xs = omega arith
 fins_on n role past (Came Tail) xs = omega arith
 fins_on n role past (Came (Garbled bytes)) xs = omega arith
 fins_on n role past (Did (Start k)) xs = let none = no_fin n k 1 0 Window refl in omega arith
-fins_on n role past (Did (Write k pieces)) xs = let e = data_fins n k pieces xs in omega arith
+fins_on n role past (Did (Write k pieces)) xs = let e = data_else (fin_of n) k (λ b. refl) refl (λ len. no_fin n k 0 len Payload (and_false true)) pieces xs in omega arith
 fins_on n role past (Did (Take k count)) xs =
     let amount : ℕ = given_back role k past (Did (Take k count)) in
-    let e = if_fins n (nat_lt 0 amount) (bare Window 0 k amount xs) xs xs (let none = no_fin n k 0 amount Window refl in omega arith) refl in omega arith
+    let e = same_total (fin_of n) (nat_lt 0 amount) (bare Window 0 k amount xs) xs xs (let none = no_fin n k 0 amount Window refl in omega arith) refl in omega arith
 fins_on n role past (Did (Close k)) xs = let one : fin_of n (Head (header Window 4 k 0)) ≡ cond (k == n) 1 0 = ap (λ b. cond b 1 0) (and_true (k == n)) in omega arith
 fins_on n role past (Did (Reset k)) xs = let none = no_fin n k 8 0 Window refl in omega arith
 fins_on n role past (Did (Leave code)) xs = let none = no_fin n 0 0 code GoAway refl in omega arith
@@ -290,7 +265,7 @@ data_turn : (k : ℕ) (pieces : List (List ℕ)) (xs : List Arrival) → total (
 data_turn k [] xs none are = are
 data_turn k (piece ∷ pieces) xs none are =
     let h : Header = header Payload 0 k (length piece) in
-    let bytes = bytes_fins k piece (Head h ∷ xs) in
+    let bytes = bytes_total (fin_of k) (λ b. refl) piece (Head h ∷ xs) in
     let head : fin_of k (Head h) ≡ 0 = ap (λ b. cond b 1 0) (and_false (k == k)) in
     data_turn k pieces (Tail ∷ with_bytes piece (Head h ∷ xs)) (omega arith) (tt, bytes_turn piece (Head h ∷ xs) (((λ e. absurd cc), (λ e. none)), are))
 

@@ -3,12 +3,12 @@ use Rattle.std.proofs.Common.{◌≡◌, ℕ, ◌+◌, ◌≤◌, Bool, true, fa
 use Rattle.std.specs.Prelude.{sum_by}
 use Rattle.std.proofs.lemmas.Bool.{eqb-true, eq-eqb, le-ltb}
 use Rattle.std.proofs.lemmas.List.Sums.{sum_by-cons}
-use Rattle.std.proofs.lemmas.List.{length-append}
+use Rattle.std.proofs.lemmas.List.{append-nil, length-append, append_cancel_left}
 use mathlib.Core.List.{IsPrefix}
 use Rattle.yamux_frames.specs.declared.header.Header.{Header}
 use Rattle.yamux_frames.specs.declared.header.FrameKind.{FrameKind}
 use Rattle.yamux_frames.specs.declared.header.FrameKind.TheVariants.{Payload, Window, Ping, GoAway}
-use Rattle.yamux_frames.specs.Frames.{Arrival, spelling, spelled, IsBetween, IsRest, IsSound, AreFrames}
+use Rattle.yamux_frames.specs.Frames.{Arrival, spelling, spelled, IsBetween, IsRest, IsSound, AreFrames, Reads}
 use Rattle.yamux_frames.specs.Frames.Arrival.{Head, Byte, Tail, Garbled}
 use Rattle.yamux_frames.proofs.Front as fronts
 use Rattle.yamux_frames.proofs.Readings.{one_reading}
@@ -23,13 +23,13 @@ use Rattle.yamux_session.specs.Openings.{live, is_live, contains, has_left, is_l
 use Rattle.yamux_session.specs.Windows.{initial_window, since_opening, written_length, given_back, credit, receiving_window}
 use Rattle.yamux_session.specs.Acts.{AreAnswered, IsAnswered}
 use Rattle.yamux_session.specs.Meaning.{HasNoFault, inbound, output, fault_at, syn_fault, window_fault, window_at, credit_at, or_else}
-use Rattle.yamux_session.specs.Joined.{End, IsFed, IsDone, Joined, written, NoFault, length_of_data, length_of_update, IsOnTheWay, IsBalanced, Balance}
+use Rattle.yamux_session.specs.Joined.{End, IsFed, IsDone, Joined, written, NoFault, length_of_data, length_of_update, IsOnTheWay, IsBalanced, Balance, IsWhole, NothingIsLost}
 use Rattle.yamux_session.specs.Joined.Joined.{Begin, Client_fed, Server_fed, Client_acts, Server_acts}
 use Rattle.yamux_session.proofs.Keeping.{and_false}
-use Rattle.yamux_session.proofs.Lists.{append_none, and_parts}
+use Rattle.yamux_session.proofs.Lists.{either_way, and_parts}
 use Rattle.yamux_session.proofs.Live.{not_both, own_next, let_in_at, or_none_true}
 use Rattle.yamux_session.proofs.Sent.{sent, sent_on, sent_spelled, sent_behind}
-use Rattle.yamux_session.proofs.Totals.{total, total_both, all_time, data_of, update_of, syn_of, starts, data_sent, update_sent, syn_sent}
+use Rattle.yamux_session.proofs.Totals.{total, total_both, all_time, syn_of, starts, data_sent, update_sent, syn_sent}
 use Rattle.yamux_session.proofs.Once.{openings, never_live, written_once, given_once, data_came, update_came, windows_hold, starts_once, started_below, none_unless, own_openings, other_openings}
 use Rattle.yamux_session.proofs.InTurn.{head_of, AreInTurn, older_turn, sent_turn, other_silent}
 use Rattle.yamux_session.proofs.Coming.{NoneBefore, all_data, all_updates}
@@ -51,7 +51,7 @@ pub record Linked (p q : Role) (far near : List Item) : Type 0 where
   pub way : (newer : List Arrival) × (sent p far ≡ newer ++ arrivals near)
   pub back : (newer : List Arrival) × (sent q near ≡ newer ++ arrivals far)
 
-turned : (p q : Role) (far near : List Item) → Linked p q far near → Linked q p near far
+pub turned : (p q : Role) (far near : List Item) → Linked p q far near → Linked q p near far
 turned p q far near l = record {
   q_remote = l.p_remote;
   p_remote = l.q_remote;
@@ -71,10 +71,6 @@ turned p q far near l = record {
 came_within : (f : Arrival → ℕ) (all newer some : List Arrival) → all ≡ newer ++ some → total f some ≤ total f all
 came_within f all newer some split = let e : total f all ≡ total f (newer ++ some) = ap (total f) split in omega (arith, total_both f newer some)
 
-none_if : (b : Bool) → (let none : Option Fault = None in cond b none none ≡ none)
-none_if true = refl
-none_if false = refl
-
 module _ (p q : Role) (far near : List Item) (l : Linked p q far near) where
   syn_once : (n : ℕ) → total (syn_of n) (sent p far) ≤ 1
   syn_once n = let few = starts_once p n far l.p_answered in let e = syn_sent n p far in omega arith
@@ -91,33 +87,33 @@ module _ (p q : Role) (far near : List Item) (l : Linked p q far near) where
   once n = once_if n (is_own q n) refl
 
   -- all data that was sent fits the window and what was given back
-  pub data_fits : ((n : ℕ) → all_time (openings p n) far ≤ 1) → (n : ℕ) → total (data_of n) (sent p far) ≤ 262144 + since_opening (given_back q n) q near n
+  pub data_fits : ((n : ℕ) → all_time (openings p n) far ≤ 1) → (n : ℕ) → total (length_of_data n) (sent p far) ≤ 262144 + since_opening (given_back q n) q near n
   data_fits p_once n =
       let wrote = data_sent n p far in
       let since = written_once p n far l.p_answered (p_once n) in
       let room = (windows_hold p n far l.p_answered l.p_good l.p_frames).written in
       let credited = update_came p n far in
-      let came = came_within (update_of n) (sent q near) l.back.0 (arrivals far) l.back.1 in
+      let came = came_within (length_of_update n) (sent q near) l.back.0 (arrivals far) l.back.1 in
       let gave = update_sent n q near in
       let given = given_once q n near l.q_answered (once n) in
       omega arith
 
   -- all credit that was given is for data that was sent
-  pub updates_fit : ((n : ℕ) → all_time (openings p n) far ≤ 1) → (n : ℕ) → total (update_of n) (sent p far) ≤ since_opening (written_length n) q near n
+  pub updates_fit : ((n : ℕ) → all_time (openings p n) far ≤ 1) → (n : ℕ) → total (length_of_update n) (sent p far) ≤ since_opening (written_length n) q near n
   updates_fit p_once n =
       let gave = update_sent n p far in
       let since = given_once p n far l.p_answered (p_once n) in
       let least = (windows_hold p n far l.p_answered l.p_good l.p_frames).given in
       let announced = data_came p n far in
-      let came = came_within (data_of n) (sent q near) l.back.0 (arrivals far) l.back.1 in
+      let came = came_within (length_of_data n) (sent q near) l.back.0 (arrivals far) l.back.1 in
       let wrote = data_sent n q near in
       let written = written_once q n near l.q_answered (once n) in
       omega arith
 
   -- ---- the next frame that arrives has no fault
 
-  window_good : (h : Header) → ((n : ℕ) → all_time (openings p n) far ≤ 1) → syn h ≡ false → total (data_of h.stream) (Head h ∷ arrivals near) ≤ total (data_of h.stream) (sent p far)
-      → total (update_of h.stream) (Head h ∷ arrivals near) ≤ total (update_of h.stream) (sent p far) → window_fault q near h ≡ None
+  window_good : (h : Header) → ((n : ℕ) → all_time (openings p n) far ≤ 1) → syn h ≡ false → total (length_of_data h.stream) (Head h ∷ arrivals near) ≤ total (length_of_data h.stream) (sent p far)
+      → total (length_of_update h.stream) (Head h ∷ arrivals near) ≤ total (length_of_update h.stream) (sent p far) → window_fault q near h ≡ None
   window_good h p_once plain of_data of_updates = by (is_data h.kind) (is_update h.kind) refl refl
     where
       n : ℕ
@@ -128,7 +124,7 @@ module _ (p q : Role) (far near : List Item) (l : Linked p q far near) where
 
       by_data : is_data h.kind ≡ true → nat_lt (window_at q near h) h.length ≡ false
       by_data is =
-          let its : data_of n (Head h) ≡ h.length = ap (λ b. cond b h.length 0) (here (is_data h.kind) ∙ is) in
+          let its : length_of_data n (Head h) ≡ h.length = ap (λ b. cond b h.length 0) (here (is_data h.kind) ∙ is) in
           let fits = data_fits p_once n in
           let less = data_came q n near in
           let window : window_at q near h ≡ receiving_window q near n = ap (λ b. cond b initial_window (receiving_window q near n)) plain in
@@ -136,7 +132,7 @@ module _ (p q : Role) (far near : List Item) (l : Linked p q far near) where
 
       by_update : is_update h.kind ≡ true → nat_lt 4294967295 (credit_at q near h + h.length) ≡ false
       by_update is =
-          let its : update_of n (Head h) ≡ h.length = ap (λ b. cond b h.length 0) (here (is_update h.kind) ∙ is) in
+          let its : length_of_update n (Head h) ≡ h.length = ap (λ b. cond b h.length 0) (here (is_update h.kind) ∙ is) in
           let fits = updates_fit p_once n in
           let less = update_came q n near in
           let room = (windows_hold q n near l.q_answered l.q_good l.q_frames).written in
@@ -178,7 +174,7 @@ module _ (p q : Role) (far near : List Item) (l : Linked p q far near) where
       ap (λ b. or_else (cond b (syn_fault q near h) None) (cond (head_belongs q near h n) (window_fault q near h) None)) opening
       ∙ ap (λ b. or_else (cond (not b) (Some WrongParity) (cond (is_live q near n) (Some DuplicateStream) None)) (cond (head_belongs q near h n) (window_fault q near h) None)) remote
       ∙ ap (λ b. or_else (cond b (Some DuplicateStream) None) (cond (head_belongs q near h n) (window_fault q near h) None)) off
-      ∙ ap (λ (f : Option Fault). cond (head_belongs q near h n) f None) (empty_good parts one.1 one.2) ∙ none_if (head_belongs q near h n)
+      ∙ ap (λ (f : Option Fault). cond (head_belongs q near h n) f None) (empty_good parts one.1 one.2) ∙ either_way (head_belongs q near h n) None
     where
       not_own : (b : Bool) → is_own q h.stream ≡ b → is_remote q h.stream ≡ true → is_own q h.stream ≡ false
       not_own true own remote = absurd (not_both q h.stream own remote)
@@ -205,7 +201,7 @@ module _ (p q : Role) (far near : List Item) (l : Linked p q far near) where
       belonging : (b : Bool) → syn h ≡ b → cond (head_belongs q near h h.stream) (window_fault q near h) None ≡ None
       belonging true is =
           let none : is_of_stream h ≡ false = off (is_of_stream h) (syn h) true plain is in
-          ap (λ (f : Option Fault). cond (head_belongs q near h h.stream) f None) (other_kind h.kind none) ∙ none_if (head_belongs q near h h.stream)
+          ap (λ (f : Option Fault). cond (head_belongs q near h h.stream) f None) (other_kind h.kind none) ∙ either_way (head_belongs q near h h.stream) None
         where
           other_kind : (k : FrameKind) → (is_data k || is_update k) ≡ false
               → cond (is_data k && nat_lt (window_at q near h) h.length) (Some WindowExceeded) (cond (is_update k && nat_lt 4294967295 (credit_at q near h + h.length)) (Some WindowTooLarge) None) ≡ None
@@ -215,8 +211,8 @@ module _ (p q : Role) (far near : List Item) (l : Linked p q far near) where
           other_kind GoAway e = refl
       belonging false is =
           ap (λ (f : Option Fault). cond (head_belongs q near h h.stream) f None)
-          (window_good h p_once is (came_within (data_of h.stream) (sent p far) newer (Head h ∷ arrivals near) split) (came_within (update_of h.stream) (sent p far) newer (Head h ∷ arrivals near) split))
-          ∙ none_if (head_belongs q near h h.stream)
+          (window_good h p_once is (came_within (length_of_data h.stream) (sent p far) newer (Head h ∷ arrivals near) split) (came_within (length_of_update h.stream) (sent p far) newer (Head h ∷ arrivals near) split))
+          ∙ either_way (head_belongs q near h h.stream) None
 
   next_good : (newer : List Arrival) (x : Arrival) → ((n : ℕ) → all_time (openings p n) far ≤ 1) → sent p far ≡ newer ++ x ∷ arrivals near → fault_at q near (Came x) ≡ None
   next_good newer (Head h) p_once split = by (is_of_stream h && syn h) refl
@@ -335,7 +331,7 @@ nothing_garbled p far (Garbled bytes ∷ past) rest answered frames between some
           let y : Arrival = more.oldest in
           let split : sent p far ≡ w ++ (y ∷ past) = before.1 ∙ ap (λ (t : List Arrival). t ++ past) more.whole ∙ append_assoc w (y ∷ []) past in
           let same : Garbled bytes ≡ y = fronts.same_next (Garbled bytes) y past rest (spelled w) some (fronts.older_frames w (y ∷ past) (subst AreFrames split frames))
-          (fronts.cancel (spelled past) (bytes ++ rest) (spelling y ++ spelled w)
+          (append_cancel_left (spelled past) (bytes ++ rest) (spelling y ++ spelled w)
           (sym whole ∙ ap spelled split ∙ fronts.spelled_both w (y ∷ past) ∙ append_assoc (spelled past) (spelling y) (spelled w))) in
           absurd (subst (IsSent p) (sym same) (sent_one p far w y past answered split))
     ]
@@ -402,19 +398,9 @@ no_fault client server joined =
       front_of_written Server Client server.items client.items (turned Client Server client.items server.items l),
     )
 
-data_sum : (n : ℕ) (xs : List Arrival) → sum_by (length_of_data n) xs ≡ total (data_of n) xs
-data_sum n [] = refl
-data_sum n (Head h ∷ xs) = let rest = data_sum n xs in omega (arith, sum_by-cons (length_of_data n) (Head h) xs)
-data_sum n (Byte b ∷ xs) = let rest = data_sum n xs in omega (arith, sum_by-cons (length_of_data n) (Byte b) xs)
-data_sum n (Tail ∷ xs) = let rest = data_sum n xs in omega (arith, sum_by-cons (length_of_data n) Tail xs)
-data_sum n (Garbled bytes ∷ xs) = let rest = data_sum n xs in omega (arith, sum_by-cons (length_of_data n) (Garbled bytes) xs)
-
-update_sum : (n : ℕ) (xs : List Arrival) → sum_by (length_of_update n) xs ≡ total (update_of n) xs
-update_sum n [] = refl
-update_sum n (Head h ∷ xs) = let rest = update_sum n xs in omega (arith, sum_by-cons (length_of_update n) (Head h) xs)
-update_sum n (Byte b ∷ xs) = let rest = update_sum n xs in omega (arith, sum_by-cons (length_of_update n) (Byte b) xs)
-update_sum n (Tail ∷ xs) = let rest = update_sum n xs in omega (arith, sum_by-cons (length_of_update n) Tail xs)
-update_sum n (Garbled bytes ∷ xs) = let rest = update_sum n xs in omega (arith, sum_by-cons (length_of_update n) (Garbled bytes) xs)
+sum_total : (f : Arrival → ℕ) (xs : List Arrival) → sum_by f xs ≡ total f xs
+sum_total f [] = refl
+sum_total f (x ∷ xs) = let rest = sum_total f xs in omega (arith, sum_by-cons f x xs)
 
 whole_rest : (xs : List Arrival) → IsBetween xs → IsRest xs []
 whole_rest [] between = omega arith
@@ -423,12 +409,29 @@ whole_rest (Head h ∷ xs) between = absurd between
 whole_rest (Byte b ∷ xs) between = absurd between
 whole_rest (Garbled bytes ∷ xs) between = tt
 
+-- the output is read as the frames that were sent
+all_read : (p q : Role) (far near : List Item) → Linked p q far near → Reads (output p far) (sent p far) []
+all_read p q far near l =
+    let whole = sent_frames p far l.p_answered l.p_good l.p_frames in
+    record { whole = sym (sent_spelled p far l.p_good) ∙ sym (append-nil (spelled (sent p far))); frames_are = whole.0; rest_is = whole_rest (sent p far) whole.1 }
+
 -- what is on its way is what was sent and hasn't come
 way_is : (p q : Role) (far near : List Item) (way : List Arrival) → Linked p q far near → IsOnTheWay p far near way → sent p far ≡ way ++ arrivals near
-way_is p q far near way l on_way =
-    let whole = sent_frames p far l.p_answered l.p_good l.p_frames in
-    (one_reading (output p far) (sent p far) (way ++ arrivals near) [] on_way.0
-    (record { whole = sym (sent_spelled p far l.p_good) ∙ sym (append_none (spelled (sent p far))); frames_are = whole.0; rest_is = whole_rest (sent p far) whole.1 }) on_way.1).0
+way_is p q far near way l on_way = (one_reading (output p far) (sent p far) (way ++ arrivals near) [] on_way.0 (all_read p q far near l) on_way.1).0
+
+pub on_its_way : (p q : Role) (far near : List Item) → Linked p q far near → (way : List Arrival) × IsOnTheWay p far near way
+on_its_way p q far near l = (l.way.0, ([], subst (λ (xs : List Arrival). Reads (output p far) xs []) l.way.1 (all_read p q far near l)))
+
+whole_at_end : (p q : Role) (far near : List Item) → Linked p q far near → IsWhole p q far near
+whole_at_end p q far near l n on not_ended none =
+    (delivered q near n l.q_good (l.q_none n) l.q_frames).whole on not_ended
+    ∙ ap (bytes_of n) (sym (way_is p q far near [] l none))
+    ∙ sent_written p far n l.p_answered (opened_once p q far near l n)
+
+pub nothing_is_lost : NothingIsLost
+nothing_is_lost client server joined =
+    let l = linked client server joined in
+    (whole_at_end Client Server client.items server.items l, whole_at_end Server Client server.items client.items (turned Client Server client.items server.items l))
 
 balanced : (p q : Role) (far near : List Item) → Linked p q far near → IsBalanced p q far near
 balanced p q far near l n way back p_live q_live on_way on_back =
@@ -442,9 +445,9 @@ balanced p q far near l n way back p_live q_live on_way on_back =
     let gave = update_sent n q near in
     let given = given_once q n near l.q_answered (q_once n) in
     let room = (windows_hold p n far l.p_answered l.p_good l.p_frames).written in
-    let to_q : total (data_of n) (sent p far) ≡ total (data_of n) (way ++ arrivals near) = ap (total (data_of n)) (way_is p q far near way l on_way) in
-    let to_p : total (update_of n) (sent q near) ≡ total (update_of n) (back ++ arrivals far) = ap (total (update_of n)) (way_is q p near far back (turned p q far near l) on_back) in
-    omega (arith, total_both (data_of n) way (arrivals near), total_both (update_of n) back (arrivals far), data_sum n way, update_sum n back)
+    let to_q : total (length_of_data n) (sent p far) ≡ total (length_of_data n) (way ++ arrivals near) = ap (total (length_of_data n)) (way_is p q far near way l on_way) in
+    let to_p : total (length_of_update n) (sent q near) ≡ total (length_of_update n) (back ++ arrivals far) = ap (total (length_of_update n)) (way_is q p near far back (turned p q far near l) on_back) in
+    omega (arith, total_both (length_of_data n) way (arrivals near), total_both (length_of_update n) back (arrivals far), sum_total (length_of_data n) way, sum_total (length_of_update n) back)
 
 pub balance : Balance
 balance client server joined =

@@ -1,5 +1,6 @@
 -- The table after an act of this end.
 use Rattle.std.proofs.Common.{◌≡◌, ℕ, ◌+◌, ◌-◌, ◌<◌, ◌≤◌, Bool, true, false, ◌||◌, ◌&&◌, not, ◌==◌, cond, nat_lt, List, [], ◌∷◌, ◌++◌, length, Option, Some, None, refl, sym, ap, ◌∙◌, subst, append_assoc, arith}
+use Rattle.std.proofs.lemmas.List.{append-nil}
 use Rattle.std.specs.Prelude.{filter, sum_by}
 use Rattle.std.proofs.lemmas.Bool.{eqb-true, eq-eqb, lt-ltb, le-ltb}
 use Rattle.yamux_frames.specs.declared.header.FrameKind.TheVariants.{Window}
@@ -16,7 +17,7 @@ use Rattle.yamux_session.specs.Acts.{AreAnswered, IsAnswered, next_own}
 use Rattle.yamux_session.specs.Keeps.{Keeps, IsRow, IsRowAt}
 use Rattle.yamux_session.specs.Meaning.{item_output, frame}
 use Rattle.yamux_session.specs.State.{State, Stands}
-use Rattle.yamux_session.proofs.Lists.{append_none, contains_append, contains_filter, filter_true, filter_same, without, one_if, count_then, count_without}
+use Rattle.yamux_session.proofs.Lists.{contains_append, contains_filter, filter_true, filter_same, without, one_if, count_then, count_without}
 use Rattle.yamux_session.proofs.Live.{distinct, unread, own_next, not_both}
 use Rattle.yamux_session.proofs.Refusals.{row_of}
 
@@ -202,7 +203,7 @@ forgotten role past act n s old new answered keeps found writes on gone left nex
 -- ---- which streams are live after an act
 
 pub quiet : (ns : List ℕ) → filter (λ k. true) ns ++ [] ≡ ns
-quiet ns = append_none (filter (λ k. true) ns) ∙ filter_true ns
+quiet ns = append-nil (filter (λ k. true) ns) ∙ filter_true ns
 
 close_at : (role : Role) (past : List Item) (n k : ℕ) (f b : Bool) → (n == k) ≡ b → finished role past n ≡ f → not (n == k && finished role past k) ≡ not (n == k && f)
 close_at role past n k f true is e = ap (λ c. not (n == k && c)) (ap (finished role past) (sym (eqb-true n k is)) ∙ e)
@@ -218,19 +219,19 @@ and_false false = refl
 
 pub close_ends : (role : Role) (past : List Item) (n : ℕ) → finished role past n ≡ true → live role (Did (Close n) ∷ past) ≡ without n (live role past)
 close_ends role past n e =
-    append_none (filter (λ k. not (n == k && finished role past k)) (live role past))
+    append-nil (filter (λ k. not (n == k && finished role past k)) (live role past))
     ∙ filter_same (λ k. not (n == k && finished role past k)) (λ k. not (n == k)) (live role past)
     (λ k. close_at role past n k true (n == k) refl e ∙ ap not (and_true (n == k)))
 
 pub close_stays : (role : Role) (past : List Item) (n : ℕ) → finished role past n ≡ false → live role (Did (Close n) ∷ past) ≡ live role past
 close_stays role past n e =
-    append_none (filter (λ k. not (n == k && finished role past k)) (live role past))
+    append-nil (filter (λ k. not (n == k && finished role past k)) (live role past))
     ∙ filter_same (λ k. not (n == k && finished role past k)) (λ k. true) (live role past)
     (λ k. close_at role past n k false (n == k) refl e ∙ ap not (and_false (n == k)))
     ∙ filter_true (live role past)
 
 pub reset_ends : (role : Role) (past : List Item) (n : ℕ) → live role (Did (Reset n) ∷ past) ≡ without n (live role past)
-reset_ends role past n = append_none (filter (λ k. not (n == k)) (live role past))
+reset_ends role past n = append-nil (filter (λ k. not (n == k)) (live role past))
 
 -- ---- the session after an act
 
@@ -391,7 +392,7 @@ pub all_given : (f : Bool) (a : ℕ) → f ≡ false → 131072 ≤ a → given_
 all_given f a e h = ap (λ b. given_of b a) e ∙ ap (λ b. cond b a 0) (lt-ltb 131071 a (omega arith))
 
 pub nothing_sent : (role : Role) (past : List Item) (n k : ℕ) (xs : List ℕ) → given_back role n past (Did (Take n k)) ≡ 0 → xs ≡ xs ++ item_output role past (Did (Take n k))
-nothing_sent role past n k xs e = sym (ap (λ g. xs ++ cond (nat_lt 0 g) (frame Window 0 n g) []) e ∙ append_none xs)
+nothing_sent role past n k xs e = sym (ap (λ g. xs ++ cond (nat_lt 0 g) (frame Window 0 n g) []) e ∙ append-nil xs)
 
 pub given_sent : (role : Role) (past : List Item) (n k g : ℕ) → given_back role n past (Did (Take n k)) ≡ g → 131072 ≤ g → frame Window 0 n g ≡ item_output role past (Did (Take n k))
 given_sent role past n k g e h = sym (ap (λ a. cond (nat_lt 0 a) (frame Window 0 n a) []) e ∙ ap (λ b. cond b (frame Window 0 n g) []) (lt-ltb 0 g (omega arith)))

@@ -1,6 +1,6 @@
 -- Bytes fed one after another lead on.
 use Rattle.std.proofs.Common.{◌≡◌, ℕ, ◌+◌, ◌≤◌, true, false, List, [], ◌∷◌, ◌++◌, length, map, take, drop, refl, sym, ap, ◌∙◌, subst, append_assoc, arith}
-use Rattle.std.proofs.lemmas.List.{length-append, map-append, length-take-le, take-take}
+use Rattle.std.proofs.lemmas.List.{append-nil, length-append, map-append, length-take-le, take-take}
 use Rattle.yamux_session.specs.declared.event.Role.{Role}
 use Rattle.yamux_session.specs.Items.{Item, arrivals}
 use Rattle.yamux_session.specs.Items.Item.{Came}
@@ -8,7 +8,6 @@ use Rattle.yamux_session.specs.Meaning.{Told, events}
 use Rattle.yamux_session.specs.declared.event.Event.{Event}
 use Rattle.yamux_session.specs.State.{State, Stands, EndsWith, Led, Steps, HasCome}
 use Rattle.yamux_session.specs.Arrives.{telling, tellings, Tells, HasData}
-use Rattle.yamux_session.proofs.Lists.{append_none}
 use Rattle.yamux_session.proofs.Pieces.{take_over, take_on}
 use Rattle.yamux_frames.specs.Frames.{Reads}
 use Rattle.std.specs.List.{AllByRecursion}
@@ -78,8 +77,8 @@ step_filled role past fed bytes sent at used before now_told s t going led step 
 pub nothing_led : (role : Role) (past : List Item) (fed sent : List ℕ) (s : State) → Stands role past fed sent s → Led role past past fed [] sent [] s
 nothing_led role past fed sent s stands = record {
   came = ([], refl);
-  told_is = sym (append_none (events role past));
-  goes_on = λ _. subst (λ (t : List ℕ). Stands role past t sent s) (sym (append_none fed)) stands;
+  told_is = sym (append-nil (events role past));
+  goes_on = λ _. subst (λ (t : List ℕ). Stands role past t sent s) (sym (append-nil fed)) stands;
   fails = λ bad. absurd (let e : true ≡ false = sym bad ∙ stands.going in cc);
 }
 
@@ -93,7 +92,7 @@ none_led role past fed bytes sent pending s stands same = (
   record {
     came = ([], refl);
     no_fault = stands.no_fault;
-    read = (s.place.part, subst (λ (t : List ℕ). Reads t (arrivals past) s.place.part) (sym (append_none fed)) stands.frames.reads);
+    read = (s.place.part, subst (λ (t : List ℕ). Reads t (arrivals past) s.place.part) (sym (append-nil fed)) stands.frames.reads);
     output = ap (λ (t : List ℕ). sent ++ t) same ∙ stands.output;
   },
 )

@@ -24,3 +24,5 @@ pub mod InTurn
 pub mod Coming
 pub mod Delivered
 pub mod OneOutcome
+pub mod Going
+pub mod Example

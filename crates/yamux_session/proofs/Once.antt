@@ -15,10 +15,11 @@ use Rattle.yamux_session.specs.Windows.{since_opening, written_length, given_bac
 use Rattle.yamux_session.specs.Acts.{AreAnswered, next_own}
 use Rattle.yamux_session.specs.Meaning.{HasNoFault}
 use Rattle.yamux_session.specs.Keeps.{IsRowAt}
+use Rattle.yamux_session.specs.Joined.{length_of_data, length_of_update}
 use Rattle.yamux_session.proofs.Keeping.{quiet}
 use Rattle.yamux_session.proofs.Live.{past_answered, let_in_at, was_or_opens, not_both, own_next}
 use Rattle.yamux_session.proofs.Untaken.{row_there, frames_before, live_unless, live_if}
-use Rattle.yamux_session.proofs.Totals.{total, all_time, data_of, update_of, syn_of, starts}
+use Rattle.yamux_session.proofs.Totals.{total, all_time, syn_of, starts}
 
 -- an opening of the stream n
 abbrev pub openings : Role → ℕ → List Item → Item → ℕ
@@ -132,29 +133,29 @@ belongs_here role past h n b kind len is =
     by true false c false = omega arith
     by false b c k = omega arith
 
-pub data_came : (role : Role) (n : ℕ) (past : List Item) → since_opening (data_length role n) role past n ≤ total (data_of n) (arrivals past)
+pub data_came : (role : Role) (n : ℕ) (past : List Item) → since_opening (data_length role n) role past n ≤ total (length_of_data n) (arrivals past)
 data_came role n [] = omega arith
 data_came role n (Did act ∷ past) =
-    let less = came_at (opens role past (Did act) n) (since_opening (data_length role n) role past n) (total (data_of n) (arrivals past)) 0 0 (omega arith) (data_came role n past) in
+    let less = came_at (opens role past (Did act) n) (since_opening (data_length role n) role past n) (total (length_of_data n) (arrivals past)) 0 0 (omega arith) (data_came role n past) in
     omega arith
 data_came role n (Came (Head h) ∷ past) =
-    came_at (opens role past (Came (Head h)) n) (since_opening (data_length role n) role past n) (total (data_of n) (arrivals past)) (data_length role n past (Came (Head h))) (data_of n (Head h))
+    came_at (opens role past (Came (Head h)) n) (since_opening (data_length role n) role past n) (total (length_of_data n) (arrivals past)) (data_length role n past (Came (Head h))) (length_of_data n (Head h))
     (belongs_here role past h n (h.stream == n) (is_data h.kind) h.length refl) (data_came role n past)
-data_came role n (Came (Byte b) ∷ past) = came_at (opens role past (Came (Byte b)) n) (since_opening (data_length role n) role past n) (total (data_of n) (arrivals past)) 0 0 (omega arith) (data_came role n past)
-data_came role n (Came Tail ∷ past) = came_at (opens role past (Came Tail) n) (since_opening (data_length role n) role past n) (total (data_of n) (arrivals past)) 0 0 (omega arith) (data_came role n past)
-data_came role n (Came (Garbled bytes) ∷ past) = came_at (opens role past (Came (Garbled bytes)) n) (since_opening (data_length role n) role past n) (total (data_of n) (arrivals past)) 0 0 (omega arith) (data_came role n past)
+data_came role n (Came (Byte b) ∷ past) = came_at (opens role past (Came (Byte b)) n) (since_opening (data_length role n) role past n) (total (length_of_data n) (arrivals past)) 0 0 (omega arith) (data_came role n past)
+data_came role n (Came Tail ∷ past) = came_at (opens role past (Came Tail) n) (since_opening (data_length role n) role past n) (total (length_of_data n) (arrivals past)) 0 0 (omega arith) (data_came role n past)
+data_came role n (Came (Garbled bytes) ∷ past) = came_at (opens role past (Came (Garbled bytes)) n) (since_opening (data_length role n) role past n) (total (length_of_data n) (arrivals past)) 0 0 (omega arith) (data_came role n past)
 
-pub update_came : (role : Role) (n : ℕ) (past : List Item) → since_opening (update_length role n) role past n ≤ total (update_of n) (arrivals past)
+pub update_came : (role : Role) (n : ℕ) (past : List Item) → since_opening (update_length role n) role past n ≤ total (length_of_update n) (arrivals past)
 update_came role n [] = omega arith
 update_came role n (Did act ∷ past) =
-    let less = came_at (opens role past (Did act) n) (since_opening (update_length role n) role past n) (total (update_of n) (arrivals past)) 0 0 (omega arith) (update_came role n past) in
+    let less = came_at (opens role past (Did act) n) (since_opening (update_length role n) role past n) (total (length_of_update n) (arrivals past)) 0 0 (omega arith) (update_came role n past) in
     omega arith
 update_came role n (Came (Head h) ∷ past) =
-    came_at (opens role past (Came (Head h)) n) (since_opening (update_length role n) role past n) (total (update_of n) (arrivals past)) (update_length role n past (Came (Head h))) (update_of n (Head h))
+    came_at (opens role past (Came (Head h)) n) (since_opening (update_length role n) role past n) (total (length_of_update n) (arrivals past)) (update_length role n past (Came (Head h))) (length_of_update n (Head h))
     (belongs_here role past h n (h.stream == n) (is_update h.kind) h.length refl) (update_came role n past)
-update_came role n (Came (Byte b) ∷ past) = came_at (opens role past (Came (Byte b)) n) (since_opening (update_length role n) role past n) (total (update_of n) (arrivals past)) 0 0 (omega arith) (update_came role n past)
-update_came role n (Came Tail ∷ past) = came_at (opens role past (Came Tail) n) (since_opening (update_length role n) role past n) (total (update_of n) (arrivals past)) 0 0 (omega arith) (update_came role n past)
-update_came role n (Came (Garbled bytes) ∷ past) = came_at (opens role past (Came (Garbled bytes)) n) (since_opening (update_length role n) role past n) (total (update_of n) (arrivals past)) 0 0 (omega arith) (update_came role n past)
+update_came role n (Came (Byte b) ∷ past) = came_at (opens role past (Came (Byte b)) n) (since_opening (update_length role n) role past n) (total (length_of_update n) (arrivals past)) 0 0 (omega arith) (update_came role n past)
+update_came role n (Came Tail ∷ past) = came_at (opens role past (Came Tail) n) (since_opening (update_length role n) role past n) (total (length_of_update n) (arrivals past)) 0 0 (omega arith) (update_came role n past)
+update_came role n (Came (Garbled bytes) ∷ past) = came_at (opens role past (Came (Garbled bytes)) n) (since_opening (update_length role n) role past n) (total (length_of_update n) (arrivals past)) 0 0 (omega arith) (update_came role n past)
 
 -- ---- the windows of a stream that was opened once, live or not
 

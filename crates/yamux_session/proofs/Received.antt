@@ -1,5 +1,6 @@
 -- The joined events of data of a stream are what arrived for it.
 use Rattle.std.proofs.Common.{◌≡◌, ◌≢◌, ◌⊎◌, inl, inr, append_assoc, ℕ, ◌≤◌, Bool, true, false, ◌&&◌, ◌||◌, not, ◌==◌, cond, nat_lt, List, [], ◌∷◌, ◌++◌, Option, Some, None, refl, sym, ap, ◌∙◌, arith}
+use Rattle.std.proofs.lemmas.List.{append-nil}
 use Rattle.std.specs.List.{AllByRecursion, flat_map}
 use Rattle.std.proofs.lemmas.Bool.{eqb-true}
 use Rattle.yamux_frames.specs.declared.header.Header.{Header}
@@ -14,7 +15,6 @@ use Rattle.yamux_session.specs.Meaning.{Told, HasNoFault, when, head_events, tai
 use Rattle.yamux_session.specs.Meaning.Told.{Opened, Accepted, Data, Ended, WasReset, Credit, Left}
 use Rattle.yamux_session.specs.Acts.{AreAnswered, next_own}
 use Rattle.yamux_session.specs.Received.{data_in, AreSinceOpening, ReceivedData}
-use Rattle.yamux_session.proofs.Lists.{append_none}
 use Rattle.yamux_session.proofs.Live.{below, own_next}
 
 -- ---- joining
@@ -95,9 +95,9 @@ byte_joined role past n b bytes r e read =
 
 taken_by : (n m b : ℕ) (bytes : List ℕ) (at here same : Bool) → (m == n) ≡ same → (same ≡ true → at ≡ here) → joined n bytes (byte_told (cond at (Some m) None) b) ≡ bytes ++ when (same && here) b
 taken_by n m b bytes true here true is e = ap (λ c. cond c (bytes ++ b ∷ []) bytes) is ∙ ap (λ c. bytes ++ when c b) (e refl)
-taken_by n m b bytes true here false is e = ap (λ c. cond c (bytes ++ b ∷ []) bytes) is ∙ sym (append_none bytes)
-taken_by n m b bytes false here true is e = sym (append_none bytes) ∙ ap (λ c. bytes ++ when c b) (e refl)
-taken_by n m b bytes false here false is e = sym (append_none bytes)
+taken_by n m b bytes true here false is e = ap (λ c. cond c (bytes ++ b ∷ []) bytes) is ∙ sym (append-nil bytes)
+taken_by n m b bytes false here true is e = sym (append-nil bytes) ∙ ap (λ c. bytes ++ when c b) (e refl)
+taken_by n m b bytes false here false is e = sym (append-nil bytes)
 
 and_same : (a b c : Bool) → a && (b && c) ≡ (a && b) && c
 and_same true b c = refl
@@ -105,7 +105,7 @@ and_same false b c = refl
 
 read_joined : (role : Role) (past : List Item) (n b : ℕ) (bytes : List ℕ) (r : Option Header) → reading role past ≡ r
     → joined n bytes (byte_told (taker role past r) b) ≡ bytes ++ when ((is_reading r n && is_live role past n) && not (finished role past n)) b
-read_joined role past n b bytes None read = sym (append_none bytes)
+read_joined role past n b bytes None read = sym (append-nil bytes)
 read_joined role past n b bytes (Some h) read =
     let m : ℕ = h.stream in
     let belongs : byte_belongs role past m ≡ ((m == m) && is_live role past m) && not (finished role past m) = ap (λ q. (is_reading q m && is_live role past m) && not (finished role past m)) read in
@@ -168,7 +168,7 @@ start_kept role past k n true is a =
     let own : is_own role n ≡ true = ap (is_own role) (sym (eqb-true k n is) ∙ a.0.1) ∙ own_next role past a.1 in
     nothing_yet role past n a.1 own (let e = a.0.1 in let f = eqb-true k n is in omega arith)
     ∙ sym (ap (λ b. cond (b || false) [] (inbound role past n) ++ []) is)
-start_kept role past k n false is a = sym (append_none (inbound role past n)) ∙ sym (ap (λ b. cond (b || false) [] (inbound role past n) ++ []) is)
+start_kept role past k n false is a = sym (append-nil (inbound role past n)) ∙ sym (ap (λ b. cond (b || false) [] (inbound role past n) ++ []) is)
 
 one_more : (role : Role) (past : List Item) (x : Item) (n : ℕ) → joined n [] (events role past) ≡ inbound role past n
     → joined n (inbound role past n) (events_at role past x) ≡ inbound role (x ∷ past) n → joined n [] (events role (x ∷ past)) ≡ inbound role (x ∷ past) n
@@ -177,20 +177,20 @@ one_more role past x n before now = joined_both n [] (events role past) (events_
 all_received : (role : Role) (past : List Item) (n : ℕ) → AreAnswered role past → HasNoFault role past → joined n [] (events role past) ≡ inbound role past n
 all_received role [] n a good = refl
 all_received role (Did (Start k) ∷ past) n a good = one_more role past (Did (Start k)) n (all_received role past n a.1 good.1) (start_kept role past k n (k == n) refl a)
-all_received role (Did (Write k ps) ∷ past) n a good = one_more role past (Did (Write k ps)) n (all_received role past n a.1 good.1) (sym (append_none (inbound role past n)))
-all_received role (Did (Take k c) ∷ past) n a good = one_more role past (Did (Take k c)) n (all_received role past n a.1 good.1) (sym (append_none (inbound role past n)))
-all_received role (Did (Close k) ∷ past) n a good = one_more role past (Did (Close k)) n (all_received role past n a.1 good.1) (sym (append_none (inbound role past n)))
-all_received role (Did (Reset k) ∷ past) n a good = one_more role past (Did (Reset k)) n (all_received role past n a.1 good.1) (sym (append_none (inbound role past n)))
-all_received role (Did (Leave code) ∷ past) n a good = one_more role past (Did (Leave code)) n (all_received role past n a.1 good.1) (sym (append_none (inbound role past n)))
+all_received role (Did (Write k ps) ∷ past) n a good = one_more role past (Did (Write k ps)) n (all_received role past n a.1 good.1) (sym (append-nil (inbound role past n)))
+all_received role (Did (Take k c) ∷ past) n a good = one_more role past (Did (Take k c)) n (all_received role past n a.1 good.1) (sym (append-nil (inbound role past n)))
+all_received role (Did (Close k) ∷ past) n a good = one_more role past (Did (Close k)) n (all_received role past n a.1 good.1) (sym (append-nil (inbound role past n)))
+all_received role (Did (Reset k) ∷ past) n a good = one_more role past (Did (Reset k)) n (all_received role past n a.1 good.1) (sym (append-nil (inbound role past n)))
+all_received role (Did (Leave code) ∷ past) n a good = one_more role past (Did (Leave code)) n (all_received role past n a.1 good.1) (sym (append-nil (inbound role past n)))
 all_received role (Came (Head h) ∷ past) n a good =
     one_more role past (Came (Head h)) n (all_received role past n a good.1)
     (ap (λ f. joined n (inbound role past n) (events_unless f (head_events role past h))) good.0 ∙ head_joined role past h n (inbound role past n)
-    ∙ sym (append_none (cond (opens role past (Came (Head h)) n) [] (inbound role past n))))
+    ∙ sym (append-nil (cond (opens role past (Came (Head h)) n) [] (inbound role past n))))
 all_received role (Came (Byte b) ∷ past) n a good =
     one_more role past (Came (Byte b)) n (all_received role past n a good.1)
     (byte_joined role past n b (inbound role past n) (reading role past) (read_joined role past n b (inbound role past n) (reading role past) refl) refl)
 all_received role (Came Tail ∷ past) n a good =
-    one_more role past (Came Tail) n (all_received role past n a good.1) (tail_off role past n (inbound role past n) (reading role past) ∙ sym (append_none (inbound role past n)))
+    one_more role past (Came Tail) n (all_received role past n a good.1) (tail_off role past n (inbound role past n) (reading role past) ∙ sym (append-nil (inbound role past n)))
 all_received role (Came (Garbled bytes) ∷ past) n a good = absurd (let e = good.0 in cc)
 
 -- ---- since the opening
@@ -204,7 +204,7 @@ other_opened n m true e other = absurd (other (ap Opened (eqb-true m n e)))
 other_opened n m false e other = e
 
 since_joined : (n : ℕ) (bytes : List ℕ) (since : List Told) → AllByRecursion (λ t. t ≢ Opened n) since → joined n bytes since ≡ bytes ++ flat_map (data_in n) since
-since_joined n bytes [] none = sym (append_none bytes)
+since_joined n bytes [] none = sym (append-nil bytes)
 since_joined n bytes (Opened m ∷ since) none =
     ap (λ c. joined n (cond c [] bytes) since) (other_opened n m (m == n) refl none.0) ∙ since_joined n bytes since none.1
 since_joined n bytes (Data m b ∷ since) none =

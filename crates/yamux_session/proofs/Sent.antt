@@ -1,11 +1,13 @@
 -- What a session without a fault has sent, as it will arrive.
 use Rattle.std.proofs.Common.{◌≡◌, ℕ, Bool, true, false, not, nat_lt, cond, List, [], ◌∷◌, ◌++◌, length, refl, sym, ap, ◌∙◌, append_assoc}
+use Rattle.std.proofs.lemmas.List.{append-nil}
 use Rattle.std.specs.List.{flat_map}
 use Rattle.yamux_frames.specs.declared.header.Header.{Header}
 use Rattle.yamux_frames.specs.declared.header.FrameKind.{FrameKind}
 use Rattle.yamux_frames.specs.declared.header.FrameKind.TheVariants.{Payload, Window, Ping, GoAway}
 use Rattle.yamux_frames.specs.Frames.{Arrival, spelled, with_bytes}
 use Rattle.yamux_frames.specs.Frames.Arrival.{Head, Byte, Tail, Garbled}
+use Rattle.yamux_frames.proofs.Frames.{bytes_spelled}
 use Rattle.yamux_session.specs.declared.event.Role.{Role}
 use Rattle.yamux_session.specs.Items.{Item, syn, is_ping, is_of_stream}
 use Rattle.yamux_session.specs.Items.Item.{Came, Did}
@@ -13,7 +15,6 @@ use Rattle.yamux_session.specs.Items.Act.{Start, Write, Take, Close, Reset, Leav
 use Rattle.yamux_session.specs.Openings.{opens}
 use Rattle.yamux_session.specs.Windows.{given_back}
 use Rattle.yamux_session.specs.Meaning.{HasNoFault, output, output_unless, item_output, frame, data_frame}
-use Rattle.yamux_session.proofs.Lists.{append_none}
 
 -- a frame without payload, and frames of data, behind others
 abbrev pub header : FrameKind → ℕ → ℕ → ℕ → Header
@@ -48,19 +49,15 @@ sent role (x ∷ past) = sent_on role past x (sent role past)
 
 -- ---- its bytes are the output
 
-bytes_spelled : (bytes : List ℕ) (past : List Arrival) → spelled (with_bytes bytes past) ≡ spelled past ++ bytes
-bytes_spelled [] past = sym (append_none (spelled past))
-bytes_spelled (b ∷ bytes) past = bytes_spelled bytes (Byte b ∷ past) ∙ append_assoc (spelled past) (b ∷ []) bytes
-
 bare_spelled : (kind : FrameKind) (flags stream len : ℕ) (xs : List Arrival) → spelled (bare kind flags stream len xs) ≡ spelled xs ++ frame kind flags stream len
-bare_spelled kind flags stream len xs = append_none (spelled xs ++ frame kind flags stream len)
+bare_spelled kind flags stream len xs = append-nil (spelled xs ++ frame kind flags stream len)
 
 data_spelled : (n : ℕ) (pieces : List (List ℕ)) (xs : List Arrival) → spelled (data_on n pieces xs) ≡ spelled xs ++ flat_map (data_frame n) pieces
-data_spelled n [] xs = sym (append_none (spelled xs))
+data_spelled n [] xs = sym (append-nil (spelled xs))
 data_spelled n (piece ∷ pieces) xs =
     data_spelled n pieces (Tail ∷ with_bytes piece (Head (header Payload 0 n (length piece)) ∷ xs))
     ∙ ap (λ (t : List ℕ). t ++ flat_map (data_frame n) pieces)
-    (append_none (spelled (with_bytes piece (Head (header Payload 0 n (length piece)) ∷ xs))) ∙ bytes_spelled piece (Head (header Payload 0 n (length piece)) ∷ xs)
+    (append-nil (spelled (with_bytes piece (Head (header Payload 0 n (length piece)) ∷ xs))) ∙ bytes_spelled piece (Head (header Payload 0 n (length piece)) ∷ xs)
     ∙ append_assoc (spelled xs) (frame Payload 0 n (length piece)) piece)
     ∙ append_assoc (spelled xs) (data_frame n piece) (flat_map (data_frame n) pieces)
 
@@ -74,17 +71,17 @@ bare_if b stream xs = bare_spelled Window (cond b 2 8) stream 0 xs
 sent_on_spelled : (role : Role) (past : List Item) (x : Item) (xs : List Arrival) → spelled (sent_on role past x xs) ≡ spelled xs ++ item_output role past x
 sent_on_spelled role past (Came (Head h)) xs =
     let opened : Bool = opens role past (Came (Head h)) h.stream in
-    if_spelled (not (syn h)) xs _ xs [] _ (sym (append_none (spelled xs)))
+    if_spelled (not (syn h)) xs _ xs [] _ (sym (append-nil (spelled xs)))
     (if_spelled (is_ping h.kind) _ _ xs _ _ (bare_spelled Ping 2 0 h.length xs)
-    (if_spelled (not (is_of_stream h)) xs _ xs [] _ (sym (append_none (spelled xs))) (bare_if opened h.stream xs)))
-sent_on_spelled role past (Came (Byte b)) xs = sym (append_none (spelled xs))
-sent_on_spelled role past (Came Tail) xs = sym (append_none (spelled xs))
-sent_on_spelled role past (Came (Garbled bytes)) xs = sym (append_none (spelled xs))
+    (if_spelled (not (is_of_stream h)) xs _ xs [] _ (sym (append-nil (spelled xs))) (bare_if opened h.stream xs)))
+sent_on_spelled role past (Came (Byte b)) xs = sym (append-nil (spelled xs))
+sent_on_spelled role past (Came Tail) xs = sym (append-nil (spelled xs))
+sent_on_spelled role past (Came (Garbled bytes)) xs = sym (append-nil (spelled xs))
 sent_on_spelled role past (Did (Start n)) xs = bare_spelled Window 1 n 0 xs
 sent_on_spelled role past (Did (Write n pieces)) xs = data_spelled n pieces xs
 sent_on_spelled role past (Did (Take n count)) xs =
     let amount : ℕ = given_back role n past (Did (Take n count)) in
-    if_spelled (nat_lt 0 amount) _ xs xs _ [] (bare_spelled Window 0 n amount xs) (sym (append_none (spelled xs)))
+    if_spelled (nat_lt 0 amount) _ xs xs _ [] (bare_spelled Window 0 n amount xs) (sym (append-nil (spelled xs)))
 sent_on_spelled role past (Did (Close n)) xs = bare_spelled Window 4 n 0 xs
 sent_on_spelled role past (Did (Reset n)) xs = bare_spelled Window 8 n 0 xs
 sent_on_spelled role past (Did (Leave code)) xs = bare_spelled GoAway 0 0 code xs

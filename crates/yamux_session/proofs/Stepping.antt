@@ -1,6 +1,6 @@
 -- The session after one answer of the cutter.
 use Rattle.std.proofs.Common.{◌≡◌, ℕ, ◌+◌, ◌-◌, ◌≤◌, Bool, true, false, cond, nat_lt, List, [], ◌∷◌, ◌++◌, length, map, take, drop, Some, refl, sym, ap, ◌∙◌, subst, append_assoc, arith}
-use Rattle.std.proofs.lemmas.List.{length-take-le, length-drop, take_rest}
+use Rattle.std.proofs.lemmas.List.{append-nil, length-take-le, length-drop, take_rest}
 use Rattle.yamux_frames.specs.declared.header.Header.{Header}
 use Rattle.yamux_frames.specs.declared.header.FrameKind.TheVariants.{GoAway}
 use Rattle.yamux_frames.specs.declared.header.FrameFault.{FrameFault}
@@ -9,6 +9,7 @@ use Rattle.yamux_frames.specs.Spelling.{header_bytes, payload_length}
 use Rattle.yamux_frames.specs.declared.cutter.Cut.{Cut}
 use Rattle.yamux_frames.specs.Frames.{Arrival, spelled, bytes_left, with_bytes, with_cut, AreFrames, StandsAt, StopsIn}
 use Rattle.yamux_frames.specs.Frames.Arrival.{Head, Byte, Tail, Garbled}
+use Rattle.yamux_frames.proofs.Frames.{bytes_older, bytes_fit}
 use Rattle.yamux_session.specs.declared.event.Role.{Role}
 use Rattle.yamux_session.specs.declared.event.Fault.{Fault}
 use Rattle.yamux_session.specs.declared.event.Fault.TheVariants.{BadFrame}
@@ -22,7 +23,6 @@ use Rattle.yamux_session.specs.Acts.{AreAnswered}
 use Rattle.yamux_session.specs.Keeps.{Keeps}
 use Rattle.yamux_session.specs.Arrives.{Tells, Arrives}
 use Rattle.yamux_session.specs.State.{State, Stands, EndsWith, Steps}
-use Rattle.yamux_session.proofs.Lists.{append_none}
 use Rattle.yamux_session.proofs.Telling.{tells_nothing, arrives_then}
 
 -- ---- what came
@@ -31,8 +31,8 @@ pub arrives_nothing : (role : Role) (past : List Item) (table : Table) (told : L
 arrives_nothing role past table told out keeps = record {
   no_fault = λ before. before;
   keeps = keeps;
-  told = ([], tells_nothing told, sym (append_none (events role past)));
-  output = ([], sym (append_none out), sym (append_none (output role past)));
+  told = ([], tells_nothing told, sym (append-nil (events role past)));
+  output = ([], sym (append-nil out), sym (append-nil (output role past)));
 }
 
 still_answered : (role : Role) (came : List Arrival) (past : List Item) → AreAnswered role past → AreAnswered role (map Came came ++ past)
@@ -104,12 +104,12 @@ fell role past fed bytes sent before after old new x fault used stands faulty wi
 -- the bytes up to a head
 head_ends : (bytes : List ℕ) (past : List Arrival) (h : Header) (b : Bool) (place : Place) → StandsAt bytes (cond b (Head h ∷ past) (Tail ∷ Head h ∷ past)) place → place.part ≡ [] → EndsWith bytes (Head h ∷ past)
 head_ends bytes past h true place at none = record {
-  whole = at.reads.whole ∙ ap (λ (t : List ℕ). (spelled past ++ header_bytes h) ++ t) none ∙ append_none (spelled past ++ header_bytes h);
+  whole = at.reads.whole ∙ ap (λ (t : List ℕ). (spelled past ++ header_bytes h) ++ t) none ∙ append-nil (spelled past ++ header_bytes h);
   frames_are = at.reads.frames_are;
 }
 head_ends bytes past h false place at none = record {
   whole = at.reads.whole ∙ ap (λ (t : List ℕ). ((spelled past ++ header_bytes h) ++ []) ++ t) none
-      ∙ append_none ((spelled past ++ header_bytes h) ++ []) ∙ append_none (spelled past ++ header_bytes h);
+      ∙ append-nil ((spelled past ++ header_bytes h) ++ []) ∙ append-nil (spelled past ++ header_bytes h);
   frames_are = at.reads.frames_are.2;
 }
 
@@ -131,7 +131,7 @@ pub fell_at_garbled : (role : Role) (past : List Item) (fed rest sent : List ℕ
     → Tells before after (Failed BadFrame ∷ []) → new.failed ≡ true → new.pending ≡ old.pending ++ frame GoAway 0 0 1 → Steps role past fed rest sent before after new
 fell_at_garbled role past fed rest sent before after old new why stands stops tells failed pending =
     fell role past fed rest sent before after old new (Garbled stops.garbled) BadFrame stops.used stands refl stops.within
-    (record { whole = stops.reads.whole ∙ append_none (spelled (arrivals past) ++ stops.garbled); frames_are = stops.reads.frames_are })
+    (record { whole = stops.reads.whole ∙ append-nil (spelled (arrivals past) ++ stops.garbled); frames_are = stops.reads.frames_are })
     tells failed pending
 
 -- ---- the answers of the cutter
@@ -153,18 +153,6 @@ frame_went role past fed bytes sent before after old new h answer true is stands
 frame_went role past fed bytes sent before after old new h answer false is stands frames arrives pending going =
     went role past (Came Tail ∷ Came (Head h) ∷ past) fed bytes sent before after old new (Tail ∷ Head h ∷ []) stands refl frames
     (subst (λ (t : List ℕ). Arrives role past (Came Tail ∷ Came (Head h) ∷ past) new.table before after old.pending t) (sym pending) arrives) going
-
-frames_before : (bytes : List ℕ) (past : List Arrival) → AreFrames (with_bytes bytes past) → AreFrames past
-frames_before [] past are = are
-frames_before (b ∷ bytes) past are = (frames_before bytes (Byte b ∷ past) are).1
-
--- the bytes of a payload are within it
-bytes_fit : (bytes : List ℕ) (past : List Arrival) → AreFrames (with_bytes bytes past) → length bytes ≤ bytes_left past
-bytes_fit [] past are = omega arith
-bytes_fit (b ∷ bytes) past are =
-    let fits = bytes_fit bytes (Byte b ∷ past) are in
-    let some = (frames_before bytes (Byte b ∷ past) are).0 in
-    omega arith
 
 -- a part of a payload
 pub part_fits : (bytes : List ℕ) (past : List Arrival) (last : Bool) (all : List ℕ) (place : Place) → StandsAt all (cond last (Tail ∷ with_bytes bytes past) (with_bytes bytes past)) place → length bytes ≤ bytes_left past

@@ -1,5 +1,6 @@
 -- The tail of a frame.
 use Rattle.std.proofs.Common.{◌≡◌, ℕ, ◌-◌, Bool, true, false, ◌||◌, ◌&&◌, not, ◌==◌, cond, List, [], ◌∷◌, ◌++◌, length, Option, Some, None, refl, sym, ap, ◌∙◌, subst, arith}
+use Rattle.std.proofs.lemmas.List.{append-nil}
 use Rattle.std.specs.Prelude.{filter}
 use Rattle.std.proofs.lemmas.Bool.{eqb-true, eq-eqb}
 use Rattle.yamux_frames.specs.declared.header.Header.{Header}
@@ -14,7 +15,7 @@ use Rattle.yamux_session.specs.Meaning.{tail_told, tail_events}
 use Rattle.yamux_session.specs.Windows.{coming}
 use Rattle.yamux_session.specs.Acts.{AreAnswered}
 use Rattle.yamux_session.specs.Keeps.{Keeps, IsRowAt}
-use Rattle.yamux_session.proofs.Lists.{append_none, filter_true, filter_same, without, without_absent, one_if, count_without}
+use Rattle.yamux_session.proofs.Lists.{filter_true, filter_same, without, without_absent, one_if, count_without}
 use Rattle.yamux_session.proofs.Live.{distinct}
 use Rattle.yamux_session.proofs.Refusals.{row_of}
 use Rattle.yamux_session.proofs.Keeping.{Moves, after, quiet, and_true, and_false, not_here, still_there}
@@ -26,8 +27,8 @@ chosen_at g n k b true is e = ap (λ t. not (n == k && t)) (ap g (sym (eqb-true 
 chosen_at g n k b false is e = ap (λ t. not (t && g k)) is ∙ sym (ap (λ t. not (t && b)) is)
 
 pub ends_or_stays : (g : ℕ → Bool) (n : ℕ) (xs : List ℕ) (b : Bool) → g n ≡ b → filter (λ k. not (n == k && g k)) xs ++ [] ≡ cond b (without n xs) xs
-ends_or_stays g n xs true e = append_none (filter (λ k. not (n == k && g k)) xs) ∙ filter_same (λ k. not (n == k && g k)) (λ k. not (n == k)) xs (λ k. chosen_at g n k true (n == k) refl e ∙ ap not (and_true (n == k)))
-ends_or_stays g n xs false e = append_none (filter (λ k. not (n == k && g k)) xs) ∙ filter_same (λ k. not (n == k && g k)) (λ k. true) xs (λ k. chosen_at g n k false (n == k) refl e ∙ ap not (and_false (n == k))) ∙ filter_true xs
+ends_or_stays g n xs true e = append-nil (filter (λ k. not (n == k && g k)) xs) ∙ filter_same (λ k. not (n == k && g k)) (λ k. not (n == k)) xs (λ k. chosen_at g n k true (n == k) refl e ∙ ap not (and_true (n == k)))
+ends_or_stays g n xs false e = append-nil (filter (λ k. not (n == k && g k)) xs) ∙ filter_same (λ k. not (n == k && g k)) (λ k. true) xs (λ k. chosen_at g n k false (n == k) refl e ∙ ap not (and_false (n == k))) ∙ filter_true xs
 
 pub none_live : (role : Role) (past : List Item) → reading role past ≡ None → live role (Came Tail ∷ past) ≡ live role past
 none_live role past e = ap (λ r. filter (λ k. not (tail_ends r (closed role past k) k)) (live role past) ++ []) e ∙ quiet (live role past)

@@ -1,5 +1,6 @@
 -- The events and the output of arrivals.
 use Rattle.std.proofs.Common.{◌≡◌, ℕ, ◌<◌, ◌≤◌, Bool, true, false, ◌&&◌, not, cond, nat_lt, List, [], ◌∷◌, ◌++◌, length, map, Option, Some, None, refl, sym, ap, ◌∙◌, subst, append_assoc, arith}
+use Rattle.std.proofs.lemmas.List.{append-nil}
 use Rattle.std.specs.List.{AllByRecursion}
 use Rattle.std.proofs.lemmas.Bool.{lt-ltb, le-ltb}
 use Rattle.std.proofs.lemmas.List.Concat.{flat_map-append}
@@ -20,7 +21,6 @@ use Rattle.yamux_session.specs.Table.{Table}
 use Rattle.yamux_session.specs.Keeps.{Keeps}
 use Rattle.yamux_session.specs.Heads.{HeadDone, told_of}
 use Rattle.yamux_session.specs.Arrives.{telling, tellings, HasData, Tells, began, Arrives}
-use Rattle.yamux_session.proofs.Lists.{append_none}
 use Rattle.yamux_session.proofs.Arriving.{belongs_on}
 
 -- ---- events added
@@ -30,10 +30,10 @@ all_both [] ys a b = b
 all_both (x ∷ xs) ys a b = (a.0, all_both xs ys a.1 b)
 
 pub tells_nothing : (xs : List Event) → Tells xs xs []
-tells_nothing xs = record { more = []; added = sym (append_none xs); telling = refl; filled = tt }
+tells_nothing xs = record { more = []; added = sym (append-nil xs); telling = refl; filled = tt }
 
 pub tells_one : (xs new : List Event) (e : Event) → HasData e → new ≡ xs ++ e ∷ [] → Tells xs new (telling e)
-tells_one xs new e filled added = record { more = e ∷ []; added = added; telling = append_none (telling e); filled = (filled, tt) }
+tells_one xs new e filled added = record { more = e ∷ []; added = added; telling = append-nil (telling e); filled = (filled, tt) }
 
 pub tells_then : (a b c : List Event) (t u : List Told) → Tells a b t → Tells b c u → Tells a c (t ++ u)
 tells_then a b c t u one two = record {
@@ -107,8 +107,8 @@ pub bytes_events : (role : Role) (bytes : List ℕ) (past : List Item) → event
 bytes_events role [] past = sym (none (taker role past (reading role past)))
   where
     none : (t : Option ℕ) → events role past ++ bytes_told t [] ≡ events role past
-    none None = append_none (events role past)
-    none (Some n) = append_none (events role past)
+    none None = append-nil (events role past)
+    none (Some n) = append-nil (events role past)
 bytes_events role (b ∷ bytes) past =
     let t : Option ℕ = taker role past (reading role past) in
     bytes_events role bytes (Came (Byte b) ∷ past)
@@ -117,7 +117,7 @@ bytes_events role (b ∷ bytes) past =
 
 bytes_output : (role : Role) (bytes : List ℕ) (past : List Item) → output role (came_bytes bytes past) ≡ output role past
 bytes_output role [] past = refl
-bytes_output role (b ∷ bytes) past = bytes_output role bytes (Came (Byte b) ∷ past) ∙ append_none (output role past)
+bytes_output role (b ∷ bytes) past = bytes_output role bytes (Came (Byte b) ∷ past) ∙ append-nil (output role past)
 
 bytes_good : (role : Role) (bytes : List ℕ) (past : List Item) → HasNoFault role past → HasNoFault role (came_bytes bytes past)
 bytes_good role [] past good = good
@@ -130,7 +130,7 @@ bytes_arrive role past bytes new t old_told new_told out keeps takes tells = rec
   no_fault = bytes_good role bytes past;
   keeps = keeps;
   told = (bytes_told t bytes, tells, bytes_events role bytes past ∙ ap (λ (u : Option ℕ). events role past ++ bytes_told u bytes) (sym takes));
-  output = ([], sym (append_none out), bytes_output role bytes past ∙ sym (append_none (output role past)));
+  output = ([], sym (append-nil out), bytes_output role bytes past ∙ sym (append-nil (output role past)));
 }
 
 -- ---- a tail
@@ -142,7 +142,7 @@ tail_arrives role past new told old_told new_told out keeps told_is tells = reco
   no_fault = λ before. (refl, before);
   keeps = keeps;
   told = (told, tells, ap (λ (xs : List Told). events role past ++ xs) (sym told_is));
-  output = ([], sym (append_none out), refl);
+  output = ([], sym (append-nil out), refl);
 }
 
 -- ---- one arrival after another

@@ -1,17 +1,18 @@
 -- Two sessions, one of each role, joined by pipes that deliver what was sent, under any schedule.
-use Rattle.std.specs.Prelude.{◌≡◌, ℕ, ◌==◌, ◌&&◌, true, ◌+◌, if◌then◌else◌, List, [], ◌∷◌, ◌++◌, map, sum_by}
-use Rattle.std.specs.List.{concat}
+use Rattle.std.specs.Prelude.{◌≡◌, ℕ, ◌<◌, ◌==◌, ◌&&◌, true, false, ◌+◌, if◌then◌else◌, List, [], ◌∷◌, ◌++◌, map, sum_by}
+use Rattle.std.specs.List.{concat, AllByRecursion}
 use mathlib.Core.List.{IsPrefix}
 use Rattle.yamux_frames.specs.Frames.{Arrival, Reads}
-use Rattle.yamux_frames.specs.Frames.Arrival.{Head}
+use Rattle.yamux_frames.specs.Frames.Arrival.{Head, Byte, Tail}
 use Rattle.yamux_session.specs.declared.event.Role.{Role}
 use Rattle.yamux_session.specs.declared.event.Role.TheVariants.{Client, Server}
 use Rattle.yamux_session.specs.Items.{Item, Act, arrivals, is_data, is_update}
 use Rattle.yamux_session.specs.Items.Item.{Came, Did}
 use Rattle.yamux_session.specs.Items.Act.{Write}
-use Rattle.yamux_session.specs.Openings.{is_live, opens}
+use Rattle.yamux_session.specs.Openings.{is_live, finished, opens}
 use Rattle.yamux_session.specs.Windows.{credit, receiving_window}
-use Rattle.yamux_session.specs.Meaning.{HasNoFault, output, inbound}
+use Rattle.yamux_session.specs.Meaning.{HasNoFault, output, events, inbound}
+use Rattle.yamux_session.specs.Meaning.Told.{Opened, Accepted, Data}
 use Rattle.yamux_session.specs.Acts.{IsAnswered}
 
 -- an end: its list, and the bytes that it was fed
@@ -72,6 +73,16 @@ length_of_update n x = 0
 abbrev pub IsOnTheWay : Role → List Item → List Item → List Arrival → Type 0
 IsOnTheWay role from to way = (rest : List ℕ) × Reads (output role from) (way ++ arrivals to) rest
 
+-- Nothing is lost: while nothing is on its way to the reader, a stream that is live there and that the other end hasn't ended has all
+-- that was let through
+abbrev pub IsWhole : Role → Role → List Item → List Item → Type 0
+IsWhole writer reader out come =
+    (n : ℕ) → is_live reader come n ≡ true → finished reader come n ≡ false → IsOnTheWay writer out come [] → inbound reader come n ≡ written writer out n
+
+abbrev pub NothingIsLost : Type 0
+NothingIsLost = (client server : End) → Joined client server
+    → IsWhole Client Server client.items server.items × IsWhole Server Client server.items client.items
+
 -- while a stream is live at both ends, the reader's receiving window is the writer's credit and what is on its way: Data to the
 -- reader, and the reader's WindowUpdates
 abbrev pub IsBalanced : Role → Role → List Item → List Item → Type 0
@@ -83,3 +94,32 @@ IsBalanced writer reader out come =
 abbrev pub Balance : Type 0
 Balance = (client server : End) → Joined client server
     → IsBalanced Client Server client.items server.items × IsBalanced Server Client server.items client.items
+
+-- ---- there are such histories
+
+-- An end goes on: it can be fed each front of what was sent to it, its owner can make each call that isn't refused, and something, if
+-- only nothing, is on its way there
+pub record GoesOn (role : Role) (other : Role) (here there : End) (IsNext : End → Type 0) : Type 0 where
+  pub fed : (bytes : List ℕ) → AllByRecursion (λ b. b < 256) (here.fed ++ bytes) → IsPrefix (here.fed ++ bytes) (output other there.items)
+    → (new : End) × (new.fed ≡ here.fed ++ bytes) × ((came : List Arrival) × (new.items ≡ map Came came ++ here.items)) × IsNext new
+  pub done : (act : Act) → IsAnswered role here.items act → (new : End) × (new.items ≡ Did act ∷ here.items) × IsNext new
+  pub way : (way : List Arrival) × IsOnTheWay other there.items here.items way
+
+abbrev pub BothGoOn : Type 0
+BothGoOn = (client server : End) → Joined client server
+    → GoesOn Client Server client server (λ new. Joined new server) × GoesOn Server Client server client (λ new. Joined client new)
+
+-- one of them: the client's stream 1 is accepted, and of two bytes that the client wrote the first has come
+pub record JoinedRow (client server : End) : Type 0 where
+  pub joined : Joined client server
+  pub client_told : events Client client.items ≡ Accepted 1 ∷ []
+  pub server_told : events Server server.items ≡ Opened 1 ∷ Data 1 7 ∷ []
+  pub wrote : written Client client.items 1 ≡ 7 ∷ 8 ∷ []
+  pub arrived : inbound Server server.items 1 ≡ 7 ∷ []
+  pub way : IsOnTheWay Client client.items server.items (Tail ∷ Byte 8 ∷ [])
+  pub way_back : IsOnTheWay Server server.items client.items []
+  pub windows : (receiving_window Server server.items 1 ≡ 262142) × (credit Client client.items 1 ≡ 262142)
+  pub windows_back : (receiving_window Client client.items 1 ≡ 262144) × (credit Server server.items 1 ≡ 262144)
+
+abbrev pub SomeJoined : Type 0
+SomeJoined = (client server : End) × JoinedRow client server

@@ -13,6 +13,7 @@ pub mod Limits
 pub mod Received
 pub mod Joined
 pub mod OneOutcome
+pub mod Rows
 pub use Rattle.yamux_frames.specs.Spelling
 pub use Rattle.yamux_frames.specs.Place
 pub use Rattle.yamux_frames.specs.Frames

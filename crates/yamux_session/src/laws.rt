@@ -1,13 +1,26 @@
 //! What holds of every history of a session.
 
-ghost use Rattle.yamux_session.specs.Limits.{LiveLimit, UntakenLimit};
+ghost use Rattle.yamux_session.specs.Limits.{LiveLimit, RoomForOwn, RoomForTheOther, UntakenLimit};
 ghost use Rattle.yamux_session.specs.Received.{ReceivedData};
-ghost use Rattle.yamux_session.specs.Joined.{Balance, NoFault};
+ghost use Rattle.yamux_session.specs.Joined.{Balance, BothGoOn, NoFault, NothingIsLost, SomeJoined};
 ghost use Rattle.yamux_session.specs.OneOutcome.{OneOutcome};
+ghost use Rattle.yamux_session.specs.Rows.{StreamRows, WindowRows};
+
+/// The definitions say of worked histories what the specification says.
+pub fn worked_rows()
+    ensures streams { StreamRows }
+    ensures windows { WindowRows }
+{}
 
 /// At most 256 streams of each end are live.
 pub fn live_limit()
     ensures { LiveLimit }
+{}
+
+/// And so many may be: while fewer are, a SYN of the other end opens a stream, and this end may open one.
+pub fn room_for_more()
+    ensures the_other { RoomForTheOther }
+    ensures own { RoomForOwn }
 {}
 
 /// Of no stream more than a window has arrived and wasn't taken.
@@ -30,6 +43,19 @@ pub fn balance()
 /// it at the other.
 pub fn no_fault()
     ensures { NoFault }
+{}
+
+/// Nothing is lost between them: while nothing is on its way to an end, a stream that is live there and that the other end hasn't ended
+/// has all that was let through.
+pub fn nothing_is_lost()
+    ensures { NothingIsLost }
+{}
+
+/// Such sessions are: whatever was done and fed so far, what was sent can be fed and what isn't refused can be done. One of them, with
+/// a byte on its way, is worked out.
+pub fn they_go_on()
+    ensures both_go_on { BothGoOn }
+    ensures some_joined { SomeJoined }
 {}
 
 /// The clause of a `feed` determines what it tells, but for how data is cut, whether the session has failed, and the output.
