@@ -221,7 +221,7 @@ data_belongs : (role : Role) (past : List Item) (x : Item) (n : ℕ) → HasNoFa
 data_belongs role past (Came (Head h)) n good turn now =
     same_if (head_belongs role past h n) (h.stream == n) (is_data h.kind) h.length
     (λ s k. let same = eqb-true h.stream n s in
-    let none : total (fin_of n) (arrivals past) ≡ 0 = subst (λ m. total (fin_of m) (arrivals past) ≡ 0) same (turn.0.1 k) in
+    let none : total (fin_of n) (arrivals past) ≡ 0 = subst (λ m. total (fin_of m) (arrivals past) ≡ 0) same (let all = turn.0.1 k in omega arith) in
     belongs role past h n good.0 now same (data_kind h.kind k)
     (ap (λ b. b && finished role past n) k ∙ unfinished role past n (finished role past n) refl none))
     (belongs_to role past h n)
@@ -240,7 +240,7 @@ update_belongs role past (Came Tail) n good now = refl
 update_belongs role past (Came (Garbled bytes)) n good now = refl
 update_belongs role past (Did act) n good now = refl
 
-past_turn : (x : Item) (past : List Item) → AreInTurn (arrivals (x ∷ past)) → AreInTurn (arrivals past)
+pub past_turn : (x : Item) (past : List Item) → AreInTurn (arrivals (x ∷ past)) → AreInTurn (arrivals past)
 past_turn (Came x) past turn = turn.1
 past_turn (Did act) past turn = turn
 

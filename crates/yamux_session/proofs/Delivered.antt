@@ -14,20 +14,20 @@ use Rattle.yamux_session.specs.declared.event.Role.{Role}
 use Rattle.yamux_session.specs.Items.{Item, arrivals, syn, is_ping, is_of_stream, is_data, is_update}
 use Rattle.yamux_session.specs.Items.Item.{Came, Did}
 use Rattle.yamux_session.specs.Items.Act.{Start, Write, Take, Close, Reset, Leave}
-use Rattle.yamux_session.specs.Openings.{live, is_live, contains, has_left, is_let_in, opens, reading, is_reading, finished, finishes, closed, byte_belongs}
+use Rattle.yamux_session.specs.Openings.{live, is_live, contains, has_left, is_let_in, opens, reading, is_reading, finished, closed, byte_belongs}
 use Rattle.yamux_session.specs.Windows.{given_back}
 use Rattle.yamux_session.specs.Acts.{AreAnswered}
 use Rattle.yamux_session.specs.Meaning.{HasNoFault, when, inbound, byte_at}
 use Rattle.yamux_session.specs.Joined.{written_by, written}
-use Rattle.yamux_session.proofs.Lists.{either_way, and_parts, or_parts, not_true}
+use Rattle.yamux_session.proofs.Lists.{either_way, and_parts}
 use Rattle.yamux_session.proofs.Live.{past_answered, was_or_opens}
 use Rattle.yamux_session.proofs.Keeping.{quiet}
 use Rattle.yamux_session.proofs.Untaken.{live_unless}
 use Rattle.yamux_session.proofs.Sent.{header, bare, data_on, sent_on, sent}
 use Rattle.yamux_session.proofs.Totals.{total, all_time}
 use Rattle.yamux_session.proofs.Once.{openings, never_live}
-use Rattle.yamux_session.proofs.InTurn.{head_of}
-use Rattle.yamux_session.proofs.Coming.{NoneBefore, head_at, reading_head, for_it}
+use Rattle.yamux_session.proofs.InTurn.{head_of, fin_of, AreInTurn}
+use Rattle.yamux_session.proofs.Coming.{NoneBefore, head_at, reading_head, for_it, finished_came}
 
 -- the bytes of Data of the stream n
 abbrev pub bytes_of : ℕ → List Arrival → List ℕ
@@ -142,6 +142,12 @@ payload_kind Window len some = refl
 payload_kind Ping len some = absurd (omega arith)
 payload_kind GoAway len some = absurd (omega arith)
 
+data_kind : (k : FrameKind) (len : ℕ) → 0 < length_of k len → is_data k ≡ true
+data_kind Payload len some = refl
+data_kind Window len some = absurd (omega arith)
+data_kind Ping len some = absurd (omega arith)
+data_kind GoAway len some = absurd (omega arith)
+
 -- a frame with a payload that is being read has its head among those that came
 head_in : (n : ℕ) (xs : List Arrival) → 0 < bytes_left xs → is_reading (head_at xs) n ≡ true → 0 < total (head_of n) xs
 head_in n [] some is = absurd (omega arith)
@@ -187,40 +193,49 @@ no_bytes n (Head h ∷ xs) frames none = no_bytes n xs frames.2 (omega arith)
 no_bytes n (Tail ∷ xs) frames none = no_bytes n xs frames.2 (omega arith)
 no_bytes n (Garbled bytes ∷ xs) frames none = no_bytes n xs frames.2 (omega arith)
 
--- what arrived for a stream is a front of its data that came, and all of it while the direction is open
+-- while data of a stream comes, no FIN of it has come
+pub data_open : (n : ℕ) (xs : List Arrival) → AreInTurn xs → 0 < bytes_left xs → is_reading (head_at xs) n ≡ true → total (fin_of n) xs ≡ 0
+data_open n [] turn some is = absurd (omega arith)
+data_open n (Head h ∷ xs) turn some is = subst (λ m. total (fin_of m) (Head h ∷ xs) ≡ 0) (eqb-true h.stream n is) (turn.0.1 (data_kind h.kind h.length some))
+data_open n (Byte b ∷ xs) turn some is = let rest = data_open n xs turn.1 (omega arith) is in omega arith
+data_open n (Tail ∷ xs) turn some is = absurd (omega arith)
+data_open n (Garbled bytes ∷ xs) turn some is = absurd (omega arith)
+
+-- what arrived for a stream is a front of its data that came, and all of it while it is live
 pub record IsDelivered (role : Role) (n : ℕ) (past : List Item) : Type 0 where
   pub front : IsPrefix (inbound role past n) (bytes_of n (arrivals past))
-  pub whole : is_live role past n ≡ true → finished role past n ≡ false → inbound role past n ≡ bytes_of n (arrivals past)
+  pub whole : is_live role past n ≡ true → inbound role past n ≡ bytes_of n (arrivals past)
 
 prefix_all : (xs ys : List ℕ) → xs ≡ ys → IsPrefix xs ys
 prefix_all xs ys e = ([], append-nil xs ∙ e)
 
-byte_in : (role : Role) (past : List Item) (b n : ℕ) (c : Bool) → byte_belongs role past n ≡ c → HasNoFault role past → NoneBefore role n past → 0 < bytes_left (arrivals past)
+byte_in : (role : Role) (past : List Item) (b n : ℕ) (c : Bool) → byte_belongs role past n ≡ c → HasNoFault role past → NoneBefore role n past → AreInTurn (arrivals past) → 0 < bytes_left (arrivals past)
     → IsDelivered role n past → IsDelivered role n (Came (Byte b) ∷ past)
-byte_in role past b n true is good none some before =
+byte_in role past b n true is good none turn some before =
     let parts = and_parts (is_reading (reading role past) n && is_live role past n) (not (finished role past n)) is in
     let both = and_parts (is_reading (reading role past) n) (is_live role past n) parts.0 in
     let head = head_if role past n (reading role past) refl both.0 in
     let same : inbound role past n ++ when (byte_belongs role past n) b ≡ bytes_of n (arrivals past) ++ cond (is_reading (head_at (arrivals past)) n) (b ∷ []) [] =
-    ap (λ (t : List ℕ). t ++ when (byte_belongs role past n) b) (before.whole both.1 (not_true (finished role past n) parts.1))
+    ap (λ (t : List ℕ). t ++ when (byte_belongs role past n) b) (before.whole both.1)
     ∙ ap (λ c. bytes_of n (arrivals past) ++ when c b) is ∙ ap (λ c. bytes_of n (arrivals past) ++ cond c (b ∷ []) []) (sym head) in
-    record { front = prefix_all _ _ same; whole = λ on open_still. same }
-byte_in role past b n false is good none some before =
+    record { front = prefix_all _ _ same; whole = λ on. same }
+byte_in role past b n false is good none turn some before =
     let same : inbound role past n ++ when (byte_belongs role past n) b ≡ inbound role past n = ap (λ c. inbound role past n ++ when c b) is ∙ append-nil (inbound role past n) in
     record {
       front = subst (λ (t : List ℕ). IsPrefix t (bytes_of n (arrivals past) ++ cond (is_reading (head_at (arrivals past)) n) (b ∷ []) [])) (sym same)
           (prefix_on (inbound role past n) (bytes_of n (arrivals past)) (cond (is_reading (head_at (arrivals past)) n) (b ∷ []) []) before.front);
-      whole = λ on open_still.
+      whole = λ on.
           let was : is_live role past n ≡ true = sym (ap (λ ns. contains ns n) (quiet (live role past))) ∙ on in
-          same ∙ before.whole was open_still ∙ sym (append-nil (bytes_of n (arrivals past)))
-          ∙ ap (λ (t : List ℕ). bytes_of n (arrivals past) ++ t) (sym (unread (is_reading (head_at (arrivals past)) n) refl was open_still));
+          same ∙ before.whole was ∙ sym (append-nil (bytes_of n (arrivals past)))
+          ∙ ap (λ (t : List ℕ). bytes_of n (arrivals past) ++ t) (sym (unread (is_reading (head_at (arrivals past)) n) (finished role past n) refl refl was));
     }
   where
-    unread : (c : Bool) → is_reading (head_at (arrivals past)) n ≡ c → is_live role past n ≡ true → finished role past n ≡ false → cond (is_reading (head_at (arrivals past)) n) (b ∷ []) [] ≡ []
-    unread true head was open_still =
+    unread : (c f : Bool) → is_reading (head_at (arrivals past)) n ≡ c → finished role past n ≡ f → is_live role past n ≡ true → cond (is_reading (head_at (arrivals past)) n) (b ∷ []) [] ≡ []
+    unread true false head open_still was =
         absurd (let for_it = reads_for role past n good none was some head in
         let e : true ≡ false = sym (ap (λ t. (t && is_live role past n) && not (finished role past n)) for_it ∙ ap (λ t. t && not (finished role past n)) was ∙ ap not open_still) ∙ is in cc)
-    unread false head was open_still = ap (λ t. cond t (b ∷ []) []) head
+    unread true true head over was = absurd (let none = data_open n (arrivals past) turn some head in let came = finished_came role past n over in omega arith)
+    unread false f head is_over was = ap (λ t. cond t (b ∷ []) []) head
 
 -- an item that brings no byte
 other_in : (role : Role) (past : List Item) (x : Item) (n : ℕ) (o l : Bool) → opens role past x n ≡ o → is_live role past n ≡ l → byte_at role past x n ≡ [] → bytes_of n (arrivals (x ∷ past)) ≡ bytes_of n (arrivals past)
@@ -229,31 +244,28 @@ other_in role past x n true l is was no_byte same none frames before =
     let empty : cond (opens role past x n) [] (inbound role past n) ++ byte_at role past x n ≡ [] =
     ap (λ (t : List ℕ). cond (opens role past x n) [] (inbound role past n) ++ t) no_byte ∙ append-nil (cond (opens role past x n) [] (inbound role past n)) ∙ ap (λ b. cond b [] (inbound role past n)) is in
     let zero : bytes_of n (arrivals (x ∷ past)) ≡ [] = same ∙ no_bytes n (arrivals past) frames (none.0 is) in
-    record { front = prefix_all _ _ (empty ∙ sym zero); whole = λ on open_still. empty ∙ sym zero }
+    record { front = prefix_all _ _ (empty ∙ sym zero); whole = λ on. empty ∙ sym zero }
 other_in role past x n false l is was no_byte same none frames before =
     let kept : cond (opens role past x n) [] (inbound role past n) ++ byte_at role past x n ≡ inbound role past n =
     ap (λ (t : List ℕ). cond (opens role past x n) [] (inbound role past n) ++ t) no_byte ∙ append-nil (cond (opens role past x n) [] (inbound role past n)) ∙ ap (λ b. cond b [] (inbound role past n)) is in
     record {
       front = subst (λ (t : List ℕ). IsPrefix t (bytes_of n (arrivals (x ∷ past)))) (sym kept) (subst (λ (t : List ℕ). IsPrefix (inbound role past n) t) (sym same) before.front);
-      whole = λ on open_still. kept ∙ before.whole (still_on l was on) (still_open open_still) ∙ sym same;
+      whole = λ on. kept ∙ before.whole (still_on l was on) ∙ sym same;
     }
   where
     still_on : (l : Bool) → is_live role past n ≡ l → is_live role (x ∷ past) n ≡ true → is_live role past n ≡ true
     still_on true was on = was
     still_on false was on = absurd (let e : true ≡ false = sym (was_or_opens role x past n on was) ∙ is in cc)
 
-    still_open : finished role (x ∷ past) n ≡ false → finished role past n ≡ false
-    still_open e = (or_parts (finishes (reading role past) x n) (finished role past n) (sym (ap (λ b. not b && (finishes (reading role past) x n || finished role past n)) is) ∙ e)).1
-
-pub delivered : (role : Role) (past : List Item) (n : ℕ) → HasNoFault role past → NoneBefore role n past → AreFrames (arrivals past) → IsDelivered role n past
-delivered role [] n good none frames = record { front = ([], refl); whole = λ on open_still. refl }
-delivered role (Came (Byte b) ∷ past) n good none frames =
-    byte_in role past b n (byte_belongs role past n) refl good.1 none.1 frames.0 (delivered role past n good.1 none.1 frames.1)
-delivered role (Came (Head h) ∷ past) n good none frames =
-    other_in role past (Came (Head h)) n (opens role past (Came (Head h)) n) (is_live role past n) refl refl refl refl none frames.2 (delivered role past n good.1 none.1 frames.2)
-delivered role (Came Tail ∷ past) n good none frames =
-    other_in role past (Came Tail) n false (is_live role past n) refl refl refl refl none frames.2 (delivered role past n good.1 none.1 frames.2)
-delivered role (Came (Garbled bytes) ∷ past) n good none frames =
-    other_in role past (Came (Garbled bytes)) n false (is_live role past n) refl refl refl refl none frames.2 (delivered role past n good.1 none.1 frames.2)
-delivered role (Did act ∷ past) n good none frames =
-    other_in role past (Did act) n (opens role past (Did act) n) (is_live role past n) refl refl refl refl none frames (delivered role past n good.1 none.1 frames)
+pub delivered : (role : Role) (past : List Item) (n : ℕ) → HasNoFault role past → NoneBefore role n past → AreFrames (arrivals past) → AreInTurn (arrivals past) → IsDelivered role n past
+delivered role [] n good none frames turn = record { front = ([], refl); whole = λ on. refl }
+delivered role (Came (Byte b) ∷ past) n good none frames turn =
+    byte_in role past b n (byte_belongs role past n) refl good.1 none.1 turn.1 frames.0 (delivered role past n good.1 none.1 frames.1 turn.1)
+delivered role (Came (Head h) ∷ past) n good none frames turn =
+    other_in role past (Came (Head h)) n (opens role past (Came (Head h)) n) (is_live role past n) refl refl refl refl none frames.2 (delivered role past n good.1 none.1 frames.2 turn.1)
+delivered role (Came Tail ∷ past) n good none frames turn =
+    other_in role past (Came Tail) n false (is_live role past n) refl refl refl refl none frames.2 (delivered role past n good.1 none.1 frames.2 turn.1)
+delivered role (Came (Garbled bytes) ∷ past) n good none frames turn =
+    other_in role past (Came (Garbled bytes)) n false (is_live role past n) refl refl refl refl none frames.2 (delivered role past n good.1 none.1 frames.2 turn.1)
+delivered role (Did act ∷ past) n good none frames turn =
+    other_in role past (Did act) n (opens role past (Did act) n) (is_live role past n) refl refl refl refl none frames (delivered role past n good.1 none.1 frames turn)

@@ -15,7 +15,7 @@ use Rattle.yamux_session.specs.Items.{Item, arrivals}
 use Rattle.yamux_session.specs.Items.Item.{Came, Did}
 use Rattle.yamux_session.specs.Items.Act.{Start, Write}
 use Rattle.yamux_session.specs.Meaning.{output}
-use Rattle.yamux_session.specs.Joined.{End, Joined, GoesOn, at_first, JoinedRow, SomeJoined}
+use Rattle.yamux_session.specs.Joined.{End, Joined, at_first, SomeJoined}
 use Rattle.yamux_session.specs.Joined.Joined.{Begin, Client_acts}
 use Rattle.yamux_session.proofs.Sent.{header}
 use Rattle.yamux_session.proofs.Lists.{and_parts}

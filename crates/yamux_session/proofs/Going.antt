@@ -3,7 +3,7 @@ use Rattle.std.proofs.Common.{◌≡◌, ℕ, ◌<◌, inl, inr, List, [], ◌�
 use Rattle.std.specs.List.{AllByRecursion}
 use Rattle.std.proofs.lemmas.List.{append-nil, map-append}
 use mathlib.Core.List.{IsPrefix}
-use Rattle.yamux_frames.specs.Frames.{Arrival, spelled, AreFrames, Reads, IsRest}
+use Rattle.yamux_frames.specs.Frames.{Arrival, spelled, AreFrames, Reads}
 use Rattle.yamux_frames.proofs.Readings.{all_front, both, ends, some_reading}
 use Rattle.yamux_session.specs.declared.event.Role.{Role}
 use Rattle.yamux_session.specs.declared.event.Role.TheVariants.{Client, Server}
@@ -11,9 +11,9 @@ use Rattle.yamux_session.specs.Items.{Item, Act, arrivals}
 use Rattle.yamux_session.specs.Items.Item.{Came, Did}
 use Rattle.yamux_session.specs.Acts.{IsAnswered}
 use Rattle.yamux_session.specs.Meaning.{output}
-use Rattle.yamux_session.specs.Joined.{End, IsFed, IsDone, Joined, GoesOn, BothGoOn}
+use Rattle.yamux_session.specs.Joined.{End, IsFed, IsDone, Joined, BothGoOn}
 use Rattle.yamux_session.specs.Joined.Joined.{Begin, Client_fed, Server_fed, Client_acts, Server_acts}
-use Rattle.yamux_session.proofs.Joining.{Linked, linked, turned, on_its_way}
+use Rattle.yamux_session.proofs.Joining.{linked, turned, on_its_way}
 
 -- an end has read all that it was fed
 abbrev pub HasRead : End → Type 0
@@ -89,7 +89,7 @@ module _ (role other : Role) (from : End) (IsNext : End → Type 0) (reads : (en
         (
           rest.2.0 ++ one.1.came.0,
           rest.2.1 ∙ ap (λ (t : List Item). map Came rest.2.0 ++ t) one.1.came.1 ∙ sym (append_assoc (map Came rest.2.0) (map Came one.1.came.0) old.items)
-          ∙ ap (λ (t : List Item). t ++ old.items) (sym (map-append Came rest.2.0 one.1.came.0)),
+              ∙ ap (λ (t : List Item). t ++ old.items) (sym (map-append Came rest.2.0 one.1.came.0)),
         ),
         rest.3,
       )

@@ -169,9 +169,9 @@ fin_of n (Byte b) = 0
 fin_of n Tail = 0
 fin_of n (Garbled bytes) = 0
 
--- nothing of a stream stands before its SYN, and no data behind its FIN
+-- nothing of a stream stands before its SYN, and no data at its FIN or behind it
 abbrev pub IsInTurn : Arrival → List Arrival → Type 0
-IsInTurn (Head h) older = (is_of_stream h && syn h ≡ true → total (head_of h.stream) older ≡ 0) × (is_data h.kind ≡ true → total (fin_of h.stream) older ≡ 0)
+IsInTurn (Head h) older = (is_of_stream h && syn h ≡ true → total (head_of h.stream) older ≡ 0) × (is_data h.kind ≡ true → total (fin_of h.stream) (Head h ∷ older) ≡ 0)
 IsInTurn x older = Unit {0}
 
 abbrev pub AreInTurn : List Arrival → Type 0
@@ -267,7 +267,7 @@ data_turn k (piece ∷ pieces) xs none are =
     let h : Header = header Payload 0 k (length piece) in
     let bytes = bytes_total (fin_of k) (λ b. refl) piece (Head h ∷ xs) in
     let head : fin_of k (Head h) ≡ 0 = ap (λ b. cond b 1 0) (and_false (k == k)) in
-    data_turn k pieces (Tail ∷ with_bytes piece (Head h ∷ xs)) (omega arith) (tt, bytes_turn piece (Head h ∷ xs) (((λ e. absurd cc), (λ e. none)), are))
+    data_turn k pieces (Tail ∷ with_bytes piece (Head h ∷ xs)) (omega arith) (tt, bytes_turn piece (Head h ∷ xs) (((λ e. absurd cc), (λ e. omega arith)), are))
 
 if_turn : (b : Bool) (us vs : List Arrival) → AreInTurn us → AreInTurn vs → AreInTurn (cond b us vs)
 if_turn true us vs u v = u

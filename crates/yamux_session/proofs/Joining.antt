@@ -296,7 +296,7 @@ module _ (p q : Role) (far near : List Item) (l : Linked p q far near) where
 
 -- ---- all that a byte brings
 
-opened_once : (p q : Role) (far near : List Item) → Linked p q far near → (n : ℕ) → all_time (openings p n) far ≤ 1
+pub opened_once : (p q : Role) (far near : List Item) → Linked p q far near → (n : ℕ) → all_time (openings p n) far ≤ 1
 opened_once p q far near l = once q p near far (turned p q far near l)
 
 reads_all : (p q : Role) (far near : List Item) (came : List Arrival) (newer : List Arrival) → Linked p q far near → sent p far ≡ newer ++ arrivals (map Came came ++ near)
@@ -382,9 +382,13 @@ linked _ _ (Server_acts {client} {server} {new} {act} before done) = done_linked
 prefix_then : (xs ys zs : List ℕ) → IsPrefix xs ys → IsPrefix ys zs → IsPrefix xs zs
 prefix_then xs ys zs p q = (p.0 ++ q.0, sym (append_assoc xs p.0 q.0) ∙ ap (λ (t : List ℕ). t ++ q.0) p.1 ∙ q.1)
 
+-- what has come is in turn
+pub came_turn : (p q : Role) (far near : List Item) → Linked p q far near → AreInTurn (arrivals near)
+came_turn p q far near l = older_turn l.way.0 (arrivals near) (subst AreInTurn l.way.1 (sent_turn p far l.p_answered l.p_good (opened_once p q far near l)))
+
 front_of_written : (p q : Role) (far near : List Item) → Linked p q far near → (n : ℕ) → IsPrefix (inbound q near n) (written p far n)
 front_of_written p q far near l n =
-    let came = (delivered q near n l.q_good (l.q_none n) l.q_frames).front in
+    let came = (delivered q near n l.q_good (l.q_none n) l.q_frames (came_turn p q far near l)).front in
     let older = older_bytes n l.way.0 (arrivals near) in
     let same : bytes_of n (l.way.0 ++ arrivals near) ≡ written p far n = ap (bytes_of n) (sym l.way.1) ∙ sent_written p far n l.p_answered (opened_once p q far near l n) in
     prefix_then (inbound q near n) (bytes_of n (arrivals near)) (written p far n) came (subst (IsPrefix (bytes_of n (arrivals near))) same older)
@@ -422,23 +426,22 @@ way_is p q far near way l on_way = (one_reading (output p far) (sent p far) (way
 pub on_its_way : (p q : Role) (far near : List Item) → Linked p q far near → (way : List Arrival) × IsOnTheWay p far near way
 on_its_way p q far near l = (l.way.0, ([], subst (λ (xs : List Arrival). Reads (output p far) xs []) l.way.1 (all_read p q far near l)))
 
-whole_at_end : (p q : Role) (far near : List Item) → Linked p q far near → IsWhole p q far near
-whole_at_end p q far near l n on not_ended none =
-    (delivered q near n l.q_good (l.q_none n) l.q_frames).whole on not_ended
+whole_when_quiet : (p q : Role) (far near : List Item) → Linked p q far near → IsWhole p q far near
+whole_when_quiet p q far near l n on none =
+    (delivered q near n l.q_good (l.q_none n) l.q_frames (came_turn p q far near l)).whole on
     ∙ ap (bytes_of n) (sym (way_is p q far near [] l none))
     ∙ sent_written p far n l.p_answered (opened_once p q far near l n)
 
 pub nothing_is_lost : NothingIsLost
 nothing_is_lost client server joined =
     let l = linked client server joined in
-    (whole_at_end Client Server client.items server.items l, whole_at_end Server Client server.items client.items (turned Client Server client.items server.items l))
+    (whole_when_quiet Client Server client.items server.items l, whole_when_quiet Server Client server.items client.items (turned Client Server client.items server.items l))
 
 balanced : (p q : Role) (far near : List Item) → Linked p q far near → IsBalanced p q far near
 balanced p q far near l n way back p_live q_live on_way on_back =
     let p_once = opened_once p q far near l in
     let q_once = opened_once q p near far (turned p q far near l) in
-    let turn = older_turn l.way.0 (arrivals near) (subst AreInTurn l.way.1 (sent_turn p far l.p_answered l.p_good p_once)) in
-    let announced = all_data q near n l.q_good (l.q_none n) turn q_live in
+    let announced = all_data q near n l.q_good (l.q_none n) (came_turn p q far near l) q_live in
     let credited = all_updates p far n l.p_good (l.p_none n) p_live in
     let wrote = data_sent n p far in
     let written = written_once p n far l.p_answered (p_once n) in

@@ -26,3 +26,4 @@ pub mod Delivered
 pub mod OneOutcome
 pub mod Going
 pub mod Example
+pub mod Ending

@@ -7,9 +7,9 @@ use Rattle.yamux_frames.specs.declared.header.FrameFault.{FrameFault}
 use Rattle.yamux_frames.specs.Place.{Place}
 use Rattle.yamux_frames.specs.Spelling.{header_bytes, payload_length}
 use Rattle.yamux_frames.specs.declared.cutter.Cut.{Cut}
-use Rattle.yamux_frames.specs.Frames.{Arrival, spelled, bytes_left, with_bytes, with_cut, AreFrames, StandsAt, StopsIn}
+use Rattle.yamux_frames.specs.Frames.{Arrival, spelled, bytes_left, with_bytes, with_cut, StandsAt, StopsIn}
 use Rattle.yamux_frames.specs.Frames.Arrival.{Head, Byte, Tail, Garbled}
-use Rattle.yamux_frames.proofs.Frames.{bytes_older, bytes_fit}
+use Rattle.yamux_frames.proofs.Frames.{bytes_fit}
 use Rattle.yamux_session.specs.declared.event.Role.{Role}
 use Rattle.yamux_session.specs.declared.event.Fault.{Fault}
 use Rattle.yamux_session.specs.declared.event.Fault.TheVariants.{BadFrame}

@@ -8,7 +8,7 @@ use Rattle.yamux_frames.specs.declared.header.FrameKind.TheVariants.{Payload, Wi
 use Rattle.yamux_frames.specs.Frames.{Arrival, with_bytes}
 use Rattle.yamux_frames.specs.Frames.Arrival.{Head, Byte, Tail, Garbled}
 use Rattle.yamux_session.specs.declared.event.Role.{Role}
-use Rattle.yamux_session.specs.Items.{Item, syn, is_ping, is_of_stream, is_data, is_update}
+use Rattle.yamux_session.specs.Items.{Item, syn, is_ping, is_of_stream}
 use Rattle.yamux_session.specs.Items.Item.{Came, Did}
 use Rattle.yamux_session.specs.Items.Act.{Start, Write, Take, Close, Reset, Leave}
 use Rattle.yamux_session.specs.Openings.{opens}

@@ -1,6 +1,6 @@
 -- Two sessions, one of each role, joined by pipes that deliver what was sent, under any schedule.
-use Rattle.std.specs.Prelude.{◌≡◌, ℕ, ◌<◌, ◌==◌, ◌&&◌, true, false, ◌+◌, if◌then◌else◌, List, [], ◌∷◌, ◌++◌, map, sum_by}
-use Rattle.std.specs.List.{concat, AllByRecursion}
+use Rattle.std.specs.Prelude.{◌≡◌, ℕ, Bool, ◌<◌, ◌==◌, ◌&&◌, true, false, ◌+◌, if◌then◌else◌, List, [], ◌∷◌, ◌++◌, map, sum_by}
+use Rattle.std.specs.List.{concat, list_any, AllByRecursion}
 use mathlib.Core.List.{IsPrefix}
 use Rattle.yamux_frames.specs.Frames.{Arrival, Reads}
 use Rattle.yamux_frames.specs.Frames.Arrival.{Head, Byte, Tail}
@@ -9,10 +9,10 @@ use Rattle.yamux_session.specs.declared.event.Role.TheVariants.{Client, Server}
 use Rattle.yamux_session.specs.Items.{Item, Act, arrivals, is_data, is_update}
 use Rattle.yamux_session.specs.Items.Item.{Came, Did}
 use Rattle.yamux_session.specs.Items.Act.{Write}
-use Rattle.yamux_session.specs.Openings.{is_live, finished, opens}
+use Rattle.yamux_session.specs.Openings.{is_live, opens}
 use Rattle.yamux_session.specs.Windows.{credit, receiving_window}
-use Rattle.yamux_session.specs.Meaning.{HasNoFault, output, events, inbound}
-use Rattle.yamux_session.specs.Meaning.Told.{Opened, Accepted, Data}
+use Rattle.yamux_session.specs.Meaning.{Told, HasNoFault, output, events, inbound}
+use Rattle.yamux_session.specs.Meaning.Told.{Opened, Accepted, Data, Ended}
 use Rattle.yamux_session.specs.Acts.{IsAnswered}
 
 -- an end: its list, and the bytes that it was fed
@@ -73,15 +73,27 @@ length_of_update n x = 0
 abbrev pub IsOnTheWay : Role → List Item → List Item → List Arrival → Type 0
 IsOnTheWay role from to way = (rest : List ℕ) × Reads (output role from) (way ++ arrivals to) rest
 
--- Nothing is lost: while nothing is on its way to the reader, a stream that is live there and that the other end hasn't ended has all
--- that was let through
+-- Nothing is lost: while nothing is on its way to the reader, a stream that is live there has all that was let through
 abbrev pub IsWhole : Role → Role → List Item → List Item → Type 0
 IsWhole writer reader out come =
-    (n : ℕ) → is_live reader come n ≡ true → finished reader come n ≡ false → IsOnTheWay writer out come [] → inbound reader come n ≡ written writer out n
+    (n : ℕ) → is_live reader come n ≡ true → IsOnTheWay writer out come [] → inbound reader come n ≡ written writer out n
 
 abbrev pub NothingIsLost : Type 0
 NothingIsLost = (client server : End) → Joined client server
     → IsWhole Client Server client.items server.items × IsWhole Server Client server.items client.items
+
+-- the end of the stream was told
+abbrev pub is_end : ℕ → Told → Bool
+is_end n (Ended m) = m == n
+is_end n x = false
+
+-- Once its end was told, a stream has all that was let through, whatever is on its way
+abbrev pub IsWholeAtEnd : Role → Role → List Item → List Item → Type 0
+IsWholeAtEnd writer reader out come = (n : ℕ) → list_any (is_end n) (events reader come) ≡ true → inbound reader come n ≡ written writer out n
+
+abbrev pub AllBeforeTheEnd : Type 0
+AllBeforeTheEnd = (client server : End) → Joined client server
+    → IsWholeAtEnd Client Server client.items server.items × IsWholeAtEnd Server Client server.items client.items
 
 -- while a stream is live at both ends, the reader's receiving window is the writer's credit and what is on its way: Data to the
 -- reader, and the reader's WindowUpdates
@@ -101,7 +113,7 @@ Balance = (client server : End) → Joined client server
 -- only nothing, is on its way there
 pub record GoesOn (role : Role) (other : Role) (here there : End) (IsNext : End → Type 0) : Type 0 where
   pub fed : (bytes : List ℕ) → AllByRecursion (λ b. b < 256) (here.fed ++ bytes) → IsPrefix (here.fed ++ bytes) (output other there.items)
-    → (new : End) × (new.fed ≡ here.fed ++ bytes) × ((came : List Arrival) × (new.items ≡ map Came came ++ here.items)) × IsNext new
+      → (new : End) × (new.fed ≡ here.fed ++ bytes) × ((came : List Arrival) × (new.items ≡ map Came came ++ here.items)) × IsNext new
   pub done : (act : Act) → IsAnswered role here.items act → (new : End) × (new.items ≡ Did act ∷ here.items) × IsNext new
   pub way : (way : List Arrival) × IsOnTheWay other there.items here.items way
 

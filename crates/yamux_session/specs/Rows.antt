@@ -54,16 +54,16 @@ pub record StreamRows : Type 0 where
 
 pub record WindowRows : Type 0 where
   pub handed_out : events Server (in_order (bare Window 1 1 0 ∷ (Came Tail ∷ Came (Byte 99) ∷ Came (Byte 98) ∷ Came (header Payload 0 1 2) ∷ []) ∷ []))
-    ≡ Opened 1 ∷ Data 1 98 ∷ Data 1 99 ∷ []
+      ≡ Opened 1 ∷ Data 1 98 ∷ Data 1 99 ∷ []
   pub unknown_stream_skipped : events Server (in_order (bare Window 1 1 0 ∷ (Came Tail ∷ Came (Byte 99) ∷ Came (Byte 98) ∷ Came (Byte 97) ∷ Came (header Payload 0 9 3) ∷ []) ∷ bare Window 0 1 5 ∷ []))
-    ≡ Opened 1 ∷ Credit 1 ∷ []
+      ≡ Opened 1 ∷ Credit 1 ∷ []
   pub used_up : receiving_window Server full_window 1 ≡ 0
   pub exceeded : events Server (in_order (full_window ∷ (Came Tail ∷ []) ∷ (Came (header Payload 0 1 1) ∷ []) ∷ [])) ≡ Opened 1 ∷ Failed WindowExceeded ∷ []
   pub not_given_back_yet : output Server (Did (Take 1 131071) ∷ full_window) ≡ output Server full_window
   pub given_back_from_half : output Server (Did (Take 1 1) ∷ Did (Take 1 131071) ∷ full_window)
-    ≡ output Server full_window ++ (0 ∷ 1 ∷ 0 ∷ 0 ∷ 0 ∷ 0 ∷ 0 ∷ 1 ∷ 0 ∷ 2 ∷ 0 ∷ 0 ∷ [])
+      ≡ output Server full_window ++ (0 ∷ 1 ∷ 0 ∷ 0 ∷ 0 ∷ 0 ∷ 0 ∷ 1 ∷ 0 ∷ 2 ∷ 0 ∷ 0 ∷ [])
   pub data_behind_the_end : credit Server (in_order (bare Window 1 1 0 ∷ bare Window 4 1 0 ∷ bare Window 4 1 0 ∷ (Came Tail ∷ Came (Byte 1) ∷ Came (header Payload 0 1 1) ∷ []) ∷ [])) 1
-    ≡ 262144
+      ≡ 262144
   pub credit_too_large : events Server (in_order (bare Window 1 1 0 ∷ bare Window 1 3 1 ∷ bare Window 0 1 4294705151 ∷ (Came (header Window 0 1 1) ∷ []) ∷ []))
-    ≡ Opened 1 ∷ Opened 3 ∷ Credit 3 ∷ Credit 1 ∷ Failed WindowTooLarge ∷ []
+      ≡ Opened 1 ∷ Opened 3 ∷ Credit 3 ∷ Credit 1 ∷ Failed WindowTooLarge ∷ []
   pub no_credit_left : credit Client all_written 1 ≡ 0

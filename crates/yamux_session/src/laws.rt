@@ -2,7 +2,7 @@
 
 ghost use Rattle.yamux_session.specs.Limits.{LiveLimit, RoomForOwn, RoomForTheOther, UntakenLimit};
 ghost use Rattle.yamux_session.specs.Received.{ReceivedData};
-ghost use Rattle.yamux_session.specs.Joined.{Balance, BothGoOn, NoFault, NothingIsLost, SomeJoined};
+ghost use Rattle.yamux_session.specs.Joined.{AllBeforeTheEnd, Balance, BothGoOn, NoFault, NothingIsLost, SomeJoined};
 ghost use Rattle.yamux_session.specs.OneOutcome.{OneOutcome};
 ghost use Rattle.yamux_session.specs.Rows.{StreamRows, WindowRows};
 
@@ -45,10 +45,11 @@ pub fn no_fault()
     ensures { NoFault }
 {}
 
-/// Nothing is lost between them: while nothing is on its way to an end, a stream that is live there and that the other end hasn't ended
-/// has all that was let through.
+/// Nothing is lost between them: a stream has all that was let through while it is live and nothing is on its way, and once its end was
+/// told.
 pub fn nothing_is_lost()
-    ensures { NothingIsLost }
+    ensures live { NothingIsLost }
+    ensures ended { AllBeforeTheEnd }
 {}
 
 /// Such sessions are: whatever was done and fed so far, what was sent can be fed and what isn't refused can be done. One of them, with
