@@ -2,12 +2,14 @@
 //! nothing, and does its work when it is made again; a `feed` has failed the session, and its output is whole frames with which that of an
 //! unrefused `feed` begins. Run so that the Nth growth is refused, for each N in turn, it prints how many calls were refused.
 //!
-//! Beside the zeros that are written it takes no memory of its own, so that each refusal is one of the session.
+//! Beside the bytes that are written it takes no memory of its own, so that each refusal is one of a session.
 #![tactic(auto)]
 
+mod joined;
 mod play;
 mod rows;
 
+use joined::{TEXT, play_joined};
 use play::{Tally, play, play_many_own, play_many_remote};
 use rows::{CLIENT, SERVER, Step};
 use std::alloc::Global;
@@ -31,6 +33,10 @@ fn play_all(alloc: Global, role: Role, rows: &[&[Step]], zeros: &[u8], tally: &m
 fn main(rt: HostRuntime) -> io::Result<ExitCode> {
     let alloc = rt.alloc();
     let zeros = vec![in alloc; 0u8; ZEROS]?;
+    let mut text = vec![in alloc; 0u8; TEXT]?;
+    for (index, byte) in text.iter_mut().enumerate() {
+        *byte = (index % 251) as u8;
+    }
     let mut tally = Tally {
         refused: 0,
         wrong: 0,
@@ -39,6 +45,7 @@ fn main(rt: HostRuntime) -> io::Result<ExitCode> {
     play_all(alloc, Role::Client, CLIENT, &zeros, &mut tally);
     play_many_own(alloc, &mut tally);
     play_many_remote(alloc, &mut tally);
+    play_joined(alloc, &text, &mut tally);
     println!(rt;
         "{} calls refused, {} not as said",
         tally.refused, tally.wrong

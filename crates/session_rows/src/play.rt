@@ -14,14 +14,14 @@ pub struct Tally {
 
 impl Tally {
     /// Counts what isn't as it is said.
-    fn expect(&mut self, holds: bool) {
+    pub fn expect(&mut self, holds: bool) {
         if !holds {
             self.wrong = self.wrong.saturating_add(1);
         }
     }
 
     /// Counts a refusal.
-    fn refuse(&mut self) {
+    pub fn refuse(&mut self) {
         self.refused = self.refused.saturating_add(1);
     }
 }
@@ -89,7 +89,7 @@ fn feed_piece(
 }
 
 /// Whether each call of a failed session answers so.
-fn is_failed(session: &mut Session) -> bool {
+pub fn is_failed(session: &mut Session) -> bool {
     let failed = Err(ActRefused::Failed);
     session.open_stream() == failed
         && session.write(1, &[1]) == Err(ActRefused::Failed)
@@ -170,7 +170,7 @@ fn make(session: &mut Session, act: Act, zeros: &[u8]) -> Result<usize, ActRefus
 }
 
 /// Makes an act, and once more where it was refused for memory, which must have changed nothing.
-fn act(
+pub fn act(
     session: &mut Session,
     act: Act,
     zeros: &[u8],
