@@ -1,18 +1,20 @@
 -- Worked rows of sessions: what the definitions say of these histories.
-use Rattle.std.specs.Prelude.{◌≡◌, ℕ, zero, suc, ◌+◌, false, List, [], ◌∷◌, ◌++◌, replicate}
+use Rattle.std.specs.Prelude.{◌≡◌, ℕ, zero, suc, ◌+◌, true, false, List, [], ◌∷◌, ◌++◌, replicate, Some, None}
 use Rattle.yamux_frames.specs.declared.header.FrameKind.{FrameKind}
-use Rattle.yamux_frames.specs.declared.header.FrameKind.TheVariants.{Payload, Window, Ping}
+use Rattle.yamux_frames.specs.declared.header.FrameKind.TheVariants.{Payload, Window, Ping, GoAway}
 use Rattle.yamux_frames.specs.Frames.{Arrival}
-use Rattle.yamux_frames.specs.Frames.Arrival.{Head, Byte, Tail}
+use Rattle.yamux_frames.specs.Frames.Arrival.{Head, Byte, Tail, Garbled}
 use Rattle.yamux_session.specs.declared.event.Role.TheVariants.{Client, Server}
-use Rattle.yamux_session.specs.declared.event.Fault.TheVariants.{WrongParity, DuplicateStream, WindowExceeded, WindowTooLarge}
+use Rattle.yamux_session.specs.declared.event.Fault.TheVariants.{BadFrame, WrongParity, DuplicateStream, WindowExceeded, WindowTooLarge}
+use Rattle.yamux_session.specs.declared.event.ActRefused.TheVariants as refused
 use Rattle.yamux_session.specs.Items.{Item}
 use Rattle.yamux_session.specs.Items.Item.{Came, Did}
-use Rattle.yamux_session.specs.Items.Act.{Start, Write, Take, Close, Reset}
+use Rattle.yamux_session.specs.Items.Act.{Start, Write, Take, Close, Reset, Leave}
 use Rattle.yamux_session.specs.Openings.{live, is_live}
 use Rattle.yamux_session.specs.Windows.{credit, receiving_window}
+use Rattle.yamux_session.specs.Acts.{next_own, start_refusal, stream_refusal, direction_refusal}
 use Rattle.yamux_session.specs.Meaning.{events, output}
-use Rattle.yamux_session.specs.Meaning.Told.{Opened, Data, Ended, WasReset, Credit, Failed}
+use Rattle.yamux_session.specs.Meaning.Told.{Opened, Accepted, Data, Ended, WasReset, Credit, Left, Failed}
 
 abbrev pub header : FrameKind → ℕ → ℕ → ℕ → Arrival
 header kind flags stream len = Head (record { kind = kind; flags = flags; stream = stream; length = len })
@@ -26,7 +28,7 @@ abbrev pub in_order : List (List Item) → List Item
 in_order [] = []
 in_order (xs ∷ rest) = in_order rest ++ xs
 
--- a window that its Data frames have used up
+-- a window that a Data frame has used up. Its bytes are left out: what is given back asks for what was taken alone
 abbrev pub full_window : List Item
 full_window = in_order (bare Window 1 1 0 ∷ (Came (header Payload 0 1 262144) ∷ []) ∷ [])
 
@@ -39,31 +41,75 @@ abbrev pub opening : ℕ → ℕ → List Item
 opening zero n = []
 opening (suc count) n = opening count (n + 2) ++ bare Window 1 n 0
 
-pub record StreamRows : Type 0 where
+-- How streams are opened
+pub record OpeningRows : Type 0 where
   pub opened : events Server (bare Window 1 1 0) ≡ Opened 1 ∷ []
   pub accepted : output Server (bare Window 1 1 0) ≡ 0 ∷ 1 ∷ 0 ∷ 2 ∷ 0 ∷ 0 ∷ 0 ∷ 1 ∷ 0 ∷ 0 ∷ 0 ∷ 0 ∷ []
   pub opened_twice : events Server (in_order (bare Window 1 1 0 ∷ bare Window 1 1 0 ∷ [])) ≡ Opened 1 ∷ Failed DuplicateStream ∷ []
   pub wrong_parity : events Client (Came (header Window 1 1 0) ∷ []) ≡ Failed WrongParity ∷ []
   pub failed_goes_away : output Client (Came (header Window 1 1 0) ∷ []) ≡ 0 ∷ 3 ∷ 0 ∷ 0 ∷ 0 ∷ 0 ∷ 0 ∷ 0 ∷ 0 ∷ 0 ∷ 0 ∷ 1 ∷ []
+  pub stream_0_of_no_client : events Server (Came (header Window 1 0 0) ∷ []) ≡ Failed WrongParity ∷ []
+  pub stream_0_of_no_server : events Client (Came (header Window 1 0 0) ∷ []) ≡ Failed WrongParity ∷ []
+  pub opened_with_data : events Server (Came Tail ∷ Came (Byte 7) ∷ Came (header Payload 1 1 1) ∷ []) ≡ Opened 1 ∷ Data 1 7 ∷ []
+  pub opened_with_credit : events Server (bare Window 1 1 5) ≡ Opened 1 ∷ Credit 1 ∷ []
+  pub opened_and_ended : events Server (bare Window 5 1 0) ≡ Opened 1 ∷ Ended 1 ∷ []
+  pub opened_and_reset : events Server (bare Window 9 1 0) ≡ Opened 1 ∷ WasReset 1 ∷ []
   pub opened_again : events Server (in_order (bare Window 1 1 0 ∷ (Did (Close 1) ∷ []) ∷ bare Window 4 1 0 ∷ bare Window 1 1 0 ∷ [])) ≡ Opened 1 ∷ Ended 1 ∷ Opened 1 ∷ []
-  pub closed_and_finished : is_live Server (in_order (bare Window 1 1 0 ∷ (Did (Close 1) ∷ []) ∷ bare Window 4 1 0 ∷ [])) 1 ≡ false
-  pub reset_behind_the_end : events Server (in_order (bare Window 1 1 0 ∷ bare Window 4 1 0 ∷ bare Payload 8 1 0 ∷ [])) ≡ Opened 1 ∷ Ended 1 ∷ WasReset 1 ∷ []
-  pub reset_here : is_live Client (Did (Reset 1) ∷ all_written) 1 ≡ false
+  pub untold_behind_leaving : events Server (in_order ((Did (Leave 0) ∷ []) ∷ bare Window 1 1 0 ∷ [])) ≡ []
+  pub refused_behind_leaving : output Server (in_order ((Did (Leave 0) ∷ []) ∷ bare Window 1 1 0 ∷ []))
+      ≡ 0 ∷ 3 ∷ 0 ∷ 0 ∷ 0 ∷ 0 ∷ 0 ∷ 0 ∷ 0 ∷ 0 ∷ 0 ∷ 0 ∷ 0 ∷ 1 ∷ 0 ∷ 8 ∷ 0 ∷ 0 ∷ 0 ∷ 1 ∷ 0 ∷ 0 ∷ 0 ∷ 0 ∷ []
   pub twelve_live : live Server (opening 12 1) ≡ 1 ∷ 3 ∷ 5 ∷ 7 ∷ 9 ∷ 11 ∷ 13 ∷ 15 ∷ 17 ∷ 19 ∷ 21 ∷ 23 ∷ []
-  pub ping_answered : output Server (bare Ping 1 0 7) ≡ 0 ∷ 2 ∷ 0 ∷ 2 ∷ 0 ∷ 0 ∷ 0 ∷ 0 ∷ 0 ∷ 0 ∷ 0 ∷ 7 ∷ []
+  pub first_of_a_client : next_own Client [] ≡ 1
+  pub first_of_a_server : next_own Server [] ≡ 2
+  pub next_of_a_server : next_own Server (Did (Start 2) ∷ []) ≡ 4
+  pub a_number_left : start_refusal Client (Did (Start 4294967293) ∷ []) ≡ None
+  pub no_number_left : start_refusal Client (Did (Start 4294967295) ∷ []) ≡ Some refused.StreamsExhausted
+  pub gone_away_first : start_refusal Client (in_order ((Did (Start 4294967295) ∷ []) ∷ bare GoAway 0 0 0 ∷ [])) ≡ Some refused.GoneAway
 
+-- How streams end
+pub record EndingRows : Type 0 where
+  pub closed_and_finished : is_live Server (in_order (bare Window 1 1 0 ∷ (Did (Close 1) ∷ []) ∷ bare Window 4 1 0 ∷ [])) 1 ≡ false
+  pub finished_and_closed : is_live Server (in_order (bare Window 1 1 0 ∷ bare Window 4 1 0 ∷ (Did (Close 1) ∷ []) ∷ [])) 1 ≡ false
+  pub closed_and_going_on : events Server (in_order (bare Window 1 1 0 ∷ (Did (Close 1) ∷ []) ∷ (Came Tail ∷ Came (Byte 7) ∷ Came (header Payload 0 1 1) ∷ []) ∷ [])) ≡ Opened 1 ∷ Data 1 7 ∷ []
+  pub closed_refuses : direction_refusal Server (Did (Close 1) ∷ bare Window 1 1 0) 1 ≡ Some refused.Ended
+  pub ended_once : events Server (in_order (bare Window 1 1 0 ∷ bare Window 4 1 0 ∷ bare Window 4 1 0 ∷ [])) ≡ Opened 1 ∷ Ended 1 ∷ []
+  pub ended_behind_its_data : events Server (in_order (bare Window 1 1 0 ∷ (Came Tail ∷ Came (Byte 7) ∷ Came (header Payload 4 1 1) ∷ []) ∷ [])) ≡ Opened 1 ∷ Data 1 7 ∷ Ended 1 ∷ []
+  pub reset_and_no_end : events Server (in_order (bare Window 1 1 0 ∷ bare Window 12 1 0 ∷ [])) ≡ Opened 1 ∷ WasReset 1 ∷ []
+  pub reset_behind_the_end : events Server (in_order (bare Window 1 1 0 ∷ bare Window 4 1 0 ∷ bare Payload 8 1 0 ∷ [])) ≡ Opened 1 ∷ Ended 1 ∷ WasReset 1 ∷ []
+  pub nothing_behind_a_reset : events Server (in_order (bare Window 1 1 0 ∷ bare Window 8 1 0 ∷ bare Window 4 1 0 ∷ bare Window 8 1 0 ∷ [])) ≡ Opened 1 ∷ WasReset 1 ∷ []
+  pub reset_here : is_live Client (Did (Reset 1) ∷ all_written) 1 ≡ false
+  pub reset_here_refuses : stream_refusal Client (Did (Reset 1) ∷ all_written) 1 ≡ Some refused.NoStream
+  pub reset_within_a_frame : events Server (in_order (bare Window 1 1 0 ∷ (Came (Byte 7) ∷ Came (header Payload 4 1 2) ∷ []) ∷ (Did (Reset 1) ∷ []) ∷ (Came Tail ∷ Came (Byte 8) ∷ []) ∷ []))
+      ≡ Opened 1 ∷ Data 1 7 ∷ []
+
+-- What the windows let through
 pub record WindowRows : Type 0 where
   pub handed_out : events Server (in_order (bare Window 1 1 0 ∷ (Came Tail ∷ Came (Byte 99) ∷ Came (Byte 98) ∷ Came (header Payload 0 1 2) ∷ []) ∷ []))
       ≡ Opened 1 ∷ Data 1 98 ∷ Data 1 99 ∷ []
   pub unknown_stream_skipped : events Server (in_order (bare Window 1 1 0 ∷ (Came Tail ∷ Came (Byte 99) ∷ Came (Byte 98) ∷ Came (Byte 97) ∷ Came (header Payload 0 9 3) ∷ []) ∷ bare Window 0 1 5 ∷ []))
       ≡ Opened 1 ∷ Credit 1 ∷ []
+  pub first_credit : credit Server (bare Window 1 1 5) 1 ≡ 262149
+  pub no_credit_untold : events Server (in_order (bare Window 1 1 0 ∷ bare Window 0 1 0 ∷ [])) ≡ Opened 1 ∷ []
   pub used_up : receiving_window Server full_window 1 ≡ 0
   pub exceeded : events Server (in_order (full_window ∷ (Came Tail ∷ []) ∷ (Came (header Payload 0 1 1) ∷ []) ∷ [])) ≡ Opened 1 ∷ Failed WindowExceeded ∷ []
+  pub exceeded_at_once : events Server (Came (header Payload 1 1 262145) ∷ []) ≡ Failed WindowExceeded ∷ []
   pub not_given_back_yet : output Server (Did (Take 1 131071) ∷ full_window) ≡ output Server full_window
   pub given_back_from_half : output Server (Did (Take 1 1) ∷ Did (Take 1 131071) ∷ full_window)
       ≡ output Server full_window ++ (0 ∷ 1 ∷ 0 ∷ 0 ∷ 0 ∷ 0 ∷ 0 ∷ 1 ∷ 0 ∷ 2 ∷ 0 ∷ 0 ∷ [])
+  pub not_given_back_behind_the_end : output Server (Did (Take 1 262144) ∷ bare Window 4 1 0 ++ Came Tail ∷ full_window) ≡ output Server full_window
   pub data_behind_the_end : credit Server (in_order (bare Window 1 1 0 ∷ bare Window 4 1 0 ∷ bare Window 4 1 0 ∷ (Came Tail ∷ Came (Byte 1) ∷ Came (header Payload 0 1 1) ∷ []) ∷ [])) 1
       ≡ 262144
   pub credit_too_large : events Server (in_order (bare Window 1 1 0 ∷ bare Window 1 3 1 ∷ bare Window 0 1 4294705151 ∷ (Came (header Window 0 1 1) ∷ []) ∷ []))
       ≡ Opened 1 ∷ Opened 3 ∷ Credit 3 ∷ Credit 1 ∷ Failed WindowTooLarge ∷ []
   pub no_credit_left : credit Client all_written 1 ≡ 0
+
+-- What is about no stream, and what is accepted
+pub record AnswerRows : Type 0 where
+  pub ping_answered : output Server (bare Ping 1 0 7) ≡ 0 ∷ 2 ∷ 0 ∷ 2 ∷ 0 ∷ 0 ∷ 0 ∷ 0 ∷ 0 ∷ 0 ∷ 0 ∷ 7 ∷ []
+  pub answer_of_a_ping_ignored : output Server (bare Ping 2 0 7) ≡ []
+  pub ping_untold : events Server (bare Ping 1 0 7) ≡ []
+  pub gone_away_told : events Server (bare GoAway 0 0 2) ≡ Left 2 ∷ []
+  pub gone_away_goes_on : is_live Client (bare GoAway 0 0 0 ++ Did (Start 1) ∷ []) 1 ≡ true
+  pub accepted_once : events Client (in_order ((Did (Start 1) ∷ []) ∷ bare Window 2 1 0 ∷ bare Window 2 1 0 ∷ [])) ≡ Accepted 1 ∷ []
+  pub its_own_not_accepted : events Server (in_order (bare Window 1 1 0 ∷ bare Window 2 1 0 ∷ [])) ≡ Opened 1 ∷ []
+  pub no_header : events Server (Came (Garbled (1 ∷ [])) ∷ []) ≡ Failed BadFrame ∷ []

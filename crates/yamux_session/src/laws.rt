@@ -4,12 +4,14 @@ ghost use Rattle.yamux_session.specs.Limits.{LiveLimit, RoomForOwn, RoomForTheOt
 ghost use Rattle.yamux_session.specs.Received.{ReceivedData};
 ghost use Rattle.yamux_session.specs.Joined.{AllBeforeTheEnd, Balance, BothGoOn, NoFault, NothingIsLost, SomeJoined};
 ghost use Rattle.yamux_session.specs.OneOutcome.{OneOutcome};
-ghost use Rattle.yamux_session.specs.Rows.{StreamRows, WindowRows};
+ghost use Rattle.yamux_session.specs.Rows.{AnswerRows, EndingRows, OpeningRows, WindowRows};
 
 /// The definitions say of worked histories what the specification says.
 pub fn worked_rows()
-    ensures streams { StreamRows }
+    ensures openings { OpeningRows }
+    ensures endings { EndingRows }
     ensures windows { WindowRows }
+    ensures answers { AnswerRows }
 {}
 
 /// At most 256 streams of each end are live.

@@ -1,8 +1,14 @@
-use Rattle.yamux_session.proofs.Rows.{stream_rows, window_rows}
+use Rattle.yamux_session.proofs.Rows.{opening_rows, ending_rows, window_rows, answer_rows}
 use Rattle.yamux_session.proofs.laws.worked_rows.Goals as goal
 
-pub returns-clause-streams : goal.returns-clause-streams
-returns-clause-streams c = stream_rows
+pub returns-clause-openings : goal.returns-clause-openings
+returns-clause-openings c = opening_rows
+
+pub returns-clause-endings : goal.returns-clause-endings
+returns-clause-endings c = ending_rows
 
 pub returns-clause-windows : goal.returns-clause-windows
 returns-clause-windows c = window_rows
+
+pub returns-clause-answers : goal.returns-clause-answers
+returns-clause-answers c = answer_rows
