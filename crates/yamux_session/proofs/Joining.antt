@@ -420,7 +420,7 @@ all_read p q far near l =
     record { whole = sym (sent_spelled p far l.p_good) ∙ sym (append-nil (spelled (sent p far))); frames_are = whole.0; rest_is = whole_rest (sent p far) whole.1 }
 
 -- what is on its way is what was sent and hasn't come
-way_is : (p q : Role) (far near : List Item) (way : List Arrival) → Linked p q far near → IsOnTheWay p far near way → sent p far ≡ way ++ arrivals near
+pub way_is : (p q : Role) (far near : List Item) (way : List Arrival) → Linked p q far near → IsOnTheWay p far near way → sent p far ≡ way ++ arrivals near
 way_is p q far near way l on_way = (one_reading (output p far) (sent p far) (way ++ arrivals near) [] on_way.0 (all_read p q far near l) on_way.1).0
 
 pub on_its_way : (p q : Role) (far near : List Item) → Linked p q far near → (way : List Arrival) × IsOnTheWay p far near way
@@ -437,7 +437,7 @@ nothing_is_lost client server joined =
     let l = linked client server joined in
     (whole_when_quiet Client Server client.items server.items l, whole_when_quiet Server Client server.items client.items (turned Client Server client.items server.items l))
 
-balanced : (p q : Role) (far near : List Item) → Linked p q far near → IsBalanced p q far near
+pub balanced : (p q : Role) (far near : List Item) → Linked p q far near → IsBalanced p q far near
 balanced p q far near l n way back p_live q_live on_way on_back =
     let p_once = opened_once p q far near l in
     let q_once = opened_once q p near far (turned p q far near l) in

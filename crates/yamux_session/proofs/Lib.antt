@@ -27,3 +27,4 @@ pub mod OneOutcome
 pub mod Going
 pub mod Example
 pub mod Ending
+pub mod Flowing

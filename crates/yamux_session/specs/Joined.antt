@@ -9,8 +9,8 @@ use Rattle.yamux_session.specs.declared.event.Role.TheVariants.{Client, Server}
 use Rattle.yamux_session.specs.Items.{Item, Act, arrivals, is_data, is_update}
 use Rattle.yamux_session.specs.Items.Item.{Came, Did}
 use Rattle.yamux_session.specs.Items.Act.{Write}
-use Rattle.yamux_session.specs.Openings.{is_live, opens}
-use Rattle.yamux_session.specs.Windows.{credit, receiving_window}
+use Rattle.yamux_session.specs.Openings.{is_live, finished, opens}
+use Rattle.yamux_session.specs.Windows.{credit, receiving_window, untaken}
 use Rattle.yamux_session.specs.Meaning.{Told, HasNoFault, output, events, inbound}
 use Rattle.yamux_session.specs.Meaning.Told.{Opened, Accepted, Data, Ended}
 use Rattle.yamux_session.specs.Acts.{IsAnswered}
@@ -106,6 +106,17 @@ IsBalanced writer reader out come =
 abbrev pub Balance : Type 0
 Balance = (client server : End) → Joined client server
     → IsBalanced Client Server client.items server.items × IsBalanced Server Client server.items client.items
+
+-- No stream stands still: while nothing is on its way, a stream that is live at both ends, of which all that came was taken and whose
+-- end hasn't come, has more than half a window of credit
+abbrev pub IsWritable : Role → Role → List Item → List Item → Type 0
+IsWritable writer reader out come =
+    (n : ℕ) → is_live writer out n ≡ true → is_live reader come n ≡ true → finished reader come n ≡ false → untaken reader come n ≡ 0
+    → IsOnTheWay writer out come [] → IsOnTheWay reader come out [] → 131072 < credit writer out n
+
+abbrev pub NothingStandsStill : Type 0
+NothingStandsStill = (client server : End) → Joined client server
+    → IsWritable Client Server client.items server.items × IsWritable Server Client server.items client.items
 
 -- ---- there are such histories
 

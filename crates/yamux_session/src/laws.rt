@@ -2,7 +2,7 @@
 
 ghost use Rattle.yamux_session.specs.Limits.{LiveLimit, RoomForOwn, RoomForTheOther, UntakenLimit};
 ghost use Rattle.yamux_session.specs.Received.{ReceivedData};
-ghost use Rattle.yamux_session.specs.Joined.{AllBeforeTheEnd, Balance, BothGoOn, NoFault, NothingIsLost, SomeJoined};
+ghost use Rattle.yamux_session.specs.Joined.{AllBeforeTheEnd, Balance, BothGoOn, NoFault, NothingIsLost, NothingStandsStill, SomeJoined};
 ghost use Rattle.yamux_session.specs.OneOutcome.{OneOutcome};
 ghost use Rattle.yamux_session.specs.Rows.{AnswerRows, EndingRows, OpeningRows, WindowRows};
 
@@ -52,6 +52,12 @@ pub fn no_fault()
 pub fn nothing_is_lost()
     ensures live { NothingIsLost }
     ensures ended { AllBeforeTheEnd }
+{}
+
+/// No stream stands still between them: while nothing is on its way, a stream that is live at both ends, of which all that came was taken
+/// and whose end hasn't come, has more than half a window of credit.
+pub fn nothing_stands_still()
+    ensures { NothingStandsStill }
 {}
 
 /// Such sessions are: whatever was done and fed so far, what was sent can be fed and what isn't refused can be done. One of them, with

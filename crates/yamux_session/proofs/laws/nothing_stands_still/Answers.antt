@@ -1,0 +1,5 @@
+use Rattle.yamux_session.proofs.Flowing.{nothing_stands_still}
+use Rattle.yamux_session.proofs.laws.nothing_stands_still.Goals as goal
+
+pub returns : goal.returns
+returns c = nothing_stands_still
