@@ -1,5 +1,5 @@
 -- Worked rows of sessions, computed by the definitions.
-use Rattle.std.proofs.Common.{refl}
+use Rattle.std.proofs.Common.{refl, arith}
 use Rattle.yamux_session.specs.Rows.{OpeningRows, EndingRows, WindowRows, AnswerRows}
 
 pub opening_rows : OpeningRows
@@ -25,6 +25,21 @@ opening_rows = record {
   a_number_left = refl;
   no_number_left = refl;
   gone_away_first = refl;
+  data_accepted = refl;
+  payload_behind_leaving = refl;
+  started_by_a_client = refl;
+  started_by_a_server = refl;
+  live_at_a_server = refl;
+  own_number = refl;
+  twice_with_much_data = refl;
+  answered_before_the_fault = refl;
+  reopened_is_live = refl;
+  reopened_is_open = refl;
+  reopened_credit = refl;
+  reopened_window = refl;
+  reopened_untaken = refl;
+  reopened_inbound = refl;
+  reopened_goes_on = refl;
 }
 
 pub ending_rows : EndingRows
@@ -41,6 +56,16 @@ ending_rows = record {
   reset_here = refl;
   reset_here_refuses = refl;
   reset_within_a_frame = refl;
+  finished_is_live = refl;
+  finished_can_write = refl;
+  closed_is_live = refl;
+  closed_can_be_reset = refl;
+  reset_is_dead = refl;
+  reset_of_one = refl;
+  unknown_refuses = refl;
+  unknown_untaken = refl;
+  close_sent = refl;
+  reset_sent = refl;
 }
 
 pub window_rows : WindowRows
@@ -58,6 +83,28 @@ window_rows = record {
   data_behind_the_end = refl;
   credit_too_large = refl;
   no_credit_left = refl;
+  written = refl;
+  credit_left = refl;
+  credit_of_another = refl;
+  longest_piece = (omega arith, omega arith);
+  too_long_a_piece = λ is. absurd (let most = is.1 in omega arith);
+  empty_piece = λ is. absurd (let some = is.0 in omega arith);
+  credit_shown = refl;
+  credit_of_the_closed = refl;
+  credit_of_the_unknown = refl;
+  most_credit = refl;
+  too_large_at_once = refl;
+  credit_behind_the_end = refl;
+  much_data_of_the_unknown = refl;
+  much_credit_of_the_unknown = refl;
+  much_data_behind_the_end = refl;
+  window_behind_the_end = refl;
+  window_of_the_first_data = refl;
+  window_given_back = refl;
+  window_not_given_back = refl;
+  not_taken_yet = refl;
+  taken_of_another = refl;
+  data_arrived = refl;
 }
 
 pub answer_rows : AnswerRows
@@ -70,4 +117,9 @@ answer_rows = record {
   accepted_once = refl;
   its_own_not_accepted = refl;
   no_header = refl;
+  accepted_with_credit = refl;
+  accepted_with_data = refl;
+  gone_away_unanswered = refl;
+  leaving_sent = refl;
+  no_header_goes_away = refl;
 }

@@ -11,9 +11,9 @@ use Rattle.yamux_session.specs.Items.{Item}
 use Rattle.yamux_session.specs.Items.Item.{Came, Did}
 use Rattle.yamux_session.specs.Items.Act.{Start, Write, Take, Close, Reset, Leave}
 use Rattle.yamux_session.specs.Openings.{live, is_live}
-use Rattle.yamux_session.specs.Windows.{credit, receiving_window}
-use Rattle.yamux_session.specs.Acts.{next_own, start_refusal, stream_refusal, direction_refusal}
-use Rattle.yamux_session.specs.Meaning.{events, output}
+use Rattle.yamux_session.specs.Windows.{credit, receiving_window, untaken}
+use Rattle.yamux_session.specs.Acts.{IsPiece, open_credit, next_own, start_refusal, stream_refusal, direction_refusal}
+use Rattle.yamux_session.specs.Meaning.{events, output, inbound}
 use Rattle.yamux_session.specs.Meaning.Told.{Opened, Accepted, Data, Ended, WasReset, Credit, Left, Failed}
 
 abbrev pub header : FrameKind → ℕ → ℕ → ℕ → Arrival
@@ -41,6 +41,14 @@ abbrev pub opening : ℕ → ℕ → List Item
 opening zero n = []
 opening (suc count) n = opening count (n + 2) ++ bare Window 1 n 0
 
+-- a stream that was read and written, closed and ended, and is opened again
+abbrev pub reopened : List Item
+reopened = in_order (bare Window 1 1 0 ∷ (Came Tail ∷ Came (Byte 7) ∷ Came (header Payload 0 1 1) ∷ []) ∷ (Did (Write 1 ((7 ∷ 8 ∷ []) ∷ [])) ∷ []) ∷ (Did (Close 1) ∷ []) ∷ bare Window 4 1 0 ∷ bare Window 1 1 0 ∷ [])
+
+-- a stream with two bytes that came in one frame
+abbrev pub two_bytes : List Item
+two_bytes = in_order (bare Window 1 1 0 ∷ (Came Tail ∷ Came (Byte 99) ∷ Came (Byte 98) ∷ Came (header Payload 0 1 2) ∷ []) ∷ [])
+
 -- How streams are opened
 pub record OpeningRows : Type 0 where
   pub opened : events Server (bare Window 1 1 0) ≡ Opened 1 ∷ []
@@ -56,8 +64,8 @@ pub record OpeningRows : Type 0 where
   pub opened_and_reset : events Server (bare Window 9 1 0) ≡ Opened 1 ∷ WasReset 1 ∷ []
   pub opened_again : events Server (in_order (bare Window 1 1 0 ∷ (Did (Close 1) ∷ []) ∷ bare Window 4 1 0 ∷ bare Window 1 1 0 ∷ [])) ≡ Opened 1 ∷ Ended 1 ∷ Opened 1 ∷ []
   pub untold_behind_leaving : events Server (in_order ((Did (Leave 0) ∷ []) ∷ bare Window 1 1 0 ∷ [])) ≡ []
-  pub refused_behind_leaving : output Server (in_order ((Did (Leave 0) ∷ []) ∷ bare Window 1 1 0 ∷ []))
-      ≡ 0 ∷ 3 ∷ 0 ∷ 0 ∷ 0 ∷ 0 ∷ 0 ∷ 0 ∷ 0 ∷ 0 ∷ 0 ∷ 0 ∷ 0 ∷ 1 ∷ 0 ∷ 8 ∷ 0 ∷ 0 ∷ 0 ∷ 1 ∷ 0 ∷ 0 ∷ 0 ∷ 0 ∷ []
+  pub refused_behind_leaving : output Server (in_order ((Did (Leave 2) ∷ []) ∷ bare Window 1 1 0 ∷ []))
+      ≡ 0 ∷ 3 ∷ 0 ∷ 0 ∷ 0 ∷ 0 ∷ 0 ∷ 0 ∷ 0 ∷ 0 ∷ 0 ∷ 2 ∷ 0 ∷ 1 ∷ 0 ∷ 8 ∷ 0 ∷ 0 ∷ 0 ∷ 1 ∷ 0 ∷ 0 ∷ 0 ∷ 0 ∷ []
   pub twelve_live : live Server (opening 12 1) ≡ 1 ∷ 3 ∷ 5 ∷ 7 ∷ 9 ∷ 11 ∷ 13 ∷ 15 ∷ 17 ∷ 19 ∷ 21 ∷ 23 ∷ []
   pub first_of_a_client : next_own Client [] ≡ 1
   pub first_of_a_server : next_own Server [] ≡ 2
@@ -65,6 +73,22 @@ pub record OpeningRows : Type 0 where
   pub a_number_left : start_refusal Client (Did (Start 4294967293) ∷ []) ≡ None
   pub no_number_left : start_refusal Client (Did (Start 4294967295) ∷ []) ≡ Some refused.StreamsExhausted
   pub gone_away_first : start_refusal Client (in_order ((Did (Start 4294967295) ∷ []) ∷ bare GoAway 0 0 0 ∷ [])) ≡ Some refused.GoneAway
+  pub data_accepted : output Server (Came Tail ∷ Came (Byte 7) ∷ Came (header Payload 1 1 1) ∷ []) ≡ 0 ∷ 1 ∷ 0 ∷ 2 ∷ 0 ∷ 0 ∷ 0 ∷ 1 ∷ 0 ∷ 0 ∷ 0 ∷ 0 ∷ []
+  pub payload_behind_leaving : events Server (in_order ((Did (Leave 0) ∷ []) ∷ (Came Tail ∷ Came (Byte 7) ∷ Came (header Payload 1 1 1) ∷ []) ∷ [])) ≡ []
+  pub started_by_a_client : output Client (Did (Start 1) ∷ []) ≡ 0 ∷ 1 ∷ 0 ∷ 1 ∷ 0 ∷ 0 ∷ 0 ∷ 1 ∷ 0 ∷ 0 ∷ 0 ∷ 0 ∷ []
+  pub started_by_a_server : output Server (Did (Start 2) ∷ []) ≡ 0 ∷ 1 ∷ 0 ∷ 1 ∷ 0 ∷ 0 ∷ 0 ∷ 2 ∷ 0 ∷ 0 ∷ 0 ∷ 0 ∷ []
+  pub live_at_a_server : live Server (Did (Start 4) ∷ Did (Start 2) ∷ []) ≡ 2 ∷ 4 ∷ []
+  pub own_number : events Client (in_order ((Did (Start 1) ∷ []) ∷ (Came (header Window 1 1 0) ∷ []) ∷ [])) ≡ Failed WrongParity ∷ []
+  pub twice_with_much_data : events Server (in_order (bare Window 1 1 0 ∷ (Came (header Payload 1 1 262145) ∷ []) ∷ [])) ≡ Opened 1 ∷ Failed DuplicateStream ∷ []
+  pub answered_before_the_fault : output Server (in_order (bare Window 1 1 0 ∷ bare Window 1 1 0 ∷ [])) ≡ 0 ∷ 1 ∷ 0 ∷ 2 ∷ 0 ∷ 0 ∷ 0 ∷ 1 ∷ 0 ∷ 0 ∷ 0 ∷ 0 ∷ 0 ∷ 3 ∷ 0 ∷ 0 ∷ 0 ∷ 0 ∷ 0 ∷ 0 ∷ 0 ∷ 0 ∷ 0 ∷ 1 ∷ []
+  pub reopened_is_live : is_live Server reopened 1 ≡ true
+  pub reopened_is_open : direction_refusal Server reopened 1 ≡ None
+  pub reopened_credit : credit Server reopened 1 ≡ 262144
+  pub reopened_window : receiving_window Server reopened 1 ≡ 262144
+  pub reopened_untaken : untaken Server reopened 1 ≡ 0
+  pub reopened_inbound : inbound Server reopened 1 ≡ []
+  pub reopened_goes_on : events Server ((Came Tail ∷ Came (Byte 9) ∷ Came (header Payload 0 1 1) ∷ []) ++ reopened)
+      ≡ Opened 1 ∷ Data 1 7 ∷ Ended 1 ∷ Opened 1 ∷ Data 1 9 ∷ []
 
 -- How streams end
 pub record EndingRows : Type 0 where
@@ -81,6 +105,16 @@ pub record EndingRows : Type 0 where
   pub reset_here_refuses : stream_refusal Client (Did (Reset 1) ∷ all_written) 1 ≡ Some refused.NoStream
   pub reset_within_a_frame : events Server (in_order (bare Window 1 1 0 ∷ (Came (Byte 7) ∷ Came (header Payload 4 1 2) ∷ []) ∷ (Did (Reset 1) ∷ []) ∷ (Came Tail ∷ Came (Byte 8) ∷ []) ∷ []))
       ≡ Opened 1 ∷ Data 1 7 ∷ []
+  pub finished_is_live : is_live Server (in_order (bare Window 1 1 0 ∷ bare Window 4 1 0 ∷ [])) 1 ≡ true
+  pub finished_can_write : direction_refusal Server (in_order (bare Window 1 1 0 ∷ bare Window 4 1 0 ∷ [])) 1 ≡ None
+  pub closed_is_live : is_live Server (Did (Close 1) ∷ bare Window 1 1 0) 1 ≡ true
+  pub closed_can_be_reset : stream_refusal Server (Did (Close 1) ∷ bare Window 1 1 0) 1 ≡ None
+  pub reset_is_dead : is_live Server (in_order (bare Window 1 1 0 ∷ bare Window 8 1 0 ∷ [])) 1 ≡ false
+  pub reset_of_one : live Server (in_order (bare Window 1 1 0 ∷ bare Window 1 3 0 ∷ bare Window 8 1 0 ∷ [])) ≡ 3 ∷ []
+  pub unknown_refuses : direction_refusal Server [] 1 ≡ Some refused.NoStream
+  pub unknown_untaken : stream_refusal Server [] 1 ≡ Some refused.NoStream
+  pub close_sent : output Server (Did (Close 3) ∷ []) ≡ 0 ∷ 1 ∷ 0 ∷ 4 ∷ 0 ∷ 0 ∷ 0 ∷ 3 ∷ 0 ∷ 0 ∷ 0 ∷ 0 ∷ []
+  pub reset_sent : output Server (Did (Reset 3) ∷ []) ≡ 0 ∷ 1 ∷ 0 ∷ 8 ∷ 0 ∷ 0 ∷ 0 ∷ 3 ∷ 0 ∷ 0 ∷ 0 ∷ 0 ∷ []
 
 -- What the windows let through
 pub record WindowRows : Type 0 where
@@ -102,6 +136,29 @@ pub record WindowRows : Type 0 where
   pub credit_too_large : events Server (in_order (bare Window 1 1 0 ∷ bare Window 1 3 1 ∷ bare Window 0 1 4294705151 ∷ (Came (header Window 0 1 1) ∷ []) ∷ []))
       ≡ Opened 1 ∷ Opened 3 ∷ Credit 3 ∷ Credit 1 ∷ Failed WindowTooLarge ∷ []
   pub no_credit_left : credit Client all_written 1 ≡ 0
+  pub written : output Client (Did (Write 1 ((7 ∷ []) ∷ (8 ∷ 9 ∷ []) ∷ [])) ∷ [])
+      ≡ 0 ∷ 0 ∷ 0 ∷ 0 ∷ 0 ∷ 0 ∷ 0 ∷ 1 ∷ 0 ∷ 0 ∷ 0 ∷ 1 ∷ 7 ∷ 0 ∷ 0 ∷ 0 ∷ 0 ∷ 0 ∷ 0 ∷ 0 ∷ 1 ∷ 0 ∷ 0 ∷ 0 ∷ 2 ∷ 8 ∷ 9 ∷ []
+  pub credit_left : credit Client (Did (Write 1 ((7 ∷ []) ∷ (8 ∷ 9 ∷ []) ∷ [])) ∷ Did (Start 1) ∷ []) 1 ≡ 262141
+  pub credit_of_another : credit Client (Did (Write 3 ((7 ∷ []) ∷ [])) ∷ Did (Start 3) ∷ Did (Start 1) ∷ []) 1 ≡ 262144
+  pub longest_piece : IsPiece (replicate 16384 0)
+  pub too_long_a_piece : IsPiece (replicate 16385 0) → ⊥
+  pub empty_piece : IsPiece [] → ⊥
+  pub credit_shown : open_credit Server (bare Window 1 1 5) 1 ≡ Some 262149
+  pub credit_of_the_closed : open_credit Server (Did (Close 1) ∷ bare Window 1 1 5) 1 ≡ None
+  pub credit_of_the_unknown : open_credit Server [] 1 ≡ None
+  pub most_credit : events Server (bare Window 1 1 4294705151) ≡ Opened 1 ∷ Credit 1 ∷ []
+  pub too_large_at_once : events Server (Came (header Window 1 1 4294705152) ∷ []) ≡ Failed WindowTooLarge ∷ []
+  pub credit_behind_the_end : events Server (in_order (bare Window 1 1 0 ∷ bare Window 4 1 0 ∷ bare Window 0 1 5 ∷ [])) ≡ Opened 1 ∷ Ended 1 ∷ Credit 1 ∷ []
+  pub much_data_of_the_unknown : events Server (Came (header Payload 0 9 262145) ∷ []) ≡ []
+  pub much_credit_of_the_unknown : events Server (Came (header Window 0 9 4294967295) ∷ []) ≡ []
+  pub much_data_behind_the_end : events Server (in_order (bare Window 1 1 0 ∷ bare Window 4 1 0 ∷ (Came (header Payload 0 1 262145) ∷ []) ∷ [])) ≡ Opened 1 ∷ Ended 1 ∷ []
+  pub window_behind_the_end : receiving_window Server (in_order (bare Window 1 1 0 ∷ bare Window 4 1 0 ∷ (Came (header Payload 0 1 5) ∷ []) ∷ [])) 1 ≡ 262144
+  pub window_of_the_first_data : receiving_window Server (Came (header Payload 1 1 2) ∷ []) 1 ≡ 262142
+  pub window_given_back : receiving_window Server (Did (Take 1 131072) ∷ full_window) 1 ≡ 131072
+  pub window_not_given_back : receiving_window Server (Did (Take 1 131071) ∷ full_window) 1 ≡ 0
+  pub not_taken_yet : untaken Server (Did (Take 1 1) ∷ two_bytes) 1 ≡ 1
+  pub taken_of_another : untaken Server (Did (Take 3 1) ∷ two_bytes) 1 ≡ 2
+  pub data_arrived : inbound Server two_bytes 1 ≡ 98 ∷ 99 ∷ []
 
 -- What is about no stream, and what is accepted
 pub record AnswerRows : Type 0 where
@@ -113,3 +170,8 @@ pub record AnswerRows : Type 0 where
   pub accepted_once : events Client (in_order ((Did (Start 1) ∷ []) ∷ bare Window 2 1 0 ∷ bare Window 2 1 0 ∷ [])) ≡ Accepted 1 ∷ []
   pub its_own_not_accepted : events Server (in_order (bare Window 1 1 0 ∷ bare Window 2 1 0 ∷ [])) ≡ Opened 1 ∷ []
   pub no_header : events Server (Came (Garbled (1 ∷ [])) ∷ []) ≡ Failed BadFrame ∷ []
+  pub accepted_with_credit : events Client (in_order ((Did (Start 1) ∷ []) ∷ bare Window 2 1 5 ∷ [])) ≡ Accepted 1 ∷ Credit 1 ∷ []
+  pub accepted_with_data : events Client (in_order ((Did (Start 1) ∷ []) ∷ (Came Tail ∷ Came (Byte 7) ∷ Came (header Payload 2 1 1) ∷ []) ∷ [])) ≡ Accepted 1 ∷ Data 1 7 ∷ []
+  pub gone_away_unanswered : output Server (bare GoAway 1 0 0) ≡ []
+  pub leaving_sent : output Server (Did (Leave 258) ∷ []) ≡ 0 ∷ 3 ∷ 0 ∷ 0 ∷ 0 ∷ 0 ∷ 0 ∷ 0 ∷ 0 ∷ 0 ∷ 1 ∷ 2 ∷ []
+  pub no_header_goes_away : output Server (Came (Garbled (1 ∷ [])) ∷ []) ≡ 0 ∷ 3 ∷ 0 ∷ 0 ∷ 0 ∷ 0 ∷ 0 ∷ 0 ∷ 0 ∷ 0 ∷ 0 ∷ 1 ∷ []
