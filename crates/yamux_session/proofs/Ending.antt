@@ -3,7 +3,7 @@ use Rattle.std.proofs.Common.{◌≡◌, ℕ, ◌<◌, ◌≤◌, Bool, true, fa
 use Rattle.std.specs.List.{list_any}
 use Rattle.std.proofs.lemmas.List.{append-nil}
 use Rattle.std.proofs.lemmas.List.Folds.{list_any-append}
-use Rattle.std.proofs.lemmas.Bool.{eqb-true}
+use Rattle.std.proofs.lemmas.Bool.{eqb-true, eq-eqb}
 use Rattle.yamux_frames.specs.declared.header.Header.{Header}
 use Rattle.yamux_frames.specs.Frames.{Arrival, AreFrames}
 use Rattle.yamux_frames.specs.Frames.Arrival.{Head, Byte, Tail, Garbled}
@@ -16,7 +16,7 @@ use Rattle.yamux_session.specs.Openings.{is_live, opens, reading, is_reading, fi
 use Rattle.yamux_session.specs.Windows.{accepted}
 use Rattle.yamux_session.specs.Meaning.{Told, HasNoFault, when, events, events_at, events_unless, fault_at, head_events, tail_events, byte_told, taker, inbound}
 use Rattle.yamux_session.specs.Meaning.Told.{Opened, Accepted, Ended, WasReset, Credit, Left}
-use Rattle.yamux_session.specs.Joined.{is_end, IsWholeAtEnd, AllBeforeTheEnd}
+use Rattle.yamux_session.specs.Joined.{IsWholeAtEnd, AllBeforeTheEnd}
 use Rattle.yamux_session.proofs.Lists.{and_parts}
 use Rattle.yamux_session.proofs.Keeping.{and_false}
 use Rattle.yamux_session.proofs.Live.{or_none_true}
@@ -29,6 +29,19 @@ use Rattle.yamux_session.proofs.Delivered.{bytes_of, sent_written, data_open, de
 use Rattle.yamux_session.proofs.Joining.{Linked, linked, turned, opened_once, came_turn}
 
 -- ---- where an end is told
+
+abbrev is_end : ℕ → Told → Bool
+is_end n (Ended m) = m == n
+is_end n x = false
+
+or_true : (b : Bool) → b || true ≡ true
+or_true true = refl
+or_true false = refl
+
+is_told : (n : ℕ) (told before after : List Told) → told ≡ before ++ Ended n ∷ after → list_any (is_end n) told ≡ true
+is_told n told before after e =
+    ap (list_any (is_end n)) e ∙ list_any-append (is_end n) before (Ended n ∷ after)
+    ∙ ap (λ b. list_any (is_end n) before || (b || list_any (is_end n) after)) (eq-eqb n n refl) ∙ or_true (list_any (is_end n) before)
 
 none_when : (n : ℕ) (b : Bool) (told : Told) → is_end n told ≡ false → list_any (is_end n) (when b told) ≡ false
 none_when n true told none = ap (λ b. b || false) none
@@ -113,10 +126,6 @@ no_byte_of : (n b : ℕ) (xs : List Arrival) (c : Bool) → is_reading (head_at 
 no_byte_of n b xs true is frames turn came = absurd (let none = data_open n xs turn frames.0 is in omega arith)
 no_byte_of n b xs false is frames turn came = ap (λ t. cond t (b ∷ []) []) is
 
-or_true : (b : Bool) → b || true ≡ true
-or_true true = refl
-or_true false = refl
-
 still_over : (role : Role) (past : List Item) (x : Item) (n : ℕ) → NoneBefore role n (x ∷ past) → AreFrames (arrivals (x ∷ past)) → AreInTurn (arrivals past) → IsOver role n past → IsOver role n (x ∷ past)
 still_over role past x n none frames turn before = record {
   over = ap (λ b. not b && (finishes (reading role past) x n || finished role past n)) shut ∙ ap (λ b. finishes (reading role past) x n || b) before.over ∙ or_true (finishes (reading role past) x n);
@@ -178,9 +187,9 @@ no_more_bytes n (Tail ∷ newer) older frames turn came = no_more_bytes n newer 
 no_more_bytes n (Garbled bytes ∷ newer) older frames turn came = no_more_bytes n newer older frames.2 turn.1 came
 
 whole_at_end : (p q : Role) (far near : List Item) → Linked p q far near → IsWholeAtEnd p q far near
-whole_at_end p q far near l n told =
+whole_at_end p q far near l n before after e =
     let once = opened_once p q far near l in
-    let over = told_over q near n l.q_good (l.q_none n) l.q_frames (came_turn p q far near l) told in
+    let over = told_over q near n l.q_good (l.q_none n) l.q_frames (came_turn p q far near l) (is_told n (events q near) before after e) in
     over.whole
     ∙ sym (no_more_bytes n l.way.0 (arrivals near) (subst AreFrames l.way.1 (sent_frames p far l.p_answered l.p_good l.p_frames).0)
     (subst AreInTurn l.way.1 (sent_turn p far l.p_answered l.p_good once)) (finished_came q near n over.over))

@@ -13,9 +13,9 @@ use Rattle.yamux_frames.proofs.Readings.{one_reading}
 use Rattle.yamux_session.specs.declared.event.Role.TheVariants.{Client, Server}
 use Rattle.yamux_session.specs.Items.{Item, arrivals}
 use Rattle.yamux_session.specs.Items.Item.{Came, Did}
-use Rattle.yamux_session.specs.Items.Act.{Start, Write}
+use Rattle.yamux_session.specs.Items.Act.{Start, Write, Close}
 use Rattle.yamux_session.specs.Meaning.{output}
-use Rattle.yamux_session.specs.Joined.{End, Joined, at_first, SomeJoined}
+use Rattle.yamux_session.specs.Joined.{End, Joined, at_first, JoinedRow, EndedRow, SomeJoined}
 use Rattle.yamux_session.specs.Joined.Joined.{Begin, Client_acts}
 use Rattle.yamux_session.proofs.Sent.{header}
 use Rattle.yamux_session.proofs.Lists.{and_parts}
@@ -86,8 +86,21 @@ accepted_frames = (tt, refl, (tt, fits (header Window 2 1 0) (omega arith) (omeg
 half_frames : AreFrames (half ++ opened)
 half_frames = (omega arith, (tt, fits (header Payload 0 1 2) (omega arith) (omega arith) (omega arith), opened_frames))
 
-whole_frames : AreFrames (Tail ∷ Byte 8 ∷ half ++ opened)
-whole_frames = (tt, refl, (omega arith, half_frames))
+-- what the client still has sent, up to the end of its second frame, and its FIN
+abbrev second : List Arrival
+second = Tail ∷ Byte 9 ∷ Head (header Payload 0 1 1) ∷ Tail ∷ Byte 8 ∷ []
+
+abbrev last : List Arrival
+last = Tail ∷ Head (header Window 4 1 0) ∷ second
+
+abbrev last_bytes : List ℕ
+last_bytes = 8 ∷ 0 ∷ 0 ∷ 0 ∷ 0 ∷ 0 ∷ 0 ∷ 0 ∷ 1 ∷ 0 ∷ 0 ∷ 0 ∷ 1 ∷ 9 ∷ 0 ∷ 1 ∷ 0 ∷ 4 ∷ 0 ∷ 0 ∷ 0 ∷ 1 ∷ 0 ∷ 0 ∷ 0 ∷ 0 ∷ []
+
+second_frames : AreFrames (second ++ half ++ opened)
+second_frames = (tt, refl, (omega arith, (tt, fits (header Payload 0 1 1) (omega arith) (omega arith) (omega arith), (tt, refl, (omega arith, half_frames)))))
+
+last_frames : AreFrames (last ++ half ++ opened)
+last_frames = (tt, refl, (tt, fits (header Window 4 1 0) (omega arith) (omega arith) (omega arith), second_frames))
 
 started : End
 started = record { items = Did (Start 1) ∷ []; fed = [] }
@@ -99,10 +112,16 @@ started_here : End
 started_here = record { items = map Came accepted ++ Did (Start 1) ∷ []; fed = answer }
 
 wrote_here : End
-wrote_here = record { items = Did (Write 1 ((7 ∷ 8 ∷ []) ∷ [])) ∷ map Came accepted ++ Did (Start 1) ∷ []; fed = answer }
+wrote_here = record { items = Did (Write 1 ((7 ∷ 8 ∷ []) ∷ (9 ∷ []) ∷ [])) ∷ map Came accepted ++ Did (Start 1) ∷ []; fed = answer }
 
 half_here : End
 half_here = record { items = map Came half ++ map Came opened; fed = opening ++ one_byte }
+
+closed_here : End
+closed_here = record { items = Did (Close 1) ∷ Did (Write 1 ((7 ∷ 8 ∷ []) ∷ (9 ∷ []) ∷ [])) ∷ map Came accepted ++ Did (Start 1) ∷ []; fed = answer }
+
+all_here : End
+all_here = record { items = map Came last ++ (map Came half ++ map Came opened); fed = (opening ++ one_byte) ++ last_bytes }
 
 start_joined : Joined started at_first
 unfolding started
@@ -118,26 +137,38 @@ accepted_joined = client_reads started opened_here answer accepted [] opened_joi
 
 written_joined : Joined wrote_here opened_here
 unfolding started_here wrote_here
-written_joined = Client_acts accepted_joined (record { answered = (refl, ((omega arith, omega arith), tt), omega arith); items = refl; fed = refl })
+written_joined = Client_acts accepted_joined (record { answered = (refl, ((omega arith, omega arith), ((omega arith, omega arith), tt)), omega arith); items = refl; fed = refl })
 
 half_joined : Joined wrote_here half_here
 unfolding opened_here wrote_here half_here
-half_joined = server_reads wrote_here opened_here one_byte half [] written_joined (are_bytes (opening ++ one_byte) refl) (8 ∷ [], refl) (record { whole = refl; frames_are = half_frames; rest_is = (omega arith, refl) })
+half_joined = server_reads wrote_here opened_here one_byte half [] written_joined (are_bytes (opening ++ one_byte) refl)
+    (8 ∷ 0 ∷ 0 ∷ 0 ∷ 0 ∷ 0 ∷ 0 ∷ 0 ∷ 1 ∷ 0 ∷ 0 ∷ 0 ∷ 1 ∷ 9 ∷ [], refl) (record { whole = refl; frames_are = half_frames; rest_is = (omega arith, refl) })
+
+closed_joined : Joined closed_here half_here
+unfolding wrote_here closed_here
+closed_joined = Client_acts half_joined (record { answered = refl; items = refl; fed = refl })
+
+all_joined : Joined closed_here all_here
+unfolding half_here closed_here all_here
+all_joined = server_reads closed_here half_here last_bytes last [] closed_joined (are_bytes ((opening ++ one_byte) ++ last_bytes) refl) ([], refl) (record { whole = refl; frames_are = last_frames; rest_is = omega arith })
+
+joined_row : JoinedRow wrote_here half_here
+unfolding wrote_here half_here
+joined_row = record {
+  joined = half_joined;
+  client_told = refl;
+  server_told = refl;
+  wrote = refl;
+  arrived = refl;
+  way = ([], record { whole = refl; frames_are = second_frames; rest_is = omega arith });
+  way_back = ([], record { whole = refl; frames_are = accepted_frames; rest_is = omega arith });
+  windows = (refl, refl);
+  windows_back = (refl, refl);
+}
+
+ended_row : EndedRow closed_here all_here
+unfolding closed_here all_here
+ended_row = record { joined = all_joined; server_told = refl; wrote = refl; arrived = refl; way = ([], record { whole = refl; frames_are = last_frames; rest_is = omega arith }) }
 
 pub some_joined : SomeJoined
-unfolding wrote_here half_here
-some_joined = (
-  wrote_here,
-  half_here,
-  record {
-    joined = half_joined;
-    client_told = refl;
-    server_told = refl;
-    wrote = refl;
-    arrived = refl;
-    way = ([], record { whole = refl; frames_are = whole_frames; rest_is = omega arith });
-    way_back = ([], record { whole = refl; frames_are = accepted_frames; rest_is = omega arith });
-    windows = (refl, refl);
-    windows_back = (refl, refl);
-  },
-)
+some_joined = ((wrote_here, half_here, joined_row), (closed_here, all_here, ended_row))

@@ -28,3 +28,4 @@ pub mod Going
 pub mod Example
 pub mod Ending
 pub mod Flowing
+pub mod OneRefusal

@@ -1,5 +1,5 @@
 -- The joined events of data of a stream are what arrived for it.
-use Rattle.std.proofs.Common.{◌≡◌, ◌≢◌, ◌⊎◌, inl, inr, append_assoc, ℕ, ◌≤◌, Bool, true, false, ◌&&◌, ◌||◌, not, ◌==◌, cond, nat_lt, List, [], ◌∷◌, ◌++◌, Option, Some, None, refl, sym, ap, ◌∙◌, arith}
+use Rattle.std.proofs.Common.{◌≡◌, ◌≢◌, ◌⊎◌, inl, inr, append_assoc, ℕ, ◌≤◌, Bool, true, false, ◌&&◌, ◌||◌, not, ◌==◌, cond, nat_lt, List, [], ◌∷◌, ◌++◌, Option, Some, None, refl, sym, ap, ◌∙◌, subst, arith}
 use Rattle.std.proofs.lemmas.List.{append-nil}
 use Rattle.std.specs.List.{AllByRecursion, flat_map}
 use Rattle.std.proofs.lemmas.Bool.{eqb-true}
@@ -14,7 +14,7 @@ use Rattle.yamux_session.specs.Windows.{accepted}
 use Rattle.yamux_session.specs.Meaning.{Told, HasNoFault, when, head_events, tail_events, tail_told, taker, byte_told, events, events_at, events_unless, inbound, byte_at}
 use Rattle.yamux_session.specs.Meaning.Told.{Opened, Accepted, Data, Ended, WasReset, Credit, Left}
 use Rattle.yamux_session.specs.Acts.{AreAnswered, next_own}
-use Rattle.yamux_session.specs.Received.{data_in, AreSinceOpening, ReceivedData}
+use Rattle.yamux_session.specs.Received.{data_in, AreSinceOpening, ReceivedData, SomeSince}
 use Rattle.yamux_session.proofs.Live.{below, own_next}
 
 -- ---- joining
@@ -228,3 +228,35 @@ since_opening_joined n told since at = by at.parts
 
 pub received : ReceivedData
 received role past n since a good at = sym (since_opening_joined n (events role past) since at) ∙ all_received role past n a good
+
+-- there are always events since the opening
+since_none : (n : ℕ) (x : Told) (told : List Told) → x ≢ Opened n → (since : List Told) × AreSinceOpening n told since → (since : List Told) × AreSinceOpening n (x ∷ told) since
+since_none n x told other before = elim before.1.parts [
+  | inl e ↦ (before.0, record { before = x ∷ before.1.before; parts = inl (ap (λ (t : List Told). x ∷ t) e); opens_none = before.1.opens_none })
+  | inr e ↦ (x ∷ told, record { before = []; parts = inr refl; opens_none = (other, subst (AllByRecursion (λ t. t ≢ Opened n)) (sym e) before.1.opens_none) })
+]
+
+since_one : (n m : ℕ) (told : List Told) (same : Bool) → (m == n) ≡ same → (since : List Told) × AreSinceOpening n told since → (since : List Told) × AreSinceOpening n (Opened m ∷ told) since
+since_one n m told false other before = since_none n (Opened m) told (λ e. let same : m ≡ n = cc e in let is : (m == n) ≡ true = Rattle.std.proofs.lemmas.Bool.eq-eqb m n same in (let f : true ≡ false = sym is ∙ other in cc)) before
+since_one n m told true is before = elim before.1.parts [
+  | inl e ↦ (before.0, record { before = Opened m ∷ before.1.before; parts = inl (ap (λ (t : List Told). Opened m ∷ t) e); opens_none = before.1.opens_none })
+  | inr e ↦ (
+      told,
+      record {
+        before = [];
+        parts = inl (ap (λ k. Opened k ∷ told) (eqb-true m n is));
+        opens_none = subst (AllByRecursion (λ t. t ≢ Opened n)) (sym e) before.1.opens_none;
+      },
+    )
+]
+
+pub some_since : SomeSince
+some_since n [] = ([], record { before = []; parts = inr refl; opens_none = tt })
+some_since n (Opened m ∷ told) = since_one n m told (m == n) refl (some_since n told)
+some_since n (Data m b ∷ told) = since_none n (Data m b) told (λ e. cc) (some_since n told)
+some_since n (Accepted m ∷ told) = since_none n (Accepted m) told (λ e. cc) (some_since n told)
+some_since n (Ended m ∷ told) = since_none n (Ended m) told (λ e. cc) (some_since n told)
+some_since n (WasReset m ∷ told) = since_none n (WasReset m) told (λ e. cc) (some_since n told)
+some_since n (Credit m ∷ told) = since_none n (Credit m) told (λ e. cc) (some_since n told)
+some_since n (Left code ∷ told) = since_none n (Left code) told (λ e. cc) (some_since n told)
+some_since n (Told.Failed fault ∷ told) = since_none n (Told.Failed fault) told (λ e. cc) (some_since n told)

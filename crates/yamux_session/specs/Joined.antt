@@ -1,7 +1,8 @@
 -- Two sessions, one of each role, joined by pipes that deliver what was sent, under any schedule.
-use Rattle.std.specs.Prelude.{◌≡◌, ℕ, Bool, ◌<◌, ◌==◌, ◌&&◌, true, false, ◌+◌, if◌then◌else◌, List, [], ◌∷◌, ◌++◌, map, sum_by}
-use Rattle.std.specs.List.{concat, list_any, AllByRecursion}
+use Rattle.std.specs.Prelude.{◌≡◌, ℕ, ◌<◌, ◌==◌, ◌&&◌, true, false, ◌+◌, if◌then◌else◌, List, [], ◌∷◌, ◌++◌, map, sum_by}
+use Rattle.std.specs.List.{concat, AllByRecursion}
 use mathlib.Core.List.{IsPrefix}
+use Rattle.yamux_frames.specs.declared.header.FrameKind.TheVariants.{Payload}
 use Rattle.yamux_frames.specs.Frames.{Arrival, Reads}
 use Rattle.yamux_frames.specs.Frames.Arrival.{Head, Byte, Tail}
 use Rattle.yamux_session.specs.declared.event.Role.{Role}
@@ -82,14 +83,10 @@ abbrev pub NothingIsLost : Type 0
 NothingIsLost = (client server : End) → Joined client server
     → IsWhole Client Server client.items server.items × IsWhole Server Client server.items client.items
 
--- the end of the stream was told
-abbrev pub is_end : ℕ → Told → Bool
-is_end n (Ended m) = m == n
-is_end n x = false
-
 -- Once its end was told, a stream has all that was let through, whatever is on its way
 abbrev pub IsWholeAtEnd : Role → Role → List Item → List Item → Type 0
-IsWholeAtEnd writer reader out come = (n : ℕ) → list_any (is_end n) (events reader come) ≡ true → inbound reader come n ≡ written writer out n
+IsWholeAtEnd writer reader out come =
+    (n : ℕ) (before after : List Told) → events reader come ≡ before ++ Ended n ∷ after → inbound reader come n ≡ written writer out n
 
 abbrev pub AllBeforeTheEnd : Type 0
 AllBeforeTheEnd = (client server : End) → Joined client server
@@ -132,17 +129,25 @@ abbrev pub BothGoOn : Type 0
 BothGoOn = (client server : End) → Joined client server
     → GoesOn Client Server client server (λ new. Joined new server) × GoesOn Server Client server client (λ new. Joined client new)
 
--- one of them: the client's stream 1 is accepted, and of two bytes that the client wrote the first has come
+-- One of them: the client's stream 1 is accepted. The client has written three bytes in two frames, of which the first byte has come
 pub record JoinedRow (client server : End) : Type 0 where
   pub joined : Joined client server
   pub client_told : events Client client.items ≡ Accepted 1 ∷ []
   pub server_told : events Server server.items ≡ Opened 1 ∷ Data 1 7 ∷ []
-  pub wrote : written Client client.items 1 ≡ 7 ∷ 8 ∷ []
+  pub wrote : written Client client.items 1 ≡ 7 ∷ 8 ∷ 9 ∷ []
   pub arrived : inbound Server server.items 1 ≡ 7 ∷ []
-  pub way : IsOnTheWay Client client.items server.items (Tail ∷ Byte 8 ∷ [])
+  pub way : IsOnTheWay Client client.items server.items (Tail ∷ Byte 9 ∷ Head (record { kind = Payload; flags = 0; stream = 1; length = 1 }) ∷ Tail ∷ Byte 8 ∷ [])
   pub way_back : IsOnTheWay Server server.items client.items []
-  pub windows : (receiving_window Server server.items 1 ≡ 262142) × (credit Client client.items 1 ≡ 262142)
+  pub windows : (receiving_window Server server.items 1 ≡ 262142) × (credit Client client.items 1 ≡ 262141)
   pub windows_back : (receiving_window Client client.items 1 ≡ 262144) × (credit Server server.items 1 ≡ 262144)
 
+-- and later: the client has closed its direction, and all has come
+pub record EndedRow (client server : End) : Type 0 where
+  pub joined : Joined client server
+  pub server_told : events Server server.items ≡ Opened 1 ∷ Data 1 7 ∷ Data 1 8 ∷ Data 1 9 ∷ Ended 1 ∷ []
+  pub wrote : written Client client.items 1 ≡ 7 ∷ 8 ∷ 9 ∷ []
+  pub arrived : inbound Server server.items 1 ≡ 7 ∷ 8 ∷ 9 ∷ []
+  pub way : IsOnTheWay Client client.items server.items []
+
 abbrev pub SomeJoined : Type 0
-SomeJoined = (client server : End) × JoinedRow client server
+SomeJoined = ((client server : End) × JoinedRow client server) × ((client server : End) × EndedRow client server)

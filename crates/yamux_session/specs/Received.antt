@@ -22,3 +22,7 @@ pub record AreSinceOpening (n : ℕ) (told since : List Told) : Type 0 where
 abbrev pub ReceivedData : Type 0
 ReceivedData = (role : Role) (past : List Item) (n : ℕ) (since : List Told) → AreAnswered role past → HasNoFault role past
     → AreSinceOpening n (events role past) since → flat_map (data_in n) since ≡ inbound role past n
+
+-- there are always such events
+abbrev pub SomeSince : Type 0
+SomeSince = (n : ℕ) (told : List Told) → (since : List Told) × AreSinceOpening n told since

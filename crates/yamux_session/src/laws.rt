@@ -1,7 +1,8 @@
 //! What holds of every history of a session.
 
 ghost use Rattle.yamux_session.specs.Limits.{LiveLimit, RoomForOwn, RoomForTheOther, UntakenLimit};
-ghost use Rattle.yamux_session.specs.Received.{ReceivedData};
+ghost use Rattle.yamux_session.specs.Acts.{OneRefusal};
+ghost use Rattle.yamux_session.specs.Received.{ReceivedData, SomeSince};
 ghost use Rattle.yamux_session.specs.Joined.{AllBeforeTheEnd, Balance, BothGoOn, NoFault, NothingIsLost, NothingStandsStill, SomeJoined};
 ghost use Rattle.yamux_session.specs.OneOutcome.{OneOutcome};
 ghost use Rattle.yamux_session.specs.Rows.{AnswerRows, EndingRows, OpeningRows, WindowRows};
@@ -30,9 +31,10 @@ pub fn untaken_limit()
     ensures { UntakenLimit }
 {}
 
-/// The Payload events of a stream since its opening, joined, are the data that arrived for it.
+/// While a session has no fault, the Payload events of a stream since its opening, joined, are the data that arrived for it.
 pub fn received_data()
-    ensures { ReceivedData }
+    ensures data { ReceivedData }
+    ensures since { SomeSince }
 {}
 
 /// Two sessions, one of each role, each fed what the other has sent, under any schedule: while a stream is live at both ends, the
@@ -70,4 +72,9 @@ pub fn they_go_on()
 /// The clause of a `feed` determines what it tells, but for how data is cut, whether the session has failed, and the output.
 pub fn one_outcome()
     ensures { OneOutcome }
+{}
+
+/// A call is refused for one reason: the first that there is, or want of memory where there is none.
+pub fn one_refusal()
+    ensures { OneRefusal }
 {}
