@@ -12,10 +12,13 @@ use Rattle.yamux_frames.specs.Spelling.{header_bytes, payload_length, HasFault}
 use Rattle.yamux_frames.specs.Place.{Place}
 use Rattle.yamux_frames.specs.Frames.{Arrival, spelled, bytes_left, IsWithin, AreFrames, IsRest, IsSound, StandsAt, StopsIn, with_bytes}
 use Rattle.yamux_frames.specs.Frames.Arrival.{Head, Tail, Garbled}
-use Rattle.yamux_frames.specs.OneAnswer.{IsAllowed, OneAnswer, AnswerOrFault, OneFault}
+use Rattle.yamux_frames.specs.OneAnswer.{IsAllowed, AreAllowed, OneAnswer, AnswerOrFault, OneFault}
 use Rattle.yamux_frames.proofs.Front.{one_header, no_header, twelve, between_none, not_both, same_front}
 use Rattle.yamux_frames.proofs.Frames.{within, between, bytes_spelled, bytes_after, bytes_within, take_whole, bytes_fit}
 use Rattle.yamux_frames.proofs.Readings.{no_more}
+
+pub are_allowed : AreAllowed
+are_allowed bytes past piece used cut new uses frames longest exact stream = record { uses = uses; frames = frames; longest = longest; exact = exact; stream = stream }
 
 -- ---- what each answer says
 

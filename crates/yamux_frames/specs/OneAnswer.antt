@@ -13,6 +13,12 @@ pub record IsAllowed (bytes : List ℕ) (past : List Arrival) (piece : List ℕ)
   pub exact : EndsExactly cut new
   pub stream : IsOfLast past cut
 
+-- nothing else is asked
+abbrev pub AreAllowed : Type 0
+AreAllowed = (bytes : List ℕ) (past : List Arrival) (piece : List ℕ) (used : ℕ) (cut : Cut) (new : Place)
+    → Uses piece used cut → StandsAt (bytes ++ take used piece) (with_cut (take used piece) cut past) new → IsLongest piece cut → EndsExactly cut new
+    → IsOfLast past cut → IsAllowed bytes past piece used cut new
+
 -- two answers to the same piece, from where the cutter stands, are one
 abbrev pub OneAnswer : Type 0
 OneAnswer = (bytes : List ℕ) (past : List Arrival) (piece : List ℕ) (old : Place) (used n : ℕ) (cut other : Cut) (new place : Place)

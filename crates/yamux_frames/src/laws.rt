@@ -2,7 +2,7 @@
 
 ghost use Rattle.std.specs.Prelude.{◌≡◌};
 ghost use Rattle.yamux_frames.specs.Frames.{OneReading, SomeReading};
-ghost use Rattle.yamux_frames.specs.OneAnswer.{OneAnswer, AnswerOrFault, OneFault};
+ghost use Rattle.yamux_frames.specs.OneAnswer.{AreAllowed, OneAnswer, AnswerOrFault, OneFault};
 
 use crate::header::Header;
 
@@ -19,6 +19,7 @@ pub fn some_reading()
 /// The clauses of `Cutter::feed` determine its answer: from where a cutter stands, no two answers to a piece are allowed, no two faults,
 /// and not both an answer and a fault.
 pub fn one_answer()
+    ensures allowed { AreAllowed }
     ensures answer { OneAnswer }
     ensures either { AnswerOrFault }
     ensures fault { OneFault }

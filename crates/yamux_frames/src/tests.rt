@@ -150,6 +150,7 @@ fn numbers_and_texts_of_faults(rt: HostRuntime) -> Result<(), Fail> {
     ];
     for (index, (fault, text)) in faults.iter().enumerate() {
         assert_eq!(rt; *fault as usize, index + 1);
+        assert_eq!(rt; fault.clone()?, *fault);
         assert_eq!(rt; format!(in rt.alloc(); "{fault}")?.as_str(), *text);
         for (place, (other, _)) in faults.iter().enumerate() {
             assert_eq!(rt; fault == other, index == place);
@@ -159,7 +160,7 @@ fn numbers_and_texts_of_faults(rt: HostRuntime) -> Result<(), Fail> {
 }
 
 #[test]
-fn numbers_of_kinds(rt: HostRuntime) {
+fn numbers_of_kinds(rt: HostRuntime) -> Result<(), Fail> {
     let kinds = [
         FrameKind::Payload,
         FrameKind::Window,
@@ -168,14 +169,16 @@ fn numbers_of_kinds(rt: HostRuntime) {
     ];
     for (index, kind) in kinds.iter().enumerate() {
         assert_eq!(rt; *kind as usize, index);
+        assert_eq!(rt; kind.clone()?, *kind);
         for (place, other) in kinds.iter().enumerate() {
             assert_eq!(rt; kind == other, index == place);
         }
     }
+    Ok(())
 }
 
 #[test]
-fn cuts_are_told_apart(rt: HostRuntime) {
+fn cuts_are_told_apart(rt: HostRuntime) -> Result<(), Fail> {
     let part = |stream, from, to, last| Cut::Part {
         stream,
         from,
@@ -191,10 +194,12 @@ fn cuts_are_told_apart(rt: HostRuntime) {
         part(1, 0, 2, true),
     ];
     for (index, cut) in cuts.iter().enumerate() {
+        assert_eq!(rt; cut.clone()?, *cut);
         for (place, other) in cuts.iter().enumerate() {
             assert_eq!(rt; cut == other, index == place);
         }
     }
+    Ok(())
 }
 
 #[test]

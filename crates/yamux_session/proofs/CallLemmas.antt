@@ -118,7 +118,7 @@ takes role point n count old new r ok err memory same fails at =
     let P : Role → List Item → ActRefused → Type 0 = λ role past. IsRefusedFor (stream_refusal role past n) in
     let Q : Role → List Item → Type 0 = λ role past. 0 < given_back role n past (Did (Take n (min count (untaken role past n)))) in
     acts role point (act.Taken n count) old new r (WithMemory P Q) (λ role past. Did (Take n (min count (untaken role past n))))
-    (λ past fed next now e. (now.answered.0.0, e)) (λ past fed refusal next why e. (why.0, why.1, e)) ok (both old P Q r err memory) same fails at
+    (λ past fed next now e. (now.answered.0, e)) (λ past fed refusal next why e. (why.0, why.1, e)) ok (both old P Q r err memory) same fails at
 
 pub closes : (role : Role) (point : Point) (n : ℕ) (old new : State) (r : Result (Unit {0}) ActRefused)
     → OnOk r (AddsAct old new (λ role past. Did (Close n)))
@@ -140,7 +140,7 @@ pub leaves : (role : Role) (point : Point) (code : ℕ) (old new : State) (r : R
     → OnOk r (AddsAct old new (λ role past. Did (Leave code)))
     → IfErr r (λ refusal. old.failed ≡ false → refusal ≡ refused.OutOfMemory)
     → OnErr r (new ≡ old) → FailsOn r old new → IsAt role point old → Leads role point (act.GoAway code) (done_or r) new
-leaves role (At past fed) code old new (Ok x) ok err same fails at = let now = ok role past fed [] at in (At (Did (Leave code) ∷ past) fed, refl, now)
+leaves role (At past fed) code old new (Ok x) ok err same fails at = let now = ok role past fed [] at in (At (Did (Leave code) ∷ past) fed, (now.answered.0, refl), now)
 leaves role (At past fed) code old new (Err refusal) ok err same fails at =
     (At past fed, (err at.going, refl), subst (λ (s : State). Stands role past fed [] s) (sym same) at)
 leaves role (Over out) code old new (Ok x) ok err same fails at = absurd (let e = (fails at.0).0 in cc)
@@ -159,7 +159,7 @@ then_one role first mid last (a ∷ calls) (x ∷ answers) call answer all one =
 
 pub starts : (role : Role) (point : Point) (old new : State) (n : ℕ) → ((role : Role) (past : List Item) (fed sent : List ℕ) → Stands role past fed sent old → Stands role (Did (Start n) ∷ past) fed sent new)
     → (old.failed ≡ true → ⊥) → IsAt role point old → Leads role point act.Start (Stream n) new
-starts role (At past fed) old new n ok going at = let now = ok role past fed [] at in (At (Did (Start n) ∷ past) fed, (now.answered.0.0, now.answered.0.1, refl), now)
+starts role (At past fed) old new n ok going at = let now = ok role past fed [] at in (At (Did (Start n) ∷ past) fed, (now.answered.0, refl), now)
 starts role (Over out) old new n ok going at = absurd (going at.0)
 
 pub start_refused : (role : Role) (point : Point) (old new : State) (why : ActRefused) → IsRefusedBy old (λ role past. IsRefusedFor (start_refusal role past)) why → new ≡ old
@@ -175,12 +175,10 @@ writes_at role past fed n bytes given count old new same ok counted stands =
     let w = ok role past fed [] stands in (
       At (Did (Write n w.0) ∷ past) fed,
       record {
-        allowed = w.2.answered.0.0;
-        count_is = counted role past fed [] stands ∙ ap (λ (t : List ℕ). min (length t) (credit role past n)) same;
         pieces = w.0;
-        pieces_are = w.2.answered.0.1;
+        added = (w.2.answered.0, refl);
+        count_is = counted role past fed [] stands ∙ ap (λ (t : List ℕ). min (length t) (credit role past n)) same;
         whole = w.1 ∙ ap (λ (t : List ℕ). take count t) same;
-        next_is = refl;
       },
       w.2,
     )

@@ -19,7 +19,8 @@ use Rattle.yamux_session.specs.Joined.{End, Joined, at_first, JoinedRow, EndedRo
 use Rattle.yamux_session.specs.Joined.Joined.{Begin, Client_acts}
 use Rattle.yamux_session.proofs.Sent.{header}
 use Rattle.yamux_session.proofs.Lists.{and_parts}
-use Rattle.yamux_session.proofs.Going.{arrivals_on, both_read, both_go_on}
+use Rattle.yamux_session.proofs.Going.{both_read, both_go_on}
+use Rattle.yamux_session.proofs.Stepping.{arrivals_on}
 
 -- an end that has been fed these bytes has read these frames
 same_end : (old new : End) (bytes : List ℕ) (came : List Arrival) (rest more : List ℕ) (some : List Arrival) → new.fed ≡ old.fed ++ bytes → new.items ≡ map Came some ++ old.items

@@ -14,6 +14,7 @@ use Rattle.yamux_session.specs.Meaning.{output}
 use Rattle.yamux_session.specs.Joined.{End, IsFed, IsDone, Joined, BothGoOn}
 use Rattle.yamux_session.specs.Joined.Joined.{Begin, Client_fed, Server_fed, Client_acts, Server_acts}
 use Rattle.yamux_session.proofs.Joining.{linked, turned, on_its_way}
+use Rattle.yamux_session.proofs.Stepping.{arrivals_on}
 
 -- an end has read all that it was fed
 abbrev pub HasRead : End → Type 0
@@ -31,10 +32,6 @@ both_read _ _ (Client_acts {client} {server} {new} {act} before done) =
     let read = both_read client server before in (done_reads Client client new act done read.0, read.1)
 both_read _ _ (Server_acts {client} {server} {new} {act} before done) =
     let read = both_read client server before in (read.0, done_reads Server server new act done read.1)
-
-pub arrivals_on : (came : List Arrival) (past : List Item) → arrivals (map Came came ++ past) ≡ came ++ arrivals past
-arrivals_on [] past = refl
-arrivals_on (x ∷ came) past = ap (λ (t : List Arrival). x ∷ t) (arrivals_on came past)
 
 -- each byte that was sent can be fed
 fed_next : (role other : Role) (old from : End) (b : ℕ) → HasRead old → AllByRecursion (λ k. k < 256) (old.fed ++ b ∷ []) → IsPrefix (old.fed ++ b ∷ []) (output other from.items)

@@ -29,3 +29,4 @@ pub mod Example
 pub mod Ending
 pub mod Flowing
 pub mod OneRefusal
+pub mod RunLegal

@@ -9,6 +9,7 @@ use Rattle.yamux_session.specs.Items.Item.{Came}
 use Rattle.yamux_session.specs.Meaning.{Told, HasNoFault, events}
 use Rattle.yamux_session.specs.State.{State, FirstFaults, Led}
 use Rattle.yamux_session.specs.OneOutcome.{OneOutcome}
+use Rattle.yamux_session.proofs.Stepping.{arrivals_on}
 
 -- ---- a list that the bytes led to
 
@@ -50,16 +51,12 @@ older_good : (role : Role) (x : Arrival) (way : List Arrival) (now : List Item) 
 older_good role x way now rest (inl going) = fine_back role way now going.0.1
 older_good role x way now rest (inr first) = fine_back role way now first.1
 
-arrivals_came : (way : List Arrival) (past : List Item) → arrivals (map Came way ++ past) ≡ way ++ arrivals past
-arrivals_came [] past = refl
-arrivals_came (x ∷ way) past = ap (λ (t : List Arrival). x ∷ t) (arrivals_came way past)
-
 way_none : (role : Role) (bytes : List ℕ) (now : List Item) (way : List Arrival) → Shape role bytes now → Shape role bytes (map Came way ++ now) → way ≡ []
 way_none role bytes now [] a b = refl
 way_none role bytes now (x ∷ way) a b =
     elim a.stop [
       | inl going ↦
-          let same = arrivals_came (x ∷ way) now in
+          let same = arrivals_on (x ∷ way) now in
           ends (arrivals now) a.rest b.rest (x ∷ way) going.1 (subst AreFrames same b.are) (sym a.whole ∙ b.whole ∙ ap (λ (t : List Arrival). spelled t ++ b.rest) same)
       | inr first ↦ absurd (not_first role now (older_good role x way now b.rest b.stop) first)
     ]
@@ -69,7 +66,7 @@ goes_on_by : (past : List Item) (more others way : List Arrival) → arrivals (m
 goes_on_by past more others way e =
     let same : others ≡ way ++ more =
     append_cancel_right others (way ++ more) (arrivals past)
-    (sym (arrivals_came others past) ∙ e ∙ ap (λ (t : List Arrival). way ++ t) (arrivals_came more past) ∙ sym (append_assoc way more (arrivals past))) in
+    (sym (arrivals_on others past) ∙ e ∙ ap (λ (t : List Arrival). way ++ t) (arrivals_on more past) ∙ sym (append_assoc way more (arrivals past))) in
     ap (λ (t : List Arrival). map Came t ++ past) same ∙ ap (λ (t : List Item). t ++ past) (map-append Came way more) ∙ append_assoc (map Came way) (map Came more) past
 
 one_way : (role : Role) (bytes : List ℕ) (past : List Item) (more others way : List Arrival) → Shape role bytes (map Came more ++ past) → Shape role bytes (map Came others ++ past)

@@ -241,13 +241,13 @@ since_one n m told false other before = since_none n (Opened m) told (λ e. let 
 since_one n m told true is before = elim before.1.parts [
   | inl e ↦ (before.0, record { before = Opened m ∷ before.1.before; parts = inl (ap (λ (t : List Told). Opened m ∷ t) e); opens_none = before.1.opens_none })
   | inr e ↦ (
-      told,
-      record {
-        before = [];
-        parts = inl (ap (λ k. Opened k ∷ told) (eqb-true m n is));
-        opens_none = subst (AllByRecursion (λ t. t ≢ Opened n)) (sym e) before.1.opens_none;
-      },
-    )
+    told,
+    record {
+      before = [];
+      parts = inl (ap (λ k. Opened k ∷ told) (eqb-true m n is));
+      opens_none = subst (AllByRecursion (λ t. t ≢ Opened n)) (sym e) before.1.opens_none;
+    },
+  )
 ]
 
 pub some_since : SomeSince

@@ -35,7 +35,11 @@ arrives_nothing role past table told out keeps = record {
   output = ([], sym (append-nil out), sym (append-nil (output role past)));
 }
 
-still_answered : (role : Role) (came : List Arrival) (past : List Item) → AreAnswered role past → AreAnswered role (map Came came ++ past)
+pub arrivals_on : (came : List Arrival) (past : List Item) → arrivals (map Came came ++ past) ≡ came ++ arrivals past
+arrivals_on [] past = refl
+arrivals_on (x ∷ came) past = ap (λ (t : List Arrival). x ∷ t) (arrivals_on came past)
+
+pub still_answered : (role : Role) (came : List Arrival) (past : List Item) → AreAnswered role past → AreAnswered role (map Came came ++ past)
 still_answered role [] past a = a
 still_answered role (x ∷ came) past a = still_answered role came past a
 

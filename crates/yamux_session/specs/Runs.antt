@@ -11,11 +11,12 @@ use Rattle.yamux_session.specs.declared.calls.Act.TheVariants as act
 use Rattle.yamux_session.specs.declared.calls.ActAnswer.{ActAnswer}
 use Rattle.yamux_session.specs.declared.calls.ActAnswer.TheVariants.{Events, Stream, Count, Done, Refused}
 use Rattle.yamux_session.specs.Items.{Item, arrivals}
+use Rattle.yamux_session.specs.Items as items
 use Rattle.yamux_session.specs.Items.Item.{Came, Did}
 use Rattle.yamux_session.specs.Items.Act.{Start, Write, Take, Close, Reset, Leave}
 use Rattle.yamux_session.specs.Windows.{credit, given_back, untaken}
 use Rattle.yamux_session.specs.Meaning.{HasNoFault, events, output}
-use Rattle.yamux_session.specs.Acts.{IsPiece, next_own, start_refusal, stream_refusal, direction_refusal, IsRefusedFor}
+use Rattle.yamux_session.specs.Acts.{AreAnswered, IsAnswered, start_refusal, stream_refusal, direction_refusal, IsRefusedFor}
 use Rattle.yamux_session.specs.Arrives.{tellings, HasData}
 use Rattle.yamux_session.specs.State.{State, Stands, FirstFaults, EndsWith}
 
@@ -23,6 +24,10 @@ use Rattle.yamux_session.specs.State.{State, Stands, FirstFaults, EndsWith}
 pub data Point : Type 0 where
   At : List Item → List ℕ → Point
   Over : List ℕ → Point
+
+-- the act is one that this end may do there, and is added to the list
+abbrev pub IsAdded : Role → List Item → List ℕ → items.Act → Point → Type 0
+IsAdded role past fed did next = IsAnswered role past did × (next ≡ At (Did did ∷ past) fed)
 
 -- a feed of these bytes whose events are these
 pub record FedOn (role : Role) (past : List Item) (fed bytes : List ℕ) (told : List Event) (now : List Item) : Type 0 where
@@ -52,14 +57,12 @@ pub record IsCutOff (role : Role) (past : List Item) (fed bytes : List ℕ) (nex
   pub read : (rest : List ℕ) × Reads (fed ++ take used bytes) (arrivals now) rest
   pub next_is : next ≡ Over (output role now)
 
--- a write that lets so much through, in these pieces
+-- a write that lets so much through, in some pieces
 pub record WritesOn (role : Role) (past : List Item) (fed : List ℕ) (n : ℕ) (bytes : List ℕ) (count : ℕ) (next : Point) : Type 0 where
-  pub allowed : direction_refusal role past n ≡ None
-  pub count_is : count ≡ min (length bytes) (credit role past n)
   pub pieces : List (List ℕ)
-  pub pieces_are : AllByRecursion IsPiece pieces
+  pub added : IsAdded role past fed (Write n pieces) next
+  pub count_is : count ≡ min (length bytes) (credit role past n)
   pub whole : concat pieces ≡ take count bytes
-  pub next_is : next ≡ At (Did (Write n pieces) ∷ past) fed
 
 -- the answer of an act without a value
 abbrev pub done_or : Result (Unit {0}) ActRefused → ActAnswer
@@ -73,21 +76,19 @@ AnswersAt role past fed (act.Feed bytes) (Events told) next =
     × (GoesOn role fed bytes.items now next ⊎ Ends role fed bytes.items now next)
 AnswersAt role past fed (act.Feed bytes) (Refused why) next = (why ≡ refused.OutOfMemory) × (0 < length bytes.items)
     × IsCutOff role past fed bytes.items next
-AnswersAt role past fed act.Start (Stream n) next = (start_refusal role past ≡ None) × (n ≡ next_own role past)
-    × (next ≡ At (Did (Start n) ∷ past) fed)
+AnswersAt role past fed act.Start (Stream n) next = IsAdded role past fed (Start n) next
 AnswersAt role past fed act.Start (Refused why) next = IsRefusedFor (start_refusal role past) why × (next ≡ At past fed)
 AnswersAt role past fed (act.Write n bytes) (Count count) next = WritesOn role past fed n bytes.items count next
 AnswersAt role past fed (act.Write n bytes) (Refused why) next = IsRefusedFor (direction_refusal role past n) why
     × (why ≡ refused.OutOfMemory → 0 < min (length bytes.items) (credit role past n)) × (next ≡ At past fed)
-AnswersAt role past fed (act.Taken n count) Done next =
-    (stream_refusal role past n ≡ None) × (next ≡ At (Did (Take n (min count (untaken role past n))) ∷ past) fed)
+AnswersAt role past fed (act.Taken n count) Done next = IsAdded role past fed (Take n (min count (untaken role past n))) next
 AnswersAt role past fed (act.Taken n count) (Refused why) next = IsRefusedFor (stream_refusal role past n) why
     × (why ≡ refused.OutOfMemory → 0 < given_back role n past (Did (Take n (min count (untaken role past n))))) × (next ≡ At past fed)
-AnswersAt role past fed (act.Close n) Done next = (direction_refusal role past n ≡ None) × (next ≡ At (Did (Close n) ∷ past) fed)
+AnswersAt role past fed (act.Close n) Done next = IsAdded role past fed (Close n) next
 AnswersAt role past fed (act.Close n) (Refused why) next = IsRefusedFor (direction_refusal role past n) why × (next ≡ At past fed)
-AnswersAt role past fed (act.Reset n) Done next = (stream_refusal role past n ≡ None) × (next ≡ At (Did (Reset n) ∷ past) fed)
+AnswersAt role past fed (act.Reset n) Done next = IsAdded role past fed (Reset n) next
 AnswersAt role past fed (act.Reset n) (Refused why) next = IsRefusedFor (stream_refusal role past n) why × (next ≡ At past fed)
-AnswersAt role past fed (act.GoAway code) Done next = next ≡ At (Did (Leave code) ∷ past) fed
+AnswersAt role past fed (act.GoAway code) Done next = IsAdded role past fed (Leave code) next
 AnswersAt role past fed (act.GoAway code) (Refused why) next = (why ≡ refused.OutOfMemory) × (next ≡ At past fed)
 AnswersAt role past fed call answer next = ⊥
 
@@ -115,3 +116,10 @@ IsAt role (Over out) s = (s.failed ≡ true) × (s.pending ≡ out)
 -- what a run answers
 abbrev pub Runs : Role → List Act → List ActAnswer → List ℕ → Type 0
 Runs role calls answers out = (last : Point) × AnswersAll role (At [] []) calls answers last × (out ≡ output_at_point role last)
+
+-- what a run that goes on has done: acts that this end might do, each where it was done, and arrivals without a fault, as which the bytes
+-- are read
+abbrev pub RunIsLegal : Type 0
+RunIsLegal = (role : Role) (calls : List Act) (answers : List ActAnswer) (past : List Item) (fed : List ℕ)
+    → AnswersAll role (At [] []) calls answers (At past fed)
+    → AreAnswered role past × HasNoFault role past × ((rest : List ℕ) × Reads fed (arrivals past) rest)

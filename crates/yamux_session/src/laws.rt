@@ -5,6 +5,7 @@ ghost use Rattle.yamux_session.specs.Acts.{OneRefusal};
 ghost use Rattle.yamux_session.specs.Received.{ReceivedData, SomeSince};
 ghost use Rattle.yamux_session.specs.Joined.{AllBeforeTheEnd, Balance, BothGoOn, NoFault, NothingIsLost, NothingStandsStill, SomeJoined};
 ghost use Rattle.yamux_session.specs.OneOutcome.{OneOutcome};
+ghost use Rattle.yamux_session.specs.Runs.{RunIsLegal};
 ghost use Rattle.yamux_session.specs.Rows.{AnswerRows, EndingRows, OpeningRows, WindowRows};
 
 /// The definitions say of worked histories what the specification says.
@@ -77,4 +78,9 @@ pub fn one_outcome()
 /// A call is refused for one reason: the first that there is, or want of memory where there is none.
 pub fn one_refusal()
     ensures { OneRefusal }
+{}
+
+/// What a run that goes on has done: acts that this end might do, each where it was done, and arrivals without a fault.
+pub fn run_is_legal()
+    ensures { RunIsLegal }
 {}

@@ -51,6 +51,7 @@ fn numbers_and_texts_of_faults_and_refusals(rt: HostRuntime) -> Result<(), Fail>
     ];
     for (index, (fault, text)) in faults.iter().enumerate() {
         assert_eq!(rt; *fault as usize, index + 1);
+        assert_eq!(rt; fault.clone()?, *fault);
         assert_eq!(rt; format!(in rt.alloc(); "{fault}")?.as_str(), *text);
         for (place, (other, _)) in faults.iter().enumerate() {
             assert_eq!(rt; fault == other, index == place);
@@ -73,6 +74,7 @@ fn numbers_and_texts_of_faults_and_refusals(rt: HostRuntime) -> Result<(), Fail>
     ];
     for (index, (refused, text)) in refusals.iter().enumerate() {
         assert_eq!(rt; *refused as usize, index + 1);
+        assert_eq!(rt; refused.clone()?, *refused);
         assert_eq!(rt; format!(in rt.alloc(); "{refused}")?.as_str(), *text);
         for (place, (other, _)) in refusals.iter().enumerate() {
             assert_eq!(rt; refused == other, index == place);
