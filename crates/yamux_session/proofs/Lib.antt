@@ -30,3 +30,4 @@ pub mod Ending
 pub mod Flowing
 pub mod OneRefusal
 pub mod RunLegal
+pub mod OneCall

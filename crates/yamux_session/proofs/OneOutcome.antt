@@ -13,13 +13,13 @@ use Rattle.yamux_session.proofs.Stepping.{arrivals_on}
 
 -- ---- a list that the bytes led to
 
-record Shape (role : Role) (bytes : List ℕ) (now : List Item) : Type 0 where
-  rest : List ℕ
-  whole : bytes ≡ spelled (arrivals now) ++ rest
-  are : AreFrames (arrivals now)
-  stop : (HasNoFault role now × IsRest (arrivals now) rest) ⊎ FirstFaults role now
+pub record Shape (role : Role) (bytes : List ℕ) (now : List Item) : Type 0 where
+  pub rest : List ℕ
+  pub whole : bytes ≡ spelled (arrivals now) ++ rest
+  pub are : AreFrames (arrivals now)
+  pub stop : (HasNoFault role now × IsRest (arrivals now) rest) ⊎ FirstFaults role now
 
-split_at : (n : ℕ) (xs : List ℕ) → xs ≡ take n xs ++ drop n xs
+pub split_at : (n : ℕ) (xs : List ℕ) → xs ≡ take n xs ++ drop n xs
 split_at zero xs = refl
 split_at (suc n) [] = refl
 split_at (suc n) (x ∷ xs) = ap (λ (t : List ℕ). x ∷ t) (split_at n xs)
@@ -76,7 +76,7 @@ one_way role bytes past more others way a b e =
     let none : way ≡ [] = way_none role bytes (map Came more ++ past) way a (subst (Shape role bytes) on b) in
     on ∙ ap (λ (t : List Arrival). map Came t ++ (map Came more ++ past)) none
 
-one_list : (role : Role) (bytes : List ℕ) (past : List Item) (more others : List Arrival) → Shape role bytes (map Came more ++ past) → Shape role bytes (map Came others ++ past) → map Came more ++ past ≡ map Came others ++ past
+pub one_list : (role : Role) (bytes : List ℕ) (past : List Item) (more others : List Arrival) → Shape role bytes (map Came more ++ past) → Shape role bytes (map Came others ++ past) → map Came more ++ past ≡ map Came others ++ past
 one_list role bytes past more others a b =
     elim (both (arrivals (map Came more ++ past)) (arrivals (map Came others ++ past)) a.rest b.rest a.are b.are (sym a.whole ∙ b.whole)) [
       | inl on ↦ sym (one_way role bytes past more others on.0 a b on.1)

@@ -1,5 +1,5 @@
 -- The reason of a refusal is determined, want of memory among them.
-use Rattle.std.proofs.Common.{◌≡◌, Option, Some, None, refl, sym, ◌∙◌}
+use Rattle.std.proofs.Common.{◌≡◌, Some, None, refl, sym, ◌∙◌}
 use Rattle.yamux_session.specs.declared.event.ActRefused.{ActRefused}
 use Rattle.yamux_session.specs.declared.event.ActRefused.TheVariants.{Failed, NoStream, Ended, GoneAway, StreamsExhausted, StreamsFull, OutOfMemory}
 use Rattle.yamux_session.specs.Acts.{IsRefusedFor, OneRefusal}

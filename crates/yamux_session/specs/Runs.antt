@@ -1,5 +1,5 @@
 -- A whole session: each call with its answer, from the empty history on.
-use Rattle.std.specs.Prelude.{◌≡◌, ℕ, ◌<◌, ◌≤◌, ◌⊎◌, true, min, List, [], ◌∷◌, ◌++◌, map, length, take, None, Result, Ok, Err}
+use Rattle.std.specs.Prelude.{◌≡◌, ◌≢◌, ℕ, ◌<◌, ◌≤◌, ◌⊎◌, true, min, List, [], ◌∷◌, ◌++◌, map, length, take, Result, Ok, Err}
 use Rattle.std.specs.List.{AllByRecursion, concat}
 use Rattle.yamux_frames.specs.Frames.{Arrival, Reads}
 use Rattle.yamux_session.specs.declared.event.Role.{Role}
@@ -123,3 +123,14 @@ abbrev pub RunIsLegal : Type 0
 RunIsLegal = (role : Role) (calls : List Act) (answers : List ActAnswer) (past : List Item) (fed : List ℕ)
     → AnswersAll role (At [] []) calls answers (At past fed)
     → AreAnswered role past × HasNoFault role past × ((rest : List ℕ) × Reads fed (arrivals past) rest)
+
+-- two answers that tell the same, but for how data is cut
+abbrev pub AreSame : ActAnswer → ActAnswer → Type 0
+AreSame (Events told) (Events said) = tellings told.items ≡ tellings said.items
+AreSame answer other = answer ≡ other
+
+-- a call has one answer at a point, but for want of memory
+abbrev pub OneCall : Type 0
+OneCall = (role : Role) (point : Point) (call : Act) (answer other : ActAnswer) (next point_then : Point)
+    → Answers role point call answer next → Answers role point call other point_then
+    → answer ≢ Refused refused.OutOfMemory → other ≢ Refused refused.OutOfMemory → AreSame answer other

@@ -5,7 +5,7 @@ ghost use Rattle.yamux_session.specs.Acts.{OneRefusal};
 ghost use Rattle.yamux_session.specs.Received.{ReceivedData, SomeSince};
 ghost use Rattle.yamux_session.specs.Joined.{AllBeforeTheEnd, Balance, BothGoOn, NoFault, NothingIsLost, NothingStandsStill, SomeJoined};
 ghost use Rattle.yamux_session.specs.OneOutcome.{OneOutcome};
-ghost use Rattle.yamux_session.specs.Runs.{RunIsLegal};
+ghost use Rattle.yamux_session.specs.Runs.{OneCall, RunIsLegal};
 ghost use Rattle.yamux_session.specs.Rows.{AnswerRows, EndingRows, OpeningRows, WindowRows};
 
 /// The definitions say of worked histories what the specification says.
@@ -83,4 +83,9 @@ pub fn one_refusal()
 /// What a run that goes on has done: acts that this end might do, each where it was done, and arrivals without a fault.
 pub fn run_is_legal()
     ensures { RunIsLegal }
+{}
+
+/// A call has one answer where a run has come to, but for how data is cut and for want of memory.
+pub fn one_call()
+    ensures { OneCall }
 {}

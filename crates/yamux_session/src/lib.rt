@@ -18,7 +18,8 @@ mod tests;
 pub use calls::{Act, ActAnswer, Ran, run};
 pub use event::{ActRefused, Event, Fault, Role};
 pub use laws::{
-    balance, live_limit, no_fault, nothing_is_lost, nothing_stands_still, one_outcome, one_refusal,
-    received_data, room_for_more, run_is_legal, they_go_on, untaken_limit, worked_rows,
+    balance, live_limit, no_fault, nothing_is_lost, nothing_stands_still, one_call, one_outcome,
+    one_refusal, received_data, room_for_more, run_is_legal, they_go_on, untaken_limit,
+    worked_rows,
 };
 pub use session::Session;
