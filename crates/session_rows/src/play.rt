@@ -1,6 +1,6 @@
 //! Plays rows, and looks at the session where a call was refused for memory.
 
-use crate::rows::{Act, LEAVING, SYN_1, Step, Told};
+use crate::rows::{Act, LEAVING, PING, PING_ANSWERED, SYN_1, Step, Told};
 use bytes::Bytes;
 use std::alloc::Global;
 use yamux_session::{ActRefused, Event, Role, Session};
@@ -237,13 +237,15 @@ pub fn play_many_own(alloc: Global, tally: &mut Tally) {
     }
     let given = act(&mut session, Act::Start, &[], tally);
     tally.expect(given == Err(ActRefused::StreamsFull));
-    if feed(
-        &mut session,
-        (LEAVING, &[Told::GoAway(0)], &[]),
-        12,
-        false,
-        tally,
-    ) {
+    if feed(&mut session, (PING, &[], PING_ANSWERED), 12, false, tally)
+        && feed(
+            &mut session,
+            (LEAVING, &[Told::GoAway(0)], &[]),
+            12,
+            false,
+            tally,
+        )
+    {
         let given = act(&mut session, Act::Start, &[], tally);
         tally.expect(given == Err(ActRefused::GoneAway));
     }

@@ -58,6 +58,10 @@ const HALF_BACK_1: &[u8] = &[0, 1, 0, 0, 0, 0, 0, 1, 0, 2, 0, 0];
 
 pub const LEAVING: &[u8] = &[0, 3, 0, 0, 0, 0, 0, 0, 0, 0, 0, 0];
 
+pub const PING: &[u8] = &[0, 2, 0, 1, 0, 0, 0, 0, 0, 0, 0, 7];
+
+pub const PING_ANSWERED: &[u8] = &[0, 2, 0, 2, 0, 0, 0, 0, 0, 0, 0, 7];
+
 const PROTOCOL_ERROR: &[u8] = &[0, 3, 0, 0, 0, 0, 0, 0, 0, 0, 0, 1];
 
 /// Opened twice in one piece: the answer to the first SYN stands before the end.
@@ -86,11 +90,7 @@ const ENDED_AND_OPENED_AGAIN: &[Step] = &[
 ];
 
 const PING_AND_UNKNOWN_STREAM: &[Step] = &[
-    Fed(
-        &[0, 2, 0, 1, 0, 0, 0, 0, 0, 0, 0, 7],
-        &[],
-        &[0, 2, 0, 2, 0, 0, 0, 0, 0, 0, 0, 7],
-    ),
+    Fed(PING, &[], PING_ANSWERED),
     Fed(&[0, 0, 0, 0, 0, 0, 0, 9, 0, 0, 0, 3, 97, 98, 99], &[], &[]),
     Fed(SYN_1, &[Told::Opened(1)], ACK_1),
     Fed(
@@ -172,6 +172,30 @@ const GIVEN_BACK_FROM_HALF: &[Step] = &[
     Acts(Act::Take(1, 999999), Ok(0), HALF_BACK_1),
 ];
 
+const ONE_BYTE: &[u8] = &[0, 0, 0, 0, 0, 0, 0, 1, 0, 0, 0, 1, 97];
+
+/// A refusal leaves a session that takes what comes, and whose owner goes on.
+const REFUSED_AND_GOES_ON: &[Step] = &[
+    Acts(Act::Write(1, 1), Err(ActRefused::NoStream), &[]),
+    Fed(PING, &[], PING_ANSWERED),
+    Acts(Act::Take(1, 1), Err(ActRefused::NoStream), &[]),
+    Fed(PING, &[], PING_ANSWERED),
+    Acts(Act::Reset(1), Err(ActRefused::NoStream), &[]),
+    Fed(PING, &[], PING_ANSWERED),
+    Acts(Act::Close(1), Err(ActRefused::NoStream), &[]),
+    Fed(SYN_1, &[Told::Opened(1)], ACK_1),
+    Acts(Act::Close(1), Ok(0), FIN_1),
+    Acts(Act::Write(1, 1), Err(ActRefused::Ended), &[]),
+    Fed(ONE_BYTE, &[Told::Data(1, 97)], &[]),
+    Acts(Act::Close(1), Err(ActRefused::Ended), &[]),
+    Fed(ONE_BYTE, &[Told::Data(1, 97)], &[]),
+    Fed(LEAVING, &[Told::GoAway(0)], &[]),
+    Acts(Act::Start, Err(ActRefused::GoneAway), &[]),
+    Fed(ONE_BYTE, &[Told::Data(1, 97)], &[]),
+    Acts(Act::Take(1, 3), Ok(0), &[]),
+    Acts(Act::Reset(1), Ok(0), RST_1),
+];
+
 /// The rows of a server.
 pub const SERVER: &[&[Step]] = &[
     OPENED_TWICE,
@@ -183,6 +207,7 @@ pub const SERVER: &[&[Step]] = &[
     RESET_BEHIND_THE_END,
     MORE_THAN_THE_WINDOW,
     GIVEN_BACK_FROM_HALF,
+    REFUSED_AND_GOES_ON,
 ];
 
 const WRONG_PARITY: &[Step] = &[
