@@ -17,8 +17,7 @@ use Rattle.yamux_session.specs.Items.Act.{Start, Write, Take, Close, Reset, Leav
 use Rattle.yamux_session.specs.Openings.{live, is_live, contains, has_left, is_let_in, opens, reading, is_reading, finished, closed, byte_belongs}
 use Rattle.yamux_session.specs.Windows.{given_back}
 use Rattle.yamux_session.specs.Acts.{AreAnswered}
-use Rattle.yamux_session.specs.Meaning.{HasNoFault, when, inbound, byte_at}
-use Rattle.yamux_session.specs.Joined.{written_by, written}
+use Rattle.yamux_session.specs.Meaning.{HasNoFault, when, inbound, byte_at, written_by, written}
 use Rattle.yamux_session.proofs.Lists.{either_way, and_parts}
 use Rattle.yamux_session.proofs.Live.{past_answered, was_or_opens}
 use Rattle.yamux_session.proofs.Keeping.{quiet}

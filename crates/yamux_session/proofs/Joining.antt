@@ -22,8 +22,8 @@ use Rattle.yamux_session.specs.Items.Act.{Start, Write, Take, Close, Reset, Leav
 use Rattle.yamux_session.specs.Openings.{live, is_live, contains, has_left, is_let_in, opens, head_belongs}
 use Rattle.yamux_session.specs.Windows.{initial_window, since_opening, written_length, given_back, credit, receiving_window}
 use Rattle.yamux_session.specs.Acts.{AreAnswered, IsAnswered}
-use Rattle.yamux_session.specs.Meaning.{HasNoFault, inbound, output, fault_at, syn_fault, window_fault, window_at, credit_at, or_else}
-use Rattle.yamux_session.specs.Joined.{End, IsFed, IsDone, Joined, written, NoFault, length_of_data, length_of_update, IsOnTheWay, IsBalanced, Balance, IsWhole, NothingIsLost}
+use Rattle.yamux_session.specs.Meaning.{HasNoFault, inbound, written, output, fault_at, syn_fault, window_fault, window_at, credit_at, or_else}
+use Rattle.yamux_session.specs.Joined.{End, IsFed, IsDone, Joined, NoFault, length_of_data, length_of_update, IsOnTheWay, IsBalanced, Balance, IsWhole, NothingIsLost}
 use Rattle.yamux_session.specs.Joined.Joined.{Begin, Client_fed, Server_fed, Client_acts, Server_acts}
 use Rattle.yamux_session.proofs.Keeping.{and_false}
 use Rattle.yamux_session.proofs.Lists.{either_way, and_parts}

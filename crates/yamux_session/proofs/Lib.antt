@@ -12,7 +12,9 @@ pub mod HeadLemmas
 pub mod Telling
 pub mod Stepping
 pub mod CallLemmas
+pub mod Hearing
 pub mod Received
+pub mod Crediting
 pub mod Growing
 pub mod Untaken
 pub mod Sent
@@ -24,6 +26,7 @@ pub mod InTurn
 pub mod Coming
 pub mod Delivered
 pub mod OneOutcome
+pub mod Ties
 pub mod Going
 pub mod Example
 pub mod Ending

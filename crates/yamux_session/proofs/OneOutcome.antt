@@ -24,7 +24,7 @@ split_at zero xs = refl
 split_at (suc n) [] = refl
 split_at (suc n) (x ∷ xs) = ap (λ (t : List ℕ). x ∷ t) (split_at n xs)
 
-shape : (role : Role) (past now : List Item) (fed bytes sent : List ℕ) (told : List Told) (s : State) (b : Bool) → s.failed ≡ b → Led role past now fed bytes sent told s → Shape role (fed ++ bytes) now
+pub shape : (role : Role) (past now : List Item) (fed bytes sent : List ℕ) (told : List Told) (s : State) (b : Bool) → s.failed ≡ b → Led role past now fed bytes sent told s → Shape role (fed ++ bytes) now
 shape role past now fed bytes sent told s false is led =
     let at = led.goes_on is in
     record { rest = s.place.part; whole = at.frames.reads.whole; are = at.frames.reads.frames_are; stop = inl (at.no_fault, at.frames.reads.rest_is) }

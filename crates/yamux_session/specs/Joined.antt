@@ -1,6 +1,6 @@
 -- Two sessions, one of each role, joined by pipes that deliver what was sent, under any schedule.
 use Rattle.std.specs.Prelude.{◌≡◌, ℕ, ◌<◌, ◌==◌, ◌&&◌, true, false, ◌+◌, if◌then◌else◌, List, [], ◌∷◌, ◌++◌, map, sum_by}
-use Rattle.std.specs.List.{concat, AllByRecursion}
+use Rattle.std.specs.List.{AllByRecursion}
 use mathlib.Core.List.{IsPrefix}
 use Rattle.yamux_frames.specs.declared.header.FrameKind.TheVariants.{Payload}
 use Rattle.yamux_frames.specs.Frames.{Arrival, Reads}
@@ -9,10 +9,9 @@ use Rattle.yamux_session.specs.declared.event.Role.{Role}
 use Rattle.yamux_session.specs.declared.event.Role.TheVariants.{Client, Server}
 use Rattle.yamux_session.specs.Items.{Item, Act, arrivals, is_data, is_update}
 use Rattle.yamux_session.specs.Items.Item.{Came, Did}
-use Rattle.yamux_session.specs.Items.Act.{Write}
-use Rattle.yamux_session.specs.Openings.{is_live, finished, opens}
+use Rattle.yamux_session.specs.Openings.{is_live, finished}
 use Rattle.yamux_session.specs.Windows.{credit, receiving_window, untaken}
-use Rattle.yamux_session.specs.Meaning.{Told, HasNoFault, output, events, inbound}
+use Rattle.yamux_session.specs.Meaning.{Told, HasNoFault, output, events, inbound, written}
 use Rattle.yamux_session.specs.Meaning.Told.{Opened, Accepted, Data, Ended}
 use Rattle.yamux_session.specs.Acts.{IsAnswered}
 
@@ -44,15 +43,6 @@ pub data Joined : End → End → Type 0 where
   Server_fed : {client server new : End} {byte : ℕ} → Joined client server → IsFed Server Client server new client byte → Joined client new
   Client_acts : {client server new : End} {act : Act} → Joined client server → IsDone Client client new act → Joined new server
   Server_acts : {client server new : End} {act : Act} → Joined client server → IsDone Server server new act → Joined client new
-
--- what was let through for a stream since its opening
-abbrev pub written_by : ℕ → Item → List ℕ
-written_by n (Did (Write m pieces)) = if m == n then concat pieces else []
-written_by n x = []
-
-abbrev pub written : Role → List Item → ℕ → List ℕ
-written role [] n = []
-written role (x ∷ past) n = (if opens role past x n then [] else written role past n) ++ written_by n x
 
 -- Neither end meets a fault, and the data that arrived for a stream at one end is a front of what was let through at the other
 abbrev pub NoFault : Type 0

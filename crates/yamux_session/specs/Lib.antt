@@ -11,7 +11,9 @@ pub mod State
 pub mod Runs
 pub mod Limits
 pub mod Received
+pub mod Seen
 pub mod Joined
+pub mod Tied
 pub mod OneOutcome
 pub mod Rows
 pub use Rattle.yamux_frames.specs.Spelling

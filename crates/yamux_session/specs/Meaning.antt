@@ -1,6 +1,6 @@
 -- What each item of a session means: a fault, events, and the frames that are sent.
-use Rattle.std.specs.Prelude.{◌≡◌, ℕ, ◌<◌, Bool, true, false, ◌&&◌, ◌+◌, not, nat_lt, if◌then◌else◌, List, [], ◌∷◌, ◌++◌, length, Option, Some, None}
-use Rattle.std.specs.List.{flat_map}
+use Rattle.std.specs.Prelude.{◌≡◌, ℕ, ◌<◌, ◌==◌, Bool, true, false, ◌&&◌, ◌+◌, not, nat_lt, if◌then◌else◌, List, [], ◌∷◌, ◌++◌, length, Option, Some, None}
+use Rattle.std.specs.List.{concat, flat_map}
 use Rattle.yamux_frames.specs.declared.header.Header.{Header}
 use Rattle.yamux_frames.specs.declared.header.FrameKind.{FrameKind}
 use Rattle.yamux_frames.specs.declared.header.FrameKind.TheVariants.{Payload, Window, Ping, GoAway}
@@ -121,6 +121,15 @@ byte_at role past x n = []
 abbrev pub inbound : Role → List Item → ℕ → List ℕ
 inbound role [] n = []
 inbound role (x ∷ past) n = (if opens role past x n then [] else inbound role past n) ++ byte_at role past x n
+
+-- what was let through for a stream since its opening
+abbrev pub written_by : ℕ → Item → List ℕ
+written_by n (Did (Write m pieces)) = if m == n then concat pieces else []
+written_by n x = []
+
+abbrev pub written : Role → List Item → ℕ → List ℕ
+written role [] n = []
+written role (x ∷ past) n = (if opens role past x n then [] else written role past n) ++ written_by n x
 
 -- ---- what is sent
 

@@ -3,9 +3,11 @@
 ghost use Rattle.yamux_session.specs.Limits.{LiveLimit, RoomForOwn, RoomForTheOther, UntakenLimit};
 ghost use Rattle.yamux_session.specs.Acts.{OneRefusal};
 ghost use Rattle.yamux_session.specs.Received.{ReceivedData, SomeSince};
+ghost use Rattle.yamux_session.specs.Seen.{ActsDo, ActsMove, CreditIsTold, EventsTell};
 ghost use Rattle.yamux_session.specs.Joined.{AllBeforeTheEnd, Balance, BothGoOn, NoFault, NothingIsLost, NothingStandsStill, SomeJoined};
 ghost use Rattle.yamux_session.specs.OneOutcome.{OneOutcome};
 ghost use Rattle.yamux_session.specs.Runs.{OneCall, RunIsLegal};
+ghost use Rattle.yamux_session.specs.Tied.{ActGoesOn, FeedGoesOn, WantOfMemoryStops};
 ghost use Rattle.yamux_session.specs.Rows.{AnswerRows, EndingRows, OpeningRows, WindowRows};
 
 /// The definitions say of worked histories what the specification says.
@@ -38,6 +40,23 @@ pub fn received_data()
     ensures since { SomeSince }
 {}
 
+/// What a feed told determines, of every stream, whether it is live, whether either direction has ended, what came
+/// and what was sent.
+pub fn events_tell()
+    ensures { EventsTell }
+{}
+
+/// Credit, and what came and wasn't taken, change only where a feed told so.
+pub fn credit_is_told()
+    ensures { CreditIsTold }
+{}
+
+/// What an act of this end's own changes of these.
+pub fn acts_tell()
+    ensures seen { ActsDo }
+    ensures windows { ActsMove }
+{}
+
 /// Two sessions, one of each role, each fed what the other has sent, under any schedule: while a stream is live at both ends, the
 /// reader's receiving window is the writer's credit and what is on its way.
 pub fn balance()
@@ -68,6 +87,16 @@ pub fn nothing_stands_still()
 pub fn they_go_on()
     ensures both_go_on { BothGoOn }
     ensures some_joined { SomeJoined }
+{}
+
+/// A session that stands at one of two joined ends stays joined: fed what the other end has sent it meets no fault, its
+/// owner may make each call that is answered, and where it runs out of memory it has sent what an end has that read a
+/// first part of those bytes. So what holds of joined ends holds of such sessions, also where one of them has failed
+/// for want of memory and sends nothing more.
+pub fn sessions_stay_joined()
+    ensures feed { FeedGoesOn }
+    ensures act { ActGoesOn }
+    ensures memory { WantOfMemoryStops }
 {}
 
 /// The clause of a `feed` determines what it tells, but for how data is cut, whether the session has failed, and the output.
