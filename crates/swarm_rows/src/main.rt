@@ -66,13 +66,12 @@ fn dial<J: Identity, L: Ledgers, R: Wait>(
     reply: Reply,
     rows: usize,
 ) {
-    let front = pass.front();
-    let before = swarm.list(pass).conns.len();
+    let before = swarm.list(pass);
     let mut answer = swarm.dial(rt, pass, Some(peer));
     if answer == Reply::Refused(Refusal::OutOfMemory) {
         tally.refuse();
-        let listing = swarm.list(pass);
-        tally.expect(listing.conns.len() == before && listing.front >= front);
+        let behind = swarm.list(pass);
+        tally.expect(behind.conns.len() == before.conns.len() && behind.front == before.front);
         answer = swarm.dial(rt, pass, Some(peer));
     }
     tally.expect(answer == reply);
