@@ -162,10 +162,23 @@ pub starts : (role : Role) (point : Point) (old new : State) (n : ℕ) → ((rol
 starts role (At past fed) old new n ok going at = let now = ok role past fed [] at in (At (Did (Start n) ∷ past) fed, (now.answered.0, refl), now)
 starts role (Over out) old new n ok going at = absurd (going at.0)
 
-pub start_refused : (role : Role) (point : Point) (old new : State) (why : ActRefused) → IsRefusedBy old (λ role past. IsRefusedFor (start_refusal role past)) why → new ≡ old
+-- how much room there is doesn't matter
+with_room : (role : Role) (past : List Item) (fed sent : List ℕ) (s : State) (room : ℕ) → Stands role past fed sent s → Stands role past fed sent (record s { room = room })
+with_room role past fed sent s room at = record {
+  going = at.going;
+  no_fault = at.no_fault;
+  answered = at.answered;
+  frames = at.frames;
+  table = at.table;
+  output = at.output;
+}
+
+pub start_refused : (role : Role) (point : Point) (old new : State) (why : ActRefused) → IsRefusedBy old (λ role past. IsRefusedFor (start_refusal role past)) why → new ≡ record old { room = new.room }
     → (old.failed ≡ true → why ≡ refused.Failed) → IsAt role point old → Leads role point act.Start (Refused why) new
-start_refused role (At past fed) old new why refusal same failed at = (At past fed, (refusal role past fed [] at, refl), subst (λ (s : State). Stands role past fed [] s) (sym same) at)
-start_refused role (Over out) old new why refusal same failed at = (Over out, (ap Refused (failed at.0), refl), over_same role out old new same at)
+start_refused role (At past fed) old new why refusal same failed at =
+    (At past fed, (refusal role past fed [] at, refl), subst (λ (s : State). Stands role past fed [] s) (sym same) (with_room role past fed [] old new.room at))
+start_refused role (Over out) old new why refusal same failed at =
+    (Over out, (ap Refused (failed at.0), refl), over_same role out (record old { room = new.room }) new same at)
 
 pub writes_at : (role : Role) (past : List Item) (fed : List ℕ) (n : ℕ) (bytes given : List ℕ) (count : ℕ) (old new : State) → given ≡ bytes
     → ((role : Role) (past : List Item) (fed sent : List ℕ) → Stands role past fed sent old → (pieces : List (List ℕ)) × (concat pieces ≡ take count given) × Stands role (Did (Write n pieces) ∷ past) fed sent new)

@@ -1,14 +1,16 @@
 -- Bytes fed one after another lead on.
 use Rattle.std.proofs.Common.{◌≡◌, ℕ, ◌+◌, ◌≤◌, true, false, List, [], ◌∷◌, ◌++◌, length, map, take, drop, refl, sym, ap, ◌∙◌, subst, append_assoc, arith}
 use Rattle.std.proofs.lemmas.List.{append-nil, length-append, map-append, length-take-le, take-take}
+use Rattle.std.proofs.Math.Seq.{drop-append_seam}
 use Rattle.yamux_session.specs.declared.event.Role.{Role}
 use Rattle.yamux_session.specs.Items.{Item, arrivals}
 use Rattle.yamux_session.specs.Items.Item.{Came}
 use Rattle.yamux_session.specs.Meaning.{Told, events}
 use Rattle.yamux_session.specs.declared.event.Event.{Event}
-use Rattle.yamux_session.specs.State.{State, Stands, EndsWith, Led, Steps, HasCome}
-use Rattle.yamux_session.specs.Arrives.{telling, tellings, Tells, HasData}
+use Rattle.yamux_session.specs.State.{State, Stands, EndsWith, Led, Steps, Feeds, HasCome}
+use Rattle.yamux_session.specs.Arrives.{telling, tellings, HasData, added}
 use Rattle.yamux_session.proofs.Pieces.{take_over, take_on}
+use Rattle.yamux_session.proofs.Telling.{all_both}
 use Rattle.yamux_frames.specs.Frames.{Reads}
 use Rattle.std.specs.List.{AllByRecursion}
 use Rattle.std.proofs.lemmas.List.Concat.{flat_map-append}
@@ -39,39 +41,46 @@ then_led role past mid now fed first second sent told more_told s t a b =
           );
     }
 
-all_both : (xs ys : List Event) → AllByRecursion HasData xs → AllByRecursion HasData ys → AllByRecursion HasData (xs ++ ys)
-all_both [] ys a b = b
-all_both (x ∷ xs) ys a b = (a.0, all_both xs ys a.1 b)
+-- the events that were put behind
+pub added_more : (before more after : List Event) → after ≡ before ++ more → added before after ≡ more
+added_more before more after is = ap (added before) is ∙ drop-append_seam before more
 
-tells_more : (before after : List Event) (told : List Told) → Tells before after told → tellings after ≡ tellings before ++ told
-tells_more before after told tells =
-    ap tellings tells.added ∙ flat_map-append telling before tells.more ∙ ap (λ (xs : List Told). tellings before ++ xs) tells.telling
+pub step_feeds : (old new : State) (bytes : List ℕ) (before after : List Event)
+    → ((role : Role) (past : List Item) (fed sent : List ℕ) → Stands role past fed sent old → Steps role past fed bytes sent before after new)
+    → Feeds old bytes (added before after) new
+step_feeds old new bytes before after steps = λ role past fed sent stands.
+    let step = steps role past fed sent stands in (
+      step.now,
+      subst (λ (xs : List Told). Led role past step.now fed bytes sent xs new)
+          (sym (ap tellings (added_more before step.tells.more after step.tells.added) ∙ step.tells.telling)) step.led,
+    )
 
--- one answer more
-pub step_led : (role : Role) (past : List Item) (fed bytes sent : List ℕ) (at used : ℕ) (before now_told : List Event) (s t : State)
-    → at ≤ length bytes → s.failed ≡ false
+-- what holds of the events of one answer holds of those that were put behind
+pub step_added : (P : List Event → Type 0) (role : Role) (past : List Item) (fed bytes sent : List ℕ) (before after : List Event) (new : State)
+    → ((step : Steps role past fed bytes sent before after new) → P step.tells.more) → Steps role past fed bytes sent before after new → P (added before after)
+step_added P role past fed bytes sent before after new holds step = subst P (sym (added_more before step.tells.more after step.tells.added)) (holds step)
+
+-- one call more
+pub frame_led : (role : Role) (past : List Item) (fed bytes sent : List ℕ) (at used : ℕ) (before after : List Event) (s t : State)
+    → at ≤ length bytes → s.failed ≡ false → after ≡ before ++ added before after
     → ((mid : List Item) × Led role past mid fed (take at bytes) sent (tellings before) s)
-    → ((mid : List Item) → Stands role mid (fed ++ take at bytes) sent s → Steps role mid (fed ++ take at bytes) (take used (drop at bytes)) sent before now_told t)
-    → (now : List Item) × Led role past now fed (take (at + used) bytes) sent (tellings now_told) t
-step_led role past fed bytes sent at used before now_told s t within going led step =
+    → Feeds s (take used (drop at bytes)) (added before after) t
+    → (now : List Item) × Led role past now fed (take (at + used) bytes) sent (tellings after) t
+frame_led role past fed bytes sent at used before after s t within going kept led feeds =
     let mid : List Item = led.0 in
     let a : Led role past mid fed (take at bytes) sent (tellings before) s = led.1 in
-    let next : Steps role mid (fed ++ take at bytes) (take used (drop at bytes)) sent before now_told t =
-    step mid (a.goes_on going) in (
+    let more : List Event = added before after in
+    let next = feeds role mid (fed ++ take at bytes) sent (a.goes_on going) in (
       next.0,
-      subst (λ (xs : List Told). Led role past next.0 fed (take (at + used) bytes) sent xs t) (sym (tells_more before now_told next.1 next.2))
-          (subst (λ (xs : List ℕ). Led role past next.0 fed xs sent (tellings before ++ next.1) t) (sym (take_on bytes at used within))
-          (then_led role past mid next.0 fed (take at bytes) (take used (drop at bytes)) sent (tellings before) next.1 s t a next.3)),
+      subst (λ (xs : List Told). Led role past next.0 fed (take (at + used) bytes) sent xs t) (sym (ap tellings kept ∙ flat_map-append telling before more))
+          (subst (λ (xs : List ℕ). Led role past next.0 fed xs sent (tellings before ++ tellings more) t) (sym (take_on bytes at used within))
+          (then_led role past mid next.0 fed (take at bytes) (take used (drop at bytes)) sent (tellings before) (tellings more) s t a next.1)),
     )
 
 -- and its events have data where those before have it
-pub step_filled : (role : Role) (past : List Item) (fed bytes sent : List ℕ) (at used : ℕ) (before now_told : List Event) (s t : State) → s.failed ≡ false
-    → ((mid : List Item) × Led role past mid fed (take at bytes) sent (tellings before) s)
-    → ((mid : List Item) → Stands role mid (fed ++ take at bytes) sent s → Steps role mid (fed ++ take at bytes) (take used (drop at bytes)) sent before now_told t)
-    → AllByRecursion HasData before → AllByRecursion HasData now_told
-step_filled role past fed bytes sent at used before now_told s t going led step filled =
-    let tells = (step led.0 (led.1.goes_on going)).2 in
-    subst (AllByRecursion HasData) (sym tells.added) (all_both before tells.more filled tells.filled)
+pub frame_filled : (before after : List Event) → after ≡ before ++ added before after
+    → AllByRecursion HasData before → AllByRecursion HasData (added before after) → AllByRecursion HasData after
+frame_filled before after kept filled more = subst (AllByRecursion HasData) (sym kept) (all_both before (added before after) filled more)
 
 -- no bytes
 pub nothing_led : (role : Role) (past : List Item) (fed sent : List ℕ) (s : State) → Stands role past fed sent s → Led role past past fed [] sent [] s

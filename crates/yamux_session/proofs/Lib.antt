@@ -10,6 +10,7 @@ pub mod Tails
 pub mod Arriving
 pub mod HeadLemmas
 pub mod Telling
+pub mod Naming
 pub mod Stepping
 pub mod CallLemmas
 pub mod Hearing

@@ -16,7 +16,7 @@ use Rattle.yamux_session.specs.declared.event.Fault.TheVariants.{BadFrame}
 use Rattle.yamux_session.specs.declared.event.Event.{Event}
 use Rattle.yamux_session.specs.Items.{Item, arrivals, came_bytes}
 use Rattle.yamux_session.specs.Items.Item.{Came}
-use Rattle.yamux_session.specs.Meaning.{events, events_unless, item_events, output, output_unless, item_output, fault_at, frame}
+use Rattle.yamux_session.specs.Meaning.{Told, events, events_unless, item_events, output, output_unless, item_output, fault_at, frame}
 use Rattle.yamux_session.specs.Meaning.Told.{Failed}
 use Rattle.yamux_session.specs.Table.{Table}
 use Rattle.yamux_session.specs.Acts.{AreAnswered}
@@ -24,6 +24,7 @@ use Rattle.yamux_session.specs.Keeps.{Keeps}
 use Rattle.yamux_session.specs.Arrives.{Tells, Arrives}
 use Rattle.yamux_session.specs.State.{State, Stands, EndsWith, Steps}
 use Rattle.yamux_session.proofs.Telling.{tells_nothing, arrives_then}
+use Rattle.yamux_session.proofs.Naming.{TellsOne, names_one, tells_fault, head_tells_one, frame_tells_one, part_tells_one, last_tells_one}
 
 -- ---- what came
 
@@ -62,12 +63,14 @@ rest_of xs piece at same = take_rest xs at ∙ ap (drop at) same
 
 pub went : (role : Role) (past now : List Item) (fed bytes sent : List ℕ) (before after : List Event) (old new : State) (came : List Arrival)
     → Stands role past fed sent old → now ≡ map Came came ++ past → StandsAt (fed ++ bytes) (arrivals now) new.place
-    → Arrives role past now new.table before after old.pending new.pending → new.failed ≡ false → Steps role past fed bytes sent before after new
-went role past now fed bytes sent before after old new came stands came_is frames arrives going = (
-  now,
-  arrives.told.0,
-  arrives.told.1,
-  record {
+    → Arrives role past now new.table before after old.pending new.pending → new.failed ≡ false
+    → ((told : List Told) → events role now ≡ events role past ++ told → TellsOne told) → Steps role past fed bytes sent before after new
+went role past now fed bytes sent before after old new came stands came_is frames arrives going one = record {
+  now = now;
+  told = arrives.told.0;
+  tells = arrives.told.1;
+  names_one = names_one before after arrives.told.0 arrives.told.1 (one arrives.told.0 arrives.told.2);
+  led = record {
     came = (came, came_is);
     told_is = arrives.told.2;
     goes_on = λ _. record {
@@ -80,19 +83,20 @@ went role past now fed bytes sent before after old new came stands came_is frame
           ∙ ap (λ (t : List ℕ). t ++ arrives.output.0) stands.output ∙ sym arrives.output.2;
     };
     fails = λ bad. absurd (let e : true ≡ false = sym bad ∙ going in cc);
-  },
-)
+  };
+}
 
 -- ---- the session ends
 
 pub fell : (role : Role) (past : List Item) (fed bytes sent : List ℕ) (before after : List Event) (old new : State) (x : Arrival) (fault : Fault) (used : ℕ)
     → Stands role past fed sent old → fault_at role past (Came x) ≡ Some fault → used ≤ length bytes → EndsWith (fed ++ take used bytes) (x ∷ arrivals past)
     → Tells before after (Failed fault ∷ []) → new.failed ≡ true → new.pending ≡ old.pending ++ frame GoAway 0 0 1 → Steps role past fed bytes sent before after new
-fell role past fed bytes sent before after old new x fault used stands faulty within ends tells failed pending = (
-  Came x ∷ past,
-  Failed fault ∷ [],
-  tells,
-  record {
+fell role past fed bytes sent before after old new x fault used stands faulty within ends tells failed pending = record {
+  now = Came x ∷ past;
+  told = Failed fault ∷ [];
+  tells = tells;
+  names_one = names_one before after (Failed fault ∷ []) tells (tells_fault fault);
+  led = record {
     came = (x ∷ [], refl);
     told_is = ap (λ f. events role past ++ events_unless f (item_events role past (Came x))) faulty;
     goes_on = λ going. absurd (let e : true ≡ false = sym failed ∙ going in cc);
@@ -102,8 +106,8 @@ fell role past fed bytes sent before after old new x fault used stands faulty wi
           ∙ sym (ap (λ f. output role past ++ output_unless f (item_output role past (Came x))) faulty),
       (used, within, ends),
     );
-  },
-)
+  };
+}
 
 -- the bytes up to a head
 head_ends : (bytes : List ℕ) (past : List Arrival) (h : Header) (b : Bool) (place : Place) → StandsAt bytes (cond b (Head h ∷ past) (Tail ∷ Head h ∷ past)) place → place.part ≡ [] → EndsWith bytes (Head h ∷ past)
@@ -153,10 +157,11 @@ pub frame_went : (role : Role) (past : List Item) (fed bytes sent : List ℕ) (b
     → new.pending ≡ old.pending ++ answer → new.failed ≡ false → Steps role past fed bytes sent before after new
 frame_went role past fed bytes sent before after old new h answer true is stands frames arrives pending going =
     went role past (Came (Head h) ∷ past) fed bytes sent before after old new (Head h ∷ []) stands refl frames
-    (subst (λ (t : List ℕ). Arrives role past (Came (Head h) ∷ past) new.table before after old.pending t) (sym pending) arrives) going
+    (subst (λ (t : List ℕ). Arrives role past (Came (Head h) ∷ past) new.table before after old.pending t) (sym pending) arrives) going (head_tells_one role past h)
 frame_went role past fed bytes sent before after old new h answer false is stands frames arrives pending going =
     went role past (Came Tail ∷ Came (Head h) ∷ past) fed bytes sent before after old new (Tail ∷ Head h ∷ []) stands refl frames
     (subst (λ (t : List ℕ). Arrives role past (Came Tail ∷ Came (Head h) ∷ past) new.table before after old.pending t) (sym pending) arrives) going
+    (frame_tells_one role past h)
 
 -- a part of a payload
 pub part_fits : (bytes : List ℕ) (past : List Arrival) (last : Bool) (all : List ℕ) (place : Place) → StandsAt all (cond last (Tail ∷ with_bytes bytes past) (with_bytes bytes past)) place → length bytes ≤ bytes_left past
@@ -169,7 +174,7 @@ pub part_went : (role : Role) (past : List Item) (fed bytes sent : List ℕ) (be
 part_went role past fed bytes sent before after old new last stands frames more arrives going =
     went role past (came_bytes bytes past) fed bytes sent before after old new (with_bytes bytes []) stands (came_are bytes past)
     (subst (λ (xs : List Arrival). StandsAt (fed ++ bytes) xs new.place) (ap (λ b. cond b (Tail ∷ with_bytes bytes (arrivals past)) (with_bytes bytes (arrivals past))) more ∙ sym (arrivals_of_bytes bytes past)) frames)
-    arrives going
+    arrives going (part_tells_one role past bytes)
 
 pub last_went : (role : Role) (past : List Item) (fed bytes sent : List ℕ) (before mid after : List Event) (old new : State) (table : Table) (last : Bool)
     → Stands role past fed sent old → StandsAt (fed ++ bytes) (cond last (Tail ∷ with_bytes bytes (arrivals past)) (with_bytes bytes (arrivals past))) new.place
@@ -183,7 +188,7 @@ last_went role past fed bytes sent before mid after old new table last stands fr
     (subst (λ (t : List ℕ). Arrives role past (Came Tail ∷ came_bytes bytes past) new.table before after old.pending t) (sym pending)
     (arrives_then role past (came_bytes bytes past) (Came Tail ∷ came_bytes bytes past) table new.table before mid after old.pending old.pending old.pending arrives
     (tail (subst (AreAnswered role) (sym (came_are bytes past)) (still_answered role (with_bytes bytes []) past stands.answered)) arrives.keeps)))
-    going
+    going (last_tells_one role past bytes)
 
 part_size : (piece : List ℕ) (at used : ℕ) → used ≤ length piece - at → length (take used (drop at piece)) ≡ used
 part_size piece at used within = length-take-le used (drop at piece) (omega (arith, length-drop at piece))

@@ -25,7 +25,7 @@ use Rattle.yamux_session.proofs.Arriving.{belongs_on}
 
 -- ---- events added
 
-all_both : (xs ys : List Event) → AllByRecursion HasData xs → AllByRecursion HasData ys → AllByRecursion HasData (xs ++ ys)
+pub all_both : (xs ys : List Event) → AllByRecursion HasData xs → AllByRecursion HasData ys → AllByRecursion HasData (xs ++ ys)
 all_both [] ys a b = b
 all_both (x ∷ xs) ys a b = (a.0, all_both xs ys a.1 b)
 

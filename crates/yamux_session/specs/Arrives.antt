@@ -1,5 +1,5 @@
 -- What an arrival leaves: the table of streams, the events, and the output.
-use Rattle.std.specs.Prelude.{◌≡◌, ◌≢◌, ℕ, nat_lt, if◌then◌else◌, List, [], ◌∷◌, ◌++◌, map, Option, Some, None}
+use Rattle.std.specs.Prelude.{◌≡◌, ◌≢◌, ℕ, nat_lt, if◌then◌else◌, List, [], ◌∷◌, ◌++◌, map, length, drop, Option, Some, None}
 use Rattle.std.specs.List.{AllByRecursion, flat_map}
 use Rattle.yamux_frames.specs.declared.header.Header.{Header}
 use Rattle.yamux_frames.specs.Spelling.{header_bytes, payload_length}
@@ -36,6 +36,14 @@ tellings told = flat_map telling told
 abbrev pub HasData : Event → Type 0
 HasData (event.Payload n bytes) = bytes ≢ []
 HasData other = Unit {0}
+
+-- the events that were put behind those that were told before
+abbrev pub added : List Event → List Event → List Event
+added old new = drop (length old) new
+
+-- events were only put behind
+abbrev pub Extends : List Event → List Event → Type 0
+Extends old new = (more : List Event) × (new ≡ old ++ more)
 
 -- events that tell this were added
 pub record Tells (old new : List Event) (told : List Told) : Type 0 where

@@ -7,6 +7,7 @@ pub mod Table
 pub mod Keeps
 pub mod Heads
 pub mod Arrives
+pub mod Naming
 pub mod State
 pub mod Runs
 pub mod Limits

@@ -1,5 +1,7 @@
 -- What contracts see of a session, and how it stands to its list.
-use Rattle.std.specs.Prelude.{◌≡◌, ℕ, ◌≤◌, ◌⊎◌, Bool, true, false, List, [], ◌∷◌, ◌++◌, map, length, take, Some}
+use Rattle.std.specs.Prelude.{◌≡◌, ℕ, ◌≤◌, ◌-◌, ◌⊎◌, Bool, true, false, List, [], ◌∷◌, ◌++◌, map, length, take, Some, vec_len}
+use Rattle.std.specs.Global.{Vec}
+use Rattle.std.specs.Vec.{vec_capacity}
 use Rattle.std.specs.List.{concat}
 use Rattle.yamux_frames.specs.Frames.{Arrival, spelled, AreFrames, StandsAt, Reads}
 use Rattle.yamux_frames.specs.Place.{Place}
@@ -11,15 +13,21 @@ use Rattle.yamux_session.specs.Items.Item.{Came, Did}
 use Rattle.yamux_session.specs.Items.Act.{Write}
 use Rattle.yamux_session.specs.Meaning.{Told, HasNoFault, events, output, fault_at, TellsMore, SendsMore}
 use Rattle.yamux_session.specs.Arrives.{Tells, tellings}
+use Rattle.yamux_session.specs.Naming.{NamesOne}
 use Rattle.yamux_session.specs.Table.{Table}
 use Rattle.yamux_session.specs.Acts.{AreAnswered}
 use Rattle.yamux_session.specs.Keeps.{Keeps}
 
--- pending: the output that wasn't taken yet
+-- how many bytes more find room without asking for memory
+abbrev pub room_of : Vec ℕ → ℕ
+room_of bytes = vec_capacity bytes - vec_len bytes
+
+-- pending: the output that wasn't taken yet; room: how many bytes of output more find room
 pub record State : Type 0 where
   pub table : Table
   pub place : Place
   pub pending : List ℕ
+  pub room : ℕ
   pub failed : Bool
 
 -- the session is where this list leaves it, after these bytes were fed and these taken out
@@ -65,10 +73,13 @@ pub record Led (role : Role) (past now : List Item) (fed bytes sent : List ℕ) 
   pub fails : s.failed ≡ true → FirstFaults role now × (sent ++ s.pending ≡ output role now)
       × ((used : ℕ) × (used ≤ length bytes) × EndsWith (fed ++ take used bytes) (arrivals now))
 
--- what one answer of the cutter does
-abbrev pub Steps : Role → List Item → List ℕ → List ℕ → List ℕ → List Event → List Event → State → Type 0
-Steps role past fed bytes sent before after new =
-    (now : List Item) × (told : List Told) × Tells before after told × Led role past now fed bytes sent told new
+-- what one answer of the cutter does: it leads on, and its events name one stream at most
+pub record Steps (role : Role) (past : List Item) (fed bytes sent : List ℕ) (before after : List Event) (new : State) : Type 0 where
+  pub now : List Item
+  pub told : List Told
+  pub tells : Tells before after told
+  pub names_one : NamesOne tells.more
+  pub led : Led role past now fed bytes sent told new
 
 -- what a call of feed does
 abbrev pub Feeds : State → List ℕ → List Event → State → Type 0

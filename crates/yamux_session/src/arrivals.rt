@@ -12,7 +12,7 @@ ghost use Rattle.yamux_session.specs.Acts.{AreAnswered};
 ghost use Rattle.yamux_session.specs.Keeps.{Keeps};
 ghost use Rattle.yamux_session.specs.Table.{table_of};
 ghost use Rattle.yamux_session.specs.Heads.{IsNotTaken, told_of};
-ghost use Rattle.yamux_session.specs.Arrives.{Arrives, Tells, HasData, telling, told_of_tail, written_header, began, IsFaultOnly};
+ghost use Rattle.yamux_session.specs.Arrives.{Arrives, Tells, Extends, HasData, telling, told_of_tail, written_header, began, IsFaultOnly};
 
 use crate::event::Event;
 use crate::heads::{Effect, HeadRefused};
@@ -114,6 +114,7 @@ impl Streams {
 fn tell_if(told: &mut Vec<Event>, condition: bool, event: Event) -> Result<(), AllocError>
     requires { HasData event }
     ensures ok { OnOk result (Tells told.old.items told.new.items (if condition then telling event else [])) }
+    ensures extends { Extends told.old.items told.new.items }
     ensures memory { OnErr result (condition ≡ true) }
 {
     if condition {
@@ -132,6 +133,7 @@ fn is_leaving(header: Header) -> bool
 /// Tells what a head did.
 fn tell_head(told: &mut Vec<Event>, header: Header, effect: Effect) -> Result<(), AllocError>
     ensures ok { OnOk result (Tells told.old.items told.new.items (told_of header effect)) }
+    ensures extends { Extends told.old.items told.new.items }
     ensures memory { OnErr result (0 < length (told_of header effect)) }
 {
     tell_if(told, is_leaving(header), Event::GoAway(header.length))?;
@@ -190,6 +192,7 @@ fn take_head(
     ensures refused { IfErr result (λ refused. (role : Role) (past : List Item) → AreAnswered role past
         → Keeps role past (table_of streams.old) → IsNotTaken role past header (Came (Head header) ∷ past) refused) }
     ensures told { IfErr result (λ refused. IsFaultOnly refused (told.new.items ≡ told.old.items)) }
+    ensures extends { Extends told.old.items told.new.items }
 {
     let effect = match streams.head(header) {
         Ok(effect) => effect,
@@ -215,6 +218,7 @@ pub fn take_payload(
         → to - from ≤ bytes_left (arrivals past)
         → Arrives role past (came_bytes (take (to - from) (drop from piece.now)) past) (table_of streams.new)
         told.old.items told.new.items output output) }
+    ensures extends { Extends told.old.items told.new.items }
     ensures memory { OnErr result ((role : Role) (past : List Item) → Keeps role past (table_of streams.old)
         → TellsMore role past (came_bytes (take (to - from) (drop from piece.now)) past)) }
 {
@@ -231,6 +235,7 @@ pub fn take_tail(streams: &mut Streams, told: &mut Vec<Event>) -> Result<(), All
     ensures ok { OnOk result ((role : Role) (past : List Item) (output : List ℕ) → AreAnswered role past
         → Keeps role past (table_of streams.old)
         → Arrives role past (Came Tail ∷ past) (table_of streams.new) told.old.items told.new.items output output) }
+    ensures extends { Extends told.old.items told.new.items }
     ensures memory { OnErr result ((role : Role) (past : List Item) → Keeps role past (table_of streams.old)
         → TellsMore role past (Came Tail ∷ past)) }
 {
@@ -254,6 +259,7 @@ pub fn take_frame(
     ensures refused { IfErr result (λ refused. (role : Role) (past : List Item) → HasNoFault role past → AreAnswered role past
         → Keeps role past (table_of streams.old) → IsNotTaken role past header (began header past) refused) }
     ensures told { IfErr result (λ refused. IsFaultOnly refused (told.new.items ≡ told.old.items)) }
+    ensures extends { Extends told.old.items told.new.items }
 {
     let answer = match take_head(streams, told, header) {
         Ok(answer) => answer,

@@ -10,6 +10,7 @@ mod calls;
 mod event;
 mod heads;
 mod laws;
+mod sending;
 mod session;
 mod streams;
 #[cfg(test)]

@@ -1,30 +1,29 @@
 //! One end of a connection.
 
-ghost use Rattle.std.specs.Prelude.{◌≡◌, ℕ, ◌++◌, ◌∷◌, [], List, Some, None, Err, IfOk, IfErr, OnErr, OnOk, true, false, length, take, ◌<◌, ◌≤◌, ◌-◌, ◌↔◌, drop, min, IsTrue};
-ghost use Rattle.std.specs.List.{AllByRecursion, concat, flat_map};
+ghost use Rattle.std.specs.Prelude.{◌≡◌, ◌≢◌, ℕ, ◌++◌, ◌∷◌, [], List, Some, None, Ok, Err, IfOk, IfErr, OnErr, OnOk, true, false, length, take, ◌<◌, ◌≤◌, ◌-◌, ◌↔◌, drop, min, IsTrue};
+ghost use Rattle.std.specs.List.{AllByRecursion};
 ghost use Rattle.yamux_session.specs.Items.{Item, Act};
 ghost use Rattle.yamux_session.specs.Items.Item.{Came, Did};
 ghost use Rattle.yamux_session.specs.Items.Act.{Start, Write, Take, Close, Reset, Leave};
-ghost use Rattle.yamux_session.specs.Acts.{open_credit, start_refusal, stream_refusal, direction_refusal, IsRefusedFor, IsPiece};
+ghost use Rattle.yamux_session.specs.Acts.{open_credit, start_refusal, stream_refusal, direction_refusal, IsRefusedFor, frames_length};
 ghost use Rattle.yamux_session.specs.Windows.{credit, given_back, untaken};
-ghost use Rattle.yamux_session.specs.Meaning.{data_frame, frame};
+ghost use Rattle.yamux_session.specs.Meaning.{frame};
 ghost use Rattle.yamux_frames.specs.Frames.{EndsWithin};
-ghost use Rattle.yamux_session.specs.Arrives.{Tells, HasData};
+ghost use Rattle.yamux_session.specs.Arrives.{Tells, HasData, Extends, added};
+ghost use Rattle.yamux_session.specs.Naming.{NamesOne};
 ghost use Rattle.yamux_session.specs.Meaning.Told.{Failed};
-ghost use Rattle.yamux_session.specs.State.{Stands, Whenever, Adds, AddsWrite, Steps, Feeds, RunsOut, BringsMore};
+ghost use Rattle.yamux_session.specs.State.{Stands, Whenever, Adds, AddsWrite, Steps, Feeds, RunsOut, BringsMore, room_of};
 
 use crate::arrivals::{append_header, take_frame, take_payload, take_tail};
 use crate::event::{ActRefused, Event, Fault, Role};
 use crate::heads::HeadRefused;
+use crate::sending::{append_data, append_frame, put_frame};
 use crate::streams::{Stream, Streams};
 use bytes::Bytes;
 use std::alloc::{AllocError, Global};
 use std::collections::BTreeMap;
 use std::marker::Model;
 use yamux_frames::{Cut, Cutter, FrameKind, Header};
-
-/// How many bytes of data one frame carries at most.
-const LONGEST_PIECE: usize = 16384;
 
 /// From so much on what was taken is given back.
 const GIVE_BACK_FROM: u32 = 131072;
@@ -33,7 +32,8 @@ const GIVE_BACK_FROM: u32 = 131072;
 const PROTOCOL_ERROR: u32 = 1;
 
 /// A session of one end: the streams that are live with their windows, the output that waits, and where in a frame the input
-/// ends. Contracts see these three, and whether it has failed; `Stands` relates them to the history.
+/// ends. Contracts see these three, how much output finds room without more memory, and whether the session has failed; `Stands`
+/// relates them to the history.
 #[derive(Debug, Drop)]
 pub struct Session {
     streams: Streams,
@@ -44,61 +44,18 @@ pub struct Session {
 }
 
 impl Model for Session {
-    ghost use Rattle.yamux_session.specs.State.{State};
+    ghost use Rattle.yamux_session.specs.State.{State, room_of};
     ghost use Rattle.yamux_session.specs.Table.{table_of};
 
     ghost Value = { State };
 
-    ghost view = { λ s. record { table = table_of s.streams; place = s.cutter; pending = s.output.items; failed = s.failed } };
-}
-
-/// The bytes of a frame without payload.
-fn frame_bytes(kind: FrameKind, flags: u16, stream: u32, length: u32) -> [u8; 12]
-    ensures { result ≡ frame kind flags stream length }
-{
-    let header = Header {
-        kind,
-        flags,
-        stream,
-        length,
-    };
-    header.write()
-}
-
-/// The frames that carry these bytes.
-fn data_frames(alloc: Global, stream: u32, bytes: &[u8]) -> Result<Vec<u8>, AllocError>
-    ensures { IfOk result (λ frames. (pieces : List (List ℕ)) × AllByRecursion IsPiece pieces × (concat pieces ≡ bytes.now)
-        × (frames.items ≡ flat_map (data_frame stream) pieces)) }
-{
-    let mut frames = Vec::new(alloc);
-    let mut at = 0;
-    while at < bytes.len() {
-        let left = bytes.len() - at;
-        let count = left.min(LONGEST_PIECE);
-        frames.extend_from_slice(&frame_bytes(FrameKind::Payload, 0, stream, count as u32))?;
-        frames.extend_from_slice(&bytes[at..at + count])?;
-        at += count;
-    }
-    Ok(frames)
-}
-
-/// Appends the frames that carry these bytes. Where there are none it takes no memory.
-fn append_data(
-    alloc: Global,
-    output: &mut Vec<u8>,
-    stream: u32,
-    bytes: &[u8],
-) -> Result<(), AllocError>
-    ensures ok { OnOk result ((pieces : List (List ℕ)) × AllByRecursion IsPiece pieces × (concat pieces ≡ bytes.now)
-        × (output.new.items ≡ output.old.items ++ flat_map (data_frame stream) pieces)) }
-    ensures err { OnErr result (output.new.items ≡ output.old.items) }
-    ensures memory { OnErr result (0 < length bytes.now) }
-{
-    if bytes.is_empty() {
-        return Ok(());
-    }
-    let frames = data_frames(alloc, stream, bytes)?;
-    output.extend_from_slice(&frames)
+    ghost view = { λ s. record {
+        table = table_of s.streams;
+        place = s.cutter;
+        pending = s.output.items;
+        room = room_of s.output;
+        failed = s.failed;
+    } };
 }
 
 impl Session {
@@ -152,7 +109,7 @@ impl Session {
     /// The bytes to send that were not taken yet; afterwards none wait. It takes no memory.
     pub fn take_output(&mut self) -> Vec<u8>
         ensures output { result.items ≡ self.old.pending }
-        ensures rest { self.new ≡ record self.old { pending = [] } }
+        ensures rest { self.new ≡ record self.old { pending = []; room = 0 } }
         ensures stands { (role : Role) (past : List Item) (fed sent : List ℕ) → Stands role past fed sent self.old
             → Stands role past fed (sent ++ result.items) self.new }
     {
@@ -161,11 +118,17 @@ impl Session {
 
     /// Opens a stream of this end with the next number of its parity, and tells the number. What is sent is an empty WindowUpdate
     /// with SYN.
+    ///
+    /// An [`Event::Accepted`] of it may never come: a peer need not send ACK for a stream that it ends at once.
     pub fn open_stream(&mut self) -> Result<u32, ActRefused>
         ensures ok { IfOk result (λ number. Adds self.old self.new (λ role past. Start number)) }
+        ensures going { OnOk result (self.new.failed ≡ false) }
         ensures refused { IfErr result (λ refused.
             Whenever self.old (λ role past. IsRefusedFor (start_refusal role past) refused)) }
-        ensures err { OnErr result (self.new ≡ self.old) }
+        // Want of memory may have left more room for output: the table of streams grows behind the output.
+        ensures err { OnErr result (self.new ≡ record self.old { room = self.new.room }) }
+        ensures room { OnErr result (self.old.room ≤ self.new.room) }
+        ensures kept { IfErr result (λ refused. refused ≢ ActRefused.OutOfMemory → self.new ≡ self.old) }
         ensures failed { self.old.failed ≡ true → (result ≡ Err ActRefused.Failed) × (self.new ≡ self.old) }
     {
         if self.failed {
@@ -177,26 +140,27 @@ impl Session {
         if self.output.reserve(12).is_err() {
             return Err(ActRefused::OutOfMemory);
         }
-        let number = match self.streams.start() {
-            Ok(number) => number,
-            Err(_) => return Err(ActRefused::OutOfMemory),
-        };
-        let frame = frame_bytes(FrameKind::Window, Header::SYN, number, 0);
-        match self.output.extend_from_slice(&frame) {
-            Ok(()) => Ok(number),
-            Err(_) => unreachable!(),
+        match self.streams.start() {
+            Ok(number) => {
+                put_frame(&mut self.output, FrameKind::Window, Header::SYN, number, 0);
+                Ok(number)
+            }
+            Err(_) => Err(ActRefused::OutOfMemory),
         }
     }
 
     /// Writes on a stream, and tells how many of the bytes the window let through.
     pub fn write(&mut self, stream: u32, bytes: &[u8]) -> Result<usize, ActRefused>
         ensures ok { IfOk result (λ count. AddsWrite self.old self.new stream (take count bytes.now)) }
+        ensures going { OnOk result (self.new.failed ≡ false) }
         ensures count { IfOk result (λ count. Whenever self.old (λ role past. count ≡ min (length bytes.now) (credit role past stream))) }
         ensures refused { IfErr result (λ refused.
             Whenever self.old (λ role past. IsRefusedFor (direction_refusal role past stream) refused)) }
-        // Memory is asked for only where bytes go through.
+        // Memory is asked for only where bytes go through, and only where their frames find no room.
         ensures memory { IfErr result (λ refused. refused ≡ ActRefused.OutOfMemory
             → Whenever self.old (λ role past. 0 < min (length bytes.now) (credit role past stream))) }
+        ensures room { IfErr result (λ refused. refused ≡ ActRefused.OutOfMemory → Whenever self.old (λ role past.
+            self.old.room < frames_length (min (length bytes.now) (credit role past stream)))) }
         ensures err { OnErr result (self.new ≡ self.old) }
         ensures failed { self.old.failed ≡ true → (result ≡ Err ActRefused.Failed) × (self.new ≡ self.old) }
     {
@@ -210,9 +174,8 @@ impl Session {
             return Err(ActRefused::Ended);
         }
         let count = bytes.len().min(row.credit as usize);
-        match append_data(self.alloc, &mut self.output, stream, &bytes[..count]) {
-            Ok(()) => {}
-            Err(_) => return Err(ActRefused::OutOfMemory),
+        if append_data(&mut self.output, stream, &bytes[..count]).is_err() {
+            return Err(ActRefused::OutOfMemory);
         }
         let row = Stream {
             credit: row.credit - count as u32,
@@ -223,13 +186,18 @@ impl Session {
     }
 
     /// Bytes of a stream were taken: at most those that arrived and weren't taken yet.
+    ///
+    /// Behind the end of a stream that isn't live any more it answers [`ActRefused::NoStream`] and changes nothing: there is no
+    /// window left to open, so a caller may take what it holds without asking first.
     pub fn taken(&mut self, stream: u32, count: usize) -> Result<(), ActRefused>
         ensures ok { OnOk result (Adds self.old self.new (λ role past. Take stream (min count (untaken role past stream)))) }
+        ensures going { OnOk result (self.new.failed ≡ false) }
         ensures refused { IfErr result (λ refused.
             Whenever self.old (λ role past. IsRefusedFor (stream_refusal role past stream) refused)) }
-        // Memory is asked for only where something is given back.
+        // Memory is asked for only where something is given back, and only where its frame finds no room.
         ensures memory { IfErr result (λ refused. refused ≡ ActRefused.OutOfMemory → Whenever self.old (λ role past.
             0 < given_back role stream past (Did (Take stream (min count (untaken role past stream)))))) }
+        ensures room { IfErr result (λ refused. refused ≡ ActRefused.OutOfMemory → self.old.room < 12) }
         ensures err { OnErr result (self.new ≡ self.old) }
         ensures failed { self.old.failed ≡ true → (result ≡ Err ActRefused.Failed) × (self.new ≡ self.old) }
     {
@@ -251,8 +219,7 @@ impl Session {
             self.streams.replace(stream, row);
             return Ok(());
         }
-        let frame = frame_bytes(FrameKind::Window, 0, stream, owed);
-        if self.output.extend_from_slice(&frame).is_err() {
+        if append_frame(&mut self.output, FrameKind::Window, 0, stream, owed).is_err() {
             return Err(ActRefused::OutOfMemory);
         }
         let row = Stream {
@@ -268,8 +235,10 @@ impl Session {
     /// Closes this end's direction of a stream.
     pub fn close(&mut self, stream: u32) -> Result<(), ActRefused>
         ensures ok { OnOk result (Adds self.old self.new (λ role past. Close stream)) }
+        ensures going { OnOk result (self.new.failed ≡ false) }
         ensures refused { IfErr result (λ refused.
             Whenever self.old (λ role past. IsRefusedFor (direction_refusal role past stream) refused)) }
+        ensures memory { IfErr result (λ refused. refused ≡ ActRefused.OutOfMemory → self.old.room < 12) }
         ensures err { OnErr result (self.new ≡ self.old) }
         ensures failed { self.old.failed ≡ true → (result ≡ Err ActRefused.Failed) × (self.new ≡ self.old) }
     {
@@ -282,8 +251,7 @@ impl Session {
         if row.closed {
             return Err(ActRefused::Ended);
         }
-        let frame = frame_bytes(FrameKind::Window, Header::FIN, stream, 0);
-        if self.output.extend_from_slice(&frame).is_err() {
+        if append_frame(&mut self.output, FrameKind::Window, Header::FIN, stream, 0).is_err() {
             return Err(ActRefused::OutOfMemory);
         }
         if row.finished {
@@ -301,8 +269,10 @@ impl Session {
     /// Ends both directions of a stream.
     pub fn reset(&mut self, stream: u32) -> Result<(), ActRefused>
         ensures ok { OnOk result (Adds self.old self.new (λ role past. Reset stream)) }
+        ensures going { OnOk result (self.new.failed ≡ false) }
         ensures refused { IfErr result (λ refused.
             Whenever self.old (λ role past. IsRefusedFor (stream_refusal role past stream) refused)) }
+        ensures memory { IfErr result (λ refused. refused ≡ ActRefused.OutOfMemory → self.old.room < 12) }
         ensures err { OnErr result (self.new ≡ self.old) }
         ensures failed { self.old.failed ≡ true → (result ≡ Err ActRefused.Failed) × (self.new ≡ self.old) }
     {
@@ -312,26 +282,27 @@ impl Session {
         if self.streams.row(stream).is_none() {
             return Err(ActRefused::NoStream);
         }
-        let frame = frame_bytes(FrameKind::Window, Header::RST, stream, 0);
-        if self.output.extend_from_slice(&frame).is_err() {
+        if append_frame(&mut self.output, FrameKind::Window, Header::RST, stream, 0).is_err() {
             return Err(ActRefused::OutOfMemory);
         }
         self.streams.forget(stream);
         Ok(())
     }
 
-    /// Says that this end goes away: it opens no stream of the other end any more.
+    /// Says that this end goes away: it opens no stream of the other end any more. The specification knows the codes 0 (no error),
+    /// 1 (protocol error) and 2 (internal error); a code above makes some peers end the session.
     pub fn go_away(&mut self, code: u32) -> Result<(), ActRefused>
         ensures ok { OnOk result (Adds self.old self.new (λ role past. Leave code)) }
+        ensures going { OnOk result (self.new.failed ≡ false) }
         ensures refused { IfErr result (λ refused. self.old.failed ≡ false → refused ≡ ActRefused.OutOfMemory) }
+        ensures memory { IfErr result (λ refused. refused ≡ ActRefused.OutOfMemory → self.old.room < 12) }
         ensures err { OnErr result (self.new ≡ self.old) }
         ensures failed { self.old.failed ≡ true → (result ≡ Err ActRefused.Failed) × (self.new ≡ self.old) }
     {
         if self.failed {
             return Err(ActRefused::Failed);
         }
-        let frame = frame_bytes(FrameKind::GoAway, 0, 0, code);
-        if self.output.extend_from_slice(&frame).is_err() {
+        if append_frame(&mut self.output, FrameKind::GoAway, 0, 0, code).is_err() {
             return Err(ActRefused::OutOfMemory);
         }
         self.streams.left = true;
@@ -365,7 +336,8 @@ impl Session {
         }
     }
 
-    /// Takes the bytes that came, as `feed` does, and copies none of them: each Payload event holds a slice of the piece.
+    /// Takes the bytes that came, as `feed` does, and copies none of them: each Payload event holds a slice of the piece, and so keeps
+    /// the whole piece alive as long as it is kept.
     pub fn feed_shared(&mut self, piece: Bytes) -> Result<Vec<Event>, ActRefused>
         ensures fed { IfOk result (λ told. Feeds self.old piece told.items self.new) }
         ensures filled { IfOk result (λ told. Whenever self.old (λ role past. AllByRecursion HasData told.items)) }
@@ -376,33 +348,61 @@ impl Session {
         ensures empty { OnErr result (self.old.failed ≡ false → 0 < length piece) }
         ensures failed { self.old.failed ≡ true → (result ≡ Err ActRefused.Failed) × (self.new ≡ self.old) }
     {
-        self.feed_piece(&piece)
-    }
-
-    fn feed_piece(&mut self, piece: &Bytes) -> Result<Vec<Event>, ActRefused>
-        ensures fed { IfOk result (λ told. Feeds self.old piece.now told.items self.new) }
-        ensures filled { IfOk result (λ told. Whenever self.old (λ role past. AllByRecursion HasData told.items)) }
-        ensures refused { IfErr result (λ refused. self.old.failed ≡ false
-            → (refused ≡ ActRefused.OutOfMemory) × (self.new.failed ≡ true) × RunsOut self.old piece.now self.new) }
-        ensures memory { OnErr result (BringsMore self.old piece.now) }
-        ensures empty { OnErr result (self.old.failed ≡ false → 0 < length piece.now) }
-        ensures failed { self.old.failed ≡ true → (result ≡ Err ActRefused.Failed) × (self.new ≡ self.old) }
-    {
         if self.failed {
             return Err(ActRefused::Failed);
         }
         let mut told = Vec::new(self.alloc);
         let mut at = 0;
         while at < piece.len() && !self.failed {
-            match self.step(piece, at, &mut told) {
+            match self.feed_frame(&piece, at, &mut told) {
                 Ok(used) => at += used,
-                Err(_) => {
-                    self.failed = true;
-                    return Err(ActRefused::OutOfMemory);
-                }
+                Err(refused) => return Err(refused),
             }
         }
         Ok(told)
+    }
+
+    /// Takes the bytes that came from `at` on, as `feed_shared` does, but at most one header, or one part of a payload, with the end
+    /// of its frame. The events are put behind those that were told, and the answer is how many bytes were used: none where none are
+    /// left.
+    ///
+    /// What one call tells names one stream at most, and opens it, if at all, with its first event. So an act behind each call is
+    /// about the very stream that the events named: behind a whole piece a stream of the same number may have been opened since.
+    ///
+    /// Where memory was refused, the call has told and sent nothing.
+    pub fn feed_frame(&mut self, piece: &Bytes, at: usize, told: &mut Vec<Event>) -> Result<usize, ActRefused>
+        ensures kept { OnOk result (told.new.items ≡ told.old.items ++ added told.old.items told.new.items) }
+        ensures fed { IfOk result (λ used.
+            Feeds self.old (take used (drop at piece.now)) (added told.old.items told.new.items) self.new) }
+        ensures filled { OnOk result (Whenever self.old (λ role past.
+            AllByRecursion HasData (added told.old.items told.new.items))) }
+        ensures one_stream { OnOk result (Whenever self.old (λ role past. NamesOne (added told.old.items told.new.items))) }
+        ensures within { IfOk result (λ used. used ≤ length piece.now - at) }
+        ensures goes_on { IfOk result (λ used. at < length piece.now → 0 < used) }
+        ensures nothing_left { length piece.now ≤ at → self.old.failed ≡ false
+            → (result ≡ Ok 0) × (self.new ≡ self.old) × (told.new ≡ told.old) }
+        ensures refused { IfErr result (λ refused. self.old.failed ≡ false
+            → (refused ≡ ActRefused.OutOfMemory) × (self.new.failed ≡ true) × (self.new.pending ≡ self.old.pending)) }
+        ensures untold { OnErr result (told.new.items ≡ told.old.items) }
+        ensures memory { OnErr result (BringsMore self.old (drop at piece.now)) }
+        ensures failed { self.old.failed ≡ true
+            → (result ≡ Err ActRefused.Failed) × (self.new ≡ self.old) × (told.new ≡ told.old) }
+    {
+        if self.failed {
+            return Err(ActRefused::Failed);
+        }
+        if at >= piece.len() {
+            return Ok(0);
+        }
+        let before = told.len();
+        match self.step(piece, at, told) {
+            Ok(used) => Ok(used),
+            Err(_) => {
+                told.truncate(before);
+                self.failed = true;
+                Err(ActRefused::OutOfMemory)
+            }
+        }
     }
 
     /// Takes one answer of the cutter to the rest of the piece, and tells how many bytes it used.
@@ -412,6 +412,7 @@ impl Session {
         ensures used { IfOk result (λ used. (0 < used) × (used ≤ length piece.now - at)) }
         ensures led { IfOk result (λ used. (role : Role) (past : List Item) (fed sent : List ℕ) → Stands role past fed sent self.old
             → Steps role past fed (take used (drop at piece.now)) sent told.old.items told.new.items self.new) }
+        ensures extends { Extends told.old.items told.new.items }
         ensures kept { OnErr result (self.new.pending ≡ self.old.pending) }
         ensures memory { OnErr result (BringsMore self.old (drop at piece.now)) }
     {
@@ -445,14 +446,14 @@ impl Session {
 
     /// Ends the session with a fault.
     fn fail(&mut self, fault: Fault, told: &mut Vec<Event>) -> Result<(), AllocError>
-        ensures failed { OnOk result (self.new
-            ≡ record self.old { pending = self.old.pending ++ frame FrameKind.GoAway 0 0 1; failed = true }) }
+        ensures failed { OnOk result (self.new ≡ record self.old {
+            pending = self.old.pending ++ frame FrameKind.GoAway 0 0 1; room = self.new.room; failed = true }) }
         ensures told { OnOk result (Tells told.old.items told.new.items (Failed fault ∷ [])) }
+        ensures extends { Extends told.old.items told.new.items }
         ensures kept { OnErr result (self.new ≡ self.old) }
     {
         told.push(Event::Fault(fault))?;
-        self.output
-            .extend_from_slice(&frame_bytes(FrameKind::GoAway, 0, 0, PROTOCOL_ERROR))?;
+        append_frame(&mut self.output, FrameKind::GoAway, 0, 0, PROTOCOL_ERROR)?;
         self.failed = true;
         Ok(())
     }

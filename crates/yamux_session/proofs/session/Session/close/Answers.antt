@@ -2,7 +2,7 @@ use Rattle.std.proofs.Common.{Some, true, false, not, refl, sym, ap, ◌∙◌, 
 use Rattle.yamux_session.specs.Items.Act.{Close}
 use Rattle.yamux_session.specs.Table.{table_of}
 use Rattle.yamux_session.specs.State.{State, Stands}
-use Rattle.yamux_session.proofs.Refusals.{no_direction, a_direction, appended, row_of}
+use Rattle.yamux_session.proofs.Refusals.{no_direction, a_direction, on_ok, row_of}
 use Rattle.yamux_session.proofs.Keeping.{did, forgotten, replaced, close_ends, close_stays, closing}
 use Rattle.yamux_session.proofs.session.Session.close.Goals as goal
 
@@ -30,7 +30,7 @@ returns-then-row-2-clause-ok c = λ role past fed sent stands.
     (forgotten role past (Close c.args.stream) c.args.stream c.in-Some.row (table_of c.self.inside.streams) (table_of c.forget.new.self) at.answered at.table found c.forget.ensures (λ k. refl)
     (close_ends role past c.args.stream (sym row.1.finished_is ∙ c.if-row-2.true)) refl refl)
     refl c.if-self.false
-    (appended _ _ _ _ _ c.extend_from_slice.ensures.items (c.is_err.ensures.negation ∙ ap not c.if-is_err.false) c.frame_bytes-frame.ensures)
+    (on_ok c.append_frame.result c.append_frame.ensures.ok (c.is_err.ensures.negation ∙ ap not c.if-is_err.false))
 
 pub returns-else-row-2-clause-ok : goal.returns-else-row-2-clause-ok
 returns-else-row-2-clause-ok c = λ role past fed sent stands.
@@ -42,4 +42,4 @@ returns-else-row-2-clause-ok c = λ role past fed sent stands.
     (closing role past c.args.stream c.in-Some.row (close_stays role past c.args.stream (sym row.1.finished_is ∙ c.if-row-2.false))) (λ k. refl)
     (close_stays role past c.args.stream (sym row.1.finished_is ∙ c.if-row-2.false)) refl refl)
     refl c.if-self.false
-    (appended _ _ _ _ _ c.extend_from_slice.ensures.items (c.is_err.ensures.negation ∙ ap not c.if-is_err.false) c.frame_bytes-frame.ensures)
+    (on_ok c.append_frame.result c.append_frame.ensures.ok (c.is_err.ensures.negation ∙ ap not c.if-is_err.false))

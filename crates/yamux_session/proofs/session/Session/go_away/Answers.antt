@@ -2,7 +2,7 @@ use Rattle.std.proofs.Common.{not, refl, sym, ap, ◌∙◌, subst}
 use Rattle.yamux_session.specs.Items.Act.{Leave}
 use Rattle.yamux_session.specs.Table.{table_of}
 use Rattle.yamux_session.specs.State.{State, Stands}
-use Rattle.yamux_session.proofs.Refusals.{appended}
+use Rattle.yamux_session.proofs.Refusals.{on_ok}
 use Rattle.yamux_session.proofs.Keeping.{did, left}
 use Rattle.yamux_session.proofs.session.Session.go_away.Goals as goal
 
@@ -12,4 +12,4 @@ returns-clause-ok c = λ role past fed sent stands.
     did role past fed sent (Leave c.args.code) _ _ at c.ranges.code.fits
     (left role past c.args.code (table_of c.self.inside.streams) _ at.table refl)
     refl c.if-self.false
-    (appended _ _ _ _ _ c.extend_from_slice.ensures.items (c.is_err.ensures.negation ∙ ap not c.if-is_err.false) c.frame_bytes-frame.ensures)
+    (on_ok c.append_frame.result c.append_frame.ensures.ok (c.is_err.ensures.negation ∙ ap not c.if-is_err.false))

@@ -2,7 +2,7 @@ use Rattle.std.proofs.Common.{not, refl, sym, ap, ◌∙◌, subst}
 use Rattle.yamux_session.specs.Items.Act.{Reset}
 use Rattle.yamux_session.specs.Table.{table_of}
 use Rattle.yamux_session.specs.State.{State, Stands}
-use Rattle.yamux_session.proofs.Refusals.{no_stream, a_stream, none_of, some_of, appended}
+use Rattle.yamux_session.proofs.Refusals.{no_stream, a_stream, none_of, some_of, on_ok}
 use Rattle.yamux_session.proofs.Keeping.{did, forgotten, reset_ends}
 use Rattle.yamux_session.proofs.session.Session.reset.Goals as goal
 
@@ -25,4 +25,4 @@ returns-clause-ok c = λ role past fed sent stands.
     did role past fed sent (Reset c.args.stream) _ _ at (a_stream role past (table_of c.self.inside.streams) c.args.stream some.0 at.table found)
     (forgotten role past (Reset c.args.stream) c.args.stream some.0 (table_of c.self.inside.streams) (table_of c.forget.new.self) at.answered at.table found c.forget.ensures (λ k. refl) (reset_ends role past c.args.stream) refl refl)
     refl c.if-self.false
-    (appended _ _ _ _ _ c.extend_from_slice.ensures.items (c.is_err.ensures.negation ∙ ap not c.if-is_err.false) c.frame_bytes-frame.ensures)
+    (on_ok c.append_frame.result c.append_frame.ensures.ok (c.is_err.ensures.negation ∙ ap not c.if-is_err.false))

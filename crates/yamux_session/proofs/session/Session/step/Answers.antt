@@ -12,6 +12,7 @@ use Rattle.yamux_session.specs.Items.{arrivals, came_bytes}
 use Rattle.yamux_session.specs.Table.{table_of}
 use Rattle.yamux_session.specs.State.{State, Stands}
 use Rattle.yamux_session.proofs.Stepping.{arrives_nothing, went, rest_of, framed, fell_at_head, fell_at_garbled, frame_went, part_went, last_went, part_arrives, part_within}
+use Rattle.yamux_session.proofs.Naming.{nothing_tells_one}
 use Rattle.yamux_session.proofs.Growing.{on_err, uses_some, answer_sends, frame_brings, fault_brings, garbled_brings, part_brings, part_tells, last_tells}
 use Rattle.yamux_session.proofs.session.Session.step.Goals as goal
 
@@ -23,7 +24,7 @@ returns-in-Ok-default-More-clause-led c = λ role past fed sent stands.
     went role past past fed (take used (drop c.args.at c.args.piece.now)) sent _ _ _ _ [] at refl
     (framed fed _ _ used _ _ (arrivals past) _ c.in-Ok-default-More.field-0-1-is rest (c.in-Ok-default-More.ensures.frames fed (arrivals past) at.frames))
     (arrives_nothing role past (table_of c.self.inside.streams) c.args.told.now.items c.self.inside.output.items at.table)
-    at.going
+    at.going (nothing_tells_one role past)
 
 pub returns-in-Err-Fault-clause-led : goal.returns-in-Err-Fault-clause-led
 returns-in-Err-Fault-clause-led c = λ role past fed sent stands.

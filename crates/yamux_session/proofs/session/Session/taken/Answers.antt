@@ -1,10 +1,10 @@
-use Rattle.std.proofs.Common.{◌≡◌, ◌<◌, ℕ, ◌+◌, ◌-◌, ◌≤◌, Some, not, min, refl, sym, ap, ◌∙◌, subst, arith}
+use Rattle.std.proofs.Common.{◌≡◌, ◌<◌, ℕ, ◌+◌, ◌-◌, ◌≤◌, ◌++◌, List, Some, not, min, refl, sym, ap, ◌∙◌, subst, arith}
 use Rattle.yamux_session.specs.Items.Act.{Take}
 use Rattle.yamux_session.specs.Items.Item.{Did}
 use Rattle.yamux_session.specs.Windows.{given_back, given_of, untaken}
 use Rattle.yamux_session.specs.Table.{table_of}
 use Rattle.yamux_session.specs.State.{State, Stands}
-use Rattle.yamux_session.proofs.Refusals.{no_stream, a_stream, appended, row_of, untaken_is}
+use Rattle.yamux_session.proofs.Refusals.{no_stream, a_stream, on_ok, row_of, untaken_is}
 use Rattle.yamux_session.proofs.Keeping.{did, replaced, quiet, taking, giving, none_finished, none_few, all_given, nothing_sent, given_sent, as_counted}
 use Rattle.yamux_session.proofs.session.Session.taken.Goals as goal
 
@@ -65,7 +65,7 @@ returns-clause-ok c = λ role past fed sent stands.
     (taking role past n k g c.in-Some.row (record c.in-Some.row { window = c.saturating_add.result; owed = 0; untaken = c.in-Some.row.untaken - k }) row.1 all (omega arith) fits wide (omega arith) (omega arith) refl refl refl refl)
     (λ m. refl) (quiet _) refl refl)
     refl c.if-self.false
-    (appended _ _ _ _ _ c.extend_from_slice.ensures.items (c.is_err.ensures.negation ∙ ap not c.if-is_err.false) (c.frame_bytes-frame.ensures ∙ given_sent role past n k g (giving role past n k g c.in-Some.row row.1 all) many)))
+    (on_ok c.append_frame.result c.append_frame.ensures.ok (c.is_err.ensures.negation ∙ ap not c.if-is_err.false) ∙ ap (λ (t : List ℕ). c.self.inside.output.items ++ t) (given_sent role past n k g (giving role past n k g c.in-Some.row row.1 all) many)))
 
 pub returns-then-is_err-clause-memory : goal.returns-then-is_err-clause-memory
 returns-then-is_err-clause-memory c = λ why role past fed sent stands.
