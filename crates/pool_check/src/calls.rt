@@ -62,7 +62,7 @@ impl Cast {
 
     /// A call.
     pub fn call(&self, draws: &mut Draws) -> Call {
-        match draws.below(24) {
+        match draws.below(26) {
             0 => Call::Dial(None),
             1 | 2 => Call::Dial(Some(self.peer(draws))),
             3 | 4 => Call::Accept,

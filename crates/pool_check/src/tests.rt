@@ -3,7 +3,7 @@
 use crate::calls::{Cast, Draws};
 use crate::history::{Entry, IN_ORDER, front, listed, reply, rows};
 use peer_ids::PeerId;
-use pool_state::{Agent, Config, Limits, Pool, Refusal, Reply};
+use pool_state::{Agent, Call, Config, Limits, Listing, Pool, Refusal, Reply};
 use std::alloc::Global;
 use std::process::Abort;
 use std::test::*;
@@ -16,14 +16,50 @@ fn peer(byte: u8) -> Result<PeerId, Fail> {
     Ok(id)
 }
 
-/// Runs a script of drawn calls, and compares each reply and each listing. It marks the numbers of the refusals met.
+/// What the scripts have met.
+#[derive(Drop)]
+struct Met {
+    /// By its number, each refusal.
+    refusals: [bool; 20],
+    /// A note on a connection that had another agent.
+    another_agent: bool,
+}
+
+impl Met {
+    fn nothing() -> Met {
+        Met {
+            refusals: [false; 20],
+            another_agent: false,
+        }
+    }
+
+    /// Marks what a call meets after which this stood.
+    fn mark(&mut self, before: &Listing, call: &Call, reply: &Reply) {
+        match (call, reply) {
+            (_, Reply::Refused(refusal)) => {
+                if let Some(mark) = self.refusals.get_mut(*refusal as usize) {
+                    *mark = true;
+                }
+            }
+            (Call::Note(conn, agent), Reply::Done) => {
+                let renamed = before.conns.as_slice().iter().any(|row| {
+                    row.conn == *conn && row.agent.is_some() && row.agent != Some(*agent)
+                });
+                self.another_agent = self.another_agent || renamed;
+            }
+            _ => {}
+        }
+    }
+}
+
+/// Runs a script of drawn calls, and compares each reply and each listing. It marks what is met.
 fn compare(
     rt: &impl Abort,
     alloc: Global,
     config: Config,
     seed: u64,
     calls: usize,
-    met: &mut [bool; 20],
+    met: &mut Met,
 ) -> Result<(), Fail> {
     let mut cast = Cast {
         peers: [config.own, peer(0x11)?, peer(0x22)?, peer(0x33)?],
@@ -41,14 +77,9 @@ fn compare(
         let call = cast.call(&mut draws);
         let answer = pool.apply(call);
         assert_eq!(rt; answer, reply(alloc, &config, &history, call)?);
-        match answer {
-            Reply::Conn(conn) => cast.latest = conn,
-            Reply::Refused(refusal) => {
-                if let Some(mark) = met.get_mut(refusal as usize) {
-                    *mark = true;
-                }
-            }
-            _ => {}
+        met.mark(&kept, &call, &answer);
+        if let Reply::Conn(conn) = answer {
+            cast.latest = conn;
         }
         if answer != Reply::Refused(Refusal::Spent) {
             history.push(Entry {
@@ -79,9 +110,9 @@ fn compare(
 #[test]
 fn pool_answers_as_the_history_says(rt: HostRuntime) -> Result<(), Fail> {
     let own = peer(0)?;
-    let tight = Limits::new(3, 1, 1, 1, 2, 2, 1).ok_or("in range")?;
+    let tight = Limits::new(3, 1, 1, 1, 1, 2, 1).ok_or("in range")?;
     let wide = Limits::new(5, 2, 2, 2, 4, 4, 2).ok_or("in range")?;
-    let mut met = [false; 20];
+    let mut met = Met::nothing();
     for (seed, limits, first_conn, allow_only) in [
         (1, tight, 1, false),
         (2, wide, 1, false),
@@ -101,10 +132,11 @@ fn pool_answers_as_the_history_says(rt: HostRuntime) -> Result<(), Fail> {
     }
     for refusal in IN_ORDER {
         assert!(rt;
-            met.get(refusal as usize) == Some(&true),
+            met.refusals.get(refusal as usize) == Some(&true),
             "{refusal:?} wasn't met"
         );
     }
+    assert!(rt; met.another_agent, "no connection had two agents");
     Ok(())
 }
 
@@ -117,8 +149,8 @@ fn pool_stops_at_the_last_front(rt: HostRuntime) -> Result<(), Fail> {
         first_front: u64::MAX - 20,
         allow_only: false,
     };
-    let mut met = [false; 20];
+    let mut met = Met::nothing();
     compare(&rt, rt.alloc(), config, 9, 40, &mut met)?;
-    assert!(rt; met[1]);
+    assert!(rt; met.refusals[1]);
     Ok(())
 }

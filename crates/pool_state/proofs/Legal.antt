@@ -4,6 +4,7 @@ use Rattle.std.specs.Bool.{if◌then◌else◌}
 use Rattle.std.proofs.lemmas.Bool.{eqb-true}
 use Rattle.std.proofs.lemmas.Bool.Decides.{nat_tests}
 use Rattle.pool_state.specs.declared.call.Call.{Call}
+use Rattle.pool_state.specs.declared.call.Call.TheVariants as call
 use Rattle.pool_state.specs.declared.call.Reply.{Reply}
 use Rattle.pool_state.specs.declared.call.Reply.TheVariants as reply
 use Rattle.pool_state.specs.declared.call.Refusal.{Refusal}
@@ -121,3 +122,28 @@ legal_less_from config before (x ∷ later) e l =
 
 pub legal_less : (config : Config) (h : List Entry) (e : Entry) → IsLegal config (h ++ e ∷ []) → IsLegal config h × IsNext config h e.call e.reply
 legal_less config h e l = legal_less_from config [] h e l
+
+-- a beginning of what is legal after `before`
+pub legal_beginning : (config : Config) (before beginning later : List Entry) → IsLegalAfter config before (beginning ++ later) → IsLegalAfter config before beginning
+legal_beginning config before [] later l = tt
+legal_beginning config before (e ∷ beginning) later l = (l.0, legal_beginning config (before ++ e ∷ []) beginning later l.1)
+
+-- a call that is answered a number is answered the next one
+pub admitted_next : (config : Config) (h : List Entry) (c : Call) (n : ℕ) → reply_after config h c ≡ reply.Conn n → n ≡ next_number config h
+admitted_next config h c n is = by_test (nat_le (2 ^ 64 - 1) (front_of config h)) (first_that_holds (may_refuse config (next_number config h) (Shown config h) c)) c is
+  where
+    by_test : (b : Bool) (o : Option Refusal) (c : Call) → (if b then reply.Refused Spent else refused_or o (answer config (next_number config h) (Shown config h) c)) ≡ reply.Conn n → n ≡ next_number config h
+    by_test true o c e = absurd (cc e)
+    by_test false (Some w) c e = absurd (cc e)
+    by_test false None (call.Dial p) e = cc e
+    by_test false None call.Accept e = cc e
+    by_test false None (call.Settle m p) e = absurd (cc e)
+    by_test false None (call.Ask m i) e = absurd (cc e)
+    by_test false None (call.Done m i) e = absurd (cc e)
+    by_test false None (call.HangUp p) e = absurd (cc e)
+    by_test false None (call.Block p) e = absurd (cc e)
+    by_test false None (call.Unblock p) e = absurd (cc e)
+    by_test false None (call.Gone m) e = absurd (cc e)
+    by_test false None (call.Allow p) e = absurd (cc e)
+    by_test false None (call.Disallow p) e = absurd (cc e)
+    by_test false None (call.Note m a) e = absurd (cc e)

@@ -16,3 +16,5 @@ pub mod Allowed
 pub mod Asked
 pub mod Rising
 pub mod Limited
+pub mod Ordered
+pub mod WorkedRows

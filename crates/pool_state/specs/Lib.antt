@@ -9,3 +9,5 @@ pub mod Shown
 pub mod At
 pub mod Added
 pub mod Bounded
+pub mod Ordered
+pub mod Rows

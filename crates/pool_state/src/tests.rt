@@ -204,6 +204,114 @@ fn a_full_table(rt: HostRuntime) -> Result<(), Fail> {
     Ok(())
 }
 
+/// A pool whose limit of one side, or of the other, is one below that of all.
+fn one_sided(inbound: usize, outbound: usize) -> Result<Pool, Fail> {
+    let limits = Limits::new(256, 8, 64, 64, inbound, outbound, 64).ok_or("in range")?;
+    Ok(Pool::new(Config {
+        limits,
+        ..config()?
+    }))
+}
+
+/// So many calls are admitted, from connection 1 on.
+fn admit(rt: &impl Abort, pool: &mut Pool, call: Call, count: u32) {
+    for conn in 1..count + 1 {
+        assert_eq!(rt; pool.apply(call), Reply::Conn(conn), "connection {conn}");
+    }
+}
+
+#[test]
+fn each_side_is_full_at_its_limit(rt: HostRuntime) -> Result<(), Fail> {
+    for (call, other, mut pool) in [
+        (Call::Accept, Call::Dial(None), one_sided(255, 256)?),
+        (Call::Dial(None), Call::Accept, one_sided(256, 255)?),
+    ] {
+        admit(&rt, &mut pool, call, 255);
+        assert_eq!(rt; pool.apply(call), refused(Refusal::SideFull), "{call:?}");
+        assert_eq!(rt; pool.apply(other), Reply::Conn(256), "{other:?}");
+        assert_eq!(rt; pool.apply(call), refused(Refusal::Full), "{call:?}");
+    }
+    let mut pool = one_sided(256, 256)?;
+    admit(&rt, &mut pool, Call::Dial(None), 256);
+    assert_eq!(rt; pool.apply(Call::Dial(None)), refused(Refusal::Full));
+    Ok(())
+}
+
+#[test]
+fn a_peer_has_eight_connections(rt: HostRuntime) -> Result<(), Fail> {
+    let mut pool = Pool::new(config()?);
+    let first = peer(0x11)?;
+    admit(&rt, &mut pool, Call::Dial(Some(first)), 8);
+    let script = [
+        (Call::Dial(Some(first)), refused(Refusal::PeerFull)),
+        (Call::Accept, Reply::Conn(9)),
+        (Call::Settle(9, first), refused(Refusal::PeerFull)),
+        (Call::Settle(8, first), Reply::Done),
+        (Call::HangUp(first), Reply::Count(8)),
+    ];
+    run(&rt, &mut pool, &script);
+    Ok(())
+}
+
+#[test]
+fn a_connection_has_64_streams(rt: HostRuntime) -> Result<(), Fail> {
+    let mut pool = Pool::new(config()?);
+    let script = [
+        (Call::Accept, Reply::Conn(1)),
+        (Call::Settle(1, peer(0x11)?), Reply::Done),
+    ];
+    run(&rt, &mut pool, &script);
+    for stream in 0..64 {
+        assert_eq!(rt;
+            pool.apply(Call::Ask(1, stream % 3)),
+            Reply::Done,
+            "stream {stream}"
+        );
+    }
+    let script = [
+        (Call::Ask(1, 1), refused(Refusal::StreamsFull)),
+        (Call::Done(1, 2), Reply::Done),
+        (Call::Ask(1, 1), Reply::Done),
+        (Call::Ask(1, 2), refused(Refusal::StreamsFull)),
+    ];
+    run(&rt, &mut pool, &script);
+    Ok(())
+}
+
+#[test]
+fn each_list_has_64_peers(rt: HostRuntime) -> Result<(), Fail> {
+    let mut pool = Pool::new(config()?);
+    for byte in 0x40..0x80 {
+        let peer = peer(byte)?;
+        assert_eq!(rt;
+            pool.apply(Call::Block(peer)),
+            Reply::Count(0),
+            "block {byte}"
+        );
+        assert_eq!(rt;
+            pool.apply(Call::Allow(peer)),
+            Reply::Count(1),
+            "allow {byte}"
+        );
+    }
+    let (first, last) = (peer(0x11)?, peer(0x7f)?);
+    let script = [
+        (Call::Block(first), refused(Refusal::BlockFull)),
+        (Call::Allow(first), refused(Refusal::AllowFull)),
+        (Call::Block(last), Reply::Count(0)),
+        (Call::Allow(last), Reply::Count(0)),
+        (Call::Unblock(last), Reply::Count(1)),
+        (Call::Disallow(last), Reply::Count(0)),
+        (Call::Block(first), Reply::Count(0)),
+        (Call::Allow(first), Reply::Count(1)),
+    ];
+    run(&rt, &mut pool, &script);
+    let listing = pool.listing();
+    assert_eq!(rt; (listing.blocked.len(), listing.allowed.len()), (64, 64));
+    assert!(rt; listing.blocked == listing.allowed);
+    Ok(())
+}
+
 #[test]
 fn an_agent_is_noted_while_live(rt: HostRuntime) -> Result<(), Fail> {
     let mut pool = Pool::new(config()?);

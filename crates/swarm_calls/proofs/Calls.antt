@@ -40,30 +40,28 @@ pub calls_same : (caller amount : ℕ) (books : List ℕ) (history seen : List E
 calls_same caller amount books history seen counts within book share begins = mine_same caller seen history begins (sym (counts.each caller within.0 within.1) ∙ (book ∙ share))
 
 -- what lies under the lock, with the entry
-pub locked_snoc : (book : Book) (config : Config) (callers : ℕ) (word : Book) (pool pool' : Pool) (books : List ℕ) (published published' : Snapshot) (e : Entry) → (1 ≤ e.caller) × (e.caller ≤ 8) → e.caller ≤ callers
-    → IsLocked book config callers word pool books published → IsShown book config published' → published'.beginning.log ≡ published.beginning.log ++ e ∷ [] → IsAt config (published.beginning.log ++ e ∷ []) pool'
+pub locked_snoc : (book : Book) (config : Config) (callers : ℕ) (word : Book) (pool pool' : Pool) (books : List ℕ) (published published' : Snapshot) (e : Entry) → (1 ≤ e.caller) × (e.caller ≤ 8)
+    → IsLocked book config callers word pool books published → IsShown book config callers published' → published'.beginning.log ≡ published.beginning.log ++ e ∷ [] → IsAt config (published.beginning.log ++ e ∷ []) pool'
     → IsLocked book config callers word pool' (slice_set books (e.caller - 1) (slice_index books (e.caller - 1) + 1)) published'
-locked_snoc book config callers word pool pool' books published published' e within below at shown longer pool_at = record {
+locked_snoc book config callers word pool pool' books published published' e within at shown longer pool_at = record {
   word_is = at.word_is;
   shown = shown;
   pool_is = subst (λ (h : List Entry). IsAt config h pool') (sym longer) pool_at;
   books_are = subst (λ (h : List Entry). Counts (slice_set books (e.caller - 1) (slice_index books (e.caller - 1) + 1)) h) (sym longer) (counts_snoc books published.beginning.log e within.0 within.1 at.books_are);
-  callers_are = subst (IsOf callers) (sym longer) (of_snoc callers published.beginning.log e (within.0, below) at.callers_are);
 }
 
 -- at the start all is at the empty history
-pub locked_nil : (book : Book) (config : Config) (callers : ℕ) (word : Book) (pool : Pool) (published : Snapshot) → word ≡ book → IsAt config [] pool → IsShown book config published → published.beginning.log ≡ []
+pub locked_nil : (book : Book) (config : Config) (callers : ℕ) (word : Book) (pool : Pool) (published : Snapshot) → word ≡ book → IsAt config [] pool → IsShown book config callers published → published.beginning.log ≡ []
     → IsLocked book config callers word pool (0 ∷ 0 ∷ 0 ∷ 0 ∷ 0 ∷ 0 ∷ 0 ∷ 0 ∷ []) published
 locked_nil book config callers word pool published word_is at shown none = record {
   word_is = word_is;
   shown = shown;
   pool_is = subst (λ (h : List Entry). IsAt config h pool) (sym none) at;
   books_are = subst (λ (h : List Entry). Counts (0 ∷ 0 ∷ 0 ∷ 0 ∷ 0 ∷ 0 ∷ 0 ∷ 0 ∷ []) h) (sym none) counts_nil;
-  callers_are = subst (IsOf callers) (sym none) (of_nil callers);
 }
 
 -- a call of a pass that has seen all that is published, h
-module _ (config : Config) (call : Call) (old between : Past) (h : List Entry) (later : Later config old between) (own : SameCalls old between) (seen : between ≡ past old.number h) (front : front_of config between.seen < 2 ^ 64) where
+module _ (config : Config) (callers : ℕ) (call : Call) (old between : Past) (h : List Entry) (later : Later config callers old between) (own : SameCalls old between) (seen : between ≡ past old.number h) (front : front_of config between.seen < 2 ^ 64) where
   h_seen : between.seen ≡ h
   h_seen = ap (λ (p : Past). p.seen) seen
 
@@ -71,7 +69,7 @@ module _ (config : Config) (call : Call) (old between : Past) (h : List Entry) (
   front_h = subst (λ (l : List Entry). front_of config l < 18446744073709551616) h_seen front
 
   -- the pool answers Spent
-  pub called_spent : (reply : Reply) → reply ≡ Refused Spent → reply ≡ reply_after config h call → IsCalled config call old reply between
+  pub called_spent : (reply : Reply) → reply ≡ Refused Spent → reply ≡ reply_after config h call → IsCalled config callers call old reply between
   called_spent reply is reply_is =
       let last : 18446744073709551615 ≤ front_of config h = spent_at_last config h call (sym reply_is ∙ is) in
       let there : front_of config h ≡ 18446744073709551615 = omega (arith, last, front_h) in
@@ -83,21 +81,21 @@ module _ (config : Config) (call : Call) (old between : Past) (h : List Entry) (
       }
 
   -- memory is refused
-  pub called_refused : (reply : Reply) (new : Past) → new ≡ between → reply ≡ reply_after config h call → reply ≢ Refused Spent → IsCalled config call old (Refused OutOfMemory) new
+  pub called_refused : (reply : Reply) (new : Past) → new ≡ between → reply ≡ reply_after config h call → reply ≢ Refused Spent → IsCalled config callers call old (Refused OutOfMemory) new
   called_refused reply new same reply_is unspent =
       let P : Reply → Type 0 = λ r. r ≢ Refused Spent in
       let small : front_of config h < 18446744073709551615 = unspent_below config h call (subst P reply_is unspent) in
       let front_is : front_of config new.seen ≡ front_of config h = ap (λ (p : Past). front_of config p.seen) same ∙ ap (front_of config) h_seen in
       record {
-        later = subst (Later config old) (sym same) later;
+        later = subst (Later config callers old) (sym same) later;
         made = λ counts. absurd (counts (inr refl));
         unmade = λ away. subst (SameCalls old) (sym same) own;
         spent = λ away. ((λ is. absurd (cc is)), λ last. absurd (omega (arith, small, front_is, last)));
       }
 
   -- the call is published and seen
-  pub called_made : (reply : Reply) (new : Past) → new ≡ past between.number (h ++ entry between.number call reply ∷ []) → reply ≡ reply_after config h call → reply ≢ Refused Spent → IsCalled config call old reply new
-  called_made reply new made reply_is unspent =
+  pub called_made : (reply : Reply) (new : Past) → (1 ≤ old.number) × (old.number ≤ callers) → new ≡ past between.number (h ++ entry between.number call reply ∷ []) → reply ≡ reply_after config h call → reply ≢ Refused Spent → IsCalled config callers call old reply new
+  called_made reply new within made reply_is unspent =
       let number_is : new.number ≡ old.number = ap (λ (p : Past). p.number) made ∙ later.number in
       let all_seen : new.seen ≡ h ++ entry old.number call reply ∷ [] = ap (λ (p : Past). p.seen) made ∙ ap (λ (n : ℕ). h ++ entry n call reply ∷ []) later.number in
       let legal : IsLegal config h = subst (IsLegal config) h_seen later.legal in
@@ -106,6 +104,7 @@ module _ (config : Config) (call : Call) (old between : Past) (h : List Entry) (
         later = record {
           number = number_is;
           legal = subst (IsLegal config) (sym all_seen) (legal_snoc config h (entry old.number call reply) legal reply_is unspent);
+          callers_are = subst (IsOf callers) (sym all_seen) (of_snoc callers h (entry old.number call reply) within (subst (IsOf callers) h_seen later.callers_are));
           begins = prefix_trans old.seen between.seen new.seen later.begins (entry old.number call reply ∷ [], ap (λ (l : List Entry). l ++ entry old.number call reply ∷ []) h_seen ∙ sym all_seen);
         };
         made = λ counts. record {

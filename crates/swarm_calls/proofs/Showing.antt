@@ -15,7 +15,7 @@ use Rattle.swarm_calls.specs.declared.snapshot.Snapshot.{Snapshot}
 use Rattle.swarm_calls.specs.declared.addition.Addition.{Addition}
 use Rattle.swarm_calls.specs.Steps.{beginning}
 use Rattle.swarm_calls.specs.Snapshots.{IsShown, absorbed}
-use Rattle.swarm_calls.proofs.Legal.{legal_snoc, counts_snoc, mine_le}
+use Rattle.swarm_calls.proofs.Legal.{legal_snoc, counts_snoc, mine_le, of_snoc}
 use Rattle.swarm_calls.proofs.Replies.{unspent_below}
 
 more_at_small : (n : ℕ) (b : Bool) → nat_lt n (2 ^ 64 - 1) ≡ b → n < 18446744073709551615 → more n ≡ n + 1
@@ -33,10 +33,10 @@ short config h e reply unspent =
 
 -- what is published after the entry shows the history with it
 pub shown_snoc : ((config : Config) (history : List Entry) (caller : ℕ) (call : Call) (reply : Reply) → IsLegal config (history ++ entry caller call reply ∷ []) → added (Shown config history) call reply ≡ Shown config (history ++ entry caller call reply ∷ []))
-    → (book : Book) (config : Config) (s : Snapshot) (a : Addition) → IsShown book config s → a.after ≡ beginning book (s.beginning.log ++ a.entry ∷ []) → (1 ≤ a.entry.caller) × (a.entry.caller ≤ 8)
-    → a.entry.reply ≡ reply_after config s.beginning.log a.entry.call → a.entry.reply ≢ Refused Spent
-    → IsShown book config (absorbed s (Some a))
-shown_snoc law book config s a shown after within reply unspent =
+    → (book : Book) (config : Config) (callers : ℕ) (s : Snapshot) (a : Addition) → IsShown book config callers s → a.after ≡ beginning book (s.beginning.log ++ a.entry ∷ []) → (1 ≤ a.entry.caller) × (a.entry.caller ≤ 8)
+    → a.entry.caller ≤ callers → a.entry.reply ≡ reply_after config s.beginning.log a.entry.call → a.entry.reply ≢ Refused Spent
+    → IsShown book config callers (absorbed s (Some a))
+shown_snoc law book config callers s a shown after within below reply unspent =
     let h = s.beginning.log in
     let e = a.entry in
     let small = short config h e reply unspent in
@@ -50,16 +50,17 @@ shown_snoc law book config s a shown after within reply unspent =
       legal = rw log all;
       listing_is = rw log (ap (λ (l : Listing). added l e.call e.reply) shown.listing_is ∙ law config h e.caller e.call e.reply all);
       calls_are = rw (log, more_is (slice_index s.calls (e.caller - 1)) few) (counts_snoc s.calls h e within.0 within.1 shown.calls_are);
+      callers_are = rw log (of_snoc callers h e (within.0, below) shown.callers_are);
     }
 
 -- what is published next, once nothing and then the entry was applied, shows the history with it
 pub next_shown : (a : Addition)
     → ((config : Config) (history : List Entry) (caller : ℕ) (call : Call) (reply : Reply) → IsLegal config (history ++ entry caller call reply ∷ []) → added (Shown config history) call reply ≡ Shown config (history ++ entry caller call reply ∷ []))
-    → (book : Book) (config : Config) (w v next : Snapshot) (before pending : List (Option Addition)) → v ≡ w → before ≡ None ∷ [] → pending ≡ before ++ Some a ∷ [] → next ≡ fold absorbed v pending
-    → IsShown book config w → a.after ≡ beginning book (w.beginning.log ++ a.entry ∷ []) → (1 ≤ a.entry.caller) × (a.entry.caller ≤ 8)
-    → a.entry.reply ≡ reply_after config w.beginning.log a.entry.call → a.entry.reply ≢ Refused Spent
-    → IsShown book config next
-next_shown a law book config w v next before pending same first second is shown after within reply unspent =
+    → (book : Book) (config : Config) (callers : ℕ) (w v next : Snapshot) (before pending : List (Option Addition)) → v ≡ w → before ≡ None ∷ [] → pending ≡ before ++ Some a ∷ [] → next ≡ fold absorbed v pending
+    → IsShown book config callers w → a.after ≡ beginning book (w.beginning.log ++ a.entry ∷ []) → (1 ≤ a.entry.caller) × (a.entry.caller ≤ 8)
+    → a.entry.caller ≤ callers → a.entry.reply ≡ reply_after config w.beginning.log a.entry.call → a.entry.reply ≢ Refused Spent
+    → IsShown book config callers next
+next_shown a law book config callers w v next before pending same first second is shown after within below reply unspent =
     let two : pending ≡ None ∷ Some a ∷ [] = second ∙ ap (λ (l : List (Option Addition)). l ++ Some a ∷ []) first in
     let changed : next ≡ absorbed w (Some a) = is ∙ (ap (fold absorbed v) two ∙ ap (λ (s : Snapshot). absorbed s (Some a)) same) in
-    subst (IsShown book config) (sym changed) (shown_snoc law book config w a shown after within reply unspent)
+    subst (IsShown book config callers) (sym changed) (shown_snoc law book config callers w a shown after within below reply unspent)

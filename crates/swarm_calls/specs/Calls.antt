@@ -20,10 +20,12 @@ abbrev pub past : ℕ → List Entry → Past
 past number seen = record { number = number; seen = seen }
 
 -- The same caller has seen a legal history that begins with all that it had seen.
-pub record Later (config : Config) (old new : Past) : Type 0 where
+pub record Later (config : Config) (callers : ℕ) (old new : Past) : Type 0 where
   pub number : new.number ≡ old.number
   pub legal : IsLegal config new.seen
   pub begins : IsPrefix old.seen new.seen
+  -- it has calls of the swarm's callers alone
+  pub callers_are : IsOf callers new.seen
 
 -- The caller's calls are what they were.
 abbrev pub SameCalls : Past → Past → Type 0
@@ -40,9 +42,9 @@ abbrev pub IsTurnedAway : Reply → Type 0
 IsTurnedAway reply = (reply ≡ Refused Spent) ⊎ (reply ≡ Refused OutOfMemory)
 
 -- What a pool call does, by its reply.
-pub record IsCalled (config : Config) (call : Call) (old : Past) (reply : Reply) (new : Past) : Type 0 where
+pub record IsCalled (config : Config) (callers : ℕ) (call : Call) (old : Past) (reply : Reply) (new : Past) : Type 0 where
   -- the pass has seen a legal history that begins with what it had seen
-  pub later : Later config old new
+  pub later : Later config callers old new
   -- it ends with the call and its reply, and the caller's own calls grew by just that
   pub made : ¬ IsTurnedAway reply → IsMade call reply old new
   -- a call that is turned away is none of the caller's

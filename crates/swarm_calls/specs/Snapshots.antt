@@ -1,20 +1,21 @@
 -- What is published, and what it shows.
-use Rattle.std.specs.Prelude.{◌≡◌, ◌-◌, length, Option, Some, None}
+use Rattle.std.specs.Prelude.{◌≡◌, ◌-◌, ℕ, length, Option, Some, None}
 use Rattle.logbook.specs.Pages.{Book}
 use Rattle.pool_state.specs.declared.limits.Config.{Config}
 use Rattle.pool_state.specs.Added.{added, more, more_at}
 use Rattle.pool_state.specs.Shown.{Shown, IsLegal}
 use Rattle.swarm_calls.specs.declared.snapshot.Snapshot.{Snapshot}
 use Rattle.swarm_calls.specs.declared.addition.Addition.{Addition}
-use Rattle.swarm_calls.specs.History.{Counts}
+use Rattle.swarm_calls.specs.History.{Counts, IsOf}
 
--- A snapshot shows a legal history of this swarm: its length, its listing, and the number of each caller's entries.
-pub record IsShown (book : Book) (config : Config) (s : Snapshot) : Type 0 where
+-- A snapshot shows a legal history of this swarm's callers: its length, its listing, and the number of each caller's entries.
+pub record IsShown (book : Book) (config : Config) (callers : ℕ) (s : Snapshot) : Type 0 where
   pub book_is : s.beginning.book ≡ book
   pub count_is : s.count ≡ length s.beginning.log
   pub legal : IsLegal config s.beginning.log
   pub listing_is : s.listing ≡ Shown config s.beginning.log
   pub calls_are : Counts s.calls s.beginning.log
+  pub callers_are : IsOf callers s.beginning.log
 
 -- A snapshot after an operation: none changes nothing.
 abbrev pub absorbed : Snapshot → Option Addition → Snapshot

@@ -86,11 +86,12 @@ fn publish<J: Identity, R: Wait>(
     entry: Entry,
 ) -> (SwarmWriter<J>, bool)
     requires pending { drop writer.behind writer.log.items ≡ [] }
-    requires swarm { IsShown J.book J.config writer.desk.shown.value × (length.now ≡ J.book) }
+    requires swarm { IsShown J.book J.config J.callers writer.desk.shown.value × (length.now ≡ J.book) }
     requires caller { (1 ≤ entry.caller) × (entry.caller ≤ 8) }
+    requires among { entry.caller ≤ J.callers }
     requires reply { (entry.reply ≡ reply_after J.config writer.desk.shown.value.beginning.log entry.call) × (entry.reply ≢ Refused Spent) }
     ensures pending { drop result.0.behind result.0.log.items ≡ [] }
-    ensures shown { result.1 ≡ true → IsShown J.book J.config result.0.desk.shown.value }
+    ensures shown { result.1 ≡ true → IsShown J.book J.config J.callers result.0.desk.shown.value }
     ensures yes { result.1 ≡ true → result.0.desk.shown.value.beginning ≡ beginning J.book (writer.desk.shown.value.beginning.log ++ entry ∷ []) }
     ensures no { result.1 ≡ false → result.0.desk.shown.value ≡ writer.desk.shown.value }
 {
@@ -111,7 +112,7 @@ impl<J: Identity, L: Ledgers> Inside<J, L> {
     pub fn show<R: Wait>(&mut self, rt: &R, pass: &mut Pass<J, L>)
         ensures same { self.new ≡ self.old }
         ensures seen { pass.new ≡ past pass.old.number self.old }
-        ensures later { Later J.config pass.old pass.new }
+        ensures later { Later J.config J.callers pass.old pass.new }
         ensures own { SameCalls pass.old pass.new }
     {
         let published = self.writer.published();
@@ -133,7 +134,7 @@ impl<J: Identity, L: Ledgers> Inside<J, L> {
         pass: &mut Pass<J, L>,
         call: &Call,
     ) -> Reply
-        ensures called { IsCalled J.config call.now pass.old result pass.new }
+        ensures called { IsCalled J.config J.callers call.now pass.old result pass.new }
         // Refused or not, the pass has then seen all that stood under the lock.
         ensures seen { IsPrefix self.old pass.new.seen }
     {

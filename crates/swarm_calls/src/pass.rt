@@ -35,16 +35,16 @@ impl<J: Identity, L: Ledgers> Model for Pass<J, L> {
 
     ghost view = { λ p. past (caller_of p.tally) p.kept.beginning.log };
 
-    ghost invariant = { λ p. IsShown J.book J.config p.kept × (amount_of p.tally ≡ length (mine (caller_of p.tally) p.kept.beginning.log))
+    ghost invariant = { λ p. IsShown J.book J.config J.callers p.kept × (amount_of p.tally ≡ length (mine (caller_of p.tally) p.kept.beginning.log))
         × (caller_of p.tally ≤ J.callers) };
 }
 
 // Becomes the other snapshot, where that is longer and has as many entries of the caller.
 fn renew<J: Identity>(kept: &mut Snapshot, other: &Snapshot, caller: usize)
     requires caller { (1 ≤ caller) × (caller ≤ 8) }
-    requires kept { IsShown J.book J.config kept.old }
-    requires other { IsShown J.book J.config other.now }
-    ensures shown { IsShown J.book J.config kept.new }
+    requires kept { IsShown J.book J.config J.callers kept.old }
+    requires other { IsShown J.book J.config J.callers other.now }
+    ensures shown { IsShown J.book J.config J.callers kept.new }
     ensures begins { IsPrefix kept.old.beginning.log kept.new.beginning.log }
     ensures own { mine caller kept.new.beginning.log ≡ mine caller kept.old.beginning.log }
 {
@@ -58,8 +58,8 @@ fn renew<J: Identity>(kept: &mut Snapshot, other: &Snapshot, caller: usize)
 // Enters, and renews what is kept by what is published then.
 fn look<J: Identity>(reader: SwarmReader<J>, kept: &mut Snapshot, caller: usize) -> SwarmReader<J>
     requires caller { (1 ≤ caller) × (caller ≤ 8) }
-    requires kept { IsShown J.book J.config kept.old }
-    ensures shown { IsShown J.book J.config kept.new }
+    requires kept { IsShown J.book J.config J.callers kept.old }
+    ensures shown { IsShown J.book J.config J.callers kept.new }
     ensures begins { IsPrefix kept.old.beginning.log kept.new.beginning.log }
     ensures own { mine caller kept.new.beginning.log ≡ mine caller kept.old.beginning.log }
 {
@@ -75,7 +75,8 @@ fn look<J: Identity>(reader: SwarmReader<J>, kept: &mut Snapshot, caller: usize)
 impl<J: Identity, L: Ledgers> Pass<J, L> {
     /// The caller's number, from 1 on.
     pub fn number(&self) -> usize
-        ensures { result ≡ self.now.number }
+        ensures is { result ≡ self.now.number }
+        ensures within { (1 ≤ result) × (result ≤ J.callers) }
     {
         self.tally.caller()
     }
@@ -90,7 +91,7 @@ impl<J: Identity, L: Ledgers> Pass<J, L> {
 
     // The listing of what it has then seen. Where there is nothing newer, that is what it had seen.
     pub(crate) fn list(&mut self) -> Listing
-        ensures later { Later J.config self.old self.new }
+        ensures later { Later J.config J.callers self.old self.new }
         ensures own { SameCalls self.old self.new }
         ensures shown { result ≡ Shown J.config self.new.seen }
     {

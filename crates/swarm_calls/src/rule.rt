@@ -15,7 +15,7 @@ pub struct ShowsSwarm<J> {
 impl<J: Identity> Protocol<Snapshot, ()> for ShowsSwarm<J> {
     ghost use Rattle.swarm_calls.specs.Snapshots.{IsShown};
 
-    ghost holds = { λ x views. IsShown J.book J.config x };
+    ghost holds = { λ x views. IsShown J.book J.config J.callers x };
 
     ghost first = { tt };
 }
@@ -23,7 +23,7 @@ impl<J: Identity> Protocol<Snapshot, ()> for ShowsSwarm<J> {
 impl<J: Identity> Outcome<Snapshot, ()> for ShowsSwarm<J> {
     ghost use Rattle.swarm_calls.specs.Snapshots.{IsShown};
 
-    ghost then = { λ v x y w. IsShown J.book J.config y };
+    ghost then = { λ v x y w. IsShown J.book J.config J.callers y };
 }
 
 /// A pass's way to what is published.

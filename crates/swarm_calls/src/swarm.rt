@@ -142,21 +142,21 @@ impl<G: Gate, J: Identity, L: Ledgers> Swarm<G, J, L> {
 
     // Each pool call: it is made under the lock.
     fn make<R: Wait>(&self, rt: &R, pass: &mut Pass<J, L>, call: &Call) -> Reply
-        ensures { IsCalled J.config call.now pass.old result pass.new }
+        ensures { IsCalled J.config J.callers call.now pass.old result pass.new }
     {
         self.inside.lock(rt).make(rt, &self.gate, pass, call)
     }
 
     /// Admits a connection that this end dials, to the peer that is expected, if one is.
     pub fn dial<R: Wait>(&self, rt: &R, pass: &mut Pass<J, L>, peer: Option<PeerId>) -> Reply
-        ensures { IsCalled J.config (call.Dial peer) pass.old result pass.new }
+        ensures { IsCalled J.config J.callers (call.Dial peer) pass.old result pass.new }
     {
         self.make(rt, pass, &Call::Dial(peer))
     }
 
     /// Admits a connection that the other end dialed.
     pub fn accept<R: Wait>(&self, rt: &R, pass: &mut Pass<J, L>) -> Reply
-        ensures { IsCalled J.config call.Accept pass.old result pass.new }
+        ensures { IsCalled J.config J.callers call.Accept pass.old result pass.new }
     {
         self.make(rt, pass, &Call::Accept)
     }
@@ -169,70 +169,70 @@ impl<G: Gate, J: Identity, L: Ledgers> Swarm<G, J, L> {
         conn: u32,
         proven: &Proven,
     ) -> Reply
-        ensures { IsCalled J.config (call.Settle conn (id_of proven.now)) pass.old result pass.new }
+        ensures { IsCalled J.config J.callers (call.Settle conn (id_of proven.now)) pass.old result pass.new }
     {
         self.make(rt, pass, &Call::Settle(conn, proven.peer()))
     }
 
     /// Asks for one more stream of a protocol, by its index from 0 to 2, on a connection.
     pub fn ask<R: Wait>(&self, rt: &R, pass: &mut Pass<J, L>, conn: u32, index: u8) -> Reply
-        ensures { IsCalled J.config (call.Ask conn index) pass.old result pass.new }
+        ensures { IsCalled J.config J.callers (call.Ask conn index) pass.old result pass.new }
     {
         self.make(rt, pass, &Call::Ask(conn, index))
     }
 
     /// A stream that was asked for is over: the connection's number and the index of the protocol.
     pub fn done<R: Wait>(&self, rt: &R, pass: &mut Pass<J, L>, conn: u32, index: u8) -> Reply
-        ensures { IsCalled J.config (call.Done conn index) pass.old result pass.new }
+        ensures { IsCalled J.config J.callers (call.Done conn index) pass.old result pass.new }
     {
         self.make(rt, pass, &Call::Done(conn, index))
     }
 
     /// Closes the connections of a peer.
     pub fn hang_up<R: Wait>(&self, rt: &R, pass: &mut Pass<J, L>, peer: PeerId) -> Reply
-        ensures { IsCalled J.config (call.HangUp peer) pass.old result pass.new }
+        ensures { IsCalled J.config J.callers (call.HangUp peer) pass.old result pass.new }
     {
         self.make(rt, pass, &Call::HangUp(peer))
     }
 
     /// Closes the connections of a peer and keeps it out, until it is unblocked.
     pub fn block<R: Wait>(&self, rt: &R, pass: &mut Pass<J, L>, peer: PeerId) -> Reply
-        ensures { IsCalled J.config (call.Block peer) pass.old result pass.new }
+        ensures { IsCalled J.config J.callers (call.Block peer) pass.old result pass.new }
     {
         self.make(rt, pass, &Call::Block(peer))
     }
 
     /// Lets a blocked peer in again.
     pub fn unblock<R: Wait>(&self, rt: &R, pass: &mut Pass<J, L>, peer: PeerId) -> Reply
-        ensures { IsCalled J.config (call.Unblock peer) pass.old result pass.new }
+        ensures { IsCalled J.config J.callers (call.Unblock peer) pass.old result pass.new }
     {
         self.make(rt, pass, &Call::Unblock(peer))
     }
 
     /// The connection of this number has ended.
     pub fn gone<R: Wait>(&self, rt: &R, pass: &mut Pass<J, L>, conn: u32) -> Reply
-        ensures { IsCalled J.config (call.Gone conn) pass.old result pass.new }
+        ensures { IsCalled J.config J.callers (call.Gone conn) pass.old result pass.new }
     {
         self.make(rt, pass, &Call::Gone(conn))
     }
 
     /// Lets a peer in where only allowed peers may connect.
     pub fn allow<R: Wait>(&self, rt: &R, pass: &mut Pass<J, L>, peer: PeerId) -> Reply
-        ensures { IsCalled J.config (call.Allow peer) pass.old result pass.new }
+        ensures { IsCalled J.config J.callers (call.Allow peer) pass.old result pass.new }
     {
         self.make(rt, pass, &Call::Allow(peer))
     }
 
     /// Takes the allowance of a peer away, and closes its connections where only allowed peers may connect.
     pub fn disallow<R: Wait>(&self, rt: &R, pass: &mut Pass<J, L>, peer: PeerId) -> Reply
-        ensures { IsCalled J.config (call.Disallow peer) pass.old result pass.new }
+        ensures { IsCalled J.config J.callers (call.Disallow peer) pass.old result pass.new }
     {
         self.make(rt, pass, &Call::Disallow(peer))
     }
 
     /// The peer of a connection has named its agent.
     pub fn note<R: Wait>(&self, rt: &R, pass: &mut Pass<J, L>, conn: u32, agent: Agent) -> Reply
-        ensures { IsCalled J.config (call.Note conn agent) pass.old result pass.new }
+        ensures { IsCalled J.config J.callers (call.Note conn agent) pass.old result pass.new }
     {
         self.make(rt, pass, &Call::Note(conn, agent))
     }
@@ -240,7 +240,7 @@ impl<G: Gate, J: Identity, L: Ledgers> Swarm<G, J, L> {
     /// The listing of what the caller has then seen, which is no less than it had seen. It waits for nobody, takes no memory
     /// and always answers.
     pub fn list(&self, pass: &mut Pass<J, L>) -> Listing
-        ensures later { Later J.config pass.old pass.new }
+        ensures later { Later J.config J.callers pass.old pass.new }
         ensures own { SameCalls pass.old pass.new }
         ensures shown { result ≡ Shown J.config pass.new.seen }
     {
@@ -250,8 +250,8 @@ impl<G: Gate, J: Identity, L: Ledgers> Swarm<G, J, L> {
     /// Afterwards both callers have seen one history. It adds no call.
     pub fn meet<R: Wait>(&self, rt: &R, one: &mut Pass<J, L>, other: &mut Pass<J, L>)
         ensures same { one.new.seen ≡ other.new.seen }
-        ensures one { Later J.config one.old one.new × SameCalls one.old one.new }
-        ensures other { Later J.config other.old other.new × SameCalls other.old other.new }
+        ensures one { Later J.config J.callers one.old one.new × SameCalls one.old one.new }
+        ensures other { Later J.config J.callers other.old other.new × SameCalls other.old other.new }
     {
         let mut inside = self.inside.lock(rt);
         inside.show(rt, one);
@@ -288,7 +288,7 @@ fn start<J: Identity>(config: Config, beginning: Beginning) -> (Pool, Snapshot)
     requires empty { beginning.log ≡ [] }
     requires config { config ≡ J.config }
     ensures pool { IsAt J.config [] result.0 }
-    ensures shown { IsShown J.book J.config result.1 }
+    ensures shown { IsShown J.book J.config J.callers result.1 }
     ensures empty { result.1.beginning.log ≡ [] }
 {
     let pool = Pool::new(config);
@@ -329,7 +329,7 @@ fn deal<J: Identity, L: Ledgers>(
     tallies: [Tally<L>; 8],
     callers: usize,
 ) -> Result<Vec<Pass<J, L>>, NewRefused>
-    requires shown { IsShown J.book J.config shown.now × (shown.now.beginning.log ≡ []) }
+    requires shown { IsShown J.book J.config J.callers shown.now × (shown.now.beginning.log ≡ []) }
     requires callers { (callers ≡ J.callers) × (callers ≤ 8) }
     requires tallies { AreNew 1 tallies × (length tallies ≡ 8) }
     ensures passes { IfOk result (λ v. v.items ≡ newcomers callers) }
@@ -357,7 +357,7 @@ fn seat<J: Identity, L: Ledgers>(
     number: usize,
     callers: usize,
 ) -> Result<(), NewRefused>
-    requires shown { IsShown J.book J.config shown.now × (shown.now.beginning.log ≡ []) }
+    requires shown { IsShown J.book J.config J.callers shown.now × (shown.now.beginning.log ≡ []) }
     requires callers { (callers ≡ J.callers) × (1 ≤ number) }
     requires tally { IsNew number tally }
     requires passes { passes.old.items ≡ newcomers (min (number - 1) callers) }
@@ -383,7 +383,7 @@ fn seat<J: Identity, L: Ledgers>(
 
 // A writer that has published the copy.
 fn writer_of<J: Identity>(alloc: Global, shown: &Snapshot) -> Result<SwarmWriter<J>, AllocError>
-    requires { IsShown J.book J.config shown.now }
+    requires { IsShown J.book J.config J.callers shown.now }
     ensures { IfOk result (λ w. (w.desk.shown.value ≡ shown.now) × (drop w.behind w.log.items ≡ [])) }
 {
     Writer::new(alloc, shown.copied(), shown.copied(), 8)

@@ -1,4 +1,4 @@
-use Rattle.std.proofs.Common.{◌≡◌, ◌≢◌, ◌++◌, ◌∷◌, [], ◌<◌, ◌^◌, rules, ap, sym, subst}
+use Rattle.std.proofs.Common.{◌≡◌, ◌≢◌, ◌++◌, ◌∷◌, [], ◌<◌, ◌≤◌, ◌^◌, rules, ap, sym, subst}
 use Rattle.pool_state.specs.History.{entry, front_of}
 use Rattle.pool_state.specs.Shown.{reply_after}
 use Rattle.pool_state.specs.declared.call.Reply.TheVariants.{Refused}
@@ -16,7 +16,8 @@ returns g c =
     let unspent : c.reply-reply.result ≢ Refused Spent = search rules in
     let front : front_of config c.show.new.pass.seen < 2 ^ 64 = subst (λ n. n < 2 ^ 64) c.front-front.ensures.is c.front-front.ensures.fits in
     let made : c.publish.new.pass ≡ past c.show.new.pass.number (h ++ entry c.show.new.pass.number call c.reply-reply.result ∷ []) = search rules in
+    let within : (1 ≤ c.args.pass.now.number) × (c.args.pass.now.number ≤ g.J.Identity.callers) = search rules in
     record {
-      called = called_made config call c.args.pass.now c.show.new.pass h c.show.ensures.later c.show.ensures.own c.show.ensures.seen front c.reply-reply.result c.publish.new.pass made reply_is unspent;
+      called = called_made config g.J.Identity.callers call c.args.pass.now c.show.new.pass h c.show.ensures.later c.show.ensures.own c.show.ensures.seen front c.reply-reply.result c.publish.new.pass within made reply_is unspent;
       seen = (entry c.show.new.pass.number call c.reply-reply.result ∷ [], sym (ap (λ (p : Past). p.seen) made));
     }

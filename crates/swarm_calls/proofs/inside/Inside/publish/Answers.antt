@@ -20,7 +20,7 @@ invariant_of-self g c =
     let h = c.self.inside.writer.desk.shown.value.beginning.log in
     let tally = c.pass.inside.tally in
     let made = entry (caller_of tally) c.args.call.now c.args.reply in
-    let shown : IsShown g.J.Identity.book config c.replace_with-published.new.dest.desk.shown.value = search rules in
+    let shown : IsShown g.J.Identity.book config g.J.Identity.callers c.replace_with-published.new.dest.desk.shown.value = search rules in
     let after : c.replace_with-published.new.dest.desk.shown.value.beginning ≡ beginning g.J.Identity.book (h ++ made ∷ []) = search rules in
     let none : drop c.replace_with-published.new.dest.behind c.replace_with-published.new.dest.log.items ≡ [] = search rules in
     let longer : c.replace_with-published.new.dest.desk.shown.value.beginning.log ≡ h ++ made ∷ [] = ap (λ (b : Beginning). b.log) after in
@@ -30,14 +30,14 @@ invariant_of-self g c =
     let P : Reply → Type 0 = λ r. r ≢ Refused Spent in
     let moved = c.apply.ensures.moved config h (caller_of tally) at.pool_is (subst P (sym answered) c.requires.reply.1) in
     let pool_at : IsAt config (h ++ made ∷ []) c.apply.new.self = subst (λ (r : Reply). IsAt config (h ++ entry (caller_of tally) c.args.call.now r ∷ []) c.apply.new.self) answered moved in
-    (rw c.count.ensures.books (locked_snoc g.J.Identity.book config g.J.Identity.callers c.self.inside.length c.self.inside.pool c.apply.new.self c.self.inside.books c.self.inside.writer.desk.shown.value c.replace_with-published.new.dest.desk.shown.value made (caller_within tally) c.pass.invariant.2 at shown longer pool_at), none)
+    (rw c.count.ensures.books (locked_snoc g.J.Identity.book config g.J.Identity.callers c.self.inside.length c.self.inside.pool c.apply.new.self c.self.inside.books c.self.inside.writer.desk.shown.value c.replace_with-published.new.dest.desk.shown.value made (caller_within tally) at shown longer pool_at), none)
 
 pub invariant_of-pass : goal.invariant_of-pass
 invariant_of-pass g c =
     let h = c.self.inside.writer.desk.shown.value.beginning.log in
     let tally = c.pass.inside.tally in
     let made = entry (caller_of tally) c.args.call.now c.args.reply in
-    let shown : IsShown g.J.Identity.book g.J.Identity.config c.replace_with-published.new.dest.desk.shown.value = search rules in
+    let shown : IsShown g.J.Identity.book g.J.Identity.config g.J.Identity.callers c.replace_with-published.new.dest.desk.shown.value = search rules in
     let after : c.replace_with-published.new.dest.desk.shown.value.beginning ≡ beginning g.J.Identity.book (h ++ made ∷ []) = search rules in
     let longer : c.replace_with-published.new.dest.desk.shown.value.beginning.log ≡ h ++ made ∷ [] = ap (λ (b : Beginning). b.log) after in
     let all : c.copy_from.new.self ≡ c.replace_with-published.new.dest.desk.shown.value = c.copy_from.ensures ∙ c.published.ensures in

@@ -1,0 +1,17 @@
+use Rattle.pool_state.proofs.WorkedRows.{connection_rows, stream_rows, list_rows, refusal_rows, limit_rows}
+use Rattle.pool_state.proofs.laws.worked_rows.Goals as goal
+
+pub returns-clause-connections : goal.returns-clause-connections
+returns-clause-connections c = connection_rows
+
+pub returns-clause-streams : goal.returns-clause-streams
+returns-clause-streams c = stream_rows
+
+pub returns-clause-lists : goal.returns-clause-lists
+returns-clause-lists c = list_rows
+
+pub returns-clause-refusals : goal.returns-clause-refusals
+returns-clause-refusals c = refusal_rows
+
+pub returns-clause-limits : goal.returns-clause-limits
+returns-clause-limits c = limit_rows
