@@ -1,0 +1,50 @@
+//! What makes handlers.
+
+ghost use Rattle.std.specs.Prelude.{◌≡◌, ℕ, Bool, ◌<◌, List, length, map, IfOk};
+ghost use Rattle.std.specs.List.{All};
+ghost use Rattle.handlers.specs.Names.{IsName};
+
+use crate::handler::Handler;
+use peer_ids::PeerId;
+use std::alloc::AllocError;
+
+/// The protocols of a connection: their names, and what makes the handlers of their streams.
+///
+/// A value that needs memory keeps the allocator that it was made with; `names` and `eager` need none.
+pub trait Protocols: Drop {
+    type H: Handler;
+
+    /// The names, in the order by whose indexes the protocols are known.
+    ghost listed: { Self → List (List ℕ) };
+
+    /// A stream of this protocol that this end opens is served before the other end has answered.
+    ghost is_eager: { Self → ℕ → Bool };
+
+    /// What may be made for a protocol and a peer: the handler of a stream that the peer opened, and of one that this end opened.
+    ghost makes_inbound: { Self → ℕ → List ℕ → Self.H → Type 0 };
+    ghost makes_outbound: { Self → ℕ → List ℕ → Self.H → Type 0 };
+
+    /// The names, the same at every call. There may be none.
+    fn names(&self) -> &[&str]
+        ensures names { map (λ name. name.now) result.now ≡ listed self.now }
+        ensures sized { All IsName (listed self.now) };
+
+    /// Whether a stream of this protocol is served before the other end has answered.
+    fn eager(&self, index: usize) -> bool
+        requires { index < length (listed self.now) }
+        ensures { result ≡ is_eager self.now index };
+
+    /// Makes the handler of a stream that the peer opened. Its only refusal is want of memory.
+    fn inbound(&mut self, index: usize, peer: PeerId) -> Result<Self::H, AllocError>
+        requires { index < length (listed self.old) }
+        ensures names { listed self.new ≡ listed self.old }
+        ensures eager { is_eager self.new ≡ is_eager self.old }
+        ensures made { IfOk result (makes_inbound self.old index peer) };
+
+    /// Makes the handler of a stream that this end opened. Its only refusal is want of memory.
+    fn outbound(&mut self, index: usize, peer: PeerId) -> Result<Self::H, AllocError>
+        requires { index < length (listed self.old) }
+        ensures names { listed self.new ≡ listed self.old }
+        ensures eager { is_eager self.new ≡ is_eager self.old }
+        ensures made { IfOk result (makes_outbound self.old index peer) };
+}
