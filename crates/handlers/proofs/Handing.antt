@@ -1,6 +1,5 @@
 -- Lemmas on the calls of a handler.
 use Rattle.std.proofs.Common.{◌≡◌, ℕ, Bool, true, false, List, [], ◌∷◌, ◌++◌, refl, sym, ◌∙◌, ap, subst, append_assoc}
-use Rattle.std.proofs.lemmas.List.{append-nil}
 use Rattle.handlers.specs.Calls.{HandlerCall, Take, Give, End, Arises, WasHanded, EndsAs, GivesOnly, taken, given}
 
 pub taken-append : (xs ys : List HandlerCall) → taken (xs ++ ys) ≡ taken xs ++ taken ys
@@ -76,3 +75,26 @@ module _ {H : Type 0} (step : H → HandlerCall → H → Type 0) where
     sym one.joined ∙ ap taken same ∙ two.joined,
     one_end two.calls ended end (subst (λ (calls : List HandlerCall). EndsAs calls ended) same one.ends) two.ends,
   )
+
+-- ---- a handler that notes the end
+
+module _ {H : Type 0} (step : H → HandlerCall → H → Type 0) (noted : H → Bool)
+    (by_take : (old new : H) (bytes : List ℕ) → step old (Take bytes) new → noted new ≡ noted old)
+    (by_give : (old new : H) (room : ℕ) (bytes : List ℕ) → step old (Give room bytes) new → noted new ≡ noted old)
+    (by_end : (old new : H) → step old End new → noted new ≡ true) where
+  noted_stays : (made value : H) (calls : List HandlerCall) → GivesOnly calls → Arises step made calls value → noted value ≡ noted made
+  noted_stays made value [] only came = ap noted (sym came)
+  noted_stays made value (Take bytes ∷ calls) only came = absurd only
+  noted_stays made value (Give room bytes ∷ calls) only came =
+      noted_stays came.0 value calls only came.2 ∙ by_give made came.0 room bytes came.1
+  noted_stays made value (End ∷ calls) only came = absurd only
+
+  pub noted_as : (made value : H) (calls : List HandlerCall) (ended : Bool) → noted made ≡ false → EndsAs calls ended
+      → Arises step made calls value → noted value ≡ ended
+  noted_as made value [] ended before ends came = ap noted (sym came) ∙ before ∙ sym ends
+  noted_as made value (Take bytes ∷ calls) ended before ends came =
+      noted_as came.0 value calls ended (by_take made came.0 bytes came.1 ∙ before) ends came.2
+  noted_as made value (Give room bytes ∷ calls) ended before ends came =
+      noted_as came.0 value calls ended (by_give made came.0 room bytes came.1 ∙ before) ends came.2
+  noted_as made value (End ∷ calls) ended before ends came =
+      noted_stays came.0 value calls ends.1 came.2 ∙ by_end made came.0 came.1 ∙ sym ends.0

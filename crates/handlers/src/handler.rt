@@ -3,8 +3,11 @@
 ghost use Rattle.std.specs.Prelude.{◌≡◌, ℕ, Bool, length, ◌≤◌, OnOk, IfOk, IfErr};
 ghost use Rattle.handlers.specs.Calls.{HandlerCall, Take, Give, End, Asked, ToTake, ToGive, ToEnd};
 
+use thiserror::Error;
+
 /// Why a handler gave up: a number of the handler's own table of faults.
-#[derive(Clone, Copy, Debug, PartialEq, Eq, Drop)]
+#[derive(Clone, Copy, Debug, PartialEq, Eq, Error)]
+#[error("the handler of the stream gave up: fault {number}")]
 pub struct HandlerFault {
     pub number: u8,
 }

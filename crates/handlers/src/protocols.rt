@@ -22,6 +22,7 @@ pub trait Protocols: Drop {
 
     /// What may be made for a protocol and a peer: the handler of a stream that the peer opened, and of one that this end opened.
     ghost makes_inbound: { Self → ℕ → List ℕ → Self.H → Type 0 };
+
     ghost makes_outbound: { Self → ℕ → List ℕ → Self.H → Type 0 };
 
     /// The names, the same at every call. There may be none.

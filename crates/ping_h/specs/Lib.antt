@@ -1,0 +1,4 @@
+pub mod Faults
+pub mod Echoes
+pub mod Rounds
+pub mod Rows

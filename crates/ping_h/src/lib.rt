@@ -1,0 +1,13 @@
+//! Ping 1.0.0: the handler of the end that asks, for one round, and of the end that answers.
+#![tactic(auto)]
+
+mod echo;
+mod fault;
+pub mod laws;
+mod round;
+#[cfg(test)]
+mod tests;
+
+pub use echo::PingEcho;
+pub use fault::PingFault;
+pub use round::PingOut;
