@@ -112,8 +112,8 @@ impl Listing {
         copy
     }
 
-    /// Becomes equal to the other listing, in place: it costs what the other holds, not what a listing can hold. It takes no
-    /// memory.
+    /// Becomes equal to the other listing, in place: it costs what the other holds, not what a listing can hold. It
+    /// takes no memory.
     pub fn copy_from(&mut self, other: &Listing)
         ensures { self.new ≡ other.now }
     {

@@ -42,22 +42,23 @@ abbrev pub IsTurnedAway : Reply → Type 0
 IsTurnedAway reply = (reply ≡ Refused Spent) ⊎ (reply ≡ Refused OutOfMemory)
 
 -- What a pool call does, by its reply.
-pub record IsCalled (config : Config) (callers : ℕ) (call : Call) (old : Past) (reply : Reply) (new : Past) : Type 0 where
-  -- the pass has seen a legal history that begins with what it had seen
-  pub later : Later config callers old new
-  -- it ends with the call and its reply, and the caller's own calls grew by just that
-  pub made : ¬ IsTurnedAway reply → IsMade call reply old new
-  -- a call that is turned away is none of the caller's
-  pub unmade : IsTurnedAway reply → SameCalls old new
-  -- of the two it is Spent exactly where the front has reached its end
-  pub spent : IsTurnedAway reply → ((reply ≡ Refused Spent) ↔ (front_of config new.seen ≡ 18446744073709551615))
+pub record IsCalled (config : Config) (callers : ℕ) (call : Call) (old : Past) (reply : Reply) (new : Past) : Type 0
+  where
+    -- the pass has seen a legal history that begins with what it had seen
+    pub later : Later config callers old new
+    -- it ends with the call and its reply, and the caller's own calls grew by just that
+    pub made : ¬ IsTurnedAway reply → IsMade call reply old new
+    -- a call that is turned away is none of the caller's
+    pub unmade : IsTurnedAway reply → SameCalls old new
+    -- of the two it is Spent exactly where the front has reached its end
+    pub spent : IsTurnedAway reply → ((reply ≡ Refused Spent) ↔ (front_of config new.seen ≡ 18446744073709551615))
 
 -- There is a pass of each caller.
 abbrev pub AllHere : ℕ → List Past → Type 0
 AllHere callers passes = (caller : ℕ) → 1 ≤ caller → caller ≤ callers → list_any (λ p. p.number == caller) passes ≡ true
 
--- One legal history begins with what each pass has seen; of its caller it has just the calls that the pass has made, and
--- it has the calls of no others.
+-- One legal history begins with what each pass has seen; of its caller it has just the calls that the pass has made,
+-- and it has the calls of no others.
 pub record IsWhole (config : Config) (callers : ℕ) (passes : List Past) (history : List Entry) : Type 0 where
   pub legal : IsLegal config history
   pub begins : All (λ p. IsPrefix p.seen history) passes

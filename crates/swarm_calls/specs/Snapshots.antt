@@ -8,7 +8,8 @@ use Rattle.swarm_calls.specs.declared.snapshot.Snapshot.{Snapshot}
 use Rattle.swarm_calls.specs.declared.addition.Addition.{Addition}
 use Rattle.swarm_calls.specs.History.{Counts, IsOf}
 
--- A snapshot shows a legal history of this swarm's callers: its length, its listing, and the number of each caller's entries.
+-- A snapshot shows a legal history of this swarm's callers: its length, its listing, and the number of each caller's
+-- entries.
 pub record IsShown (book : Book) (config : Config) (callers : ℕ) (s : Snapshot) : Type 0 where
   pub book_is : s.beginning.book ≡ book
   pub count_is : s.count ≡ length s.beginning.log

@@ -67,7 +67,8 @@ impl Plain<Entry, Entry, u64> for Add {
     ghost state = { λ entry. None };
 }
 
-/// A new history, which is empty and of which no swarm knows yet. `Swarm::new` takes it. Contracts see which history it is.
+/// A new history, which is empty and of which no swarm knows yet. `Swarm::new` takes it. Contracts see which history it
+/// is.
 #[derive(Drop)]
 pub struct BlankHistory {
     pub(crate) length: Length,
@@ -199,7 +200,8 @@ impl Length {
         found == count
     }
 
-    /// The beginning `all`, which is the whole history, begins with what was `seen`. The first look shows it, as nobody adds.
+    /// The beginning `all`, which is the whole history, begins with what was `seen`. The first look shows it, as nobody
+    /// adds.
     pub fn compare<R: Wait>(&self, rt: &R, seen: &Beginning, all: &Beginning, count: u64)
         requires book { (seen.now.book ≡ self.now) × (all.now.book ≡ self.now) }
         requires count { count ≡ length all.now.log }
@@ -214,8 +216,8 @@ impl Length {
         unreachable!()
     }
 
-    /// The history with the entry at its end, where `all` is the whole history. The first exchange adds it, as nobody else
-    /// does.
+    /// The history with the entry at its end, where `all` is the whole history. The first exchange adds it, as nobody
+    /// else does.
     pub fn add<R: Wait>(&self, rt: &R, all: &Beginning, count: u64, entry: &Entry) -> Beginning
         requires book { all.now.book ≡ self.now }
         requires count { count ≡ length all.now.log }

@@ -2,9 +2,9 @@
 
 use std::marker::Brand;
 
-/// Which swarm it is: its history, its configuration and how many callers it has. All types of one swarm carry it, so what
-/// lies under the lock and what the passes hold agree on it. No value of it is made: the function that makes a swarm is
-/// generic in it, and whoever calls that function picks it.
+/// Which swarm it is: its history, its configuration and how many callers it has. All types of one swarm carry it, so
+/// what lies under the lock and what the passes hold agree on it. No value of it is made: the function that makes a
+/// swarm is generic in it, and whoever calls that function picks it.
 pub trait Identity {
     ghost use Rattle.std.specs.Prelude.{ℕ};
     ghost use Rattle.logbook.specs.Pages.{Book};

@@ -44,11 +44,12 @@ impl<J: Identity, L: Ledgers> Model for Inside<J, L> {
 
     ghost view = { λ i. i.writer.desk.shown.value.beginning.log };
 
-    ghost invariant = { λ i. IsLocked J.book J.config J.callers i.length i.pool i.books i.writer.desk.shown.value × (drop i.writer.behind i.writer.log.items ≡ []) };
+    ghost invariant = { λ i. IsLocked J.book J.config J.callers i.length i.pool i.books i.writer.desk.shown.value
+        × (drop i.writer.behind i.writer.log.items ≡ []) };
 }
 
-// A swarm that is dropped and not closed leaks its two copies: to free them the writer waits for the readers, and a drop
-// has no handle to wait by.
+// A swarm that is dropped and not closed leaks its writer: both copies, the log, and the board of the readers' places.
+// To free them the writer waits for the readers, and a drop has no handle to wait by.
 impl<J: Identity, L: Ledgers> Drop for Inside<J, L> {
     fn drop(self) {
         let Self {
@@ -61,11 +62,13 @@ impl<J: Identity, L: Ledgers> Drop for Inside<J, L> {
     }
 }
 
-// Appends, and waits for memory where there is none. No more than four operations are ever in the log, one of which was just
-// appended: that the log then has room rests on how std's deque grows, of which no contract speaks.
+// Appends, and waits for memory where there is none. No more than four operations are ever in the log, one of which was
+// just appended. A push within the capacity succeeds, by a contract of std; that its first growth makes four places is
+// read from std's code (and from the size of an operation, which `snapshot` pins).
 fn append<J: Identity, R: Wait>(rt: &R, writer: &mut SwarmWriter<J>, next: Operation)
     ensures desk { writer.new.desk ≡ writer.old.desk }
-    ensures pending { drop writer.new.behind writer.new.log.items ≡ drop writer.old.behind writer.old.log.items ++ next ∷ [] }
+    ensures pending { drop writer.new.behind writer.new.log.items
+        ≡ drop writer.old.behind writer.old.log.items ++ next ∷ [] }
 {
     let mut next = next;
     for _ in rt.forever() {
@@ -77,8 +80,8 @@ fn append<J: Identity, R: Wait>(rt: &R, writer: &mut SwarmWriter<J>, next: Opera
     unreachable!()
 }
 
-// Publishes the history with the entry in one step. False where memory was refused, and nothing is changed: an operation
-// that does nothing is appended first, and the entry joins the history once that growth was made.
+// Publishes the history with the entry in one step. False where memory was refused, and nothing is changed: an
+// operation that does nothing is appended first, and the entry joins the history once that growth was made.
 fn publish<J: Identity, R: Wait>(
     rt: &R,
     mut writer: SwarmWriter<J>,
@@ -89,10 +92,12 @@ fn publish<J: Identity, R: Wait>(
     requires swarm { IsShown J.book J.config J.callers writer.desk.shown.value × (length.now ≡ J.book) }
     requires caller { (1 ≤ entry.caller) × (entry.caller ≤ 8) }
     requires among { entry.caller ≤ J.callers }
-    requires reply { (entry.reply ≡ reply_after J.config writer.desk.shown.value.beginning.log entry.call) × (entry.reply ≢ Refused Spent) }
+    requires reply { (entry.reply ≡ reply_after J.config writer.desk.shown.value.beginning.log entry.call)
+        × (entry.reply ≢ Refused Spent) }
     ensures pending { drop result.0.behind result.0.log.items ≡ [] }
     ensures shown { result.1 ≡ true → IsShown J.book J.config J.callers result.0.desk.shown.value }
-    ensures yes { result.1 ≡ true → result.0.desk.shown.value.beginning ≡ beginning J.book (writer.desk.shown.value.beginning.log ++ entry ∷ []) }
+    ensures yes { result.1 ≡ true
+        → result.0.desk.shown.value.beginning ≡ beginning J.book (writer.desk.shown.value.beginning.log ++ entry ∷ []) }
     ensures no { result.1 ≡ false → result.0.desk.shown.value ≡ writer.desk.shown.value }
 {
     if writer.append(None).is_err() {
@@ -155,7 +160,8 @@ impl<J: Identity, L: Ledgers> Inside<J, L> {
     fn publish<R: Wait>(&mut self, rt: &R, pass: &mut Pass<J, L>, call: &Call, reply: Reply) -> bool
         requires seen { pass.old.seen ≡ self.old }
         requires reply { (reply ≡ reply_after J.config self.old call.now) × (reply ≢ Refused Spent) }
-        ensures yes { result ≡ true → pass.new ≡ past pass.old.number (self.old ++ entry pass.old.number call.now reply ∷ []) }
+        ensures yes { result ≡ true
+            → pass.new ≡ past pass.old.number (self.old ++ entry pass.old.number call.now reply ∷ []) }
         ensures no { result ≡ false → pass.new ≡ pass.old }
     {
         let made = Entry::new(pass.tally.caller(), *call, reply);

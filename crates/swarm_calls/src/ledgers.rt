@@ -1,5 +1,5 @@
-//! A ledger for each caller. Its book lies under the lock and counts the caller's entries in the history; its whole share
-//! is the caller's, so that the caller knows that count.
+//! A ledger for each caller. Its book lies under the lock and counts the caller's entries in the history; its whole
+//! share is the caller's, so that the caller knows that count.
 ghost use Rattle.std.specs.Prelude.{◌≡◌, ◌+◌, ◌-◌, ◌<◌, ◌≤◌, [], ◌∷◌, length, slice_index, slice_set};
 ghost use Rattle.swarm_calls.specs.Ledgers.{caller_of, amount_of, AreNew};
 

@@ -1,14 +1,15 @@
 //! A pool of connections that threads share: a swarm.
 //!
-//! Up to eight callers make pool calls, each by its pass. The calls of all of them stand in one legal history of the pool
-//! of one thread (`pool_state`), and a listing, which waits for nobody, shows the pool after a beginning of that history
-//! that has at least what its caller had seen.
+//! Up to eight callers make pool calls, each by its pass. The calls of all of them stand in one legal history of the
+//! pool of one thread (`pool_state`), and a listing, which waits for nobody, shows the pool after a beginning of that
+//! history that has at least what its caller had seen.
 //!
 //! # Example
 //!
-//! A swarm is made in a function that is generic in what its types name: its history, configuration and number of callers
-//! (`Identity`), and a ledger for each of eight callers, also where there are fewer. Only that function writes all these types;
-//! what it calls is generic in `L: Ledgers`. Here two callers call from a thread each, meet, list, and close.
+//! A swarm is made in a function that is generic in what its types name: its history, configuration and number of
+//! callers (`Identity`), and a ledger for each of eight callers, also where there are fewer. Only that function writes
+//! all these types; what it calls is generic in `L: Ledgers`. Here two callers call from a thread each, meet, list, and
+//! close.
 //!
 //! ```rust
 //! ghost use Rattle.std.specs.Prelude.{◌≡◌};
@@ -109,6 +110,7 @@ mod entry;
 mod history;
 mod identity;
 mod inside;
+pub mod laws;
 mod ledgers;
 mod pass;
 mod rule;

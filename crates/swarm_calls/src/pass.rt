@@ -35,7 +35,8 @@ impl<J: Identity, L: Ledgers> Model for Pass<J, L> {
 
     ghost view = { λ p. past (caller_of p.tally) p.kept.beginning.log };
 
-    ghost invariant = { λ p. IsShown J.book J.config J.callers p.kept × (amount_of p.tally ≡ length (mine (caller_of p.tally) p.kept.beginning.log))
+    ghost invariant = { λ p. IsShown J.book J.config J.callers p.kept
+        × (amount_of p.tally ≡ length (mine (caller_of p.tally) p.kept.beginning.log))
         × (caller_of p.tally ≤ J.callers) };
 }
 

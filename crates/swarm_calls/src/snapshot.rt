@@ -8,9 +8,10 @@ use crate::history::Beginning;
 use left_right::Absorb;
 use pool_state::Listing;
 use std::alloc::AllocError;
+use std::mem::size_of;
 
-/// What is published, and what a pass keeps of it: the history's length, its listing, and how many entries each caller has
-/// there.
+/// What is published, and what a pass keeps of it: the history's length, its listing, and how many entries each caller
+/// has there.
 #[derive(Drop)]
 pub struct Snapshot {
     pub beginning: Beginning,
@@ -21,6 +22,10 @@ pub struct Snapshot {
 
 /// What is done to both published copies: an addition, or nothing.
 pub type Operation = Option<Addition>;
+
+// The writer's log makes four places by its first growth where an operation is no larger than this, and one where it
+// is.
+const _: () = prove!(size_of::<Operation>() <= 1024);
 
 fn one_more(count: u64) -> u64
     ensures { result ≡ more count }

@@ -1,6 +1,7 @@
 //! The swarm: the pool that threads share.
 
-ghost use Rattle.std.specs.Prelude.{◌≡◌, ◌≢◌, ◌+◌, ◌-◌, ◌<◌, ◌≤◌, ◌^◌, ◌⊎◌, ◌↔◌, ◌==◌, [], drop, length, true, false, List, min, IfOk, IfErr, OnOk};
+ghost use Rattle.std.specs.Prelude.{◌≡◌, ◌≢◌, ◌+◌, ◌-◌, ◌<◌, ◌≤◌, ◌^◌, ◌⊎◌, ◌↔◌, ◌==◌, [], drop, length, true, false, List, min};
+ghost use Rattle.std.specs.Prelude.{IfOk, IfErr, OnOk};
 ghost use Rattle.std.specs.List.{list_any};
 ghost use Rattle.peer_ids.specs.PeerId.{id_of};
 ghost use Rattle.pool_state.specs.At.{IsAt};
@@ -34,7 +35,7 @@ pub enum NewRefused {
     BadCallers = 1,
     /// A growth was refused.
     OutOfMemory = 2,
-    /// `left_right` gave a pass no place to read.
+    /// `left_right` gave a pass no place to read. It never stands for want of memory.
     NoPlace = 3,
 }
 
@@ -47,8 +48,8 @@ pub struct Closed {
     pub calls: u64,
 }
 
-/// Where a pool call may be held. Each pool call that publishes calls it with its pass's number, under the lock, before its
-/// publishing step.
+/// Where a pool call may be held. Each pool call that publishes calls it with its pass's number, under the lock, before
+/// it asks for memory and before its publishing step: a call that was held may yet be answered OutOfMemory.
 pub trait Gate: Drop {
     fn hold<R: Wait>(&self, rt: &R, caller: usize);
 }
@@ -61,9 +62,9 @@ impl Gate for NoGate {
     fn hold<R: Wait>(&self, _rt: &R, _caller: usize) {}
 }
 
-/// A pool that up to eight callers share, by a pass each. Contracts see the number of its callers. That a pass is used with
-/// the swarm that made it is a condition of each call: no type holds it, as the passes of two swarms of one identity are of
-/// one type.
+/// A pool that up to eight callers share, by a pass each. Contracts see the number of its callers. A pass fits the
+/// swarm that made it, and no other: an identity has one history, which one swarm takes, and nothing whose type names
+/// an identity leaves the function that is generic in it.
 #[derive(Drop)]
 pub struct Swarm<G: Gate, J: Identity, L: Ledgers> {
     gate: G,
@@ -82,8 +83,8 @@ impl<G: Gate, J: Identity, L: Ledgers> Model for Swarm<G, J, L> {
 }
 
 impl<G: Gate, J: Identity, L: Ledgers> Swarm<G, J, L> {
-    /// A swarm with an empty history, and the passes of callers 1 to `callers`, which have seen nothing. The history and the
-    /// ledgers are those that the types name.
+    /// A swarm with an empty history, and the passes of callers 1 to `callers`, which have seen nothing. The history
+    /// and the ledgers are those that the types name.
     pub fn new<R: Wait>(
         rt: &R,
         alloc: Global,
@@ -237,8 +238,8 @@ impl<G: Gate, J: Identity, L: Ledgers> Swarm<G, J, L> {
         self.make(rt, pass, &Call::Note(conn, agent))
     }
 
-    /// The listing of what the caller has then seen, which is no less than it had seen. It waits for nobody, takes no memory
-    /// and always answers.
+    /// The listing of what the caller has then seen, which is no less than it had seen. It waits for nobody, takes no
+    /// memory and always answers.
     pub fn list(&self, pass: &mut Pass<J, L>) -> Listing
         ensures later { Later J.config J.callers pass.old pass.new }
         ensures own { SameCalls pass.old pass.new }
@@ -258,7 +259,8 @@ impl<G: Gate, J: Identity, L: Ledgers> Swarm<G, J, L> {
         inside.show(rt, other);
     }
 
-    /// Ends the swarm. Where the pass of a caller is missing, all is handed back.
+    /// Ends the swarm, and frees what it holds. Where the pass of a caller is missing, all is handed back: a swarm of
+    /// which a pass was lost can't be closed. One that is dropped leaks what it has published.
     pub fn close<R: Wait>(
         self,
         rt: &R,

@@ -1,5 +1,5 @@
-//! Many threads at once: what each caller saw of its calls makes one history, which a pool of one thread repeats, and each
-//! listing shows that pool after a beginning of the history.
+//! Many threads at once: what each caller saw of its calls makes one history, which a pool of one thread repeats, and
+//! each listing shows that pool after a beginning of the history.
 
 use super::make;
 use peer_ids::PeerId;
@@ -16,7 +16,8 @@ pub struct Made {
     reply: Reply,
 }
 
-/// What a caller counts in a listing: its front, how many connections stood, and how many peers were blocked and allowed.
+/// What a caller counts in a listing: its front, how many connections stood, and how many peers were blocked and
+/// allowed.
 #[derive(Clone, Copy, PartialEq, Drop)]
 pub struct Counts {
     front: u64,

@@ -41,7 +41,8 @@ fn calls() -> Result<[Call; 11], Fail> {
     ])
 }
 
-/// Each call of either caller is held once, with its caller's number, and refused or not. One that is turned away isn't held.
+/// Each call of either caller is held once, with its caller's number, and refused or not. One that is turned away isn't
+/// held.
 pub fn hold_each_call<G: Gate, J: Identity, L: Ledgers, R: Wait + Abort>(
     rt: &R,
     alloc: Global,

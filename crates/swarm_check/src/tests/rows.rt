@@ -1,6 +1,7 @@
 //! Worked rows.
 
 use super::{Script, config, make, peer, play, proven};
+use peer_ids::PeerId;
 use plaintext_x::Proven;
 use pool_state::{Agent, Call, Config, ConnSide, Phase, Pool, Refusal, Reply, Row};
 use std::alloc::Global;
@@ -13,9 +14,18 @@ fn refused(refusal: Refusal) -> Reply {
     Reply::Refused(refusal)
 }
 
-/// The worked row of two callers.
-#[derive(Drop)]
-struct TwoCallers;
+/// What two callers do in turn.
+#[derive(Clone, Copy, Drop)]
+enum TwoCallers {
+    /// They dial, meet, and close.
+    Dial,
+    /// They meet before they call.
+    MeetFirst,
+    /// One dials, the other accepts, and they meet.
+    Meet,
+    /// One calls while the other does nothing.
+    Call,
+}
 
 impl Script for TwoCallers {
     fn play<J: Identity, L: Ledgers, R: Wait + Abort>(
@@ -28,19 +38,120 @@ impl Script for TwoCallers {
         let (Some(mut two), Some(mut one)) = (passes.pop(), passes.pop()) else {
             return Err(Fail::from("two passes"));
         };
-        dial_in_turn(rt, &swarm, &mut one, &mut two)?;
-        meet(rt, &swarm, &mut one, &mut two);
-        passes.push(one)?;
-        let Err((swarm, mut passes)) = swarm.close(rt, passes) else {
-            panic!(rt; "a pass is missing");
-        };
-        passes.push(two)?;
-        let Ok(closed) = swarm.close(rt, passes) else {
-            panic!(rt; "both passes are there");
-        };
-        assert_eq!(rt; (closed.calls, closed.listing.conns.len()), (3, 2));
-        Ok(())
+        match self {
+            TwoCallers::Dial => {
+                dial_in_turn(rt, &swarm, &mut one, &mut two)?;
+                meet(rt, &swarm, &mut one, &mut two);
+                close(rt, swarm, passes, one, two)
+            }
+            TwoCallers::MeetFirst => meet_first(rt, &swarm, &mut one, &mut two),
+            TwoCallers::Meet => dial_and_accept(rt, &swarm, &mut one, &mut two),
+            TwoCallers::Call => call_beside(rt, &swarm, &mut one, &mut two),
+        }
     }
+}
+
+/// Both passes end the swarm, and one doesn't.
+fn close<J: Identity, L: Ledgers, R: Wait + Abort>(
+    rt: &R,
+    swarm: Swarm<NoGate, J, L>,
+    passes: Vec<Pass<J, L>>,
+    one: Pass<J, L>,
+    two: Pass<J, L>,
+) -> Result<(), Fail> {
+    let mut passes = passes;
+    passes.push(one)?;
+    let Err((swarm, mut passes)) = swarm.close(rt, passes) else {
+        panic!(rt; "a pass is missing");
+    };
+    passes.push(two)?;
+    let Ok(closed) = swarm.close(rt, passes) else {
+        panic!(rt; "both passes are there");
+    };
+    assert_eq!(rt; (closed.calls, closed.listing.conns.len()), (3, 2));
+    Ok(())
+}
+
+/// A row of a connection on which nothing was asked for.
+fn pending(conn: u32, role: ConnSide, peer: Option<PeerId>) -> Row {
+    Row {
+        conn,
+        role,
+        phase: Phase::Pending,
+        peer,
+        ..Row::default()
+    }
+}
+
+/// A meeting where nobody called adds nothing, and the calls behind it are as ever.
+fn meet_first<J: Identity, L: Ledgers, R: Wait + Abort>(
+    rt: &R,
+    swarm: &Swarm<NoGate, J, L>,
+    one: &mut Pass<J, L>,
+    two: &mut Pass<J, L>,
+) -> Result<(), Fail> {
+    let first = peer(0x11)?;
+    swarm.meet(rt, one, two);
+    assert_eq!(rt; (one.front(), two.front()), (0, 0));
+    assert!(rt; swarm.list(one).conns.is_empty());
+    assert_eq!(rt; swarm.dial(rt, one, Some(first)), Reply::Conn(1));
+    assert_eq!(rt; swarm.dial(rt, two, None), Reply::Conn(2));
+    let listing = swarm.list(one);
+    let rows = [
+        pending(1, ConnSide::Dialer, Some(first)),
+        pending(2, ConnSide::Dialer, None),
+    ];
+    assert_eq!(rt; listing.front, 2);
+    assert_eq!(rt; listing.conns.as_slice(), rows.as_slice());
+    Ok(())
+}
+
+/// After a dial of caller 1 and an accept of caller 2 both have seen two calls, and list both connections.
+fn dial_and_accept<J: Identity, L: Ledgers, R: Wait + Abort>(
+    rt: &R,
+    swarm: &Swarm<NoGate, J, L>,
+    one: &mut Pass<J, L>,
+    two: &mut Pass<J, L>,
+) -> Result<(), Fail> {
+    let first = peer(0x11)?;
+    assert_eq!(rt; swarm.dial(rt, one, Some(first)), Reply::Conn(1));
+    assert_eq!(rt; swarm.accept(rt, two), Reply::Conn(2));
+    swarm.meet(rt, one, two);
+    assert_eq!(rt; (one.front(), two.front()), (2, 2));
+    let rows = [
+        pending(1, ConnSide::Dialer, Some(first)),
+        pending(2, ConnSide::Listener, None),
+    ];
+    let (shown, same) = (swarm.list(one), swarm.list(two));
+    assert_eq!(rt; (shown.front, same.front), (2, 2));
+    assert_eq!(rt; shown.conns.as_slice(), rows.as_slice());
+    assert_eq!(rt; same.conns.as_slice(), rows.as_slice());
+    Ok(())
+}
+
+/// The front of a pass stays while another calls, until its caller lists.
+fn call_beside<J: Identity, L: Ledgers, R: Wait + Abort>(
+    rt: &R,
+    swarm: &Swarm<NoGate, J, L>,
+    one: &mut Pass<J, L>,
+    two: &mut Pass<J, L>,
+) -> Result<(), Fail> {
+    assert_eq!(rt; swarm.accept(rt, one), Reply::Conn(1));
+    for conn in 2..5 {
+        assert_eq!(rt;
+            swarm.accept(rt, two),
+            Reply::Conn(conn),
+            "connection {conn}"
+        );
+        assert_eq!(rt;
+            (one.front(), two.front()),
+            (1, u64::from(conn)),
+            "connection {conn}"
+        );
+    }
+    assert_eq!(rt; swarm.list(one).front, 4);
+    assert_eq!(rt; (one.front(), two.front()), (4, 4));
+    Ok(())
 }
 
 /// Caller 1 dials, and both list it; then both dial another peer, of whom one connection may stand.
@@ -85,7 +196,14 @@ fn meet<J: Identity, L: Ledgers, R: Wait + Abort>(
 
 #[test]
 fn two_callers_share_one_history(rt: HostRuntime) -> Result<(), Fail> {
-    assert_eq!(rt; play(&rt, rt.alloc(), config(1)?, 2, &TwoCallers)?, None);
+    for script in [
+        TwoCallers::Dial,
+        TwoCallers::MeetFirst,
+        TwoCallers::Meet,
+        TwoCallers::Call,
+    ] {
+        assert_eq!(rt; play(&rt, rt.alloc(), config(1)?, 2, &script)?, None);
+    }
     Ok(())
 }
 
@@ -105,8 +223,8 @@ fn by(caller: usize, call: Call, reply: Reply) -> Step {
     }
 }
 
-/// Calls in turn. A Settle settles what the proof proves. Each reply and each listing after a call are those of a pool of one
-/// thread as well.
+/// Calls in turn. A Settle settles what the proof proves. Each reply and each listing after a call are those of a pool
+/// of one thread as well.
 #[derive(Drop)]
 struct Steps {
     config: Config,
@@ -124,12 +242,12 @@ impl Script for Steps {
     ) -> Result<(), Fail> {
         let mut passes = passes;
         let mut pool = Pool::new(self.config);
-        for step in self.steps.iter() {
+        for (row, step) in self.steps.iter().enumerate() {
             let index = step.caller.wrapping_sub(1);
             let Some(pass) = passes.as_mut_slice().get_mut(index) else {
                 return Err(Fail::from("a caller"));
             };
-            take(rt, &swarm, pass, &self.proven, step, &mut pool);
+            take(rt, &swarm, pass, &self.proven, step, &mut pool, row);
         }
         let Ok(closed) = swarm.close(rt, passes) else {
             panic!(rt; "all passes are there");
@@ -148,16 +266,18 @@ fn take<J: Identity, L: Ledgers, R: Wait + Abort>(
     proven: &Proven,
     step: &Step,
     pool: &mut Pool,
+    row: usize,
 ) {
     let (before, front) = (swarm.list(pass), pass.front());
     let mut reply = make_or_settle(rt, swarm, pass, proven, &step.call);
     if reply == refused(Refusal::OutOfMemory) {
-        assert!(rt; swarm.list(pass) == before && pass.front() == front);
+        let same = swarm.list(pass) == before && pass.front() == front;
+        assert!(rt; same, "row {row}");
         reply = make_or_settle(rt, swarm, pass, proven, &step.call);
     }
-    assert_eq!(rt; reply, step.reply);
-    assert_eq!(rt; pool.apply(step.call), step.reply);
-    assert!(rt; swarm.list(pass) == pool.listing());
+    assert_eq!(rt; reply, step.reply, "row {row}");
+    assert_eq!(rt; pool.apply(step.call), step.reply, "row {row}");
+    assert!(rt; swarm.list(pass) == pool.listing(), "row {row}");
 }
 
 fn make_or_settle<J: Identity, L: Ledgers, R: Wait>(
@@ -238,6 +358,32 @@ fn each_call_is_made(rt: HostRuntime) -> Result<(), Fail> {
 }
 
 #[test]
+fn allowed_peers_alone(rt: HostRuntime) -> Result<(), Fail> {
+    let (first, second) = (peer(0x11)?, peer(0x22)?);
+    let steps = [
+        by(1, Call::Dial(Some(first)), refused(Refusal::NotAllowed)),
+        by(2, Call::Accept, Reply::Conn(1)),
+        by(1, Call::Settle(1, first), refused(Refusal::NotAllowed)),
+        by(2, Call::Allow(first), Reply::Count(1)),
+        by(1, Call::Allow(first), Reply::Count(0)),
+        by(1, Call::Settle(1, first), Reply::Done),
+        by(2, Call::Dial(Some(second)), refused(Refusal::NotAllowed)),
+        by(2, Call::Dial(None), Reply::Conn(2)),
+        by(1, Call::Disallow(second), Reply::Count(0)),
+        by(2, Call::Disallow(first), Reply::Count(1)),
+        by(1, Call::Ask(1, 0), refused(Refusal::Closing)),
+        by(1, Call::Settle(2, first), refused(Refusal::NotAllowed)),
+    ];
+    let steps = Vec::from_array(rt.alloc(), steps)?;
+    let config = Config {
+        allow_only: true,
+        ..config(8)?
+    };
+    assert_eq!(rt; play_steps(&rt, rt.alloc(), config, 2, steps, 12)?, None);
+    Ok(())
+}
+
+#[test]
 fn the_call_at_the_last_front_has_its_reply(rt: HostRuntime) -> Result<(), Fail> {
     let steps = [
         by(1, Call::Dial(None), Reply::Conn(1)),
@@ -262,6 +408,32 @@ fn a_swarm_has_one_to_eight_callers(rt: HostRuntime) -> Result<(), Fail> {
     let none = Vec::new(rt.alloc());
     let made = play_steps(&rt, rt.alloc(), config(1)?, 8, none, 0)?;
     assert_eq!(rt; made, None);
+    Ok(())
+}
+
+/// A swarm that is made and dropped.
+#[derive(Drop)]
+struct Nothing;
+
+impl Script for Nothing {
+    fn play<J: Identity, L: Ledgers, R: Wait + Abort>(
+        &self,
+        _rt: &R,
+        _swarm: Swarm<NoGate, J, L>,
+        _passes: Vec<Pass<J, L>>,
+    ) -> Result<(), Fail> {
+        Ok(())
+    }
+}
+
+/// It says something where a growth is refused: by `rt try --test --fail-alloc N`.
+#[test]
+fn want_of_memory_is_no_want_of_a_place(rt: HostRuntime) -> Result<(), Fail> {
+    let refused = play(&rt, rt.alloc(), config(1)?, 8, &Nothing)?;
+    assert!(rt;
+        refused.is_none() || refused == Some(NewRefused::OutOfMemory),
+        "{refused:?}"
+    );
     Ok(())
 }
 

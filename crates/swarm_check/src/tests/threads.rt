@@ -324,5 +324,5 @@ fn call_in_a_crowd<
 
 #[test]
 fn eight_threads_make_one_history(rt: HostRuntime) -> Result<(), Fail> {
-    play(&rt, rt.alloc(), config(4)?, 8, open(), Plan::Crowd(10_000))
+    play(&rt, rt.alloc(), config(4)?, 8, open(), Plan::Crowd(2_000))
 }

@@ -1,0 +1,63 @@
+use super::*;
+use pool_state::{ConnSide, Limits, Phase, Row};
+use std::marker::Brand;
+use std::test::*;
+
+/// The id of the Ed25519 key of 32 bytes that are all `byte`.
+fn peer(byte: u8) -> Result<PeerId, Fail> {
+    let mut multihash = [byte; 38];
+    multihash[..6].copy_from_slice(&[0x00, 0x24, 0x08, 0x01, 0x12, 0x20]);
+    let id = PeerId::from_bytes(&multihash).ok().ok_or("a multihash")?;
+    Ok(id)
+}
+
+/// Both dials on a new swarm.
+fn play<R: Wait>(
+    rt: &R,
+    alloc: Global,
+    config: Config,
+    a: PeerId,
+    b: PeerId,
+) -> Result<(Dials, Closed), NewRefused> {
+    both_seen::<Brand, Brand, Brand, Brand, Brand, Brand, Brand, Brand, Brand, R>(
+        rt,
+        alloc,
+        config,
+        BlankHistory::new(),
+        BlankLedgers::new(),
+        a,
+        b,
+    )
+}
+
+/// The row of a dialed connection.
+fn row(conn: u32, peer: PeerId) -> Row {
+    Row {
+        conn,
+        role: ConnSide::Dialer,
+        phase: Phase::Pending,
+        peer: Some(peer),
+        ..Row::default()
+    }
+}
+
+#[test]
+fn both_are_listed(rt: HostRuntime) -> Result<(), Fail> {
+    let limits = Limits::new(256, 8, 64, 64, 256, 256, 64).ok_or("in range")?;
+    let config = Config {
+        own: peer(0)?,
+        limits,
+        first_conn: 7,
+        first_front: 20,
+        allow_only: false,
+    };
+    let (a, b) = (peer(0x11)?, peer(0x22)?);
+    let (dials, closed) = play(&rt, rt.alloc(), config, a, b).ok().ok_or("a swarm")?;
+    assert_eq!(rt; (dials.one, dials.other), (Reply::Conn(7), Reply::Conn(8)));
+    assert_eq!(rt; dials.listing.front, 22);
+    let rows = [row(7, a), row(8, b)];
+    assert_eq!(rt; dials.listing.conns.as_slice(), rows.as_slice());
+    assert!(rt; closed.listing == dials.listing);
+    assert_eq!(rt; closed.calls, 2);
+    Ok(())
+}
