@@ -262,12 +262,13 @@ more_parts : (input : List ℕ) (texts : List (List ℕ)) (rest more : List ℕ)
 more_parts input texts rest more h = record { parts = ap (λ (x : List ℕ). x ++ more) h.parts ∙ append_assoc (spelled texts) rest more; refusals = h.refusals }
 
 -- What is refused stays so, whatever comes.
-pub dial_fault_stays : (names : List (List ℕ)) (input more output : List ℕ) (fault : SelectFault) → Dials names input (Err fault) (length input) output → Dials names (input ++ more) (Err fault) (length (input ++ more)) output
-dial_fault_stays names input more output fault d = (d.0, d.1 ++ more, more_parts input d.0 d.1 more d.2, d.3, not_answer_stays names d.0 d.1 more fault d.4, refl, d.6)
+pub dial_fault_stays : (names : List (List ℕ)) (input more output : List ℕ) (fault : SelectFault) (used : ℕ) → Dials names input (Err fault) used output
+    → Dials names (input ++ more) (Err fault) (length (input ++ more)) output
+dial_fault_stays names input more output fault used d = (d.0, d.1 ++ more, more_parts input d.0 d.1 more d.2, d.3, not_answer_stays names d.0 d.1 more fault d.4, refl, d.6)
 
-dial_decided_at : (answer : Answer) (dial : Dialing) (input more : List ℕ) (used : ℕ) (taken : List ℕ) → (answer ≡ Going → ⊥) → IsDialAt (Some answer) dial input used taken → IsDialAt (Some answer) dial (input ++ more) used taken
-dial_decided_at Going dial input more used taken not_going f = absurd (not_going refl)
-dial_decided_at (Agreed index) dial input more used taken not_going d =
+pub agreed_dial_stays : (names : List (List ℕ)) (input more output : List ℕ) (index used : ℕ) → Dials names input (Ok (Agreed index)) used output
+    → Dials names (input ++ more) (Ok (Agreed index)) used output
+agreed_dial_stays names input more output index used d =
     let whole : Answered (input ++ more) (header ∷ d.0) (message d.1 ++ d.2 ++ more) = more_parts input (header ∷ d.0) (message d.1 ++ d.2) more d.3 in (
       d.0,
       d.1,
@@ -280,7 +281,18 @@ dial_decided_at (Agreed index) dial input more used taken not_going d =
       omega (arith, d.8, length-append d.2 more, length-append input more),
       d.9,
     )
-dial_decided_at NoneLeft dial input more used taken not_going d = (d.0, d.1 ++ more, more_parts input d.0 d.1 more d.2, d.3, d.4, omega (arith, d.5, length-append d.1 more, length-append input more), d.6)
+
+pub none_left_stays : (names : List (List ℕ)) (input more output : List ℕ) (used : ℕ) → Dials names input (Ok NoneLeft) used output
+    → Dials names (input ++ more) (Ok NoneLeft) used output
+none_left_stays names input more output used d =
+    let size : used + length (d.1 ++ more) ≡ length (input ++ more) = omega (arith, d.5, length-append d.1 more, length-append input more) in
+    (d.0, d.1 ++ more, more_parts input d.0 d.1 more d.2, d.3, d.4, size, d.6)
+
+dial_decided_at : (answer : Answer) (dial : Dialing) (input more : List ℕ) (used : ℕ) (taken : List ℕ) → (answer ≡ Going → ⊥) → IsDialAt (Some answer) dial input used taken
+    → IsDialAt (Some answer) dial (input ++ more) used taken
+dial_decided_at Going dial input more used taken not_going f = absurd (not_going refl)
+dial_decided_at (Agreed index) dial input more used taken not_going d = agreed_dial_stays dial.names input more (taken ++ dial.pending) index used d
+dial_decided_at NoneLeft dial input more used taken not_going d = none_left_stays dial.names input more (taken ++ dial.pending) used d
 
 -- a decided dialer, told more
 pub dial_decided_stays : (dial : Dialing) (input more : List ℕ) (used : ℕ) (taken : List ℕ) (answer : Answer) → dial.answer ≡ Some answer → (answer ≡ Going → ⊥) → Pursues dial input used taken → Pursues dial (input ++ more) used taken
@@ -325,7 +337,7 @@ proposed first output e = e ∙ ap (λ (x : List ℕ). x ++ message first) (sym 
 pub dial_fault_at : (names : List (List ℕ)) (input piece output : List ℕ) (i : ℕ) (fault : SelectFault) → i < length piece → Dials names (input ++ take i piece ++ get_or piece i 0 ∷ []) (Err fault) (length (input ++ take i piece ++ get_or piece i 0 ∷ [])) output
     → Dials names (input ++ piece) (Err fault) (length (input ++ piece)) output
 dial_fault_at names input piece output i fault lt d =
-    subst (λ (x : List ℕ). Dials names x (Err fault) (length x) output) (parts_at input piece i lt) (dial_fault_stays names (input ++ take i piece ++ get_or piece i 0 ∷ []) (drop (i + 1) piece) output fault d)
+    subst (λ (x : List ℕ). Dials names x (Err fault) (length x) output) (parts_at input piece i lt) (dial_fault_stays names (input ++ take i piece ++ get_or piece i 0 ∷ []) (drop (i + 1) piece) output fault _ d)
 
 pub dial_decided_in : (dial : Dialing) (input piece : List ℕ) (used : ℕ) (taken : List ℕ) (i : ℕ) (answer : Answer) → i < length piece → used ≡ length input → dial.answer ≡ Some answer → (answer ≡ Going → ⊥) → Asked dial (input ++ take i piece ++ get_or piece i 0 ∷ []) taken
     → Pursues dial (input ++ piece) (used + (i + 1)) taken

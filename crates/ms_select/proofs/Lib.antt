@@ -4,5 +4,5 @@ pub mod Reading
 pub mod ListenSteps
 pub mod DialSteps
 pub mod Readings
-pub mod Pieces
 pub mod SomeTalk
+pub mod Cut

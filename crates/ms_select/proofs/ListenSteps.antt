@@ -239,12 +239,13 @@ refused_stays [] rest more fault (inl r) = inl (message_stays rest more (Err fau
 refused_stays [] rest more fault (inr r) = inr (r.0, message_stays rest more (Ok (Some r.0)) r.1 (λ q. cc), r.2, r.3)
 
 -- What is refused stays so, whatever comes.
-pub fault_stays : (names : List (List ℕ)) (input more output : List ℕ) (fault : SelectFault) → Listens names input (Err fault) (length input) output → Listens names (input ++ more) (Err fault) (length (input ++ more)) output
-fault_stays names input more output fault l =
+pub fault_stays : (names : List (List ℕ)) (input more output : List ℕ) (fault : SelectFault) (used : ℕ) → Listens names input (Err fault) used output
+    → Listens names (input ++ more) (Err fault) (length (input ++ more)) output
+fault_stays names input more output fault used l =
     (l.0, l.1 ++ more, record { parts = ap (λ (x : List ℕ). x ++ more) l.2.parts ∙ append_assoc (spelled l.0) l.1 more; short = l.2.short; undecided = l.2.undecided }, refused_stays l.0 l.1 more fault l.3, refl, l.5)
 
 -- What is decided stays so, and nothing more is used.
-agreed_stays : (names : List (List ℕ)) (input more output : List ℕ) (index used : ℕ) → Listens names input (Ok (Agreed index)) used output → Listens names (input ++ more) (Ok (Agreed index)) used output
+pub agreed_stays : (names : List (List ℕ)) (input more output : List ℕ) (index used : ℕ) → Listens names input (Ok (Agreed index)) used output → Listens names (input ++ more) (Ok (Agreed index)) used output
 agreed_stays names input more output index used l = (
   l.0,
   l.1,
@@ -285,7 +286,7 @@ used_at input piece i lt = omega (arith, length-append (input ++ take i piece) (
 pub fault_at : (names : List (List ℕ)) (input piece output : List ℕ) (i : ℕ) (fault : SelectFault) → i < length piece → Listens names (input ++ take i piece ++ get_or piece i 0 ∷ []) (Err fault) (length (input ++ take i piece ++ get_or piece i 0 ∷ [])) output
     → Listens names (input ++ piece) (Err fault) (length (input ++ piece)) output
 fault_at names input piece output i fault lt l =
-    subst (λ (x : List ℕ). Listens names x (Err fault) (length x) output) (parts_at input piece i lt) (fault_stays names (input ++ take i piece ++ get_or piece i 0 ∷ []) (drop (i + 1) piece) output fault l)
+    subst (λ (x : List ℕ). Listens names x (Err fault) (length x) output) (parts_at input piece i lt) (fault_stays names (input ++ take i piece ++ get_or piece i 0 ∷ []) (drop (i + 1) piece) output fault _ l)
 
 -- the byte at a place decides
 pub decided_in : (talk : Listening) (input piece : List ℕ) (used : ℕ) (taken : List ℕ) (i : ℕ) (answer : Answer) → i < length piece → used ≡ length input → talk.answer ≡ Some answer → (answer ≡ Going → ⊥) → Told talk (input ++ take i piece ++ get_or piece i 0 ∷ []) taken

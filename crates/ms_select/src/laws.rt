@@ -4,6 +4,7 @@ ghost use Rattle.ms_select.specs.Messages.{OneMessage, SomeMessage};
 ghost use Rattle.ms_select.specs.Listening.{OneListener, SomeListener};
 ghost use Rattle.ms_select.specs.Dialing.{OneDialer, SomeDialer};
 ghost use Rattle.ms_select.specs.Joined.{OneName};
+ghost use Rattle.ms_select.specs.Laws.{DecisionStays, FaultStays, NothingBehind, AnswersAsDefined, AskedAll};
 
 /// Two ends that both agree in one talk name the same protocol.
 pub fn one_name()
@@ -38,4 +39,29 @@ pub fn some_listener()
 /// A dialer comes to something by each input.
 pub fn some_dialer()
     ensures { SomeDialer }
+{}
+
+/// What is decided stays so when bytes are added, and none of them is used.
+pub fn decision_stays()
+    ensures { DecisionStays }
+{}
+
+/// A fault stays when bytes are added.
+pub fn fault_stays()
+    ensures { FaultStays }
+{}
+
+/// Where a side stands is decided by the bytes that it used, whatever stands behind them.
+pub fn nothing_behind()
+    ensures { NothingBehind }
+{}
+
+/// Where a side stands is what its definition says of the whole input, also while nothing is decided.
+pub fn answers_as_defined()
+    ensures { AnswersAsDefined }
+{}
+
+/// A dialer of one name has written everything before the answer.
+pub fn asked_all()
+    ensures { AskedAll }
 {}

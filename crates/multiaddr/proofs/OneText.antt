@@ -17,11 +17,12 @@ use Rattle.peer_ids.proofs.Texts.{text_once, id_once}
 use Rattle.multiaddr.specs.declared.protocol.Protocol.{Protocol}
 use Rattle.multiaddr.specs.declared.protocol.Protocol.TheVariants.{Ip4, Tcp, Ip6, Dns, Dns4, Dns6, P2p}
 use Rattle.multiaddr.specs.declared.fault.AddrFault.{AddrFault}
-use Rattle.multiaddr.specs.declared.fault.AddrFault.TheVariants.{OutOfMemory}
+use Rattle.multiaddr.specs.declared.fault.AddrFault.TheVariants.{Empty, UnknownProtocol, Cut, BadValue, OutOfMemory}
 use Rattle.multiaddr.specs.Ip6.{SpellsGroups, PrintsGroups, IsShortened}
 use Rattle.multiaddr.specs.Part.{Part, IsValue, spelling}
-use Rattle.multiaddr.specs.Text.{name_of, NoSlash, ReadsValue, PrintsValue, tail_of, NameFault, ValueTextFault, TextFault, LeadsParts, ReadsParts, PrintsParts}
+use Rattle.multiaddr.specs.Text.{name_of, NoSlash, ReadsValue, PrintsValue, tail_of, NameFault, ValueTextFault, TextFault, RefusesText, LeadsParts, ReadsParts, PrintsParts}
 use Rattle.multiaddr.specs.Laws.{AreValues}
+use Rattle.multiaddr.proofs.Values.{length-octets_of}
 use Rattle.multiaddr.proofs.Ip6Text.{spells_colon_hex, colon_hex_spells, prints}
 use Rattle.multiaddr.proofs.Alphabets.{dotted_no_slash, groups_no_slash, groups_no_dot, decimal_no_slash, letters_no_slash}
 
@@ -217,17 +218,24 @@ text_or_fault text parts fault h (inr (inr f)) = whole_or_led text f.1 parts f.0
 
 -- ---- one answer
 
-pub only_text : (text : List ℕ) (r : Result (List ℕ) AddrFault) (parts : List Part) → IfOk r (λ a. (found : List Part) × ReadsParts text found × (a ≡ flat_map spelling found)) → IfErr r (λ fault. (fault ≡ OutOfMemory) ⊎ TextFault text fault)
-    → ReadsParts text parts → (r ≡ Ok (flat_map spelling parts)) ⊎ (r ≡ Err OutOfMemory)
+pub only_text : (text : List ℕ) (r : Result (List ℕ) AddrFault) (parts : List Part) → IfOk r (λ a. (found : List Part) × ReadsParts text found × (a ≡ flat_map spelling found))
+    → IfErr r (RefusesText text) → ReadsParts text parts → (r ≡ Ok (flat_map spelling parts)) ⊎ (r ≡ Err OutOfMemory)
 only_text text (Ok a) parts found fault h = inl (ap Ok (found.2 ∙ ap (flat_map spelling) (one_text_reading text found.0 parts found.1 h)))
-only_text text (Err f) parts found (inl e) h = inr (ap Err e)
-only_text text (Err f) parts found (inr e) h = absurd (text_or_fault text parts f h e)
+only_text text (Err OutOfMemory) parts found refuses h = inr refl
+only_text text (Err Empty) parts found refuses h = absurd (text_or_fault text parts Empty h refuses)
+only_text text (Err UnknownProtocol) parts found refuses h = absurd (text_or_fault text parts UnknownProtocol h refuses)
+only_text text (Err Cut) parts found refuses h = absurd (text_or_fault text parts Cut h refuses)
+only_text text (Err BadValue) parts found refuses h = absurd (text_or_fault text parts BadValue h refuses)
 
-pub only_text_fault : (text : List ℕ) (r : Result (List ℕ) AddrFault) (f : AddrFault) → IfOk r (λ a. (found : List Part) × ReadsParts text found × (a ≡ flat_map spelling found)) → IfErr r (λ fault. (fault ≡ OutOfMemory) ⊎ TextFault text fault)
-    → TextFault text f → (r ≡ Err f) ⊎ (r ≡ Err OutOfMemory)
-only_text_fault text (Ok a) f found fault h = absurd (text_or_fault text found.0 f found.1 h)
-only_text_fault text (Err g) f found (inl e) h = inr (ap Err e)
-only_text_fault text (Err g) f found (inr e) h = inl (ap Err (one_text_fault text g f e h))
+-- each fault of a text is answered by what reads only texts of addresses
+pub only_text_fault : {A : Type 0} (text : List ℕ) (r : Result A AddrFault) (f : AddrFault) → ((a : A) → r ≡ Ok a → (parts : List Part) × ReadsParts text parts)
+    → IfErr r (RefusesText text) → TextFault text f → r ≡ Err f
+only_text_fault text (Ok a) f found refuses h = let read = found a refl in absurd (text_or_fault text read.0 f read.1 h)
+only_text_fault text (Err OutOfMemory) f found refuses h = absurd (text_or_fault text refuses.0 f refuses.1 h)
+only_text_fault text (Err Empty) f found refuses h = ap Err (one_text_fault text Empty f refuses h)
+only_text_fault text (Err UnknownProtocol) f found refuses h = ap Err (one_text_fault text UnknownProtocol f refuses h)
+only_text_fault text (Err Cut) f found refuses h = ap Err (one_text_fault text Cut f refuses h)
+only_text_fault text (Err BadValue) f found refuses h = ap Err (one_text_fault text BadValue f refuses h)
 
 -- ---- values that are printed
 
@@ -290,11 +298,6 @@ segments_fit (g ∷ groups) h k =
     let later = segments_fit groups h.1.1 in
     elim k as (λ j. get_or (g ∷ groups) j 0 < 2 ^ 16) [ zero ↦ omega (arith, h.0) | suc j ↦ later j ]
 
-length-octets_of : (groups : List ℕ) → length (octets_of groups) ≡ 2 * length groups
-length-octets_of [] = omega arith
-length-octets_of (g ∷ groups) = omega (arith, length-octets_of groups)
-
--- the text of groups is read as them, and has no slash
 groups_again : (t v groups : List ℕ) → PrintsGroups t groups → v ≡ octets_of groups → length v ≡ 16 → All (λ b. b < 256) v → SpellsGroups t groups × NoSlash t
 groups_again t v groups h e size fits =
     let eight : length groups ≡ 8 = omega (arith, size, ap length e, length-octets_of groups) in

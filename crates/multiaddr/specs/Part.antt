@@ -68,10 +68,6 @@ pub record IsAddress (a : Address) : Type 0 where
 abbrev pub bytes_of : Address → List ℕ
 bytes_of a = flat_map spelling a.parts ++ a.opaque
 
--- A part of a protocol of the table stands at the front.
-abbrev pub HasPart : List ℕ → Type 0
-HasPart bytes = (p : Part) × (rest : List ℕ) × IsValue p.protocol p.value × (bytes ≡ spelling p ++ rest)
-
 -- ---- what keeps bytes from being an address
 
 -- No well spelt number stands at the front.

@@ -2,10 +2,10 @@
 
 ghost use Rattle.std.specs.Prelude.{◌≡◌, ◌⊎◌, ℕ, List, [], string_bytes, IfOk, IfErr, OnOk, Err};
 ghost use Rattle.std.specs.List.{flat_map};
-ghost use Rattle.multiaddr.specs.Part.{Part, Address, IsOpaque, spelling, SpellsAddress, AddressFault, RefusesAddress, HasPart};
+ghost use Rattle.multiaddr.specs.Part.{Part, Address, IsOpaque, spelling, SpellsAddress, AddressFault, RefusesAddress};
 ghost use Rattle.multiaddr.specs.declared.fault.AddrFault.{AddrFault};
 ghost use Rattle.multiaddr.specs.Given.{GivesSocket, GivesPeer};
-ghost use Rattle.multiaddr.specs.Text.{ReadsParts, TextFault, AsksMemory, PrintsParts};
+ghost use Rattle.multiaddr.specs.Text.{ReadsParts, TextFault, RefusesText, PrintsParts, RefusesPrint};
 
 use crate::fault::AddrFault;
 use crate::print::print;
@@ -47,8 +47,7 @@ fn address_in(alloc: Global, bytes: &[u8]) -> Result<Multiaddr, AddrFault>
 /// The address that a text spells.
 fn address_of(alloc: Global, text: &str) -> Result<Multiaddr, AddrFault>
     ensures found { IfOk result (λ a. (parts : List Part) × ReadsParts text.now parts × (a ≡ flat_map spelling parts)) }
-    ensures fault { IfErr result (λ fault. (fault ≡ AddrFault.OutOfMemory) ⊎ TextFault text.now fault) }
-    ensures memory { result ≡ Err AddrFault.OutOfMemory → AsksMemory text.now }
+    ensures fault { IfErr result (RefusesText text.now) }
 {
     let bytes = parse(alloc, text)?;
     Ok(Multiaddr { bytes })
@@ -71,12 +70,11 @@ impl Multiaddr {
     /// The address that a text spells.
     pub fn parse(alloc: Global, text: &str) -> Result<Multiaddr, AddrFault>
         ensures found { IfOk result (λ a. (parts : List Part) × ReadsParts text.now parts × (a ≡ flat_map spelling parts)) }
-        ensures fault { IfErr result (λ fault. (fault ≡ AddrFault.OutOfMemory) ⊎ TextFault text.now fault) }
+        ensures fault { IfErr result (RefusesText text.now) }
 
-        // An address is read, and each fault is answered, unless memory runs out, which is asked for only behind a part.
-        ensures memory { result ≡ Err AddrFault.OutOfMemory → AsksMemory text.now }
+        // An address is read, unless memory runs out, and each fault is answered.
         ensures only_address { (parts : List Part) → ReadsParts text.now parts → (result ≡ Ok (flat_map spelling parts)) ⊎ (result ≡ Err AddrFault.OutOfMemory) }
-        ensures only_fault { (fault : AddrFault) → TextFault text.now fault → (result ≡ Err fault) ⊎ (result ≡ Err AddrFault.OutOfMemory) }
+        ensures only_fault { (fault : AddrFault) → TextFault text.now fault → result ≡ Err fault }
     {
         address_of(alloc, text)
     }
@@ -103,12 +101,11 @@ impl Multiaddr {
         peer_of(&self.bytes)
     }
 
-    /// The text. An address with an opaque part has none. Memory is asked for only where a part stands before that.
+    /// The text. An address with an opaque part has none. Memory is asked for only where there is a text.
     pub fn print(&self, alloc: Global) -> Result<String, AddrFault>
         ensures found { IfOk result (λ text. (a : Address) × SpellsAddress self.now a × (a.opaque ≡ []) × PrintsParts (string_bytes text) a.parts) }
-        ensures fault { IfErr result (λ fault. (fault ≡ AddrFault.OutOfMemory)
-            ⊎ ((fault ≡ AddrFault.UnknownProtocol) × (a : Address) × SpellsAddress self.now a × IsOpaque a.opaque)) }
-        ensures memory { result ≡ Err AddrFault.OutOfMemory → HasPart self.now }
+        ensures fault { IfErr result (RefusesPrint self.now) }
+        ensures opaque { (a : Address) → SpellsAddress self.now a → IsOpaque a.opaque → result ≡ Err AddrFault.UnknownProtocol }
     {
         print(alloc, &self.bytes)
     }

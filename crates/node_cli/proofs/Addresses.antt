@@ -4,7 +4,9 @@ use Rattle.std.specs.List.{flat_map}
 use Rattle.std.proofs.lemmas.List.{append-nil, length-append}
 use Rattle.varint_proto.specs.Varint.{shortest}
 use Rattle.multiaddr.specs.Part.{Part, spelling, IsOpaque, Address, SpellsAddress}
-use Rattle.multiaddr.specs.Text.{ReadsParts}
+use Rattle.multiaddr.specs.declared.fault.AddrFault.{AddrFault}
+use Rattle.multiaddr.specs.declared.fault.AddrFault.TheVariants.{Empty, UnknownProtocol, Cut, BadValue, OutOfMemory}
+use Rattle.multiaddr.specs.Text.{ReadsParts, RefusesText, RefusesPrint}
 use Rattle.multiaddr.proofs.Parts.{some_code}
 use Rattle.multiaddr.proofs.TextParts.{are_parts}
 use Rattle.multiaddr.proofs.OneAddress.{one_address}
@@ -22,5 +24,14 @@ parts_are text bytes parts a h e s =
     let same = one_address bytes a (whole parts) s (read_whole text bytes parts h e) in
     (ap (λ (b : Address). b.parts) same, ap (λ (b : Address). b.opaque) same)
 
-pub not_opaque : (bytes : List ℕ) → bytes ≡ [] → IsOpaque bytes → ⊥
+not_opaque : (bytes : List ℕ) → bytes ≡ [] → IsOpaque bytes → ⊥
 not_opaque bytes none h = omega (arith, ap length none, ap length h.3, length-append (shortest h.0) h.1, some_code h.0)
+
+-- the address of a text is unprinted for want of memory alone
+pub unprinted : (text bytes : List ℕ) (fault : AddrFault) (parts : List Part) → ReadsParts text parts → bytes ≡ flat_map spelling parts → RefusesPrint bytes fault
+    → RefusesText text fault
+unprinted text bytes OutOfMemory parts h e r = (parts, h)
+unprinted text bytes UnknownProtocol parts h e r = absurd (not_opaque r.0.opaque (parts_are text bytes parts r.0 h e r.1).1 r.2)
+unprinted text bytes Empty parts h e r = absurd r
+unprinted text bytes Cut parts h e r = absurd r
+unprinted text bytes BadValue parts h e r = absurd r

@@ -1,12 +1,11 @@
 //! `node addr`: from the text of an address to its bytes, and to the one text that it is printed as.
 
-ghost use Rattle.std.specs.Prelude.{◌≡◌, ◌⊎◌, List, IfOk, string_bytes};
+ghost use Rattle.std.specs.Prelude.{◌≡◌, List, Err, IfOk, IfErr, string_bytes};
 ghost use Rattle.std.specs.List.{flat_map};
 ghost use Rattle.hex.specs.Hex.{encode_lower};
 ghost use Rattle.multiaddr.specs.declared.fault.AddrFault.{AddrFault};
-ghost use Rattle.multiaddr.specs.declared.fault.AddrFault.TheVariants.{OutOfMemory};
 ghost use Rattle.multiaddr.specs.Part.{Part, spelling};
-ghost use Rattle.multiaddr.specs.Text.{ReadsParts, TextFault, PrintsParts};
+ghost use Rattle.multiaddr.specs.Text.{ReadsParts, TextFault, RefusesText, PrintsParts};
 
 use multiaddr::{AddrFault, Multiaddr};
 use std::alloc::{AllocError, Global};
@@ -21,10 +20,10 @@ pub struct AddrLines {
 }
 
 /// The bytes and the printed text of the address that a text spells.
-pub fn addr_lines(alloc: Global, text: &str) -> Result<AddrLines, AddrFault>
+fn lines_of(alloc: Global, text: &str) -> Result<AddrLines, AddrFault>
     ensures found { IfOk result (λ lines. (parts : List Part) × ReadsParts text.now parts
         × (string_bytes lines.bytes ≡ encode_lower (flat_map spelling parts)) × PrintsParts (string_bytes lines.text) parts) }
-    ensures refused { (fault : AddrFault) → result ≡ Err fault → (fault ≡ OutOfMemory) ⊎ TextFault text.now fault }
+    ensures refused { IfErr result (RefusesText text.now) }
 {
     let address = match Multiaddr::parse(alloc, text) {
         Ok(address) => address,
@@ -38,4 +37,14 @@ pub fn addr_lines(alloc: Global, text: &str) -> Result<AddrLines, AddrFault>
         Ok(bytes) => Ok(AddrLines { bytes, text }),
         Err(AllocError) => Err(AddrFault::OutOfMemory),
     }
+}
+
+/// The bytes and the printed text of the address that a text spells. Memory is asked for only where it spells one.
+pub fn addr_lines(alloc: Global, text: &str) -> Result<AddrLines, AddrFault>
+    ensures found { IfOk result (λ lines. (parts : List Part) × ReadsParts text.now parts
+        × (string_bytes lines.bytes ≡ encode_lower (flat_map spelling parts)) × PrintsParts (string_bytes lines.text) parts) }
+    ensures refused { IfErr result (RefusesText text.now) }
+    ensures only_fault { (fault : AddrFault) → TextFault text.now fault → result ≡ Err fault }
+{
+    lines_of(alloc, text)
 }

@@ -107,16 +107,14 @@ fn status<E: Write>(outcome: Result<(), Ending>, faults: &mut E) -> u8
         Ending::Id(IdRefused::NotHex) => writeln!(faults, "refused NotHex"),
         Ending::Id(IdRefused::Key(fault)) => writeln!(faults, "refused {fault:?}"),
         Ending::Hash(HashRefused::Id(fault)) => writeln!(faults, "refused {fault:?}"),
-        Ending::Addr(fault) if fault != AddrFault::OutOfMemory => writeln!(
+        Ending::Addr(fault) => writeln!(faults, "refused {fault:?}"),
+        Ending::Id(IdRefused::OutOfMemory) | Ending::Hash(HashRefused::OutOfMemory) => writeln!(
             faults,
-            "refused {fault:?}"
+            "refused OutOfMemory"
         ),
         Ending::Line(number) => writeln!(faults, "refused line {number}"),
         Ending::Input => writeln!(faults, "refused input"),
-        Ending::Id(IdRefused::OutOfMemory)
-        | Ending::Hash(HashRefused::OutOfMemory)
-        | Ending::Addr(_)
-        | Ending::Unwritten => Ok(()),
+        Ending::Unwritten => Ok(()),
     };
     1
 }

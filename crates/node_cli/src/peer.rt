@@ -1,6 +1,8 @@
 //! `node id` and `node hash`: from the bytes of a key to the text of its id, and back to the multihash.
 
-ghost use Rattle.std.specs.Prelude.{◌≡◌, ◌↔◌, ◌⊎◌, ℕ, List, Ok, Err, IfOk, string_bytes};
+ghost use Rattle.std.specs.Prelude.{◌≡◌, ◌≢◌, ◌↔◌, ◌%◌, ℕ, List, length, Ok, Err, IsTrue, IfOk, string_bytes};
+ghost use Rattle.std.specs.List.{AllPass};
+ghost use Rattle.std.specs.Char.{is_ascii_hexdigit};
 ghost use Rattle.hex.specs.Hex.{decode_of, encode_lower};
 ghost use Rattle.peer_ids.specs.Base32.{IsIdText};
 ghost use Rattle.peer_ids.specs.PeerId.{id_of};
@@ -8,7 +10,6 @@ ghost use Rattle.peer_ids.specs.Key.{Key};
 ghost use Rattle.peer_ids.specs.ReadsKey.{SpellsKey, RefusesKey};
 ghost use Rattle.peer_ids.specs.ReadsText.{ReadsId};
 
-use hex::FromHexError;
 use peer_ids::{IdFault, KeyFault, PeerId, PublicKey};
 use std::alloc::{AllocError, Global};
 
@@ -32,20 +33,32 @@ pub enum HashRefused {
     OutOfMemory,
 }
 
-/// The text of the id of the key that a message in hexadecimal spells.
+/// Whether a text is pairs of hexadecimal digits. It takes no memory.
+fn are_pairs(hex: &str) -> bool
+    ensures { IsTrue result ↔ ((length hex.now % 2 ≡ 0) × AllPass is_ascii_hexdigit hex.now) }
+{
+    hex.len() % 2 == 0 && hex.bytes().all(|byte| byte.is_ascii_hexdigit())
+}
+
+/// The text of the id of the key that a message in hexadecimal spells. Memory is asked for only where the text is hexadecimal: for the
+/// message, so that its want comes before a fault of the key, then for the key, then for the text.
 pub fn id_text(alloc: Global, hex: &str) -> Result<String, IdRefused>
     ensures found { IfOk result (λ text. (bytes : List ℕ) × (key : Key) × (decode_of hex.now ≡ Ok bytes) × SpellsKey bytes key
         × IsIdText (string_bytes text) (id_of key)) }
-    ensures not_hex { result ≡ Err IdRefused.NotHex → (bytes : List ℕ) → ¬ (decode_of hex.now ≡ Ok bytes) }
-    ensures no_key { (fault : KeyFault) → result ≡ Err (IdRefused.Key fault) → (bytes : List ℕ) × (decode_of hex.now ≡ Ok bytes) × RefusesKey bytes fault }
+    ensures not_hex { (result ≡ Err IdRefused.NotHex) ↔ ((bytes : List ℕ) → ¬ (decode_of hex.now ≡ Ok bytes)) }
+    ensures no_key { (fault : KeyFault) → result ≡ Err (IdRefused.Key fault) → (fault ≢ KeyFault.OutOfMemory)
+        × (bytes : List ℕ) × (decode_of hex.now ≡ Ok bytes) × RefusesKey bytes fault }
+    ensures memory { result ≡ Err IdRefused.OutOfMemory → (bytes : List ℕ) × (decode_of hex.now ≡ Ok bytes) }
 {
-    let bytes = match hex::decode(alloc, hex) {
-        Ok(bytes) => bytes,
-        Err(FromHexError::OutOfMemory) => return Err(IdRefused::OutOfMemory),
-        Err(_) => return Err(IdRefused::NotHex),
+    if !are_pairs(hex) {
+        return Err(IdRefused::NotHex);
+    }
+    let Ok(bytes) = hex::decode(alloc, hex) else {
+        return Err(IdRefused::OutOfMemory);
     };
     let key = match PublicKey::read(alloc, &bytes) {
         Ok(key) => key,
+        Err(KeyFault::OutOfMemory) => return Err(IdRefused::OutOfMemory),
         Err(fault) => return Err(IdRefused::Key(fault)),
     };
     match PeerId::of_key(&key).to_text(alloc) {
@@ -54,10 +67,11 @@ pub fn id_text(alloc: Global, hex: &str) -> Result<String, IdRefused>
     }
 }
 
-/// The multihash of the id whose text this is, in hexadecimal.
+/// The multihash of the id whose text this is, in hexadecimal. Memory is asked for only for the digits.
 pub fn hash_hex(alloc: Global, text: &str) -> Result<String, HashRefused>
     ensures found { IfOk result (λ digits. (multihash : List ℕ) × ReadsId text.now (Ok multihash) × (string_bytes digits ≡ encode_lower multihash)) }
-    ensures refused { (fault : IdFault) → result ≡ Err (HashRefused.Id fault) → ReadsId text.now (Err fault) }
+    ensures refused { (fault : IdFault) → (result ≡ Err (HashRefused.Id fault)) ↔ ReadsId text.now (Err fault) }
+    ensures memory { result ≡ Err HashRefused.OutOfMemory → (multihash : List ℕ) × ReadsId text.now (Ok multihash) }
 {
     let id = match PeerId::from_text(text) {
         Ok(id) => id,

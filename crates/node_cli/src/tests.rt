@@ -382,3 +382,17 @@ fn a_failing_write_is_status_1(rt: HostRuntime) {
         assert_eq!(rt; status, 1);
     }
 }
+
+#[test]
+fn want_of_memory_is_told(rt: HostRuntime) {
+    let endings = [
+        Ending::Id(IdRefused::OutOfMemory),
+        Ending::Hash(HashRefused::OutOfMemory),
+        Ending::Addr(AddrFault::OutOfMemory),
+    ];
+    for ending in endings {
+        let mut faults = Vec::new(rt.alloc());
+        assert_eq!(rt; status(Err(ending), &mut faults), 1);
+        assert_eq!(rt; faults.as_slice(), b"refused OutOfMemory\n".as_slice());
+    }
+}

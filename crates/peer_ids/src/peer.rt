@@ -19,7 +19,7 @@ use varint_proto::spell;
 
 /// The id of a peer: an identity or SHA2-256 multihash of at most 44 bytes (libp2p, "Peer Ids and Keys").
 /// Contracts see the multihash.
-#[derive(Clone, Copy, Debug, Hash)]
+#[derive(Copy, Debug, Hash)]
 pub struct PeerId {
     multihash: Short,
 }
@@ -193,6 +193,19 @@ impl PeerId {
         ensures { IfOk result (λ text. IsIdText (string_bytes text) self.now) }
     {
         String::from_str(alloc, self.text().as_str())
+    }
+}
+
+/// A clone is the same id. It takes no memory.
+impl Clone for PeerId {
+    ghost use Rattle.std.specs.Prelude.{⊤};
+
+    ghost is_clone = { λ id copy. copy ≡ id };
+
+    ghost is_infallible = { λ _. ⊤ };
+
+    fn clone(&self) -> Result<PeerId, AllocError> {
+        Ok(*self)
     }
 }
 

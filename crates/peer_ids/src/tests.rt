@@ -46,6 +46,8 @@ fn ids_of_ed25519_keys(rt: HostRuntime) -> Result<(), Fail> {
         assert_eq!(rt; format!(in rt.alloc(); "{id}")?.as_str(), text);
         assert_eq!(rt; PeerId::from_text(text), Ok(id));
         assert_eq!(rt; text.parse::<PeerId>(), Ok(id));
+        let copy: Result<PeerId, _> = id.clone();
+        assert_eq!(rt; copy, Ok(id));
         assert_eq!(rt; PeerId::from_bytes(id.as_bytes()), Ok(id));
         assert!(rt;
             id.as_bytes()

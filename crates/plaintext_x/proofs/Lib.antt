@@ -4,4 +4,4 @@ pub mod Steps
 pub mod OneOutcome
 pub mod Own
 pub mod SomeOutcome
-pub mod Pieces
+pub mod Cut

@@ -157,3 +157,8 @@ ProofStays = (input more : List ℕ) (key : Key) (used : ℕ) → Exchanges inpu
 
 abbrev pub FaultStays : Type 0
 FaultStays = (input more : List ℕ) (fault : ExchangeFault) (used : ℕ) → Exchanges input (Err fault) used → Exchanges (input ++ more) (Err fault) (length (input ++ more))
+
+-- Nothing behind the bytes that are used matters: a proof holds by exactly them.
+abbrev pub NothingBehind : Type 0
+NothingBehind = (first rest : List ℕ) (outcome : Result (Option Key) ExchangeFault) → Exchanges (first ++ rest) outcome (length first)
+    → Exchanges first outcome (length first)

@@ -1,3 +1,5 @@
+pub mod Lists
+pub mod Pieces
 pub mod Spellings
 pub mod Shortest
 pub mod Messages

@@ -2,7 +2,7 @@ use Rattle.std.proofs.Common.{◌≡◌, ℕ, List, [], ◌++◌, ◌+◌, lengt
 use Rattle.std.proofs.lemmas.Result.{err_from_is_err_and}
 use Rattle.ms_select.specs.Dialing.{Dialing, Pursues, Dials}
 use Rattle.ms_select.specs.declared.answer.Answer.TheVariants.{NoneLeft}
-use Rattle.ms_select.proofs.Pieces.{joined, joined_more, joined_parts, take_past}
+use Rattle.varint_proto.proofs.Pieces.{joined, joined_more, joined_parts, take_past}
 use Rattle.ms_select.proofs.ListenSteps.{going_on}
 use Rattle.ms_select.proofs.DialSteps.{dials, dial_fault_stays}
 use Rattle.ms_select.proofs.run.dial.Goals as goal
@@ -20,7 +20,7 @@ returns-in_err-answer-clause-fault c =
     let whole : (before ++ _) ++ behind ≡ joined pieces = ap (λ (b : List ℕ). b ++ behind) (joined_more pieces i _ c.loop-piece-test.true) ∙ joined_parts pieces (i + 1) in
     rw (p.1, p.2) (λ ne names.
     let here = c.in_err-answer.ensures.fault before told.0 [] going told.1 ne in
-    let all = subst (λ (b : List ℕ). Dials c.loop-piece.dialer.names b (Err fault) (length b) c.feed.new.self.pending) whole (dial_fault_stays c.loop-piece.dialer.names _ behind c.feed.new.self.pending fault here) in
+    let all = subst (λ (b : List ℕ). Dials c.loop-piece.dialer.names b (Err fault) (length b) c.feed.new.self.pending) whole (dial_fault_stays c.loop-piece.dialer.names _ behind c.feed.new.self.pending fault _ here) in
     (c.feed.new.self.pending, subst (λ (names : List (List ℕ)). Dials names (joined pieces) (Err fault) (length (joined pieces)) c.feed.new.self.pending) c.loop-piece.invariant.names all))
 
 pub loop-piece-preserved : goal.loop-piece-preserved

@@ -1,7 +1,7 @@
 use Rattle.std.proofs.Common.{◌≡◌, ℕ, [], length, map, take, Some}
 use Rattle.ms_select.specs.declared.answer.Answer.TheVariants.{NoneLeft}
 use Rattle.ms_select.specs.Dialing.{Pursues}
-use Rattle.ms_select.proofs.Pieces.{joined}
+use Rattle.varint_proto.proofs.Pieces.{joined}
 use Rattle.ms_select.proofs.run.dial.Given as goal
 
 abbrev pub invariant-loop-piece : goal.invariant-loop-piece

@@ -1,7 +1,7 @@
 use Rattle.std.proofs.Common.{◌≡◌, ℕ, List, [], ◌++◌, ◌+◌, length, map, take, drop, Ok, Err, ap, sym, subst, ◌∙◌, arith}
 use Rattle.std.proofs.lemmas.Result.{err_from_is_err_and}
 use Rattle.ms_select.specs.Listening.{Follows, Listens}
-use Rattle.ms_select.proofs.Pieces.{joined, joined_more, joined_parts, take_past}
+use Rattle.varint_proto.proofs.Pieces.{joined, joined_more, joined_parts, take_past}
 use Rattle.ms_select.proofs.ListenSteps.{going_on}
 use Rattle.ms_select.proofs.ListenSteps.{stands, fault_stays}
 use Rattle.ms_select.proofs.run.listen.Goals as goal
@@ -19,7 +19,7 @@ returns-in_err-answer-clause-fault c =
     let whole : (before ++ _) ++ behind ≡ joined pieces = ap (λ (b : List ℕ). b ++ behind) (joined_more pieces i _ c.loop-piece-test.true) ∙ joined_parts pieces (i + 1) in
     rw (p.1, p.2) (λ ne names.
     let here = c.in_err-answer.ensures.fault before told.0 [] going told.1 ne in
-    let all = subst (λ (b : List ℕ). Listens c.loop-piece.listener.names b (Err fault) (length b) c.feed.new.self.pending) whole (fault_stays c.loop-piece.listener.names _ behind c.feed.new.self.pending fault here) in
+    let all = subst (λ (b : List ℕ). Listens c.loop-piece.listener.names b (Err fault) (length b) c.feed.new.self.pending) whole (fault_stays c.loop-piece.listener.names _ behind c.feed.new.self.pending fault _ here) in
     (c.feed.new.self.pending, subst (λ (names : List (List ℕ)). Listens names (joined pieces) (Err fault) (length (joined pieces)) c.feed.new.self.pending) c.loop-piece.invariant.names all))
 
 pub loop-piece-preserved : goal.loop-piece-preserved

@@ -1,6 +1,6 @@
 use Rattle.std.proofs.Common.{◌≡◌, ℕ, [], map, take, Some}
 use Rattle.ms_select.specs.Listening.{Follows}
-use Rattle.ms_select.proofs.Pieces.{joined}
+use Rattle.varint_proto.proofs.Pieces.{joined}
 use Rattle.ms_select.proofs.run.listen.Given as goal
 
 abbrev pub invariant-loop-piece : goal.invariant-loop-piece

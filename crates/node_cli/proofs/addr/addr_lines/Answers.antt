@@ -1,20 +1,6 @@
-use Rattle.std.proofs.Common.{ap, subst, ◌∙◌, inl, inr, string_bytes}
-use Rattle.hex.specs.Hex.{encode_lower}
-use Rattle.multiaddr.specs.Text.{PrintsParts}
-use Rattle.node_cli.proofs.Addresses.{parts_are, not_opaque}
+use Rattle.multiaddr.proofs.OneText.{only_text_fault}
 use Rattle.node_cli.proofs.addr.addr_lines.Goals as goal
 
-pub returns-in-Err-print-clause-refused : goal.returns-in-Err-print-clause-refused
-returns-in-Err-print-clause-refused c = λ fault e.
-    let found = c.in-Ok.ensures.found in
-    elim c.in-Err-print.ensures.fault [
-      | inl memory ↦ inl (cc (memory, e))
-      | inr unknown ↦ absurd (not_opaque unknown.1.opaque (parts_are c.args.text.now c.in-Ok.address found.0 unknown.1 found.1 found.2 unknown.2).1 unknown.3)
-    ]
-
-pub returns-in-Ok-encode-clause-found : goal.returns-in-Ok-encode-clause-found
-returns-in-Ok-encode-clause-found c =
-    let found = c.in-Ok.ensures.found in
-    let text = c.in-Ok-print.ensures.found in
-    let parts = (parts_are c.args.text.now c.in-Ok.address found.0 text.0 found.1 found.2 text.1).0 in
-    (found.0, found.1, c.in-Ok-encode.ensures ∙ ap encode_lower (c.bytes.ensures.value ∙ found.2), subst (PrintsParts (string_bytes c.in-Ok-print.text)) parts text.3)
+pub returns-clause-only_fault : goal.returns-clause-only_fault
+returns-clause-only_fault c = λ fault h.
+    only_text_fault c.args.text.now c.lines_of.result fault (λ a e. let read = rw e at c.lines_of.ensures.found in (read.0, read.1)) c.lines_of.ensures.refused h

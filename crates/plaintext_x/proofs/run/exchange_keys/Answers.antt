@@ -1,7 +1,7 @@
 use Rattle.std.proofs.Common.{◌≡◌, ℕ, List, [], ◌++◌, ◌+◌, length, take, drop, Err, ap, subst, ◌∙◌}
 use Rattle.std.proofs.lemmas.Result.{err_from_is_err_and}
 use Rattle.plaintext_x.specs.Exchange.{Exchanges, Follows}
-use Rattle.plaintext_x.proofs.Pieces.{joined, joined_more, joined_parts}
+use Rattle.varint_proto.proofs.Pieces.{joined, joined_more, joined_parts}
 use Rattle.plaintext_x.proofs.Steps.{still_reading, faulty_stays}
 use Rattle.plaintext_x.proofs.run.exchange_keys.Goals as goal
 

@@ -1,6 +1,6 @@
 use Rattle.std.proofs.Common.{◌≢◌, ℕ, [], take, None}
 use Rattle.plaintext_x.specs.Exchange.{Follows}
-use Rattle.plaintext_x.proofs.Pieces.{joined}
+use Rattle.varint_proto.proofs.Pieces.{joined}
 use Rattle.plaintext_x.proofs.run.exchange_keys.Given as goal
 
 abbrev pub invariant-loop-piece : goal.invariant-loop-piece

@@ -3,7 +3,7 @@ use Rattle.std.proofs.lemmas.Result.{err_from_is_err_and}
 use Rattle.std.proofs.lemmas.List.{length-append}
 use Rattle.plaintext_x.specs.declared.fault.ExchangeFault.TheVariants.{OutOfMemory}
 use Rattle.plaintext_x.specs.Exchange.{IsAt, AsksMemory}
-use Rattle.plaintext_x.proofs.Pieces.{take_past}
+use Rattle.varint_proto.proofs.Pieces.{take_past}
 use Rattle.plaintext_x.proofs.Steps.{parts_at, reading, unfinished, outcome, proven_past, proof_in, fault_in}
 use Rattle.plaintext_x.proofs.exchange.Exchange.feed.Goals as goal
 

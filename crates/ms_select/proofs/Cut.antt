@@ -1,0 +1,94 @@
+-- A talk that is decided is decided by the bytes that it used; a fault and a decision stay when bytes are added.
+use Rattle.std.proofs.Common.{◌≡◌, ◌≢◌, ℕ, zero, suc, ◌+◌, List, [], ◌∷◌, ◌++◌, length, take, refl, sym, ap, ◌∙◌, subst, append_assoc, add-one, arith}
+use Rattle.std.specs.Prelude.{Result, Ok, Err, Some, slice_get}
+use Rattle.std.proofs.lemmas.List.{append-nil}
+use Rattle.varint_proto.proofs.Lists.{used_front, no_rest}
+use Rattle.ms_select.specs.declared.answer.Answer.{Answer}
+use Rattle.ms_select.specs.declared.answer.Answer.TheVariants.{Going, Agreed, NoneLeft}
+use Rattle.ms_select.specs.declared.fault.SelectFault.{SelectFault}
+use Rattle.ms_select.specs.Messages.{message, spelled, header}
+use Rattle.ms_select.specs.Listening.{Listens}
+use Rattle.ms_select.specs.Dialing.{Dials, refused, proposals}
+use Rattle.ms_select.specs.Laws.{DecisionStays, FaultStays, NothingBehind, AnswersAsDefined, AskedAll}
+use Rattle.ms_select.proofs.ListenSteps.{stands, agreed_stays}
+use Rattle.ms_select.proofs.ListenSteps as listen
+use Rattle.ms_select.proofs.DialSteps.{dials, dial_fault_stays, agreed_dial_stays, none_left_stays}
+
+-- ---- what follows changes nothing
+
+listener_stays : (names : List (List ℕ)) (input more : List ℕ) (answer : Answer) (used : ℕ) (output : List ℕ) → answer ≢ Going
+    → Listens names input (Ok answer) used output → Listens names (input ++ more) (Ok answer) used output
+listener_stays names input more Going used output decided l = absurd (decided refl)
+listener_stays names input more (Agreed index) used output decided l = agreed_stays names input more output index used l
+listener_stays names input more NoneLeft used output decided l = absurd l
+
+dialer_stays : (names : List (List ℕ)) (input more : List ℕ) (answer : Answer) (used : ℕ) (output : List ℕ) → answer ≢ Going
+    → Dials names input (Ok answer) used output → Dials names (input ++ more) (Ok answer) used output
+dialer_stays names input more Going used output decided d = absurd (decided refl)
+dialer_stays names input more (Agreed index) used output decided d = agreed_dial_stays names input more output index used d
+dialer_stays names input more NoneLeft used output decided d = none_left_stays names input more output used d
+
+pub decision_stays : DecisionStays
+decision_stays = record { listener = listener_stays; dialer = dialer_stays }
+
+pub fault_stays : FaultStays
+fault_stays = record {
+  listener = λ names input more fault used output l. listen.fault_stays names input more output fault used l;
+  dialer = λ names input more fault used output d. dial_fault_stays names input more output fault used d;
+}
+
+-- ---- what was used decides
+
+nothing_more : (first : List ℕ) → length first + 0 ≡ length first
+nothing_more first = omega arith
+
+listener_cut : (names : List (List ℕ)) (first rest : List ℕ) (standing : Result Answer SelectFault) (output : List ℕ)
+    → Listens names (first ++ rest) standing (length first) output → Listens names first standing (length first) output
+listener_cut names first rest (Ok Going) output l = subst (λ (t : List ℕ). Listens names t (Ok Going) (length first) output) (no_rest first rest l.4) l
+listener_cut names first rest (Err fault) output l = subst (λ (t : List ℕ). Listens names t (Err fault) (length first) output) (no_rest first rest l.4) l
+listener_cut names first rest (Ok NoneLeft) output l = absurd l
+listener_cut names first rest (Ok (Agreed index)) output l =
+    let front : List ℕ = spelled (header ∷ l.0) ++ message l.1 in
+    let parts : first ++ rest ≡ front ++ l.2 = l.3.parts ∙ sym (append_assoc (spelled (header ∷ l.0)) (message l.1) l.2) in
+    let is : first ≡ front = used_front first rest front l.2 parts l.6 in
+    let whole : first ≡ spelled (header ∷ l.0) ++ (message l.1 ++ []) = is ∙ ap (λ t. spelled (header ∷ l.0) ++ t) (sym (append-nil (message l.1))) in
+    (l.0, l.1, [], record { parts = whole; short = l.3.short; undecided = l.3.undecided }, l.4, l.5, nothing_more first, l.7)
+
+dialer_cut : (names : List (List ℕ)) (first rest : List ℕ) (standing : Result Answer SelectFault) (output : List ℕ)
+    → Dials names (first ++ rest) standing (length first) output → Dials names first standing (length first) output
+dialer_cut names first rest (Ok Going) output d = subst (λ (t : List ℕ). Dials names t (Ok Going) (length first) output) (no_rest first rest d.5) d
+dialer_cut names first rest (Err fault) output d = subst (λ (t : List ℕ). Dials names t (Err fault) (length first) output) (no_rest first rest d.5) d
+dialer_cut names first rest (Ok (Agreed index)) output d =
+    let front : List ℕ = spelled (header ∷ d.0) ++ message d.1 in
+    let parts : first ++ rest ≡ front ++ d.2 = d.3.parts ∙ sym (append_assoc (spelled (header ∷ d.0)) (message d.1) d.2) in
+    let is : first ≡ front = used_front first rest front d.2 parts d.8 in
+    let whole : first ≡ spelled (header ∷ d.0) ++ (message d.1 ++ []) = is ∙ ap (λ t. spelled (header ∷ d.0) ++ t) (sym (append-nil (message d.1))) in
+    (d.0, d.1, [], record { parts = whole; refusals = d.3.refusals }, d.4, d.5, d.6, d.7, nothing_more first, d.9)
+dialer_cut names first rest (Ok NoneLeft) output d =
+    let is : first ≡ spelled d.0 = used_front first rest (spelled d.0) d.1 d.2.parts d.5 in
+    (d.0, [], record { parts = is ∙ sym (append-nil (spelled d.0)); refusals = d.2.refusals }, d.3, d.4, nothing_more first, d.6)
+
+pub nothing_behind : NothingBehind
+nothing_behind = record { listener = listener_cut; dialer = dialer_cut }
+
+-- ---- standings
+
+pub answers_as_defined : AnswersAsDefined
+answers_as_defined = record { listener = stands; dialer = dials }
+
+-- ---- one name
+
+take_none : (k : ℕ) → take {A = List ℕ} k [] ≡ []
+take_none zero = refl
+take_none (suc k) = refl
+
+one_proposal : (name : List ℕ) (count : ℕ) → proposals (name ∷ []) count ≡ spelled (header ∷ name ∷ [])
+one_proposal name count =
+    let behind : take (count + 1) (name ∷ []) ≡ name ∷ [] = rw (add-one count) (ap (λ (names : List (List ℕ)). name ∷ names) (take_none count)) in
+    ap (λ (names : List (List ℕ)). spelled (header ∷ names)) behind
+
+pub asked_all : AskedAll
+asked_all name input (Ok Going) used output d = d.6 ∙ one_proposal name (refused d.0)
+asked_all name input (Ok (Agreed index)) used output d = d.9 ∙ one_proposal name index
+asked_all name input (Ok NoneLeft) used output d = d.6 ∙ one_proposal name 1
+asked_all name input (Err fault) used output d = d.6 ∙ one_proposal name (refused d.0)
