@@ -1,6 +1,8 @@
-//! What a session costs beside the bytes that it is fed: against a copy of the same bytes, with 1 and 16 streams of data, by either call;
-//! for twice as many bytes; and per frame of a flood of headers. Each figure is the least of some rounds, in processor time, and is
-//! written to standard error, since it differs from run to run.
+//! What a session costs beside the bytes that it is fed: against a copy of the same bytes, with 1 and 16 streams of
+//! data, by either call; for twice as many bytes; and per frame of a flood of headers. What writing costs against a
+//! copy of what is written, and what a short message costs on 1, 16 and 256 streams from one end to the other. Each
+//! figure is the least of some rounds, in processor time, and is written to standard error, since it differs from run
+//! to run.
 #![tactic(auto)]
 
 use bytes::Bytes;
@@ -21,6 +23,15 @@ const FRAMES: u32 = 1024;
 
 /// How many frames of WindowUpdate are fed in a round.
 const UPDATES: u32 = 65536;
+
+/// How long a short message is.
+const MESSAGE: usize = 64;
+
+/// How many short messages are sent in a round.
+const MESSAGES: u32 = 65536;
+
+/// How many short messages are sent at once.
+const BATCH: u32 = 256;
 
 const ROUNDS: u32 = 9;
 
@@ -120,7 +131,8 @@ fn feed(session: &mut Session, input: &Bytes, way: Way) -> Option<usize> {
     Some(taken)
 }
 
-/// Copies the input, piece after piece, into one buffer of the size of a piece. Answers whether the last byte came over.
+/// Copies the input, piece after piece, into one buffer of the size of a piece. Answers whether the last byte came
+/// over.
 fn copy(buffer: &mut [u8], input: &[u8]) -> bool {
     let mut last = None;
     for from in input.chunks(PIECE) {
@@ -163,6 +175,63 @@ fn timed_feed(
     timed(clock, || feed(&mut session, input, way) == Some(length))
 }
 
+/// A client with one stream, which may write as much as there can be credit for.
+fn writing(alloc: Global) -> Option<Session> {
+    let mut session = Session::new(alloc, Role::Client);
+    let stream = session.open_stream().ok()?;
+    let credit = u32::MAX.saturating_sub(session.credit(stream)?);
+    session
+        .feed(&header(FrameKind::Window, 0, stream, credit))
+        .ok()?;
+    let _ = session.take_output();
+    Some(session)
+}
+
+/// Writes the input piece after piece, each of which is sent at once. Answers whether all of it was.
+fn write(session: &mut Session, input: &[u8]) -> bool {
+    let mut sent: usize = 0;
+    for piece in input.chunks(PIECE) {
+        if session.write(1, piece) != Ok(piece.len()) {
+            return false;
+        }
+        sent = sent.saturating_add(session.take_output().len());
+    }
+    sent > input.len()
+}
+
+/// A client and a server with so many streams of the client.
+fn joined(alloc: Global, streams: u32) -> Option<(Session, Session)> {
+    let mut client = Session::new(alloc, Role::Client);
+    let mut server = Session::new(alloc, Role::Server);
+    for _ in 0..streams {
+        client.open_stream().ok()?;
+    }
+    server.feed(&client.take_output()).ok()?;
+    client.feed(&server.take_output()).ok()?;
+    Some((client, server))
+}
+
+/// Sends short messages, on one stream after another, and takes them at the other end. Answers how much data that was.
+fn exchange(client: &mut Session, server: &mut Session, streams: u32) -> Option<usize> {
+    let message = [7; MESSAGE];
+    let mut taken: usize = 0;
+    for batch in 0..MESSAGES / BATCH {
+        for index in 0..BATCH {
+            let index = batch.saturating_mul(BATCH).saturating_add(index);
+            client.write(number(index, streams), &message).ok()?;
+        }
+        let piece = Bytes::from_vec(client.take_output()).ok()?;
+        for event in &server.feed_shared(piece).ok()? {
+            if let Event::Payload(stream, bytes) = event {
+                server.taken(*stream, bytes.len()).ok()?;
+                taken = taken.saturating_add(bytes.len());
+            }
+        }
+        client.feed(&server.take_output()).ok()?;
+    }
+    Some(taken)
+}
+
 /// Writes how many hundredths one time is of another.
 fn show(rt: &impl Eprint, what: &str, streams: u32, time: u128, other: u128) -> io::Result<()> {
     let hundredths = time.saturating_mul(100) / other.max(1);
@@ -197,6 +266,50 @@ fn measure_flood(rt: &(impl CpuClock + Eprint), alloc: Global, streams: u32) -> 
     )
 }
 
+/// Writing in pieces: against a copy.
+fn measure_writing(rt: &(impl CpuClock + Eprint), alloc: Global) -> io::Result<()> {
+    let input = vec![in alloc; 7u8; DATA as usize * FRAMES as usize]?;
+    let mut buffer = vec![in alloc; 0u8; PIECE]?;
+    let copied = timed(rt, || copy(&mut buffer, &input))?;
+    let Some(mut session) = writing(alloc) else {
+        return Err(io::Error::from(io::ErrorKind::Other));
+    };
+    let written = timed(rt, || write(&mut session, &input))?;
+    show(rt, "write against a copy", 1, written, copied)
+}
+
+/// The time of a round of short messages.
+fn timed_exchange(clock: &impl CpuClock, alloc: Global, streams: u32) -> io::Result<u128> {
+    let Some((mut client, mut server)) = joined(alloc, streams) else {
+        return Err(io::Error::from(io::ErrorKind::Other));
+    };
+    let length = MESSAGE * MESSAGES as usize;
+    timed(
+        clock,
+        || exchange(&mut client, &mut server, streams) == Some(length),
+    )
+}
+
+/// Short messages from end to end: against those on one stream, and per message.
+fn measure_messages(rt: &(impl CpuClock + Eprint), alloc: Global) -> io::Result<()> {
+    let one = timed_exchange(rt, alloc, 1)?;
+    for streams in [1, 16, 256] {
+        let time = timed_exchange(rt, alloc, streams)?;
+        show(
+            rt,
+            "short messages against those on one stream",
+            streams,
+            time,
+            one,
+        )?;
+        eprintln!(rt;
+            "short messages, {streams} streams: {} ns a message",
+            time / u128::from(MESSAGES)
+        )?;
+    }
+    Ok(())
+}
+
 fn main(rt: HostRuntime) -> io::Result<()> {
     let alloc = rt.alloc();
     for streams in [1, 16] {
@@ -205,5 +318,6 @@ fn main(rt: HostRuntime) -> io::Result<()> {
     for streams in [1, 256] {
         measure_flood(&rt, alloc, streams)?;
     }
-    Ok(())
+    measure_writing(&rt, alloc)?;
+    measure_messages(&rt, alloc)
 }

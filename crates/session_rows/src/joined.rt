@@ -11,7 +11,7 @@ const STREAMS: usize = 4;
 const LENGTH: usize = 300000;
 
 /// The sizes of the pieces that are fed, in turn.
-const SIZES: [usize; 3] = [1, 7, 20000];
+const SIZES: [usize; 3] = [1, 7, 100000];
 
 /// More rounds than the windows need.
 const ROUNDS: usize = 8;
@@ -22,6 +22,7 @@ pub const TEXT: usize = LENGTH + 8;
 /// An end: its streams, how much it has written on each, and how much came on each of the other end's.
 #[derive(Drop)]
 struct End {
+    alloc: Global,
     session: Session,
     streams: [u32; STREAMS],
     written: [usize; STREAMS],
@@ -31,6 +32,7 @@ struct End {
 impl End {
     fn new(alloc: Global, role: Role) -> End {
         End {
+            alloc,
             session: Session::new(alloc, role),
             streams: if role == Role::Client {
                 [1, 3, 5, 7]
@@ -44,7 +46,12 @@ impl End {
 }
 
 /// Feeds a piece. Answers its events, none of them a fault, or that the session has failed for memory.
-fn feed(session: &mut Session, piece: &[u8], tally: &mut Tally) -> Option<Vec<Event>> {
+fn feed(
+    alloc: Global,
+    session: &mut Session,
+    piece: &[u8],
+    tally: &mut Tally,
+) -> Option<Vec<Event>> {
     match session.feed(piece) {
         Ok(events) => {
             for event in &events {
@@ -55,7 +62,7 @@ fn feed(session: &mut Session, piece: &[u8], tally: &mut Tally) -> Option<Vec<Ev
         Err(refused) => {
             tally.expect(refused == ActRefused::OutOfMemory);
             tally.refuse();
-            tally.expect(is_failed(session));
+            tally.expect(is_failed(session, alloc));
             None
         }
     }
@@ -64,7 +71,7 @@ fn feed(session: &mut Session, piece: &[u8], tally: &mut Tally) -> Option<Vec<Ev
 /// Feeds back what `to` has answered: no data.
 fn answer(from: &mut End, to: &mut End, tally: &mut Tally) -> Option<()> {
     let output = to.session.take_output();
-    for event in feed(&mut from.session, &output, tally)? {
+    for event in feed(from.alloc, &mut from.session, &output, tally)? {
         tally.expect(!matches!(event, Event::Payload(_, _)));
     }
     Some(())
@@ -98,7 +105,7 @@ fn deliver(from: &mut End, to: &mut End, text: &[u8], tally: &mut Tally) -> Opti
     let mut rest = output.as_slice();
     for turn in 0..output.len() {
         let (piece, behind) = rest.split_at(SIZES[turn % 3].min(rest.len()));
-        let events = feed(&mut to.session, piece, tally)?;
+        let events = feed(to.alloc, &mut to.session, piece, tally)?;
         answer(from, to, tally)?;
         for event in events {
             if let Event::Payload(stream, data) = event {
@@ -140,8 +147,8 @@ fn write(from: &mut End, to: &mut End, text: &[u8], tally: &mut Tally) -> Option
     Some(())
 }
 
-/// Plays them up to the first `feed` that is refused for memory: each end opens its streams and writes on all of them as the credit
-/// allows, and takes all that comes.
+/// Plays them up to the first `feed` that is refused for memory: each end opens its streams and writes on all of them
+/// as the credit allows, and takes all that comes.
 fn play(alloc: Global, text: &[u8], tally: &mut Tally) -> Option<()> {
     let mut client = End::new(alloc, Role::Client);
     let mut server = End::new(alloc, Role::Server);

@@ -1,8 +1,8 @@
 //! Plays rows, and looks at the session where a call was refused for memory.
 
-use crate::rows::{Act, LEAVING, PING, PING_ANSWERED, SYN_1, Step, Told};
+use crate::rows::{Act, FrameRow, LEAVING, PING, PING_ANSWERED, SYN_1, Step, Told};
 use bytes::Bytes;
-use std::alloc::Global;
+use std::alloc::{AllocError, Global};
 use yamux_session::{ActRefused, Event, Role, Session};
 
 /// How many calls answered want of memory, and how often something wasn't as it is said.
@@ -88,8 +88,23 @@ fn feed_piece(
     }
 }
 
+/// The bytes from here to there.
+fn slice_of(bytes: &Bytes, from: usize, to: usize) -> Result<Bytes, AllocError> {
+    if from > to || to > bytes.len() {
+        return Ok(Bytes::new());
+    }
+    bytes.slice(from..to)
+}
+
+/// Whether a part of a piece is refused by a failed session, and tells nothing.
+fn is_failed_at_a_frame(session: &mut Session, alloc: Global) -> bool {
+    let mut told = Vec::new(alloc);
+    let answer = session.feed_frame(&Bytes::from_static(SYN_1), 0, &mut told);
+    answer == Err(ActRefused::Failed) && told.is_empty()
+}
+
 /// Whether each call of a failed session answers so.
-pub fn is_failed(session: &mut Session) -> bool {
+pub fn is_failed(session: &mut Session, alloc: Global) -> bool {
     let failed = Err(ActRefused::Failed);
     session.open_stream() == failed
         && session.write(1, &[1]) == Err(ActRefused::Failed)
@@ -102,14 +117,16 @@ pub fn is_failed(session: &mut Session) -> bool {
             session.feed_shared(Bytes::from_static(SYN_1)),
             Err(ActRefused::Failed)
         )
+        && is_failed_at_a_frame(session, alloc)
         && session.credit(1).is_none()
         && !session.mid_frame()
 }
 
-/// Looks at a session whose `feed` was refused for memory: it has failed, and its output is whole frames with which this output begins.
-fn look_at_failed(session: &mut Session, output: &[u8], tally: &mut Tally) {
+/// Looks at a session whose `feed` was refused for memory: it has failed, and its output is whole frames with which
+/// this output begins.
+fn look_at_failed(alloc: Global, session: &mut Session, output: &[u8], tally: &mut Tally) {
     tally.refuse();
-    tally.expect(is_failed(session));
+    tally.expect(is_failed(session, alloc));
     let gained = session.take_output();
     tally.expect(gained.len() % 12 == 0);
     tally.expect(output.starts_with(&gained));
@@ -117,6 +134,7 @@ fn look_at_failed(session: &mut Session, output: &[u8], tally: &mut Tally) {
 
 /// Feeds the bytes in pieces of this size. Answers whether the session goes on.
 fn feed(
+    alloc: Global,
     session: &mut Session,
     (bytes, told, output): (&'static [u8], &'static [Told], &'static [u8]),
     size: usize,
@@ -129,7 +147,7 @@ fn feed(
             Ok(events) => rest = rest.and_then(|rest| behind_all(rest, &events)),
             Err(refused) => {
                 tally.expect(refused == ActRefused::OutOfMemory);
-                look_at_failed(session, output, tally);
+                look_at_failed(alloc, session, output, tally);
                 return false;
             }
         }
@@ -139,20 +157,36 @@ fn feed(
     true
 }
 
-/// Feeds so many zeros of data. Answers whether the session goes on.
-fn fill(session: &mut Session, zeros: &[u8], size: usize, tally: &mut Tally) -> bool {
+/// Feeds so many zeros of data by either call. Answers whether the session goes on.
+fn fill(
+    alloc: Global,
+    session: &mut Session,
+    (zeros, count): (&Bytes, usize),
+    (size, is_shared): (usize, bool),
+    tally: &mut Tally,
+) -> bool {
     let mut length: usize = 0;
-    for piece in zeros.chunks(size.max(4096)) {
-        match session.feed(piece) {
+    let size = size.max(4096);
+    for at in (0..count).step_by(size) {
+        let next = at.saturating_add(size).min(count);
+        let fed = if is_shared {
+            let Ok(piece) = slice_of(zeros, at, next) else {
+                return false;
+            };
+            session.feed_shared(piece)
+        } else {
+            session.feed(zeros.get(at..next).unwrap_or(&[]))
+        };
+        match fed {
             Ok(events) => length = length.saturating_add(data_length(&events)),
             Err(refused) => {
                 tally.expect(refused == ActRefused::OutOfMemory);
-                look_at_failed(session, &[], tally);
+                look_at_failed(alloc, session, &[], tally);
                 return false;
             }
         }
     }
-    tally.expect(length == zeros.len());
+    tally.expect(length == count);
     tally.expect(session.take_output().is_empty());
     true
 }
@@ -187,44 +221,104 @@ pub fn act(
     make(session, act, zeros)
 }
 
-/// Plays a row with its input in pieces of this size, up to the first `feed` that is refused for memory.
-pub fn play(
+/// How a row is played: the zeros that are fed and written, and the size of the pieces that are fed, by either call.
+#[derive(Clone, Copy)]
+pub struct Way<'a> {
+    pub zeros: &'a Bytes,
+    pub size: usize,
+    pub is_shared: bool,
+}
+
+/// Plays one step. Answers whether the session goes on.
+fn play_step(
     alloc: Global,
-    role: Role,
-    row: &[Step],
-    size: usize,
-    is_shared: bool,
-    zeros: &[u8],
+    session: &mut Session,
+    step: Step,
+    way: Way<'_>,
     tally: &mut Tally,
-) {
+) -> bool {
+    match step {
+        Step::Fed(bytes, told, output) => {
+            return feed(
+                alloc,
+                session,
+                (bytes, told, output),
+                way.size,
+                way.is_shared,
+                tally,
+            );
+        }
+        Step::Filled(count) => {
+            return fill(
+                alloc,
+                session,
+                (way.zeros, count),
+                (way.size, way.is_shared),
+                tally,
+            );
+        }
+        Step::Acts(made, answer, output) => {
+            let given = act(session, made, way.zeros.as_slice(), tally);
+            tally.expect(given == answer);
+            tally.expect(session.take_output().as_slice() == output);
+        }
+        Step::Writes(stream, count, through, length) => {
+            let given = act(
+                session,
+                Act::Write(stream, count),
+                way.zeros.as_slice(),
+                tally,
+            );
+            tally.expect(given == Ok(through));
+            tally.expect(session.take_output().len() == length);
+        }
+        Step::Credit(stream, answer) => tally.expect(session.credit(stream) == answer),
+        Step::MidFrame(answer) => tally.expect(session.mid_frame() == answer),
+    }
+    true
+}
+
+/// Plays a row up to the first `feed` that is refused for memory.
+pub fn play(alloc: Global, role: Role, row: &[Step], way: Way<'_>, tally: &mut Tally) {
     let mut session = Session::new(alloc, role);
     for step in row {
-        match *step {
-            Step::Fed(bytes, told, output) => {
-                if !feed(&mut session, (bytes, told, output), size, is_shared, tally) {
-                    return;
-                }
-            }
-            Step::Filled(count) => {
-                let count = count.min(zeros.len());
-                if !fill(&mut session, &zeros[..count], size, tally) {
-                    return;
-                }
-            }
-            Step::Acts(made, answer, output) => {
-                let given = act(&mut session, made, zeros, tally);
-                tally.expect(given == answer);
-                tally.expect(session.take_output().as_slice() == output);
-            }
-            Step::Writes(stream, count, through, length) => {
-                let given = act(&mut session, Act::Write(stream, count), zeros, tally);
-                tally.expect(given == Ok(through));
-                tally.expect(session.take_output().len() == length);
-            }
-            Step::Credit(stream, answer) => tally.expect(session.credit(stream) == answer),
-            Step::MidFrame(answer) => tally.expect(session.mid_frame() == answer),
+        if !play_step(alloc, &mut session, *step, way, tally) {
+            return;
         }
     }
+}
+
+/// Plays a row of a server frame by frame, up to the first part that is refused for memory: it has then told and sent
+/// nothing.
+pub fn play_frames(alloc: Global, row: &FrameRow, way: Way<'_>, tally: &mut Tally) {
+    let mut session = Session::new(alloc, Role::Server);
+    for step in row.before {
+        if !play_step(alloc, &mut session, *step, way, tally) {
+            return;
+        }
+    }
+    let piece = Bytes::from_static(row.piece);
+    let mut told = Vec::new(alloc);
+    let mut at: usize = 0;
+    for turn in row.turns {
+        let before = told.len();
+        match session.feed_frame(&piece, at, &mut told) {
+            Ok(used) => at = at.saturating_add(used),
+            Err(refused) => {
+                tally.expect(refused == ActRefused::OutOfMemory && told.len() == before);
+                look_at_failed(alloc, &mut session, &[], tally);
+                return;
+            }
+        }
+        let events = told.get(before..).unwrap_or(&[]);
+        tally.expect(behind_all(turn.told, events) == Some(&[]));
+        tally.expect(session.take_output().as_slice() == turn.sent);
+        let given = act(&mut session, turn.act, way.zeros.as_slice(), tally);
+        tally.expect(given == turn.answer);
+        tally.expect(session.take_output().as_slice() == turn.output);
+    }
+    tally.expect(at == row.piece.len());
+    tally.expect(session.feed_frame(&piece, at, &mut told) == Ok(0));
 }
 
 /// Opens as many streams of this end as may be live, and one more, before and after the other end goes away.
@@ -237,15 +331,21 @@ pub fn play_many_own(alloc: Global, tally: &mut Tally) {
     }
     let given = act(&mut session, Act::Start, &[], tally);
     tally.expect(given == Err(ActRefused::StreamsFull));
-    if feed(&mut session, (PING, &[], PING_ANSWERED), 12, false, tally)
-        && feed(
-            &mut session,
-            (LEAVING, &[Told::GoAway(0)], &[]),
-            12,
-            false,
-            tally,
-        )
-    {
+    if feed(
+        alloc,
+        &mut session,
+        (PING, &[], PING_ANSWERED),
+        12,
+        false,
+        tally,
+    ) && feed(
+        alloc,
+        &mut session,
+        (LEAVING, &[Told::GoAway(0)], &[]),
+        12,
+        false,
+        tally,
+    ) {
         let given = act(&mut session, Act::Start, &[], tally);
         tally.expect(given == Err(ActRefused::GoneAway));
     }
@@ -268,7 +368,7 @@ pub fn play_many_remote(alloc: Global, tally: &mut Tally) {
             Ok(events) => tally.expect(events.len() == if index < 256 { 1 } else { 0 }),
             Err(refused) => {
                 tally.expect(refused == ActRefused::OutOfMemory);
-                look_at_failed(&mut session, &answer, tally);
+                look_at_failed(alloc, &mut session, &answer, tally);
                 return;
             }
         }

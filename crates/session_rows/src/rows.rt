@@ -41,6 +41,31 @@ pub enum Step {
     MidFrame(bool),
 }
 
+/// A row, with the name by which it is told where it isn't as said.
+pub struct Row {
+    pub name: &'static str,
+    pub steps: &'static [Step],
+}
+
+/// One frame's part of a piece, with what it tells and sends, and an act of the owner behind it, with its answer and
+/// the output that it adds.
+#[derive(Clone, Copy)]
+pub struct Turn {
+    pub told: &'static [Told],
+    pub sent: &'static [u8],
+    pub act: Act,
+    pub answer: Result<usize, ActRefused>,
+    pub output: &'static [u8],
+}
+
+/// A row that is fed frame by frame: steps before it, the piece, and what comes of each of its parts in turn.
+pub struct FrameRow {
+    pub name: &'static str,
+    pub before: &'static [Step],
+    pub piece: &'static [u8],
+    pub turns: &'static [Turn],
+}
+
 use Step::*;
 
 /// The frames of the rows, as they stand on the wire.
@@ -196,18 +221,140 @@ const REFUSED_AND_GOES_ON: &[Step] = &[
     Acts(Act::Reset(1), Ok(0), RST_1),
 ];
 
+/// Streams of high numbers are closed and reset as any.
+const HIGH_NUMBERS: &[Step] = &[
+    Fed(
+        &[0, 1, 0, 1, 0, 0, 1, 255, 0, 0, 0, 0],
+        &[Told::Opened(511)],
+        &[0, 1, 0, 2, 0, 0, 1, 255, 0, 0, 0, 0],
+    ),
+    Fed(
+        &[0, 1, 0, 1, 128, 0, 0, 1, 0, 0, 0, 0],
+        &[Told::Opened(2147483649)],
+        &[0, 1, 0, 2, 128, 0, 0, 1, 0, 0, 0, 0],
+    ),
+    Acts(
+        Act::Close(511),
+        Ok(0),
+        &[0, 1, 0, 4, 0, 0, 1, 255, 0, 0, 0, 0],
+    ),
+    Acts(
+        Act::Close(2147483649),
+        Ok(0),
+        &[0, 1, 0, 4, 128, 0, 0, 1, 0, 0, 0, 0],
+    ),
+    Acts(
+        Act::Reset(2147483649),
+        Ok(0),
+        &[0, 1, 0, 8, 128, 0, 0, 1, 0, 0, 0, 0],
+    ),
+    Acts(
+        Act::Reset(511),
+        Ok(0),
+        &[0, 1, 0, 8, 0, 0, 1, 255, 0, 0, 0, 0],
+    ),
+    Acts(Act::Close(511), Err(ActRefused::NoStream), &[]),
+];
+
+/// A stream of a high number ends once both ends have closed it.
+const HIGH_NUMBER_ENDS: &[Step] = &[
+    Fed(
+        &[0, 1, 0, 5, 255, 255, 255, 255, 0, 0, 0, 0],
+        &[Told::Opened(4294967295), Told::Ended(4294967295)],
+        &[0, 1, 0, 2, 255, 255, 255, 255, 0, 0, 0, 0],
+    ),
+    Acts(
+        Act::Close(4294967295),
+        Ok(0),
+        &[0, 1, 0, 4, 255, 255, 255, 255, 0, 0, 0, 0],
+    ),
+    Credit(4294967295, None),
+];
+
+/// A RST with a length is credit first.
+const RESET_WITH_A_LENGTH: &[Step] = &[
+    Fed(SYN_1, &[Told::Opened(1)], ACK_1),
+    Fed(
+        &[0, 1, 0, 8, 0, 0, 0, 1, 0, 0, 0, 5],
+        &[Told::Credit(1), Told::Reset(1)],
+        &[],
+    ),
+];
+
+/// Any code can be left with.
+const LEAVES_WITH_CODES: &[Step] = &[
+    Acts(Act::Leave(1), Ok(0), &[0, 3, 0, 0, 0, 0, 0, 0, 0, 0, 0, 1]),
+    Acts(
+        Act::Leave(258),
+        Ok(0),
+        &[0, 3, 0, 0, 0, 0, 0, 0, 0, 0, 1, 2],
+    ),
+    Acts(
+        Act::Leave(4294967295),
+        Ok(0),
+        &[0, 3, 0, 0, 0, 0, 0, 0, 255, 255, 255, 255],
+    ),
+    Fed(SYN_1, &[], &[0, 1, 0, 8, 0, 0, 0, 1, 0, 0, 0, 0]),
+];
+
 /// The rows of a server.
-pub const SERVER: &[&[Step]] = &[
-    OPENED_TWICE,
-    ENDED_AND_OPENED_AGAIN,
-    PING_AND_UNKNOWN_STREAM,
-    FAULT_WITH_ITS_LAST_BYTE,
-    CREDIT_AND_TOO_MUCH_OF_IT,
-    DATA_BEHIND_THE_END,
-    RESET_BEHIND_THE_END,
-    MORE_THAN_THE_WINDOW,
-    GIVEN_BACK_FROM_HALF,
-    REFUSED_AND_GOES_ON,
+pub const SERVER: &[Row] = &[
+    Row {
+        name: "opened twice",
+        steps: OPENED_TWICE,
+    },
+    Row {
+        name: "ended and opened again",
+        steps: ENDED_AND_OPENED_AGAIN,
+    },
+    Row {
+        name: "ping and unknown stream",
+        steps: PING_AND_UNKNOWN_STREAM,
+    },
+    Row {
+        name: "fault with its last byte",
+        steps: FAULT_WITH_ITS_LAST_BYTE,
+    },
+    Row {
+        name: "credit and too much of it",
+        steps: CREDIT_AND_TOO_MUCH_OF_IT,
+    },
+    Row {
+        name: "data behind the end",
+        steps: DATA_BEHIND_THE_END,
+    },
+    Row {
+        name: "reset behind the end",
+        steps: RESET_BEHIND_THE_END,
+    },
+    Row {
+        name: "more than the window",
+        steps: MORE_THAN_THE_WINDOW,
+    },
+    Row {
+        name: "given back from half",
+        steps: GIVEN_BACK_FROM_HALF,
+    },
+    Row {
+        name: "refused and goes on",
+        steps: REFUSED_AND_GOES_ON,
+    },
+    Row {
+        name: "high numbers",
+        steps: HIGH_NUMBERS,
+    },
+    Row {
+        name: "high number ends",
+        steps: HIGH_NUMBER_ENDS,
+    },
+    Row {
+        name: "reset with a length",
+        steps: RESET_WITH_A_LENGTH,
+    },
+    Row {
+        name: "leaves with codes",
+        steps: LEAVES_WITH_CODES,
+    },
 ];
 
 const WRONG_PARITY: &[Step] = &[
@@ -241,4 +388,142 @@ const ACCEPTED_ONCE: &[Step] = &[
 ];
 
 /// The rows of a client.
-pub const CLIENT: &[&[Step]] = &[WRONG_PARITY, WRITES_AND_LEAVES, ACCEPTED_ONCE];
+pub const CLIENT: &[Row] = &[
+    Row {
+        name: "wrong parity",
+        steps: WRONG_PARITY,
+    },
+    Row {
+        name: "writes and leaves",
+        steps: WRITES_AND_LEAVES,
+    },
+    Row {
+        name: "accepted once",
+        steps: ACCEPTED_ONCE,
+    },
+];
+
+/// The output of a byte 0 that is written on stream 1.
+const ZERO_1: &[u8] = &[0, 0, 0, 0, 0, 0, 0, 1, 0, 0, 0, 1, 0];
+
+/// What is written while the reset is still to be handled reaches no later opening.
+const RESET_AND_OPENED_AGAIN: &[Turn] = &[
+    Turn {
+        told: &[Told::Opened(1)],
+        sent: ACK_1,
+        act: Act::Write(1, 1),
+        answer: Ok(1),
+        output: ZERO_1,
+    },
+    Turn {
+        told: &[Told::Reset(1)],
+        sent: &[],
+        act: Act::Write(1, 1),
+        answer: Err(ActRefused::NoStream),
+        output: &[],
+    },
+    Turn {
+        told: &[Told::Opened(1)],
+        sent: ACK_1,
+        act: Act::Write(1, 1),
+        answer: Ok(1),
+        output: ZERO_1,
+    },
+];
+
+/// The same where the stream ends behind this end's close.
+const CLOSED_ENDED_AND_OPENED_AGAIN: &[Turn] = &[
+    Turn {
+        told: &[Told::Ended(1)],
+        sent: &[],
+        act: Act::Write(1, 1),
+        answer: Err(ActRefused::NoStream),
+        output: &[],
+    },
+    Turn {
+        told: &[Told::Opened(1)],
+        sent: ACK_1,
+        act: Act::Write(1, 1),
+        answer: Ok(1),
+        output: ZERO_1,
+    },
+];
+
+/// A header and its payload are two parts. What is reset between them is not told.
+const RESET_BEFORE_ITS_PAYLOAD: &[Turn] = &[
+    Turn {
+        told: &[Told::Opened(1)],
+        sent: ACK_1,
+        act: Act::Take(1, 0),
+        answer: Ok(0),
+        output: &[],
+    },
+    Turn {
+        told: &[],
+        sent: &[],
+        act: Act::Write(1, 1),
+        answer: Ok(1),
+        output: ZERO_1,
+    },
+    Turn {
+        told: &[Told::Data(1, 97), Told::Data(1, 98)],
+        sent: &[],
+        act: Act::Take(1, 2),
+        answer: Ok(0),
+        output: &[],
+    },
+    Turn {
+        told: &[],
+        sent: &[],
+        act: Act::Reset(1),
+        answer: Ok(0),
+        output: RST_1,
+    },
+    Turn {
+        told: &[],
+        sent: &[],
+        act: Act::Take(1, 1),
+        answer: Err(ActRefused::NoStream),
+        output: &[],
+    },
+    Turn {
+        told: &[Told::Opened(1)],
+        sent: ACK_1,
+        act: Act::Take(1, 0),
+        answer: Ok(0),
+        output: &[],
+    },
+];
+
+/// The rows of a server that are fed frame by frame.
+pub const FRAMES: &[FrameRow] = &[
+    FrameRow {
+        name: "reset and opened again",
+        before: &[],
+        piece: &[
+            0, 1, 0, 1, 0, 0, 0, 1, 0, 0, 0, 0, 0, 1, 0, 8, 0, 0, 0, 1, 0, 0, 0, 0, 0, 1, 0, 1, 0,
+            0, 0, 1, 0, 0, 0, 0,
+        ],
+        turns: RESET_AND_OPENED_AGAIN,
+    },
+    FrameRow {
+        name: "closed, ended and opened again",
+        before: &[
+            Fed(SYN_1, &[Told::Opened(1)], ACK_1),
+            Acts(Act::Close(1), Ok(0), FIN_1),
+        ],
+        piece: &[
+            0, 1, 0, 4, 0, 0, 0, 1, 0, 0, 0, 0, 0, 1, 0, 1, 0, 0, 0, 1, 0, 0, 0, 0,
+        ],
+        turns: CLOSED_ENDED_AND_OPENED_AGAIN,
+    },
+    FrameRow {
+        name: "reset before its payload",
+        before: &[],
+        piece: &[
+            0, 1, 0, 1, 0, 0, 0, 1, 0, 0, 0, 0, 0, 0, 0, 0, 0, 0, 0, 1, 0, 0, 0, 2, 97, 98, 0, 0,
+            0, 4, 0, 0, 0, 1, 0, 0, 0, 1, 99, 0, 1, 0, 1, 0, 0, 0, 1, 0, 0, 0, 0,
+        ],
+        turns: RESET_BEFORE_ITS_PAYLOAD,
+    },
+];

@@ -1,5 +1,5 @@
 -- What the arrivals of one frame tell names one stream at most, and opens it first.
-use Rattle.std.proofs.Common.{◌≡◌, ℕ, Bool, true, false, ◌&&◌, not, nat_lt, cond, List, [], ◌∷◌, ◌++◌, map, drop, length, Option, Some, None, refl, sym, ap, ◌∙◌, subst, append_assoc}
+use Rattle.std.proofs.Common.{◌≡◌, ℕ, Bool, true, false, ◌&&◌, not, nat_lt, cond, List, [], ◌∷◌, ◌++◌, map, drop, Option, Some, None, refl, sym, ap, ◌∙◌, subst, append_assoc}
 use Rattle.std.specs.List.{AllByRecursion}
 use Rattle.std.proofs.lemmas.List.{append-nil, append_cancel_left}
 use Rattle.yamux_frames.specs.declared.header.Header.{Header}
@@ -10,11 +10,11 @@ use Rattle.yamux_session.specs.declared.event.Role.{Role}
 use Rattle.yamux_session.specs.declared.event.Fault.{Fault}
 use Rattle.yamux_session.specs.declared.event.Event.{Event}
 use Rattle.yamux_session.specs.declared.event.Event.TheVariants as event
-use Rattle.yamux_session.specs.Items.{Item, came_bytes, syn, ack, fin, rst, is_go_away, is_update, is_own}
+use Rattle.yamux_session.specs.Items.{Item, came_bytes, ack, fin, rst, is_go_away, is_update, is_own}
 use Rattle.yamux_session.specs.Items.Item.{Came}
 use Rattle.yamux_session.specs.Openings.{is_live, opens, finished, reading, head_belongs, is_for_stream, byte_belongs, live, has_left}
 use Rattle.yamux_session.specs.Windows.{accepted}
-use Rattle.yamux_session.specs.Meaning.{Told, when, fault_at, events, events_at, events_unless, head_events, tail_told, tail_events, taker}
+use Rattle.yamux_session.specs.Meaning.{Told, when, fault_at, events, events_unless, head_events, tail_told, tail_events, taker}
 use Rattle.yamux_session.specs.Meaning.Told.{Opened, Accepted, Data, Ended, WasReset, Credit, Left, Failed}
 use Rattle.yamux_session.specs.Arrives.{telling, tellings, HasData, Tells}
 use Rattle.yamux_session.specs.Naming.{IsAbout, IsNoOpening, NamesOne}

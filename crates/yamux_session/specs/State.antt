@@ -74,7 +74,8 @@ pub record Led (role : Role) (past now : List Item) (fed bytes sent : List ℕ) 
       × ((used : ℕ) × (used ≤ length bytes) × EndsWith (fed ++ take used bytes) (arrivals now))
 
 -- what one answer of the cutter does: it leads on, and its events name one stream at most
-pub record Steps (role : Role) (past : List Item) (fed bytes sent : List ℕ) (before after : List Event) (new : State) : Type 0 where
+pub record Steps (role : Role) (past : List Item) (fed bytes sent : List ℕ) (before after : List Event) (new : State)
+    : Type 0 where
   pub now : List Item
   pub told : List Told
   pub tells : Tells before after told

@@ -73,7 +73,8 @@ impl Streams {
         let Some(header) = self.reading else {
             return None;
         };
-        let Some(row) = self.row(header.stream) else {
+        let stream = header.stream;
+        let Some(row) = self.row(stream) else {
             return None;
         };
         if row.finished {
@@ -82,8 +83,8 @@ impl Streams {
         // Of no stream more than a window is untaken, so neither bound cuts anything off.
         let count = count.min(INITIAL_WINDOW as usize) as u32;
         let untaken = row.untaken.saturating_add(count);
-        self.replace(header.stream, Stream { untaken, ..row });
-        Some(header.stream)
+        self.replace(stream, Stream { untaken, ..row });
+        Some(stream)
     }
 
     /// The frame that is being read is whole.

@@ -37,13 +37,14 @@ pub enum Fault {
 pub enum Event {
     /// It opened this stream.
     Opened(u32),
-    /// It accepted this stream of ours.
+    /// It accepted this stream of ours. It may never: a peer need not send ACK for a stream that it ends at once.
     Accepted(u32),
-    /// Data of this stream came, one byte at least.
+    /// Data of this stream came, one byte at least. It is a slice of what was fed, and keeps the whole piece alive.
     Payload(u32, Bytes),
     /// Its direction of this stream has ended.
     Ended(u32),
-    /// It ended both directions of this stream.
+    /// It ended both directions of this stream. A RST with a length gives credit first, which is told as of any
+    /// WindowUpdate.
     Reset(u32),
     /// It gave more credit for this stream.
     Credit(u32),

@@ -31,9 +31,9 @@ const GIVE_BACK_FROM: u32 = 131072;
 /// The code of GoAway for a protocol error.
 const PROTOCOL_ERROR: u32 = 1;
 
-/// A session of one end: the streams that are live with their windows, the output that waits, and where in a frame the input
-/// ends. Contracts see these three, how much output finds room without more memory, and whether the session has failed; `Stands`
-/// relates them to the history.
+/// A session of one end: the streams that are live with their windows, the output that waits, and where in a frame the
+/// input ends. Contracts see these three, how much output finds room without more memory, and whether the session has
+/// failed; `Stands` relates them to the history.
 #[derive(Debug, Drop)]
 pub struct Session {
     streams: Streams,
@@ -50,11 +50,11 @@ impl Model for Session {
     ghost Value = { State };
 
     ghost view = { λ s. record {
-        table = table_of s.streams;
-        place = s.cutter;
-        pending = s.output.items;
-        room = room_of s.output;
-        failed = s.failed;
+      table = table_of s.streams;
+      place = s.cutter;
+      pending = s.output.items;
+      room = room_of s.output;
+      failed = s.failed;
     } };
 }
 
@@ -81,8 +81,8 @@ impl Session {
         }
     }
 
-    /// How many bytes may be written on a stream, or `None` where it isn't live, this end has closed it, or the session has
-    /// failed.
+    /// How many bytes may be written on a stream, or `None` where it isn't live, this end has closed it, or the session
+    /// has failed.
     pub fn credit(&self, stream: u32) -> Option<u32>
         ensures live { Whenever self.now (λ role past. result ≡ open_credit role past stream) }
         ensures failed { self.now.failed ≡ true → result ≡ None }
@@ -93,8 +93,8 @@ impl Session {
         self.streams.credit(stream)
     }
 
-    /// Whether the bytes that came end within a frame: after a part of a header, or with an unfinished payload. Once the session has failed
-    /// they don't.
+    /// Whether the bytes that came end within a frame: after a part of a header, or with an unfinished payload. Once
+    /// the session has failed they don't.
     pub fn mid_frame(&self) -> bool
         ensures live { (role : Role) (past : List Item) (fed sent : List ℕ) → Stands role past fed sent self.now
             → IsTrue result ↔ EndsWithin fed }
@@ -116,8 +116,8 @@ impl Session {
         std::mem::replace(&mut self.output, Vec::new(self.alloc))
     }
 
-    /// Opens a stream of this end with the next number of its parity, and tells the number. What is sent is an empty WindowUpdate
-    /// with SYN.
+    /// Opens a stream of this end with the next number of its parity, and tells the number. What is sent is an empty
+    /// WindowUpdate with SYN.
     ///
     /// An [`Event::Accepted`] of it may never come: a peer need not send ACK for a stream that it ends at once.
     pub fn open_stream(&mut self) -> Result<u32, ActRefused>
@@ -153,7 +153,8 @@ impl Session {
     pub fn write(&mut self, stream: u32, bytes: &[u8]) -> Result<usize, ActRefused>
         ensures ok { IfOk result (λ count. AddsWrite self.old self.new stream (take count bytes.now)) }
         ensures going { OnOk result (self.new.failed ≡ false) }
-        ensures count { IfOk result (λ count. Whenever self.old (λ role past. count ≡ min (length bytes.now) (credit role past stream))) }
+        ensures count { IfOk result (λ count. Whenever self.old (λ role past.
+            count ≡ min (length bytes.now) (credit role past stream))) }
         ensures refused { IfErr result (λ refused.
             Whenever self.old (λ role past. IsRefusedFor (direction_refusal role past stream) refused)) }
         // Memory is asked for only where bytes go through, and only where their frames find no room.
@@ -187,10 +188,11 @@ impl Session {
 
     /// Bytes of a stream were taken: at most those that arrived and weren't taken yet.
     ///
-    /// Behind the end of a stream that isn't live any more it answers [`ActRefused::NoStream`] and changes nothing: there is no
-    /// window left to open, so a caller may take what it holds without asking first.
+    /// Behind the end of a stream that isn't live any more it answers [`ActRefused::NoStream`] and changes nothing:
+    /// there is no window left to open, so a caller may take what it holds without asking first.
     pub fn taken(&mut self, stream: u32, count: usize) -> Result<(), ActRefused>
-        ensures ok { OnOk result (Adds self.old self.new (λ role past. Take stream (min count (untaken role past stream)))) }
+        ensures ok { OnOk result (Adds self.old self.new (λ role past.
+            Take stream (min count (untaken role past stream)))) }
         ensures going { OnOk result (self.new.failed ≡ false) }
         ensures refused { IfErr result (λ refused.
             Whenever self.old (λ role past. IsRefusedFor (stream_refusal role past stream) refused)) }
@@ -289,8 +291,8 @@ impl Session {
         Ok(())
     }
 
-    /// Says that this end goes away: it opens no stream of the other end any more. The specification knows the codes 0 (no error),
-    /// 1 (protocol error) and 2 (internal error); a code above makes some peers end the session.
+    /// Says that this end goes away: it opens no stream of the other end any more. The specification knows the codes 0
+    /// (no error), 1 (protocol error) and 2 (internal error); a code above makes some peers end the session.
     pub fn go_away(&mut self, code: u32) -> Result<(), ActRefused>
         ensures ok { OnOk result (Adds self.old self.new (λ role past. Leave code)) }
         ensures going { OnOk result (self.new.failed ≡ false) }
@@ -311,8 +313,9 @@ impl Session {
 
     /// Takes the bytes that came, and tells what the other end did. The bytes are copied once.
     ///
-    /// A fault is the last event, and behind the output stands a GoAway with code 1. Where memory was refused, the events are lost, and
-    /// the output is that of the frames of a first part of the bytes. After either every call answers [`ActRefused::Failed`].
+    /// A fault is the last event, and behind the output stands a GoAway with code 1. Where memory was refused, the
+    /// events are lost, and the output is that of the frames of a first part of the bytes. After either every call
+    /// answers [`ActRefused::Failed`].
     pub fn feed(&mut self, bytes: &[u8]) -> Result<Vec<Event>, ActRefused>
         ensures fed { IfOk result (λ told. Feeds self.old bytes.now told.items self.new) }
         ensures filled { IfOk result (λ told. Whenever self.old (λ role past. AllByRecursion HasData told.items)) }
@@ -329,15 +332,12 @@ impl Session {
         }
         match Bytes::copy_from_slice(self.alloc, bytes) {
             Ok(piece) => self.feed_shared(piece),
-            Err(_) => {
-                self.failed = true;
-                Err(ActRefused::OutOfMemory)
-            }
+            Err(_) => Err(self.run_out()),
         }
     }
 
-    /// Takes the bytes that came, as `feed` does, and copies none of them: each Payload event holds a slice of the piece, and so keeps
-    /// the whole piece alive as long as it is kept.
+    /// Takes the bytes that came, as `feed` does, and copies none of them: each Payload event holds a slice of the
+    /// piece, and so keeps the whole piece alive as long as it is kept.
     pub fn feed_shared(&mut self, piece: Bytes) -> Result<Vec<Event>, ActRefused>
         ensures fed { IfOk result (λ told. Feeds self.old piece told.items self.new) }
         ensures filled { IfOk result (λ told. Whenever self.old (λ role past. AllByRecursion HasData told.items)) }
@@ -362,21 +362,28 @@ impl Session {
         Ok(told)
     }
 
-    /// Takes the bytes that came from `at` on, as `feed_shared` does, but at most one header, or one part of a payload, with the end
-    /// of its frame. The events are put behind those that were told, and the answer is how many bytes were used: none where none are
-    /// left.
+    /// Takes the bytes that came from `at` on, as `feed_shared` does, but at most one header, or one part of a payload,
+    /// with the end of its frame. The events are put behind those that were told, and the answer is how many bytes were
+    /// used: none where none are left.
     ///
-    /// What one call tells names one stream at most, and opens it, if at all, with its first event. So an act behind each call is
-    /// about the very stream that the events named: behind a whole piece a stream of the same number may have been opened since.
+    /// What one call tells names one stream at most, and opens it, if at all, with its first event. So an act behind
+    /// each call is about the very stream that the events named: behind a whole piece a stream of the same number may
+    /// have been opened since.
     ///
     /// Where memory was refused, the call has told and sent nothing.
-    pub fn feed_frame(&mut self, piece: &Bytes, at: usize, told: &mut Vec<Event>) -> Result<usize, ActRefused>
+    pub fn feed_frame(
+        &mut self,
+        piece: &Bytes,
+        at: usize,
+        told: &mut Vec<Event>,
+    ) -> Result<usize, ActRefused>
         ensures kept { OnOk result (told.new.items ≡ told.old.items ++ added told.old.items told.new.items) }
         ensures fed { IfOk result (λ used.
             Feeds self.old (take used (drop at piece.now)) (added told.old.items told.new.items) self.new) }
         ensures filled { OnOk result (Whenever self.old (λ role past.
             AllByRecursion HasData (added told.old.items told.new.items))) }
-        ensures one_stream { OnOk result (Whenever self.old (λ role past. NamesOne (added told.old.items told.new.items))) }
+        ensures one_stream { OnOk result (Whenever self.old (λ role past.
+            NamesOne (added told.old.items told.new.items))) }
         ensures within { IfOk result (λ used. used ≤ length piece.now - at) }
         ensures goes_on { IfOk result (λ used. at < length piece.now → 0 < used) }
         ensures nothing_left { length piece.now ≤ at → self.old.failed ≡ false
@@ -399,10 +406,18 @@ impl Session {
             Ok(used) => Ok(used),
             Err(_) => {
                 told.truncate(before);
-                self.failed = true;
-                Err(ActRefused::OutOfMemory)
+                Err(self.run_out())
             }
         }
+    }
+
+    /// Ends the session, since memory was refused within a piece.
+    fn run_out(&mut self) -> ActRefused
+        ensures why { result ≡ ActRefused.OutOfMemory }
+        ensures failed { self.new ≡ record self.old { failed = true } }
+    {
+        self.failed = true;
+        ActRefused::OutOfMemory
     }
 
     /// Takes one answer of the cutter to the rest of the piece, and tells how many bytes it used.
@@ -410,7 +425,8 @@ impl Session {
         requires going { self.old.failed ≡ false }
         requires some { at < length piece.now }
         ensures used { IfOk result (λ used. (0 < used) × (used ≤ length piece.now - at)) }
-        ensures led { IfOk result (λ used. (role : Role) (past : List Item) (fed sent : List ℕ) → Stands role past fed sent self.old
+        ensures led { IfOk result (λ used. (role : Role) (past : List Item) (fed sent : List ℕ)
+            → Stands role past fed sent self.old
             → Steps role past fed (take used (drop at piece.now)) sent told.old.items told.new.items self.new) }
         ensures extends { Extends told.old.items told.new.items }
         ensures kept { OnErr result (self.new.pending ≡ self.old.pending) }
@@ -447,7 +463,10 @@ impl Session {
     /// Ends the session with a fault.
     fn fail(&mut self, fault: Fault, told: &mut Vec<Event>) -> Result<(), AllocError>
         ensures failed { OnOk result (self.new ≡ record self.old {
-            pending = self.old.pending ++ frame FrameKind.GoAway 0 0 1; room = self.new.room; failed = true }) }
+          pending = self.old.pending ++ frame FrameKind.GoAway 0 0 1;
+          room = self.new.room;
+          failed = true;
+        }) }
         ensures told { OnOk result (Tells told.old.items told.new.items (Failed fault ∷ [])) }
         ensures extends { Extends told.old.items told.new.items }
         ensures kept { OnErr result (self.new ≡ self.old) }

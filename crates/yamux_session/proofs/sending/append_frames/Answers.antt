@@ -25,7 +25,7 @@ loop-at-preserved c =
           let size : length (take (c.loop-at.at + count - c.loop-at.at) (drop c.loop-at.at c.args.bytes.now)) ≡ count =
           length-take-le (c.loop-at.at + count - c.loop-at.at) (drop c.loop-at.at c.args.bytes.now) (omega (arith, length-drop c.loop-at.at c.args.bytes.now)) ∙ omega arith in
           omega arith
-      );
+          );
       carried = one_piece c.args.stream c.args.bytes.now c.loop-at.at count c.args.output.now.items c.loop-at.output.items c.put_frame.new.output.items c.put.new.output.items
           within (omega arith) (omega arith) c.put_frame.ensures.items c.put.ensures.items c.loop-at.invariant.carried;
     }
