@@ -3,6 +3,7 @@ pub mod Lists
 pub mod Live
 pub mod Refusals
 pub mod Keeping
+pub mod Written
 pub mod Pieces
 pub mod Leads
 pub mod Limits

@@ -11,11 +11,12 @@ use Rattle.yamux_session.specs.Table.{Table, row_at}
 use Rattle.yamux_session.specs.Items.{Item, fin, rst, is_own, is_remote}
 use Rattle.yamux_session.specs.Items.Item.{Came}
 use Rattle.yamux_session.specs.Openings.{live, is_live, reading, contains, finished, closed, tail_ends, tail_finishes}
-use Rattle.yamux_session.specs.Meaning.{tail_told, tail_events}
+use Rattle.yamux_session.specs.Meaning.{when, tail_told, tail_events}
+use Rattle.yamux_session.specs.Meaning.Told.{Ended, WasReset}
 use Rattle.yamux_session.specs.Windows.{coming}
 use Rattle.yamux_session.specs.Acts.{AreAnswered}
 use Rattle.yamux_session.specs.Keeps.{Keeps, IsRowAt}
-use Rattle.yamux_session.proofs.Lists.{filter_true, filter_same, without, without_absent, one_if, count_without}
+use Rattle.yamux_session.proofs.Lists.{either_way, filter_true, filter_same, without, without_absent, one_if, count_without}
 use Rattle.yamux_session.proofs.Live.{distinct}
 use Rattle.yamux_session.proofs.Refusals.{row_of}
 use Rattle.yamux_session.proofs.Keeping.{Moves, after, quiet, and_true, and_false, not_here, still_there}
@@ -68,21 +69,36 @@ finishes_apart role past h m e other = ap (λ r. tail_finishes r m) e ∙ ap (λ
 
 -- ---- the table after it
 
--- of no stream's frame
-pub tail_of_none : (role : Role) (past : List Item) (old new : Table) → Keeps role past old → old.reading ≡ None → new ≡ old → Keeps role (Came Tail ∷ past) new
-tail_of_none role past old new keeps none rest =
-    let read : reading role past ≡ None = sym keeps.reading_is ∙ none in
-    let same = none_live role past read in
+-- of a frame that ends no direction of a stream
+tail_still : (role : Role) (past : List Item) (old new : Table) → Keeps role past old → live role (Came Tail ∷ past) ≡ live role past
+    → ((m : ℕ) → tail_finishes (reading role past) m ≡ false) → new ≡ record old { reading = None } → Keeps role (Came Tail ∷ past) new
+tail_still role past old new keeps same off rest =
     subst (Keeps role (Came Tail ∷ past)) (sym rest) (record {
       role_is = keeps.role_is;
-      rows = λ m. tail_apart role past m (row_at old.rows m) (ap (λ r. tail_finishes r m) read) (ap (λ ns. contains ns m) same) (keeps.rows m);
+      rows = λ m. tail_apart role past m (row_at old.rows m) (off m) (ap (λ ns. contains ns m) same) (keeps.rows m);
       own_is = keeps.own_is ∙ sym (ap (λ ns. length (filter (is_own role) ns)) same);
       remote_is = keeps.remote_is ∙ sym (ap (λ ns. length (filter (is_remote role) ns)) same);
-      reading_is = none;
+      reading_is = refl;
       left_is = keeps.left_is;
       gone_is = keeps.gone_is;
       next_is = keeps.next_is;
     })
+
+-- of no stream's frame
+pub tail_of_none : (role : Role) (past : List Item) (old new : Table) → Keeps role past old → old.reading ≡ None → new ≡ old → Keeps role (Came Tail ∷ past) new
+tail_of_none role past old new keeps none rest =
+    let read : reading role past ≡ None = sym keeps.reading_is ∙ none in
+    tail_still role past old new keeps (none_live role past read) (λ m. ap (λ r. tail_finishes r m) read)
+    (rest ∙ ap (λ (r : Option Header). record old { reading = r }) none)
+
+-- of a frame without FIN and RST
+pub tail_plain : (role : Role) (past : List Item) (h : Header) (old new : Table) → Keeps role past old → old.reading ≡ Some h → rst h ≡ false → fin h ≡ false
+    → new ≡ record old { reading = None } → Keeps role (Came Tail ∷ past) new
+tail_plain role past h old new keeps some no_rst no_fin rest =
+    let read : reading role past ≡ Some h = sym keeps.reading_is ∙ some in
+    tail_still role past old new keeps
+    (tail_live role past h false read (ap (λ r. r || fin h && closed role past h.stream) no_rst ∙ ap (λ f. f && closed role past h.stream) no_fin))
+    (λ m. ap (λ r. tail_finishes r m) read ∙ ap (λ f. h.stream == m && f) no_fin ∙ and_false (h.stream == m)) rest
 
 -- of a frame for a stream that isn't live any more, or whose flags end nothing, or which ends the other end's direction
 pub tail_stays : (role : Role) (past : List Item) (h : Header) (w : Option Stream) (old new : Table) → Keeps role past old → old.reading ≡ Some h
@@ -204,6 +220,14 @@ module _ (role : Role) (past : List Item) (old : Table) (keeps : Keeps role past
 
   pub tells_absent : (h : Header) → old.reading ≡ Some h → row_at old.rows h.stream ≡ None → [] ≡ tail_events role past (reading role past)
   tells_absent h e found = sym (tells_at h false e (row_of role past old h.stream None keeps found))
+
+  pub tells_plain : (h : Header) → old.reading ≡ Some h → rst h ≡ false → fin h ≡ false → [] ≡ tail_events role past (reading role past)
+  tells_plain h e no_rst no_fin =
+      let ended : Bool = finished role past h.stream in
+      sym (tells_at h (is_live role past h.stream) e refl
+      ∙ ap (λ r. cond (is_live role past h.stream) (cond r (WasReset h.stream ∷ []) (when (fin h && not ended) (Ended h.stream))) []) no_rst
+      ∙ ap (λ f. cond (is_live role past h.stream) (when (f && not ended) (Ended h.stream)) []) no_fin
+      ∙ either_way (is_live role past h.stream) [])
 
   pub tells_row : (h : Header) (s : Stream) → old.reading ≡ Some h → row_at old.rows h.stream ≡ Some s → tail_told h s.finished ≡ tail_events role past (reading role past)
   tells_row h s e found =

@@ -1,6 +1,6 @@
 //! What a whole arrival does: to the streams, the events, and the output.
 
-ghost use Rattle.std.specs.Prelude.{◌≡◌, ℕ, ◌<◌, ◌≤◌, ◌-◌, List, ◌∷◌, Some, None, OnOk, OnErr, IfOk, IfErr, if◌then◌else◌, [], length, ◌||◌, ◌&&◌, take, drop, ◌++◌, true};
+ghost use Rattle.std.specs.Prelude.{◌≡◌, ℕ, ◌<◌, ◌≤◌, ◌-◌, List, ◌∷◌, Some, None, OnOk, OnErr, IfOk, IfErr, if◌then◌else◌, [], length, ◌||◌, ◌&&◌, take, drop, ◌++◌, true, not};
 ghost use Rattle.yamux_frames.specs.Frames.{bytes_left};
 ghost use Rattle.yamux_frames.specs.Frames.Arrival.{Head, Tail};
 ghost use Rattle.yamux_session.specs.declared.event.Role.{Role};
@@ -29,6 +29,13 @@ pub enum TailEffect {
     Ended(u32),
     /// Both directions have ended.
     Reset(u32),
+}
+
+/// Whether the tail of a frame does nothing to its stream.
+fn ends_nothing(header: Header) -> bool
+    ensures { result ≡ not (rst header || fin header) }
+{
+    header.flags & Header::RST == 0 && header.flags & Header::FIN == 0
 }
 
 /// Whether the tail of a frame ends its stream.
@@ -74,17 +81,16 @@ impl Streams {
             return None;
         };
         let stream = header.stream;
-        let Some(row) = self.row(stream) else {
-            return None;
-        };
-        if row.finished {
-            return None;
+        match self.rows.get_mut(&stream) {
+            None => None,
+            Some(row) if row.finished => None,
+            Some(row) => {
+                // Of no stream more than a window is untaken, so neither bound cuts anything off.
+                let count = count.min(INITIAL_WINDOW as usize) as u32;
+                row.untaken = row.untaken.saturating_add(count);
+                Some(stream)
+            }
         }
-        // Of no stream more than a window is untaken, so neither bound cuts anything off.
-        let count = count.min(INITIAL_WINDOW as usize) as u32;
-        let untaken = row.untaken.saturating_add(count);
-        self.replace(stream, Stream { untaken, ..row });
-        Some(stream)
     }
 
     /// The frame that is being read is whole.
@@ -98,6 +104,9 @@ impl Streams {
             return TailEffect::Nothing;
         };
         self.reading = None;
+        if ends_nothing(header) {
+            return TailEffect::Nothing;
+        }
         let Some(row) = self.row(header.stream) else {
             return TailEffect::Nothing;
         };

@@ -132,25 +132,26 @@ impl Streams {
         ensures refused { IfErr result (λ refused. (role : Role) (past : List Item) → Keeps role past (table_of self.old)
             → IsHeadRefused role past header refused) }
     {
-        let Some(row) = self.row(header.stream) else {
+        let Some(row) = self.rows.get_mut(&header.stream) else {
             self.reading = None;
             return Ok(NO_EFFECT);
         };
-        if is_skipped(row, header) {
+        if is_skipped(*row, header) {
             self.reading = Some(header);
             return Ok(NO_EFFECT);
         }
-        let windows = match charge(row, header) {
+        let windows = match charge(*row, header) {
             Ok(windows) => windows,
             Err(fault) => return Err(HeadRefused::Fault(fault)),
         };
-        self.replace(header.stream, acknowledged(windows, header));
-        self.reading = Some(header);
-        Ok(Effect {
+        let effect = Effect {
             opened: false,
-            accepted: is_accepting(self.role, row, header),
+            accepted: is_accepting(self.role, *row, header),
             credited: is_crediting(header),
-        })
+        };
+        *row = acknowledged(windows, header);
+        self.reading = Some(header);
+        Ok(effect)
     }
 
     /// The head of a Data or WindowUpdate frame with SYN: it opens a stream, or is answered by RST.

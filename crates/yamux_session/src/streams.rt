@@ -104,9 +104,8 @@ impl Streams {
         requires { IsSome (tree.get nat_cmp self.old.rows number) }
         ensures { Rewrites (table_of self.old) number (Some row) self.old.own self.old.remote (table_of self.new) }
     {
-        match self.rows.insert(number, row) {
-            Ok(_) => {}
-            Err(_) => unreachable!(),
+        if let Some(old) = self.rows.get_mut(&number) {
+            *old = row;
         }
     }
 

@@ -1,7 +1,9 @@
 use Rattle.std.proofs.Common.{◌∙◌, ◌==◌, cond, Some, refl, sym, ap}
 use Rattle.yamux_session.specs.declared.streams.Stream.{Stream}
 use Rattle.yamux_session.specs.Table.{table_of, row_at}
-use Rattle.yamux_session.proofs.Tails.{tail_of_none, tail_absent, tail_forgets, tail_finished, tells_none, tells_absent, tells_row}
+use Rattle.yamux_session.specs.Items.{fin, rst}
+use Rattle.yamux_session.proofs.Lists.{neither}
+use Rattle.yamux_session.proofs.Tails.{tail_of_none, tail_plain, tail_absent, tail_forgets, tail_finished, tells_none, tells_plain, tells_absent, tells_row}
 use Rattle.yamux_session.proofs.streams.Streams.tail.Goals as goal
 
 pub returns-in_default-clause-keeps : goal.returns-in_default-clause-keeps
@@ -9,6 +11,16 @@ returns-in_default-clause-keeps c = λ role past answered keeps. tail_of_none ro
 
 pub returns-in_default-clause-told : goal.returns-in_default-clause-told
 returns-in_default-clause-told c = λ role past keeps. tells_none role past (table_of c.args.self.now) keeps c.in_default.is
+
+pub returns-then-ends_nothing-clause-keeps : goal.returns-then-ends_nothing-clause-keeps
+returns-then-ends_nothing-clause-keeps c = λ role past answered keeps.
+    let none = neither (rst c.in-Some.header) (fin c.in-Some.header) (sym c.ends_nothing.ensures ∙ c.if-ends_nothing.true) in
+    tail_plain role past c.in-Some.header (table_of c.args.self.now) _ keeps c.in-Some.is none.0 none.1 refl
+
+pub returns-then-ends_nothing-clause-told : goal.returns-then-ends_nothing-clause-told
+returns-then-ends_nothing-clause-told c = λ role past keeps.
+    let none = neither (rst c.in-Some.header) (fin c.in-Some.header) (sym c.ends_nothing.ensures ∙ c.if-ends_nothing.true) in
+    tells_plain role past (table_of c.args.self.now) keeps c.in-Some.header c.in-Some.is none.0 none.1
 
 pub returns-in_default-row-clause-keeps : goal.returns-in_default-row-clause-keeps
 returns-in_default-row-clause-keeps c = λ role past answered keeps.
