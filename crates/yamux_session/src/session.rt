@@ -168,7 +168,7 @@ impl Session {
         if self.failed {
             return Err(ActRefused::Failed);
         }
-        let Some(row) = self.streams.row(stream) else {
+        let Some(row) = self.streams.rows.get_mut(&stream) else {
             return Err(ActRefused::NoStream);
         };
         if row.closed {
@@ -178,11 +178,7 @@ impl Session {
         if append_data(&mut self.output, stream, &bytes[..count]).is_err() {
             return Err(ActRefused::OutOfMemory);
         }
-        let row = Stream {
-            credit: row.credit - count as u32,
-            ..row
-        };
-        self.streams.replace(stream, row);
+        row.credit -= count as u32;
         Ok(count)
     }
 
@@ -206,31 +202,22 @@ impl Session {
         if self.failed {
             return Err(ActRefused::Failed);
         }
-        let Some(row) = self.streams.row(stream) else {
+        let Some(row) = self.streams.rows.get_mut(&stream) else {
             return Err(ActRefused::NoStream);
         };
         let count = count.min(row.untaken as usize) as u32;
         let owed = row.owed.saturating_add(count);
-        let untaken = row.untaken - count;
         if row.finished || owed < GIVE_BACK_FROM {
-            let row = Stream {
-                owed,
-                untaken,
-                ..row
-            };
-            self.streams.replace(stream, row);
+            row.owed = owed;
+            row.untaken -= count;
             return Ok(());
         }
         if append_frame(&mut self.output, FrameKind::Window, 0, stream, owed).is_err() {
             return Err(ActRefused::OutOfMemory);
         }
-        let row = Stream {
-            window: row.window.saturating_add(owed),
-            owed: 0,
-            untaken,
-            ..row
-        };
-        self.streams.replace(stream, row);
+        row.window = row.window.saturating_add(owed);
+        row.owed = 0;
+        row.untaken -= count;
         Ok(())
     }
 
