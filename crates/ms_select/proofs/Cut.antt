@@ -1,6 +1,6 @@
 -- A talk that is decided is decided by the bytes that it used; a fault and a decision stay when bytes are added.
 use Rattle.std.proofs.Common.{◌≡◌, ◌≢◌, ℕ, zero, suc, ◌+◌, List, [], ◌∷◌, ◌++◌, length, take, refl, sym, ap, ◌∙◌, subst, append_assoc, add-one, arith}
-use Rattle.std.specs.Prelude.{Result, Ok, Err, Some, slice_get}
+use Rattle.std.specs.Prelude.{Result, Ok, Err}
 use Rattle.std.proofs.lemmas.List.{append-nil}
 use Rattle.varint_proto.proofs.Lists.{used_front, no_rest}
 use Rattle.ms_select.specs.declared.answer.Answer.{Answer}

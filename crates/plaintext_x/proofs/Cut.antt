@@ -1,10 +1,8 @@
 -- What an exchange comes to is decided by the bytes that it used.
-use Rattle.std.proofs.Common.{◌≡◌, ℕ, ◌+◌, Option, Some, None, Result, Ok, Err, List, [], ◌∷◌, ◌++◌, length, sym, ap, ◌∙◌, subst, append_assoc, arith}
+use Rattle.std.proofs.Common.{◌≡◌, ℕ, ◌+◌, Some, None, Ok, Err, List, [], ◌++◌, length, sym, ap, ◌∙◌, subst, append_assoc, arith}
 use Rattle.std.proofs.lemmas.List.{append-nil}
 use Rattle.varint_proto.proofs.Lists.{used_front, no_rest}
-use Rattle.peer_ids.specs.Key.{Key}
-use Rattle.plaintext_x.specs.declared.fault.ExchangeFault.{ExchangeFault}
-use Rattle.plaintext_x.specs.Exchange.{Exchanges, Frames, NothingBehind}
+use Rattle.plaintext_x.specs.Exchange.{Exchanges, NothingBehind}
 
 nothing_more : (first : List ℕ) → length first + 0 ≡ length first
 nothing_more first = omega arith

@@ -1,4 +1,4 @@
-use Rattle.std.proofs.Common.{◌≡◌, ◌∙◌, sym, rules, ◌⊎◌}
+use Rattle.std.proofs.Common.{◌∙◌, sym}
 use Rattle.multiaddr.proofs.Values.{some_ip4, none_ip4, some_port, some_ip6, none_ip6, some_name, some_id, none_id}
 use Rattle.multiaddr.proofs.text.is_value.Goals as goal
 

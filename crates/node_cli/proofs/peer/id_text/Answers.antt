@@ -1,12 +1,12 @@
-use Rattle.std.proofs.Common.{◌≡◌, true, false, refl, sym, ◌∙◌}
+use Rattle.std.proofs.Common.{◌≡◌, true, refl}
 use Rattle.node_cli.proofs.Digits.{pairs_decode, decoded_is_pairs}
 use Rattle.node_cli.proofs.peer.id_text.Goals as goal
 
 pub returns-then-not-are_pairs-clause-not_hex : goal.returns-then-not-are_pairs-clause-not_hex
 returns-then-not-are_pairs-clause-not_hex c = (
-    λ e bytes read. let pairs : c.are_pairs.result ≡ true = c.are_pairs.ensures.1 (decoded_is_pairs c.args.hex.now bytes read) in absurd (cc (pairs, c.if-not-are_pairs.true)),
-    λ none. refl,
-  )
+  λ e bytes read. let pairs : c.are_pairs.result ≡ true = c.are_pairs.ensures.1 (decoded_is_pairs c.args.hex.now bytes read) in absurd (cc (pairs, c.if-not-are_pairs.true)),
+  λ none. refl,
+)
 
 pub returns-in_default-clause-not_hex : goal.returns-in_default-clause-not_hex
 returns-in_default-clause-not_hex c =
