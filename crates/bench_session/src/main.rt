@@ -30,7 +30,7 @@ const MESSAGE: usize = 64;
 /// How many short messages are sent in a round.
 const MESSAGES: u32 = 65536;
 
-/// How many short messages are sent at once.
+/// How many short messages are sent at once, where they aren't sent one by one.
 const BATCH: u32 = 256;
 
 const ROUNDS: u32 = 9;
@@ -211,23 +211,36 @@ fn joined(alloc: Global, streams: u32) -> Option<(Session, Session)> {
     Some((client, server))
 }
 
-/// Sends short messages, on one stream after another, and takes them at the other end. Answers how much data that was.
-fn exchange(client: &mut Session, server: &mut Session, streams: u32) -> Option<usize> {
+/// Sends what an end has written to the other end, which takes all data and answers. Tells how much data that was.
+fn send(from: &mut Session, to: &mut Session) -> Option<usize> {
+    let mut taken: usize = 0;
+    let piece = Bytes::from_vec(from.take_output()).ok()?;
+    for event in &to.feed_shared(piece).ok()? {
+        if let Event::Payload(stream, bytes) = event {
+            to.taken(*stream, bytes.len()).ok()?;
+            taken = taken.saturating_add(bytes.len());
+        }
+    }
+    from.feed(&to.take_output()).ok()?;
+    Some(taken)
+}
+
+/// Writes short messages on one stream after another, and sends so many at once. Tells how much data that was.
+fn exchange(
+    client: &mut Session,
+    server: &mut Session,
+    (streams, batch): (u32, u32),
+) -> Option<usize> {
     let message = [7; MESSAGE];
     let mut taken: usize = 0;
-    for batch in 0..MESSAGES / BATCH {
-        for index in 0..BATCH {
-            let index = batch.saturating_mul(BATCH).saturating_add(index);
-            client.write(number(index, streams), &message).ok()?;
+    let mut waiting: u32 = 0;
+    for index in 0..MESSAGES {
+        client.write(number(index, streams), &message).ok()?;
+        waiting = waiting.saturating_add(1);
+        if waiting >= batch {
+            taken = taken.saturating_add(send(client, server)?);
+            waiting = 0;
         }
-        let piece = Bytes::from_vec(client.take_output()).ok()?;
-        for event in &server.feed_shared(piece).ok()? {
-            if let Event::Payload(stream, bytes) = event {
-                server.taken(*stream, bytes.len()).ok()?;
-                taken = taken.saturating_add(bytes.len());
-            }
-        }
-        client.feed(&server.take_output()).ok()?;
     }
     Some(taken)
 }
@@ -278,33 +291,34 @@ fn measure_writing(rt: &(impl CpuClock + Eprint), alloc: Global) -> io::Result<(
     show(rt, "write against a copy", 1, written, copied)
 }
 
-/// The time of a round of short messages.
-fn timed_exchange(clock: &impl CpuClock, alloc: Global, streams: u32) -> io::Result<u128> {
+/// The time of a round of short messages, so many sent at once.
+fn timed_exchange(
+    clock: &impl CpuClock,
+    alloc: Global,
+    (streams, batch): (u32, u32),
+) -> io::Result<u128> {
     let Some((mut client, mut server)) = joined(alloc, streams) else {
         return Err(io::Error::from(io::ErrorKind::Other));
     };
     let length = MESSAGE * MESSAGES as usize;
-    timed(
-        clock,
-        || exchange(&mut client, &mut server, streams) == Some(length),
-    )
+    timed(clock, || {
+        exchange(&mut client, &mut server, (streams, batch)) == Some(length)
+    })
 }
 
-/// Short messages from end to end: against those on one stream, and per message.
-fn measure_messages(rt: &(impl CpuClock + Eprint), alloc: Global) -> io::Result<()> {
-    let one = timed_exchange(rt, alloc, 1)?;
+/// Short messages from end to end, so many sent at once: against those on one stream, and per message.
+fn measure_messages(rt: &(impl CpuClock + Eprint), alloc: Global, batch: u32) -> io::Result<()> {
+    let one = timed_exchange(rt, alloc, (1, batch))?;
     for streams in [1, 16, 256] {
-        let time = timed_exchange(rt, alloc, streams)?;
+        let time = timed_exchange(rt, alloc, (streams, batch))?;
+        let each = time / u128::from(MESSAGES);
+        eprintln!(rt; "short messages, {batch} at once: {each} ns each")?;
         show(
             rt,
             "short messages against those on one stream",
             streams,
             time,
             one,
-        )?;
-        eprintln!(rt;
-            "short messages, {streams} streams: {} ns a message",
-            time / u128::from(MESSAGES)
         )?;
     }
     Ok(())
@@ -319,5 +333,8 @@ fn main(rt: HostRuntime) -> io::Result<()> {
         measure_flood(&rt, alloc, streams)?;
     }
     measure_writing(&rt, alloc)?;
-    measure_messages(&rt, alloc)
+    for batch in [1, BATCH] {
+        measure_messages(&rt, alloc, batch)?;
+    }
+    Ok(())
 }
