@@ -214,9 +214,10 @@ fn one_sided(inbound: usize, outbound: usize) -> Result<Pool, Fail> {
 }
 
 /// So many calls are admitted, from connection 1 on.
-fn admit(rt: &impl Abort, pool: &mut Pool, call: Call, count: u32) {
-    for conn in 1..count + 1 {
-        assert_eq!(rt; pool.apply(call), Reply::Conn(conn), "connection {conn}");
+fn admit(rt: &impl Abort, pool: &mut Pool, call: &Call, count: u32) {
+    for before in 0..count {
+        let conn = before.saturating_add(1);
+        assert_eq!(rt; pool.apply(*call), Reply::Conn(conn), "connection {conn}");
     }
 }
 
@@ -226,13 +227,13 @@ fn each_side_is_full_at_its_limit(rt: HostRuntime) -> Result<(), Fail> {
         (Call::Accept, Call::Dial(None), one_sided(255, 256)?),
         (Call::Dial(None), Call::Accept, one_sided(256, 255)?),
     ] {
-        admit(&rt, &mut pool, call, 255);
+        admit(&rt, &mut pool, &call, 255);
         assert_eq!(rt; pool.apply(call), refused(Refusal::SideFull), "{call:?}");
         assert_eq!(rt; pool.apply(other), Reply::Conn(256), "{other:?}");
         assert_eq!(rt; pool.apply(call), refused(Refusal::Full), "{call:?}");
     }
     let mut pool = one_sided(256, 256)?;
-    admit(&rt, &mut pool, Call::Dial(None), 256);
+    admit(&rt, &mut pool, &Call::Dial(None), 256);
     assert_eq!(rt; pool.apply(Call::Dial(None)), refused(Refusal::Full));
     Ok(())
 }
@@ -241,7 +242,7 @@ fn each_side_is_full_at_its_limit(rt: HostRuntime) -> Result<(), Fail> {
 fn a_peer_has_eight_connections(rt: HostRuntime) -> Result<(), Fail> {
     let mut pool = Pool::new(config()?);
     let first = peer(0x11)?;
-    admit(&rt, &mut pool, Call::Dial(Some(first)), 8);
+    admit(&rt, &mut pool, &Call::Dial(Some(first)), 8);
     let script = [
         (Call::Dial(Some(first)), refused(Refusal::PeerFull)),
         (Call::Accept, Reply::Conn(9)),

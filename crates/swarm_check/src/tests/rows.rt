@@ -8,23 +8,43 @@ use std::alloc::Global;
 use std::process::Abort;
 use std::sync::Wait;
 use std::test::*;
-use swarm_calls::{Identity, Ledgers, NewRefused, NoGate, Pass, Swarm};
+use swarm_calls::{Closed, Identity, Ledgers, NewRefused, NoGate, Pass, Swarm};
 
 fn refused(refusal: Refusal) -> Reply {
     Reply::Refused(refusal)
 }
 
-/// What two callers do in turn.
+/// What one of two callers does, or both.
 #[derive(Clone, Copy, Drop)]
-enum TwoCallers {
-    /// They dial, meet, and close.
-    Dial,
-    /// They meet before they call.
-    MeetFirst,
-    /// One dials, the other accepts, and they meet.
+enum Act {
+    /// This caller makes a call, which is answered so.
+    Make(usize, Call, Reply),
+    /// This caller lists.
+    List(usize),
+    /// Both meet.
     Meet,
-    /// One calls while the other does nothing.
-    Call,
+}
+
+/// An act, and the fronts of both passes behind it.
+#[derive(Clone, Copy, Drop)]
+struct Beat {
+    act: Act,
+    fronts: (u64, u64),
+}
+
+fn then(act: Act, one: u64, two: u64) -> Beat {
+    Beat {
+        act,
+        fronts: (one, two),
+    }
+}
+
+/// What two callers do in turn, the rows that both list behind that, and how many calls they made.
+#[derive(Drop)]
+struct TwoCallers {
+    beats: Vec<Beat>,
+    rows: Vec<Row>,
+    calls: u64,
 }
 
 impl Script for TwoCallers {
@@ -38,15 +58,38 @@ impl Script for TwoCallers {
         let (Some(mut two), Some(mut one)) = (passes.pop(), passes.pop()) else {
             return Err(Fail::from("two passes"));
         };
-        match self {
-            TwoCallers::Dial => {
-                dial_in_turn(rt, &swarm, &mut one, &mut two)?;
-                meet(rt, &swarm, &mut one, &mut two);
-                close(rt, swarm, passes, one, two)
-            }
-            TwoCallers::MeetFirst => meet_first(rt, &swarm, &mut one, &mut two),
-            TwoCallers::Meet => dial_and_accept(rt, &swarm, &mut one, &mut two),
-            TwoCallers::Call => call_beside(rt, &swarm, &mut one, &mut two),
+        for (row, beat) in self.beats.iter().enumerate() {
+            let is_so = goes_so(rt, &swarm, &mut one, &mut two, &beat.act);
+            let fronts = (one.front(), two.front());
+            assert!(rt; is_so && fronts == beat.fronts, "row {row}: {fronts:?}");
+        }
+        for pass in [&mut one, &mut two] {
+            let listing = swarm.list(pass);
+            assert_eq!(rt; listing.conns.as_slice(), self.rows.as_slice());
+        }
+        let closed = close(rt, swarm, passes, one, two)?;
+        assert_eq!(rt; closed.calls, self.calls);
+        assert_eq!(rt; closed.listing.conns.as_slice(), self.rows.as_slice());
+        Ok(())
+    }
+}
+
+/// Whether the act comes to what it says.
+fn goes_so<J: Identity, L: Ledgers, R: Wait>(
+    rt: &R,
+    swarm: &Swarm<NoGate, J, L>,
+    one: &mut Pass<J, L>,
+    two: &mut Pass<J, L>,
+    act: &Act,
+) -> bool {
+    match act {
+        Act::Make(1, call, reply) => make(rt, swarm, one, call) == *reply,
+        Act::Make(_, call, reply) => make(rt, swarm, two, call) == *reply,
+        Act::List(1) => swarm.list(one).front == one.front(),
+        Act::List(_) => swarm.list(two).front == two.front(),
+        Act::Meet => {
+            swarm.meet(rt, one, two);
+            one.front() == two.front()
         }
     }
 }
@@ -58,7 +101,7 @@ fn close<J: Identity, L: Ledgers, R: Wait + Abort>(
     passes: Vec<Pass<J, L>>,
     one: Pass<J, L>,
     two: Pass<J, L>,
-) -> Result<(), Fail> {
+) -> Result<Closed, Fail> {
     let mut passes = passes;
     passes.push(one)?;
     let Err((swarm, mut passes)) = swarm.close(rt, passes) else {
@@ -68,8 +111,7 @@ fn close<J: Identity, L: Ledgers, R: Wait + Abort>(
     let Ok(closed) = swarm.close(rt, passes) else {
         panic!(rt; "both passes are there");
     };
-    assert_eq!(rt; (closed.calls, closed.listing.conns.len()), (3, 2));
-    Ok(())
+    Ok(closed)
 }
 
 /// A row of a connection on which nothing was asked for.
@@ -83,127 +125,88 @@ fn pending(conn: u32, role: ConnSide, peer: Option<PeerId>) -> Row {
     }
 }
 
-/// A meeting where nobody called adds nothing, and the calls behind it are as ever.
-fn meet_first<J: Identity, L: Ledgers, R: Wait + Abort>(
-    rt: &R,
-    swarm: &Swarm<NoGate, J, L>,
-    one: &mut Pass<J, L>,
-    two: &mut Pass<J, L>,
-) -> Result<(), Fail> {
-    let first = peer(0x11)?;
-    swarm.meet(rt, one, two);
-    assert_eq!(rt; (one.front(), two.front()), (0, 0));
-    assert!(rt; swarm.list(one).conns.is_empty());
-    assert_eq!(rt; swarm.dial(rt, one, Some(first)), Reply::Conn(1));
-    assert_eq!(rt; swarm.dial(rt, two, None), Reply::Conn(2));
-    let listing = swarm.list(one);
+/// Caller 1 dials, and both list it; then both dial another peer, of whom one connection may stand.
+#[test]
+fn two_callers_share_one_history(rt: HostRuntime) -> Result<(), Fail> {
+    let (first, second) = (peer(0x11)?, peer(0x22)?);
+    let again = Call::Dial(Some(second));
+    let beats = [
+        then(Act::Make(1, Call::Dial(Some(first)), Reply::Conn(1)), 1, 0),
+        then(Act::List(1), 1, 0),
+        then(Act::List(2), 1, 1),
+        then(Act::Make(2, again, Reply::Conn(2)), 1, 2),
+        then(Act::Make(1, again, refused(Refusal::PeerFull)), 3, 2),
+        then(Act::Meet, 3, 3),
+    ];
     let rows = [
         pending(1, ConnSide::Dialer, Some(first)),
-        pending(2, ConnSide::Dialer, None),
+        pending(2, ConnSide::Dialer, Some(second)),
     ];
-    assert_eq!(rt; listing.front, 2);
-    assert_eq!(rt; listing.conns.as_slice(), rows.as_slice());
+    let script = TwoCallers {
+        beats: Vec::from_array(rt.alloc(), beats)?,
+        rows: Vec::from_array(rt.alloc(), rows)?,
+        calls: 3,
+    };
+    assert_eq!(rt; play(&rt, rt.alloc(), config(1)?, 2, &script)?, None);
     Ok(())
 }
 
-/// After a dial of caller 1 and an accept of caller 2 both have seen two calls, and list both connections.
-fn dial_and_accept<J: Identity, L: Ledgers, R: Wait + Abort>(
-    rt: &R,
-    swarm: &Swarm<NoGate, J, L>,
-    one: &mut Pass<J, L>,
-    two: &mut Pass<J, L>,
-) -> Result<(), Fail> {
+/// They meet where nobody has called, and again behind a call of each; then the front of one stays while the other
+/// calls.
+#[test]
+fn fronts_behind_meetings(rt: HostRuntime) -> Result<(), Fail> {
     let first = peer(0x11)?;
-    assert_eq!(rt; swarm.dial(rt, one, Some(first)), Reply::Conn(1));
-    assert_eq!(rt; swarm.accept(rt, two), Reply::Conn(2));
-    swarm.meet(rt, one, two);
-    assert_eq!(rt; (one.front(), two.front()), (2, 2));
+    let beats = [
+        then(Act::Meet, 0, 0),
+        then(Act::Make(1, Call::Dial(Some(first)), Reply::Conn(1)), 1, 0),
+        then(Act::Make(2, Call::Accept, Reply::Conn(2)), 1, 2),
+        then(Act::Meet, 2, 2),
+        then(Act::List(1), 2, 2),
+        then(
+            Act::Make(2, Call::HangUp(peer(0x22)?), Reply::Count(0)),
+            2,
+            3,
+        ),
+        then(
+            Act::Make(2, Call::Block(peer(0x22)?), Reply::Count(0)),
+            2,
+            4,
+        ),
+        then(Act::List(2), 2, 4),
+        then(Act::List(1), 4, 4),
+    ];
     let rows = [
         pending(1, ConnSide::Dialer, Some(first)),
         pending(2, ConnSide::Listener, None),
     ];
-    let (shown, same) = (swarm.list(one), swarm.list(two));
-    assert_eq!(rt; (shown.front, same.front), (2, 2));
-    assert_eq!(rt; shown.conns.as_slice(), rows.as_slice());
-    assert_eq!(rt; same.conns.as_slice(), rows.as_slice());
-    Ok(())
-}
-
-/// The front of a pass stays while another calls, until its caller lists.
-fn call_beside<J: Identity, L: Ledgers, R: Wait + Abort>(
-    rt: &R,
-    swarm: &Swarm<NoGate, J, L>,
-    one: &mut Pass<J, L>,
-    two: &mut Pass<J, L>,
-) -> Result<(), Fail> {
-    assert_eq!(rt; swarm.accept(rt, one), Reply::Conn(1));
-    for conn in 2..5 {
-        assert_eq!(rt;
-            swarm.accept(rt, two),
-            Reply::Conn(conn),
-            "connection {conn}"
-        );
-        assert_eq!(rt;
-            (one.front(), two.front()),
-            (1, u64::from(conn)),
-            "connection {conn}"
-        );
-    }
-    assert_eq!(rt; swarm.list(one).front, 4);
-    assert_eq!(rt; (one.front(), two.front()), (4, 4));
-    Ok(())
-}
-
-/// Caller 1 dials, and both list it; then both dial another peer, of whom one connection may stand.
-fn dial_in_turn<J: Identity, L: Ledgers, R: Wait + Abort>(
-    rt: &R,
-    swarm: &Swarm<NoGate, J, L>,
-    one: &mut Pass<J, L>,
-    two: &mut Pass<J, L>,
-) -> Result<(), Fail> {
-    let (first, second) = (peer(0x11)?, peer(0x22)?);
-    let row = Row {
-        conn: 1,
-        role: ConnSide::Dialer,
-        phase: Phase::Pending,
-        peer: Some(first),
-        ..Row::default()
+    let script = TwoCallers {
+        beats: Vec::from_array(rt.alloc(), beats)?,
+        rows: Vec::from_array(rt.alloc(), rows)?,
+        calls: 4,
     };
-    assert_eq!(rt; swarm.dial(rt, one, Some(first)), Reply::Conn(1));
-    assert_eq!(rt; (one.front(), two.front()), (1, 0));
-    let listing = swarm.list(one);
-    assert_eq!(rt; listing.front, 1);
-    assert_eq!(rt; listing.conns.as_slice(), [row].as_slice());
-    assert!(rt; swarm.list(two) == listing);
-    assert_eq!(rt; swarm.dial(rt, two, Some(second)), Reply::Conn(2));
-    let full = refused(Refusal::PeerFull);
-    assert_eq!(rt; swarm.dial(rt, one, Some(second)), full);
+    assert_eq!(rt; play(&rt, rt.alloc(), config(1)?, 2, &script)?, None);
     Ok(())
 }
 
-/// After a meeting the fronts and the listings agree.
-fn meet<J: Identity, L: Ledgers, R: Wait + Abort>(
-    rt: &R,
-    swarm: &Swarm<NoGate, J, L>,
-    one: &mut Pass<J, L>,
-    two: &mut Pass<J, L>,
-) {
-    assert_eq!(rt; (one.front(), two.front()), (3, 2));
-    swarm.meet(rt, one, two);
-    assert_eq!(rt; (one.front(), two.front()), (3, 3));
-    assert!(rt; swarm.list(one) == swarm.list(two));
-}
-
+/// A dial of one and an accept of the other: behind a meeting both fronts are 2, and each lists both.
 #[test]
-fn two_callers_share_one_history(rt: HostRuntime) -> Result<(), Fail> {
-    for script in [
-        TwoCallers::Dial,
-        TwoCallers::MeetFirst,
-        TwoCallers::Meet,
-        TwoCallers::Call,
-    ] {
-        assert_eq!(rt; play(&rt, rt.alloc(), config(1)?, 2, &script)?, None);
-    }
+fn each_lists_both_behind_a_meeting(rt: HostRuntime) -> Result<(), Fail> {
+    let first = peer(0x11)?;
+    let beats = [
+        then(Act::Make(1, Call::Dial(Some(first)), Reply::Conn(1)), 1, 0),
+        then(Act::Make(2, Call::Accept, Reply::Conn(2)), 1, 2),
+        then(Act::Meet, 2, 2),
+    ];
+    let rows = [
+        pending(1, ConnSide::Dialer, Some(first)),
+        pending(2, ConnSide::Listener, None),
+    ];
+    let script = TwoCallers {
+        beats: Vec::from_array(rt.alloc(), beats)?,
+        rows: Vec::from_array(rt.alloc(), rows)?,
+        calls: 2,
+    };
+    assert_eq!(rt; play(&rt, rt.alloc(), config(1)?, 2, &script)?, None);
     Ok(())
 }
 
