@@ -1,6 +1,7 @@
 //! The program `node`: its words, its input and its outputs, handed to `node_cli`.
 #![tactic(auto)]
 
+use std::io::BufWriter;
 use std::process::ExitCode;
 use std::{env, io};
 
@@ -10,7 +11,9 @@ fn main(rt: HostRuntime) -> io::Result<ExitCode> {
     for arg in &args {
         words.push(arg.as_str())?;
     }
-    let (mut input, mut output, mut faults) = (rt.stdin(), rt.stdout(), rt.stderr());
+    let (mut input, mut faults) = (rt.stdin(), rt.stderr());
+    // Printing writes each piece of a format by a call of its own. `node_cli` flushes behind all that it writes.
+    let mut output = BufWriter::new(rt.alloc(), rt.stdout())?;
     let status = node_cli::node(&rt, words.as_slice(), &mut input, &mut output, &mut faults);
     Ok(ExitCode::from(status))
 }

@@ -374,6 +374,35 @@ impl Write for Closed {
     }
 }
 
+/// A writer whose buffer can't be written out.
+#[derive(Drop)]
+struct Unflushed;
+
+impl Write for Unflushed {
+    fn write(&mut self, bytes: &[u8]) -> io::Result<usize> {
+        Ok(bytes.len())
+    }
+
+    fn flush(&mut self) -> io::Result<()> {
+        Err(io::ErrorKind::StorageFull.into())
+    }
+}
+
+#[test]
+fn a_failing_flush_is_status_1(rt: HostRuntime) {
+    let rows: [&[&str]; 3] = [&["id", ZERO_KEY], &["--help"], &["replay"]];
+    for words in rows {
+        let status = node(
+            &rt,
+            words,
+            &mut b"list\n".as_slice(),
+            &mut Unflushed,
+            &mut Closed,
+        );
+        assert_eq!(rt; status, 1);
+    }
+}
+
 #[test]
 fn a_failing_write_is_status_1(rt: HostRuntime) {
     let rows: [&[&str]; 3] = [&["id", ZERO_KEY], &["--help"], &["fly"]];
