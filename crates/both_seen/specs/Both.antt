@@ -1,4 +1,5 @@
 -- What a dial of each of two callers comes to.
+-- Source: This project's profile of a swarm, as a caller of it.
 use Rattle.std.specs.Prelude.{◌≡◌, ℕ, ◌+◌, [], ◌∷◌, Some, ◌⊎◌}
 use Rattle.pool_state.specs.declared.call.Call.TheVariants.{Dial}
 use Rattle.pool_state.specs.declared.call.Reply.TheVariants.{Conn}

@@ -1,4 +1,5 @@
 -- The dialer's side of a talk.
+-- Source: multistream-select 1.0, "Protocol Negotiation"; the order of refusals is this project's profile.
 use Rattle.std.specs.Prelude.{◌≡◌, ◌≢◌, ◌⊎◌, ℕ, ◌+◌, ◌<◌, Bool, List, [], ◌∷◌, ◌++◌, length, drop, take, slice_get, slice_index, Option, Some, None, Result, Ok, Err}
 use Rattle.std.specs.List.{All}
 use Rattle.ms_select.specs.declared.answer.Answer.{Answer}

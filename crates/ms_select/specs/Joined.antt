@@ -1,4 +1,5 @@
 -- The two ends of one talk.
+-- Source: multistream-select 1.0, "Protocol Negotiation", over pipes that deliver what was written.
 use Rattle.std.specs.Prelude.{◌≡◌, ◌⊎◌, ℕ, List, [], ◌++◌, length, slice_get, Some, Result, Ok}
 use Rattle.ms_select.specs.declared.answer.Answer.{Answer}
 use Rattle.ms_select.specs.declared.answer.Answer.TheVariants.{Agreed}

@@ -1,4 +1,5 @@
 -- The listener's side of a talk.
+-- Source: multistream-select 1.0, "Protocol Negotiation"; the order of refusals is this project's profile.
 use Rattle.std.specs.Prelude.{◌≡◌, ◌≢◌, ◌⊎◌, ℕ, ◌+◌, ◌<◌, Bool, true, false, ◌||◌, if◌then◌else◌, List, [], ◌∷◌, ◌++◌, length, drop, map, slice_index, Option, Some, None, Result, Ok, Err}
 use Rattle.std.specs.List.{position, All}
 use Rattle.std.specs.Str.{bytes_eq}

@@ -1,4 +1,5 @@
 -- What holds of every address and of every text.
+-- Source: multiaddr (multiformats), and this project's laws on it.
 use Rattle.std.specs.Prelude.{◌≡◌, ℕ, ◌<◌, List, All, length}
 use Rattle.std.specs.List.{AllByRecursion}
 use Rattle.multiaddr.specs.declared.fault.AddrFault.{AddrFault}

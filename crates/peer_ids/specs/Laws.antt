@@ -1,4 +1,5 @@
 -- What holds of every key, id and text.
+-- Source: libp2p peer ids, and this project's laws on them.
 use Rattle.std.specs.Prelude.{◌≡◌, ◌≢◌, ◌⊎◌, ℕ, List, length}
 use Rattle.peer_ids.specs.declared.fault.KeyFault.{KeyFault}
 use Rattle.peer_ids.specs.declared.fault.KeyFault.TheVariants.{OutOfMemory}

@@ -1,4 +1,5 @@
 -- The exchange of plaintext: each end sends one message with its peer id and its key.
+-- Source: libp2p plaintext 2.0.0, "Exchange"; lengths and refusals are this project's profile.
 use Rattle.std.specs.Prelude.{◌≡◌, ◌≢◌, ◌⊎◌, ℕ, ◌+◌, ◌<◌, ◌≤◌, List, [], ◌++◌, length, Option, Some, None, Result, Ok, Err, IsSome, Bool, true, false}
 use Rattle.std.specs.List.{flat_map}
 use Rattle.varint_proto.specs.declared.fault.WireFault.{WireFault}

@@ -1,4 +1,5 @@
 -- The message that comes in.
+-- Source: libp2p plaintext 2.0.0, "Protocol"; the limit is this project's profile.
 use Rattle.std.specs.Prelude.{◌≡◌, ℕ, ◌<◌, ◌≤◌, List, length, Option, Some, None}
 
 -- the length of a message, once it is known, and what is held of the length and then of the message

@@ -1,4 +1,5 @@
 -- Where the reading of an exchange stands.
+-- Inside: no public clause cites it but by the calls of an exchange.
 use Rattle.std.specs.Prelude.{◌≡◌, ℕ, List, Option, Some, None}
 use Rattle.peer_ids.specs.Key.{Key}
 use Rattle.plaintext_x.specs.Incoming.{IsPartial}

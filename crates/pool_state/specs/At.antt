@@ -1,4 +1,5 @@
 -- Where a pool stands.
+-- Source: This project's profile of a swarm.
 use Rattle.std.specs.Prelude.{◌≡◌, ℕ, ◌+◌, List}
 use Rattle.pool_state.specs.declared.call.Reply.{Reply}
 use Rattle.pool_state.specs.declared.call.Reply.TheVariants.{Conn}

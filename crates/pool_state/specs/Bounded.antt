@@ -1,4 +1,5 @@
 -- What every legal history keeps to, said of its listing.
+-- Source: This project's profile of a swarm: its limits.
 use Rattle.std.specs.Prelude.{◌≡◌, ◌≢◌, ℕ, ◌≤◌, Bool, true, List, length, map, slice_index, Some, All, Contains}
 use Rattle.std.specs.List.Sorted.{IsStrictlyIncreasing}
 use Rattle.pool_state.specs.declared.call.Refusal.{Refusal}

@@ -1,4 +1,5 @@
 -- What holds of the blocked and of the allowed peers of every history.
+-- Source: This project's profile of a swarm: its two lists of peers.
 use Rattle.std.specs.Prelude.{◌≡◌, Bool, not, List, ◌++◌, Option}
 use Rattle.std.specs.List.{filter, list_any, IsDistinct}
 use Rattle.std.specs.Str.{bytes_eq}

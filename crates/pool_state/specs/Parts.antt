@@ -1,4 +1,5 @@
 -- What a listing is made of, and tests of its parts.
+-- Source: This project's profile of a swarm: its listing.
 use Rattle.std.specs.Prelude.{ℕ, Bool, true, false, not, List, Option, Some, None}
 use Rattle.std.specs.List.{list_any}
 use Rattle.std.specs.Str.{bytes_eq}

@@ -1,4 +1,5 @@
 -- Worked rows of pools: what the definitions say of these calls in turn, each limit at 1 and at its largest.
+-- Source: This project's profile of a swarm.
 use Rattle.std.specs.Prelude.{
   ◌≡◌,
   ℕ,

@@ -28,12 +28,19 @@ fn agree(alloc: Global, name: &str) -> anyhow::Result<()> {
 }
 
 /// Each end shows its key. Gives what the dialer knows of the listener then.
-fn prove(alloc: Global, dialer_key: &PublicKey, listener_key: &PublicKey) -> anyhow::Result<Proven> {
+fn prove(
+    alloc: Global,
+    dialer_key: &PublicKey,
+    listener_key: &PublicKey,
+) -> anyhow::Result<Proven> {
     let mut dialer = Exchange::new(alloc, dialer_key)?;
     let mut listener = Exchange::new(alloc, listener_key)?;
     listener.feed(&dialer.take_output())?;
     dialer.feed(&listener.take_output())?;
-    dialer.into_proven().ok().context("the listener has shown no key")
+    dialer
+        .into_proven()
+        .ok()
+        .context("the listener has shown no key")
 }
 
 /// The listener sends back what comes on each stream.
@@ -61,7 +68,10 @@ fn main(rt: HostRuntime) -> anyhow::Result<()> {
     echo(&mut listener, &dialer.take_output())?;
     for event in &dialer.feed(&listener.take_output())? {
         if let Event::Payload(stream, bytes) = event {
-            println!(rt; "stream {stream}: {}", String::from_utf8_lossy(alloc, bytes.as_slice())?)?;
+            println!(rt;
+                "stream {stream}: {}",
+                String::from_utf8_lossy(alloc, bytes.as_slice())?
+            )?;
         }
     }
     Ok(())

@@ -1,4 +1,5 @@
 -- A configuration, for a type that must have one though no clause speaks of it.
+-- Inside: no public clause cites it.
 use Rattle.std.specs.Prelude.{[], false}
 use Rattle.std.proofs.Common.{refl}
 use Rattle.std.proofs.lemmas.Bool.{leb-true}

@@ -1,4 +1,5 @@
 -- One legal history: what a caller has seen of it, and what the calls of a swarm do to that.
+-- Source: This project's profile of a swarm that threads share.
 use Rattle.std.specs.Prelude.{◌≡◌, ◌≤◌, ◌++◌, ◌∷◌, ◌⊎◌, ◌↔◌, ◌==◌, ℕ, zero, suc, true, List, [], length, All}
 use Rattle.std.specs.List.{list_any}
 use mathlib.Core.List.{IsPrefix}

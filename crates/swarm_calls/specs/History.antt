@@ -1,4 +1,5 @@
 -- What a swarm's history has of each caller. Legal histories and what they show are `pool_state`'s.
+-- Source: This project's profile of a swarm that threads share.
 use Rattle.std.specs.Prelude.{◌≡◌, ◌≤◌, ◌+◌, ◌-◌, ◌==◌, ℕ, zero, suc, List, length, slice_index, All}
 use Rattle.std.specs.List.{filter}
 use Rattle.pool_state.specs.History.{Entry}

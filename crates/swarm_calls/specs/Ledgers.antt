@@ -1,4 +1,5 @@
 -- What a caller's share says.
+-- Inside: no public clause cites it but for the blanks that a swarm is made with.
 use Rattle.std.specs.Prelude.{◌≡◌, ℕ, suc, List, [], ◌∷◌}
 use Rattle.swarm_calls.specs.declared.ledgers.Tally.{Tally}
 use Rattle.swarm_calls.specs.declared.ledgers.Tally.TheVariants.{First, Second, Third, Fourth, Fifth, Sixth, Seventh, Eighth}

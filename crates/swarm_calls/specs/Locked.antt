@@ -1,4 +1,5 @@
 -- What lies under the lock agrees with the published history.
+-- Inside: no public clause cites it.
 use Rattle.std.specs.Prelude.{◌≡◌, ℕ, List}
 use Rattle.logbook.specs.Pages.{Book}
 use Rattle.pool_state.specs.declared.limits.Config.{Config}

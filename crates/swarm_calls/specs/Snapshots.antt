@@ -1,4 +1,5 @@
 -- What is published, and what it shows.
+-- Inside: no public clause cites it.
 use Rattle.std.specs.Prelude.{◌≡◌, ◌-◌, ℕ, length, Option, Some, None}
 use Rattle.logbook.specs.Pages.{Book}
 use Rattle.pool_state.specs.declared.limits.Config.{Config}

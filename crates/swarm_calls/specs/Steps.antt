@@ -1,4 +1,5 @@
 -- The rule of the word that holds the length of the history, and what its steps tell.
+-- Inside: no public clause cites it.
 use Rattle.std.specs.Prelude.{ℕ, ◌≡◌, ◌==◌, true, List, [], ◌∷◌, ◌++◌, length, MatchBool}
 use Rattle.logbook.specs.Pages.{Cell, Step, View, Book, Named}
 use Rattle.pool_state.specs.History.{Entry}

@@ -1,4 +1,5 @@
 -- The clauses of a cutter determine its answer.
+-- Source: This project's law on the calls of a cutter.
 use Rattle.std.specs.Prelude.{◌≡◌, ℕ, List, ◌++◌, take}
 use Rattle.yamux_frames.specs.declared.header.FrameFault.{FrameFault}
 use Rattle.yamux_frames.specs.declared.cutter.Cut.{Cut}

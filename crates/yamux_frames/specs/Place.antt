@@ -1,4 +1,5 @@
 -- Where the bytes that came so far end.
+-- Source: hashicorp yamux, "Framing".
 use Rattle.std.specs.Prelude.{ℕ, Bool, false, ◌||◌, nat_lt, List, length, Option, Some, None}
 use Rattle.yamux_frames.specs.declared.header.FrameFault.{FrameFault}
 

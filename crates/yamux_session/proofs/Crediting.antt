@@ -78,11 +78,11 @@ without role past x n u w r t o us ws rs ts =
     let more : ℕ → Bool → ℕ → ℕ = λ k b before. k + cond b 0 before in
     same_windows (windows role (x ∷ past) n) _
     (ap (λ b. (262144 + more (update_length role n past x) b (since_opening (update_length role n) role past n))
-        - more (written_length n past x) b (since_opening (written_length n) role past n)) o
+    - more (written_length n past x) b (since_opening (written_length n) role past n)) o
     ∙ ap (λ k. (262144 + (k + since_opening (update_length role n) role past n)) - (written_length n past x + since_opening (written_length n) role past n)) us
     ∙ ap (λ k. (262144 + (u + since_opening (update_length role n) role past n)) - (k + since_opening (written_length n) role past n)) ws)
     (ap (λ b. more (arrived_length role n past x) b (since_opening (arrived_length role n) role past n)
-        - more (taken_length n past x) b (since_opening (taken_length n) role past n)) o
+    - more (taken_length n past x) b (since_opening (taken_length n) role past n)) o
     ∙ ap (λ k. (k + since_opening (arrived_length role n) role past n) - (taken_length n past x + since_opening (taken_length n) role past n)) rs
     ∙ ap (λ k. (r + since_opening (arrived_length role n) role past n) - (k + since_opening (taken_length n) role past n)) ts)
 
@@ -129,9 +129,9 @@ starts : (role : Role) (past : List Item) (m n : ℕ) (same : Bool) → (m == n)
 starts role past m n true is =
     same_windows (windows role (Did (Start m) ∷ past) n) (record { credit = 262144; untaken = 0 })
     (ap (λ b. (262144 + (0 + cond (b || false) 0 (since_opening (update_length role n) role past n)))
-        - (0 + cond (b || false) 0 (since_opening (written_length n) role past n))) is)
+    - (0 + cond (b || false) 0 (since_opening (written_length n) role past n))) is)
     (ap (λ b. (0 + cond (b || false) 0 (since_opening (arrived_length role n) role past n))
-        - (0 + cond (b || false) 0 (since_opening (taken_length n) role past n))) is)
+    - (0 + cond (b || false) 0 (since_opening (taken_length n) role past n))) is)
 starts role past m n false is = nothing_moved role past (Did (Start m)) n (ap (λ b. b || false) is) refl refl refl refl
 
 writes : (role : Role) (past : List Item) (m : ℕ) (pieces : List (List ℕ)) (n : ℕ) (same : Bool) → (m == n) ≡ same

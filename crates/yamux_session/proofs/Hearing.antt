@@ -140,7 +140,7 @@ heard_head role past h n s =
 
 head_as : (s : Seen) (o l : Bool) → l ≡ s.live || o
     → AgreesOn (record { live = l; closed = not o && s.closed; ended = not o && s.ended; came = cond o [] s.came ++ []; sent = cond o [] s.sent ++ [] })
-      (cond o just_opened s)
+    (cond o just_opened s)
 head_as s true l e = same_fields _ just_opened (e ∙ or_true s.live) refl refl refl refl
 head_as s false l e = same_fields _ s (e ∙ or_none s.live) refl refl (append-nil s.came) (append-nil s.sent)
 
@@ -186,7 +186,7 @@ byte_as n b s (Some m) l c on came = by (m == n) came
   where
     by : (same : Bool) → c ≡ s.came ++ when same b
         → AgreesOn (record { live = l; closed = s.closed; ended = s.ended; came = c; sent = s.sent ++ [] })
-          (cond same (record s { came = s.came ++ b ∷ [] }) s)
+        (cond same (record s { came = s.came ++ b ∷ [] }) s)
     by true is = same_fields _ (record s { came = s.came ++ b ∷ [] }) on refl refl is (append-nil s.sent)
     by false is = same_fields _ s on refl refl (is ∙ append-nil s.came) (append-nil s.sent)
 
@@ -240,14 +240,20 @@ tail_here : (reset fin l c f : Bool) (g w : List ℕ) → (l ≡ true → f && c
     AgreesOn (after_tail true reset fin s) (cond l (tail_says true reset (fin && not f) s) s))
 tail_here reset fin false c f g w once =
     let off : (not (reset || fin && c) && false) || false ≡ false =
-        or_none (not (reset || fin && c) && false) ∙ and_false (not (reset || fin && c)) in
+    or_none (not (reset || fin && c) && false) ∙ and_false (not (reset || fin && c)) in
     record {
-      live = off; closed = refl; came = append-nil g; sent = append-nil w;
+      live = off;
+      closed = refl;
+      came = append-nil g;
+      sent = append-nil w;
       ended = λ e. or_on fin f e;
       live_ended = λ on. absurd (let e : false ≡ true = sym off ∙ on in cc e);
     }
 tail_here true fin true c f g w once = record {
-  live = refl; closed = refl; came = append-nil g; sent = append-nil w;
+  live = refl;
+  closed = refl;
+  came = append-nil g;
+  sent = append-nil w;
   ended = λ e. or_on fin f e;
   live_ended = λ on. absurd (cc on);
 }
@@ -309,14 +315,24 @@ heard_on n is heard (Data m b) a = by (m == n)
   where
     by : (c : Bool) → AgreesOn (cond c (record is { came = is.came ++ b ∷ [] }) is) (cond c (record heard { came = heard.came ++ b ∷ [] }) heard)
     by true = record {
-      live = a.live; closed = a.closed; came = ap (λ g. g ++ b ∷ []) a.came; sent = a.sent; ended = a.ended; live_ended = a.live_ended }
+      live = a.live;
+      closed = a.closed;
+      came = ap (λ g. g ++ b ∷ []) a.came;
+      sent = a.sent;
+      ended = a.ended;
+      live_ended = a.live_ended;
+    }
     by false = a
 heard_on n is heard (Ended m) a = by (m == n)
   where
     by : (c : Bool) → AgreesOn (cond c (has_ended is) is) (cond c (has_ended heard) heard)
     by true = record {
       live = ap (λ l. l && not is.closed) a.live ∙ ap (λ c. heard.live && not c) a.closed;
-      closed = a.closed; came = a.came; sent = a.sent; ended = λ e. refl; live_ended = λ on. refl;
+      closed = a.closed;
+      came = a.came;
+      sent = a.sent;
+      ended = λ e. refl;
+      live_ended = λ on. refl;
     }
     by false = a
 heard_on n is heard (WasReset m) a = by (m == n)
@@ -386,7 +402,7 @@ events_tell role past came told n from =
 same_seen : (a b : Seen) → a.live ≡ b.live → a.closed ≡ b.closed → a.ended ≡ b.ended → a.came ≡ b.came → a.sent ≡ b.sent → a ≡ b
 same_seen a b l c e g w =
     let at : Bool → Bool → Bool → List ℕ → List ℕ → Seen =
-        λ l c e g w. record { live = l; closed = c; ended = e; came = g; sent = w } in
+    λ l c e g w. record { live = l; closed = c; ended = e; came = g; sent = w } in
     ap (λ x. at x a.closed a.ended a.came a.sent) l ∙ ap (λ x. at b.live x a.ended a.came a.sent) c
     ∙ ap (λ x. at b.live b.closed x a.came a.sent) e ∙ ap (λ x. at b.live b.closed b.ended x a.sent) g
     ∙ ap (λ x. at b.live b.closed b.ended b.came x) w

@@ -89,14 +89,18 @@ want_of_memory_stops role here there bytes sent old new at runs =
     let front : List ℕ = take out.0 bytes in
     let behind : List ℕ = drop out.0 bytes in
     let whole : (here.fed ++ front) ++ behind ≡ here.fed ++ bytes =
-        append_assoc here.fed front behind ∙ ap (λ (t : List ℕ). here.fed ++ t) (sym (split_at out.0 bytes)) in
+    append_assoc here.fed front behind ∙ ap (λ (t : List ℕ). here.fed ++ t) (sym (split_at out.0 bytes)) in
     let are_bytes = all_front (here.fed ++ front) behind (subst (AllByRecursion (λ k. k < 256)) (sym whole) at.are_bytes) in
     let was_sent : IsPrefix (here.fed ++ front) (output (other role) there.items) =
-        (behind ++ at.was_sent.0, sym (append_assoc (here.fed ++ front) behind at.was_sent.0) ∙ ap (λ (t : List ℕ). t ++ at.was_sent.0) whole ∙ at.was_sent.1) in
+    (behind ++ at.was_sent.0, sym (append_assoc (here.fed ++ front) behind at.was_sent.0) ∙ ap (λ (t : List ℕ). t ++ at.was_sent.0) whole ∙ at.was_sent.1) in
     let go = (going role here there at.joined).fed front are_bytes was_sent in
     let come = out.3 in
     let made : Shape role (here.fed ++ front) out.2 = record {
-      rest = come.read.0; whole = come.read.1.whole; are = come.read.1.frames_are; stop = inl (come.no_fault, come.read.1.rest_is) } in
+      rest = come.read.0;
+      whole = come.read.1.whole;
+      are = come.read.1.frames_are;
+      stop = inl (come.no_fault, come.read.1.rest_is);
+    } in
     let same = same_list role here go.0 there out.2 (here.fed ++ front) come.came.0 go.2.0 go.3 go.1 go.2.1 come.came.1 made in
     record {
       next = go.0;

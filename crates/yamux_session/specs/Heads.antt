@@ -1,4 +1,5 @@
 -- What the head of a frame does to the table of live streams.
+-- Inside: no public clause cites it.
 use Rattle.std.specs.Prelude.{◌≡◌, true, ◌+◌, ◌-◌, ◌&&◌, not, nat_lt, if◌then◌else◌, List, ◌∷◌, ◌++◌, Option, Some, None}
 use Rattle.yamux_frames.specs.declared.header.Header.{Header}
 use Rattle.yamux_frames.specs.Frames.Arrival.{Head}

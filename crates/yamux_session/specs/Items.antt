@@ -1,4 +1,5 @@
 -- The list of a session: what arrived, and between it what this end did, each where it was done. Lists of items have the newest first.
+-- Source: hashicorp yamux, "Framing".
 use Rattle.std.specs.Prelude.{ℕ, Bool, true, false, ◌==◌, ◌||◌, ◌&&◌, not, List, [], ◌∷◌, bit_and, ◌%◌}
 use Rattle.yamux_frames.specs.declared.header.Header.{Header}
 use Rattle.yamux_frames.specs.declared.header.FrameKind.{FrameKind}

@@ -1,4 +1,5 @@
 -- What each item of a session means: a fault, events, and the frames that are sent.
+-- Source: hashicorp yamux, "Framing" and "Flow Control"; which fault comes is this project's profile.
 use Rattle.std.specs.Prelude.{◌≡◌, ℕ, ◌<◌, ◌==◌, Bool, true, false, ◌&&◌, ◌+◌, not, nat_lt, if◌then◌else◌, List, [], ◌∷◌, ◌++◌, length, Option, Some, None}
 use Rattle.std.specs.List.{concat, flat_map}
 use Rattle.yamux_frames.specs.declared.header.Header.{Header}

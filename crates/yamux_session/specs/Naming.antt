@@ -1,4 +1,5 @@
 -- Which stream an event names.
+-- Source: This project's profile of a session.
 use Rattle.std.specs.Prelude.{◌≡◌, ℕ, List, drop}
 use Rattle.std.specs.List.{AllByRecursion}
 use Rattle.yamux_session.specs.declared.event.Event.{Event}

@@ -1,4 +1,5 @@
 -- The clause of a feed determines what it tells and sends.
+-- Source: This project's law on the calls of a session.
 use Rattle.std.specs.Prelude.{◌≡◌, ℕ, List}
 use Rattle.yamux_session.specs.declared.event.Role.{Role}
 use Rattle.yamux_session.specs.Items.{Item}

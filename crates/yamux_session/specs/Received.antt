@@ -1,4 +1,5 @@
 -- The data that a stream's events hand out.
+-- Source: hashicorp yamux, "Data", and this project's law on events.
 use Rattle.std.specs.Prelude.{◌≡◌, ◌≢◌, ◌⊎◌, ℕ, ◌==◌, if◌then◌else◌, List, [], ◌∷◌, ◌++◌}
 use Rattle.std.specs.List.{AllByRecursion, flat_map}
 use Rattle.yamux_session.specs.declared.event.Role.{Role}

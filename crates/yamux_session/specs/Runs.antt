@@ -1,4 +1,5 @@
 -- A whole session: each call with its answer, from the empty history on.
+-- Source: This project's profile of a session.
 use Rattle.std.specs.Prelude.{◌≡◌, ◌≢◌, ℕ, ◌<◌, ◌≤◌, ◌⊎◌, true, min, List, [], ◌∷◌, ◌++◌, map, length, take, Result, Ok, Err}
 use Rattle.std.specs.List.{AllByRecursion, concat}
 use Rattle.yamux_frames.specs.Frames.{Arrival, Reads}
