@@ -11,7 +11,7 @@ use Rattle.ms_select.specs.declared.answer.Answer.{Answer}
 use Rattle.ms_select.specs.declared.answer.Answer.TheVariants.{Going, Agreed, NoneLeft}
 use Rattle.ms_select.specs.Messages.{header, na, message, spelled, IsShort, ReadsMessage}
 use Rattle.ms_select.specs.Listening.{IsName, is_begun}
-use Rattle.ms_select.specs.Dialing.{IsRefusals, refused, Answered, proposals, IsNotAnswer, Dials, DialsWell, Dialing, Awaits, IsDialAt, Pursues}
+use Rattle.ms_select.specs.Dialing.{IsRefusals, refused, Answered, proposals, IsNotAnswer, Dials, IsUndecided, Dialing, Awaits, IsDialAt, Pursues}
 use Rattle.ms_select.proofs.Reading.{whole_by, message_stays, nothing}
 use Rattle.ms_select.proofs.ListenSteps.{spelled_more, still_begun, header_is, parts_at, used_at}
 
@@ -198,16 +198,16 @@ dial_agreed old new byte text fits a b other name n a' p input taken f =
 
 -- ---- a byte at which memory is refused
 
-pub dial_more_well : (old : Dialing) (byte : ℕ) → ReadsMessage (old.held ++ byte ∷ []) (Ok None) → old.answer ≡ Some Going → (input taken : List ℕ) → Asked old input taken → DialsWell old.names (input ++ byte ∷ [])
+pub dial_more_well : (old : Dialing) (byte : ℕ) → ReadsMessage (old.held ++ byte ∷ []) (Ok None) → old.answer ≡ Some Going → (input taken : List ℕ) → Asked old input taken → IsUndecided old.names (input ++ byte ∷ [])
 dial_more_well old byte partial a input taken f =
     let new : Dialing = record old { held = old.held ++ byte ∷ [] } in
-    (Going, length (input ++ byte ∷ []), taken ++ old.pending, dials new (input ++ byte ∷ []) (length (input ++ byte ∷ [])) taken Going a (dial_more old new byte partial a refl refl refl refl a refl input taken f))
+    (length (input ++ byte ∷ []), taken ++ old.pending, dials new (input ++ byte ∷ []) (length (input ++ byte ∷ [])) taken Going a (dial_more old new byte partial a refl refl refl refl a refl input taken f))
 
 pub dial_refused_well : (old : Dialing) (byte : ℕ) (next : List ℕ) → ReadsMessage (old.held ++ byte ∷ []) (Ok (Some na)) → old.answer ≡ Some Going → old.begun ≡ true → old.refusals + 1 < length old.names → slice_get old.names (old.refusals + 1) ≡ Some next
-    → (input taken : List ℕ) → Asked old input taken → DialsWell old.names (input ++ byte ∷ [])
+    → (input taken : List ℕ) → Asked old input taken → IsUndecided old.names (input ++ byte ∷ [])
 dial_refused_well old byte next fits a b lt at input taken f =
     let new : Dialing = record old { refusals = old.refusals + 1; held = []; pending = old.pending ++ message next } in
-    (Going, length (input ++ byte ∷ []), taken ++ new.pending, dials new (input ++ byte ∷ []) (length (input ++ byte ∷ [])) taken Going a (dial_refused old new byte next fits a b lt at refl b refl refl a refl input taken f))
+    (length (input ++ byte ∷ []), taken ++ new.pending, dials new (input ++ byte ∷ []) (length (input ++ byte ∷ [])) taken Going a (dial_refused old new byte next fits a b lt at refl b refl refl a refl input taken f))
 
 -- ---- a byte that is refused
 

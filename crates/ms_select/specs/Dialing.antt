@@ -54,9 +54,9 @@ Dials names input (Err fault) used output =
     (texts : List (List ℕ)) × (rest : List ℕ) × Answered input texts rest × (refused texts < length names)
     × IsNotAnswer names texts rest fault × (used ≡ length input) × (output ≡ proposals names (refused texts))
 
--- a dialer of these names comes to no fault by this input
-abbrev pub DialsWell : List (List ℕ) → List ℕ → Type 0
-DialsWell names input = (answer : Answer) × (used : ℕ) × (output : List ℕ) × Dials names input (Ok answer) used output
+-- by this input nothing is refused and nothing is decided
+abbrev pub IsUndecided : List (List ℕ) → List ℕ → Type 0
+IsUndecided names input = (used : ℕ) × (output : List ℕ) × Dials names input (Ok Going) used output
 
 -- ---- what a dialer is to its callers
 

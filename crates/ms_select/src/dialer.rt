@@ -4,7 +4,7 @@ ghost use Rattle.std.specs.Prelude.{◌≡◌, ◌≢◌, ◌⊎◌, ◌↔◌, 
 ghost use Rattle.std.specs.List.{All};
 ghost use Rattle.ms_select.specs.Messages.{header, message};
 ghost use Rattle.ms_select.specs.Listening.{IsName};
-ghost use Rattle.ms_select.specs.Dialing.{Dials, DialsWell, Pursues, MaySend};
+ghost use Rattle.ms_select.specs.Dialing.{Dials, IsUndecided, Pursues, MaySend};
 ghost use Rattle.ms_select.specs.declared.answer.Answer.{Answer};
 
 use crate::answer::{Answer, Step};
@@ -112,11 +112,12 @@ impl Dialer {
         ensures fault { (input : List ℕ) (used : ℕ) (taken : List ℕ) → self.old.answer ≡ Some Answer.Going → Pursues self.old input used taken
             → IfErr result (λ fault. fault ≢ SelectFault.OutOfMemory
             → Dials self.old.names (input ++ piece.now) (Err fault) (length (input ++ piece.now)) (taken ++ self.new.pending)) }
-        // Where memory is refused a front of the piece was heard and answered, and the byte behind it has no fault either.
+        // Where memory is refused a first part of the piece was heard and answered, and the byte behind it neither has a fault
+        // nor decides anything: want of memory hides no agreement.
         ensures memory { (input : List ℕ) (used : ℕ) (taken : List ℕ) → self.old.answer ≡ Some Answer.Going → Pursues self.old input used taken
             → result ≡ Err SelectFault.OutOfMemory
             → (n : ℕ) × (n < length piece.now) × Dials self.old.names (input ++ take n piece.now) (Ok Answer.Going) (length (input ++ take n piece.now)) (taken ++ self.new.pending)
-            × DialsWell self.old.names (input ++ take (n + 1) piece.now) }
+            × IsUndecided self.old.names (input ++ take (n + 1) piece.now) }
     {
         match self.answer {
             None => return Err(SelectFault::Failed),
@@ -138,7 +139,8 @@ impl Dialer {
         })
     }
 
-    /// Takes one byte of a talk that nothing has decided yet. Memory is asked for only behind a byte that has no fault.
+    /// Takes one byte of a talk that nothing has decided yet. Memory is asked for only behind a byte that has no fault and
+    /// decides nothing.
     fn hear(&mut self, byte: u8) -> Result<Answer, SelectFault>
         requires { self.old.answer ≡ Some Answer.Going }
         ensures names { self.new.names ≡ self.old.names }
@@ -151,7 +153,7 @@ impl Dialer {
             → Dials self.old.names (input ++ byte ∷ []) (Err fault) (length (input ++ byte ∷ [])) (taken ++ self.new.pending)) }
         ensures kept { result ≡ Err SelectFault.OutOfMemory → self.new.pending ≡ self.old.pending }
         ensures memory { (input taken : List ℕ) → Pursues self.old input (length input) taken → result ≡ Err SelectFault.OutOfMemory
-            → DialsWell self.old.names (input ++ byte ∷ []) }
+            → IsUndecided self.old.names (input ++ byte ∷ []) }
     {
         self.answer = None;
         self.held.push_reserved(byte);

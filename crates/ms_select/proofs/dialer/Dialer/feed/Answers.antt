@@ -2,7 +2,7 @@ use Rattle.std.proofs.Common.{rules, ◌≡◌, ℕ, List, ◌++◌, take, lengt
 use Rattle.std.proofs.lemmas.Result.{err_from_is_err_and}
 use Rattle.ms_select.specs.declared.answer.Answer.TheVariants.{Going}
 use Rattle.ms_select.specs.declared.fault.SelectFault.TheVariants.{OutOfMemory}
-use Rattle.ms_select.specs.Dialing.{Dials, DialsWell}
+use Rattle.ms_select.specs.Dialing.{Dials, IsUndecided}
 use Rattle.ms_select.proofs.ListenSteps.{front_at}
 use Rattle.ms_select.proofs.DialSteps.{dial_used, dials, dial_fault_at, dial_decided_in, dial_decided_past}
 use Rattle.ms_select.proofs.dialer.Dialer.feed.Goals as goal
@@ -27,8 +27,8 @@ returns-in_err-answer-clause-memory c = λ input used taken going f oom.
     let well = c.in_err-answer.ensures.memory (input ++ take i piece) taken here (ap Err is) in
     let before = dials c.loop-index.self (input ++ take i piece) (length (input ++ take i piece)) taken Going c.loop-index.invariant.going here in
     let kept = subst (λ (x : List ℕ). Dials c.loop-index.self.names (input ++ take i piece) (Ok Going) (length (input ++ take i piece)) (taken ++ x)) (sym (c.in_err-answer.ensures.kept (ap Err is))) before in
-    let behind = subst (λ (x : List ℕ). DialsWell c.loop-index.self.names x) (front_at input piece i c.loop-index-test.true) well in
-    subst (λ (names : List (List ℕ)). (n : ℕ) × (n < length piece) × Dials names (input ++ take n piece) (Ok Going) (length (input ++ take n piece)) (taken ++ c.hear.new.self.pending) × DialsWell names (input ++ take (n + 1) piece)) c.loop-index.invariant.names (i, c.loop-index-test.true, kept, behind)
+    let behind = subst (λ (x : List ℕ). IsUndecided c.loop-index.self.names x) (front_at input piece i c.loop-index-test.true) well in
+    subst (λ (names : List (List ℕ)). (n : ℕ) × (n < length piece) × Dials names (input ++ take n piece) (Ok Going) (length (input ++ take n piece)) (taken ++ c.hear.new.self.pending) × IsUndecided names (input ++ take (n + 1) piece)) c.loop-index.invariant.names (i, c.loop-index-test.true, kept, behind)
 
 pub returns-then-ne-clause-follows : goal.returns-then-ne-clause-follows
 returns-then-ne-clause-follows c = λ input used taken f.

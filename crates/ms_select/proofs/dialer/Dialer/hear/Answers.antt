@@ -5,7 +5,7 @@ use Rattle.std.proofs.lemmas.List.{length-map}
 use Rattle.ms_select.specs.declared.answer.Answer.TheVariants.{Going, Agreed, NoneLeft}
 use Rattle.ms_select.specs.declared.fault.SelectFault.TheVariants.{NotProposed}
 use Rattle.ms_select.specs.Messages.{header, na, message, ReadsMessage}
-use Rattle.ms_select.specs.Dialing.{Dialing, Dials, DialsWell}
+use Rattle.ms_select.specs.Dialing.{Dialing, Dials, IsUndecided}
 use Rattle.ms_select.proofs.DialSteps.{Asked, dial_header, dial_refused, dial_none, dial_agreed, dial_other, dial_more_well, dial_refused_well, dial_unread, name_short}
 use Rattle.ms_select.specs.contracts.dialer.Dialer.{the_view}
 use Rattle.ms_select.proofs.dialer.Dialer.hear.Goals as goal
@@ -25,7 +25,7 @@ returns-in_err-reserve-clause-memory c =
     let going : c.self.inside.answer ≡ Some Going = ap (λ (t : Dialing). t.answer) c.self.view_is ∙ c.requires in
     let none : ReadsMessage c.deref.result.now (Ok None) = rw c.in_default.is at c.in_ok-text.ensures.more in
     let partial : ReadsMessage (c.self.inside.held.items ++ c.args.byte ∷ []) (Ok None) = subst (λ (b : List ℕ). ReadsMessage b (Ok None)) held-is none in
-    let well = subst (λ (t : Dialing). (input taken : List ℕ) → Asked t input taken → DialsWell t.names (input ++ c.args.byte ∷ [])) c.self.view_is (dial_more_well (the_view c.self.inside) c.args.byte partial going) in
+    let well = subst (λ (t : Dialing). (input taken : List ℕ) → Asked t input taken → IsUndecided t.names (input ++ c.args.byte ∷ [])) c.self.view_is (dial_more_well (the_view c.self.inside) c.args.byte partial going) in
     λ input taken f e. well input taken f
 
 pub returns-then-not-self-clause-follows : goal.returns-then-not-self-clause-follows
@@ -71,7 +71,7 @@ returns-in_err-proposal-clause-memory c =
     let below : c.self.inside.refusals < length (map string_bytes c.self.inside.names.items) = c.self.invariant.going going in
     let left : c.self.inside.refusals + 1 < length (map string_bytes c.self.inside.names.items) = rw length-map (omega (arith, count, rw length-map at below)) in
     let at : slice_get (map string_bytes c.self.inside.names.items) (c.self.inside.refusals + 1) ≡ Some c.name_at.result.now = search rules in
-    let well = subst (λ (t : Dialing). (input taken : List ℕ) → Asked t input taken → DialsWell t.names (input ++ c.args.byte ∷ [])) c.self.view_is (dial_refused_well (the_view c.self.inside) c.args.byte c.name_at.result.now fits going begun left at) in
+    let well = subst (λ (t : Dialing). (input taken : List ℕ) → Asked t input taken → IsUndecided t.names (input ++ c.args.byte ∷ [])) c.self.view_is (dial_refused_well (the_view c.self.inside) c.args.byte c.name_at.result.now fits going begun left at) in
     λ input taken f e. well input taken f
 
 pub returns-in_err-extend_from_slice-clause-memory : goal.returns-in_err-extend_from_slice-clause-memory
@@ -86,7 +86,7 @@ returns-in_err-extend_from_slice-clause-memory c =
     let below : c.self.inside.refusals < length (map string_bytes c.self.inside.names.items) = c.self.invariant.going going in
     let left : c.self.inside.refusals + 1 < length (map string_bytes c.self.inside.names.items) = rw length-map (omega (arith, count, rw length-map at below)) in
     let at : slice_get (map string_bytes c.self.inside.names.items) (c.self.inside.refusals + 1) ≡ Some c.name_at.result.now = search rules in
-    let well = subst (λ (t : Dialing). (input taken : List ℕ) → Asked t input taken → DialsWell t.names (input ++ c.args.byte ∷ [])) c.self.view_is (dial_refused_well (the_view c.self.inside) c.args.byte c.name_at.result.now fits going begun left at) in
+    let well = subst (λ (t : Dialing). (input taken : List ℕ) → Asked t input taken → IsUndecided t.names (input ++ c.args.byte ∷ [])) c.self.view_is (dial_refused_well (the_view c.self.inside) c.args.byte c.name_at.result.now fits going begun left at) in
     λ input taken f e. well input taken f
 
 pub returns-then-eq-clause-follows : goal.returns-then-eq-clause-follows
