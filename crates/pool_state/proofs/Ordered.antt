@@ -12,7 +12,7 @@ use Rattle.pool_state.specs.Parts.{Peer, is_peer, has}
 use Rattle.pool_state.specs.Added.{without_peer}
 use Rattle.pool_state.specs.History.{Entry, is_listed, comes_to_stay, listed_after}
 use Rattle.pool_state.specs.Ordered.{IsEachOnce, is_left, KeepsOrder}
-use Rattle.pool_state.proofs.Questions.{any_more, or_false}
+use Rattle.pool_state.proofs.Questions.{any_more}
 use Rattle.pool_state.proofs.Standing.{filter_filter}
 use Rattle.pool_state.proofs.Listed.{AreExclusive, grows_from, has_listed, listed_cut, listed_kept}
 

@@ -20,7 +20,7 @@ use Rattle.swarm_calls.specs.History.{mine, IsOf, Counts}
 use Rattle.swarm_calls.specs.Snapshots.{IsShown}
 use Rattle.swarm_calls.specs.Locked.{IsLocked}
 use Rattle.swarm_calls.specs.Calls.{Past, past, Later, SameCalls, IsTurnedAway, IsCalled, newcomers}
-use Rattle.swarm_calls.proofs.Legal.{legal_snoc, mine_same, mine_snoc, counts_snoc, counts_nil, of_snoc, of_nil}
+use Rattle.swarm_calls.proofs.Legal.{legal_snoc, mine_same, mine_snoc, counts_snoc, counts_nil, of_snoc}
 use Rattle.swarm_calls.proofs.Prefixes.{prefix_trans}
 use Rattle.swarm_calls.proofs.Replies.{spent_at_last, never_out_of_memory, unspent_below}
 

@@ -63,10 +63,9 @@ impl Script for TwoCallers {
             let fronts = (one.front(), two.front());
             assert!(rt; is_so && fronts == beat.fronts, "row {row}: {fronts:?}");
         }
-        for pass in [&mut one, &mut two] {
-            let listing = swarm.list(pass);
-            assert_eq!(rt; listing.conns.as_slice(), self.rows.as_slice());
-        }
+        let listing = swarm.list(&mut one);
+        assert_eq!(rt; listing.conns.as_slice(), self.rows.as_slice());
+        assert!(rt; swarm.list(&mut two) == listing);
         let closed = close(rt, swarm, passes, one, two)?;
         assert_eq!(rt; closed.calls, self.calls);
         assert_eq!(rt; closed.listing.conns.as_slice(), self.rows.as_slice());
