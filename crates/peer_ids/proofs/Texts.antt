@@ -1,8 +1,10 @@
 -- An id has one text, and a text is that of one id.
-use Rattle.std.proofs.Common.{◌≡◌, ℕ, ◌+◌, ◌*◌, ◌/◌, ◌%◌, ◌<◌, List, [], ◌∷◌, ◌++◌, length, map, replicate, refl, sym, ap, ◌∙◌, arith}
+use Rattle.std.proofs.Common.{◌≡◌, ℕ, zero, suc, get_or, ◌+◌, ◌*◌, ◌/◌, ◌%◌, ◌<◌, List, [], ◌∷◌, ◌++◌, length, map, replicate, refl, sym, ap, ◌∙◌, arith}
 use Rattle.std.specs.List.{flat_map, AllByRecursion}
 use Rattle.std.proofs.lemmas.List.{append-nil, length-append, length-replicate}
-use Rattle.std.proofs.lemmas.List.Elements.{recursion_from_All}
+use Rattle.std.proofs.lemmas.List.Elements.{recursion_from_All, All-head, All-tail}
+use Rattle.std.specs.Prelude.{All}
+use Rattle.std.proofs.lemmas.Bool.Decides.{nat_tests}
 use Rattle.peer_ids.specs.Base32.{bits_of, letter_of, in_fives, filled_up, id_text, AreFives, IsIdText}
 use Rattle.peer_ids.proofs.OneText.{chunks_once, length-chunks, one_values, one_bytes}
 
@@ -58,3 +60,13 @@ values_are values bytes p =
 
 pub text_is : (text id : List ℕ) → IsIdText text id → text ≡ id_text id
 text_is text id p = p.2 ∙ ap (λ (t : List ℕ). 98 ∷ t) (p.1.2 ∙ ap (map letter_of) (values_are p.1.0 (1 ∷ 114 ∷ id) p.1.1))
+
+-- ---- letters are ASCII
+
+letter_below : (value : ℕ) → value < 32 → letter_of value < 128
+letter_below value lt = grind (arith, nat_tests)
+
+pub letters_ascii : (values : List ℕ) → All (λ v. v < 32) values → (i : ℕ) → get_or (map letter_of values) i 0 < 128
+letters_ascii [] h i = omega arith
+letters_ascii (v ∷ values) h zero = letter_below v (All-head (λ v. v < 32) v values h)
+letters_ascii (v ∷ values) h (suc i) = letters_ascii values (All-tail (λ v. v < 32) v values h) i

@@ -1,6 +1,6 @@
 //! Base32 of RFC 4648, in lower case and without padding.
 
-ghost use Rattle.std.specs.Prelude.{◌≡◌, ◌↔◌, ◌+◌, ◌<◌, ◌≤◌, ◌++◌, ℕ, List, All, IsTrue, length, take};
+ghost use Rattle.std.specs.Prelude.{◌≡◌, ◌↔◌, ◌+◌, ◌<◌, ◌≤◌, ◌++◌, ℕ, List, All, IsTrue, IsAscii, length, take};
 ghost use Rattle.peer_ids.specs.Base32.{AreFives, AreLetters, IsBase32, IsLetter, IsRegrouped, letter_of};
 
 use arrayvec::{ArrayString, ArrayVec};
@@ -30,16 +30,30 @@ fn fives(bytes: &[u8]) -> ArrayVec<u8, 74>
 }
 
 /// The letter of a value of five bits.
-fn letter(value: u8) -> char
+fn letter(value: u8) -> u8
     requires { value < 32 }
     ensures letter { result ≡ letter_of value }
-    ensures ascii { result < 128 }
 {
     if value < 26 {
-        char::from(b'a' + value)
+        b'a' + value
     } else {
-        char::from(b'2' + (value - 26))
+        b'2' + (value - 26)
     }
+}
+
+/// The base32 of at most 46 bytes.
+fn letters_of(bytes: &[u8]) -> ArrayVec<u8, 74>
+    requires { length bytes.now ≤ 46 }
+    ensures spelt { IsBase32 result.items bytes.now }
+    ensures ascii { IsAscii result.items }
+    ensures short { length result.items ≤ 74 }
+{
+    let values = fives(bytes);
+    let mut letters = ArrayVec::new();
+    for value in values.as_slice() {
+        letters.push(letter(*value));
+    }
+    letters
 }
 
 /// Appends the base32 of at most 46 bytes to a text that has room for it.
@@ -48,9 +62,10 @@ pub(crate) fn encode(text: &mut ArrayString<75>, bytes: &[u8])
     requires room { length text.old.bytes ≤ 1 }
     ensures { (letters : List ℕ) × IsBase32 letters bytes.now × (text.new.bytes ≡ text.old.bytes ++ letters) }
 {
-    let values = fives(bytes);
-    for value in values.as_slice() {
-        text.push(letter(*value));
+    let letters = letters_of(bytes);
+    match std::str::from_utf8(letters.as_slice()) {
+        Ok(letters) => text.push_str(letters),
+        Err(_) => unreachable!(),
     }
 }
 
