@@ -2,8 +2,14 @@
 
 ghost use Rattle.std.specs.Prelude.{◌≡◌, ℕ, Bool, List, ◌++◌};
 ghost use Rattle.handlers.specs.Calls.{HandlerCall, Arises, EndsAs, WasHanded, taken};
+ghost use Rattle.handlers.specs.Names.{NameRows};
 
 use crate::handler::Handler;
+
+/// The definition of a name says of worked names what it is to say.
+pub fn worked_rows()
+    ensures { NameRows }
+{}
 
 /// Calls that are made in turn are made as one list.
 pub fn calls_in_turn<H: Handler>()

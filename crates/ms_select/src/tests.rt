@@ -60,7 +60,14 @@ fn called(rt: &HostRuntime, names: &[&str], input: &[u8], size: usize) -> Result
 #[test]
 fn listener_of_y_however_the_input_is_cut(rt: HostRuntime) -> Result<(), Fail> {
     // Input, answer, bytes used where it is no fault, output.
-    let rows: [(&[u8], Result<Answer, SelectFault>, usize, &[u8]); 9] = [
+    let rows: [(&[u8], Result<Answer, SelectFault>, usize, &[u8]); 10] = [
+        // The longest message.
+        (
+            b"\x13/multistream/1.0.0\n\x80\x08",
+            Ok(Answer::Going),
+            22,
+            M,
+        ),
         // Refused, then agreed; what follows isn't used.
         (
             b"\x13/multistream/1.0.0\n\x03/x\n\x03/y\nNext",
@@ -225,6 +232,25 @@ fn data_may_go_before_the_answer_to_one_name(rt: HostRuntime) -> Result<(), Fail
     let mut failed = Dialer::new(rt.alloc(), &["/x"]).ok().ok_or("a name")?;
     assert_eq!(rt; failed.feed(NA), Err(SelectFault::BadHeader));
     assert!(rt; !failed.may_send());
+    Ok(())
+}
+
+#[test]
+fn the_echo_of_another_name_is_not_proposed(rt: HostRuntime) -> Result<(), Fail> {
+    let came = called(&rt, &["/x", "/y"], b"\x13/multistream/1.0.0\n\x03/y\n", 7)?;
+    assert_eq!(rt; came.0, Err(SelectFault::NotProposed));
+    Ok(())
+}
+
+#[test]
+fn the_first_of_two_equal_names(rt: HostRuntime) -> Result<(), Fail> {
+    let came = heard(
+        &rt,
+        &["/x", "/y", "/y"],
+        b"\x13/multistream/1.0.0\n\x03/y\n",
+        7,
+    )?;
+    assert_eq!(rt; came.0, Ok(Answer::Agreed(1)));
     Ok(())
 }
 

@@ -22,7 +22,8 @@ fn printed<R: AllocGlobal>(rt: &R, address: &Multiaddr) -> Result<String, Fail> 
 
 #[test]
 fn texts_and_bytes(rt: HostRuntime) -> Result<(), Fail> {
-    let rows: [(&str, &[u8]); 5] = [
+    let rows: [(&str, &[u8]); 6] = [
+        ("/dns/\u{fc}.example", b"\x35\x0a\xc3\xbc.example"),
         (
             "/ip4/127.0.0.1/tcp/4001",
             &[0x04, 0x7f, 0, 0, 1, 0x06, 0x0f, 0xa1],
@@ -161,6 +162,35 @@ fn an_opaque_part_is_kept_and_not_printed(rt: HostRuntime) -> Result<(), Fail> {
     );
     assert_eq!(rt; address.socket(), None);
     assert_eq!(rt; address.peer(), None);
+    Ok(())
+}
+
+#[test]
+fn an_opaque_part_hides_peer_and_socket(rt: HostRuntime) -> Result<(), Fail> {
+    let peer = [0xa5, 0x03, 0x02, 0x00, 0x00, 0x91, 0x02];
+    let socket = [0x04, 0x7f, 0, 0, 1, 0x06, 0x0f, 0xa1, 0x91, 0x02];
+    let rows: [&[u8]; 2] = [&peer, &socket];
+    for bytes in rows {
+        let Ok(address) = Multiaddr::read(rt.alloc(), bytes) else {
+            return Err("an address with an opaque part".into());
+        };
+        assert_eq!(rt; address.peer(), None);
+        assert_eq!(rt; address.socket(), None);
+    }
+    Ok(())
+}
+
+#[test]
+fn a_name_of_255_bytes_is_read(rt: HostRuntime) -> Result<(), Fail> {
+    let long = vec![in rt.alloc(); b'a'; 255]?;
+    let mut bytes = Vec::new(rt.alloc());
+    bytes.extend_from_slice(&[0x35, 0xff, 0x01])?;
+    bytes.extend_from_slice(&long)?;
+    assert!(rt; Multiaddr::read(rt.alloc(), &bytes).is_ok());
+    assert_eq!(rt;
+        Multiaddr::read(rt.alloc(), &[0x35, 0x01, 0xff]).err(),
+        Some(AddrFault::BadValue)
+    );
     Ok(())
 }
 

@@ -88,9 +88,10 @@ fn faults_of_keys(rt: HostRuntime) -> Result<(), Fail> {
     for _ in 0..31 {
         short.push(0)?;
     }
-    let rows: [(&[u8], KeyFault); 7] = [
+    let rows: [(&[u8], KeyFault); 8] = [
         (&[0x12, 0x01, 0x00], KeyFault::NoType),
         (&[0x08, 0x01], KeyFault::NoData),
+        (&[0x08, 0x04], KeyFault::NoData),
         (&[0x08, 0x04, 0x12, 0x00], KeyFault::UnknownType),
         (&[0x08, 0x01, 0x12, 0x00], KeyFault::BadLength),
         (&[0x08], KeyFault::Wire),
@@ -114,6 +115,31 @@ fn the_last_type_and_the_last_data_count(rt: HostRuntime) -> Result<(), Fail> {
     let key = key_of(&rt, &front, 0, 32)?;
     assert_eq!(rt; key.kind(), KeyType::Ed25519);
     assert_eq!(rt; key.body().len(), 32);
+    Ok(())
+}
+
+#[test]
+fn types_have_numbers_and_lengths(rt: HostRuntime) -> Result<(), Fail> {
+    for (number, kind) in [
+        (0, KeyType::Rsa),
+        (2, KeyType::Secp256k1),
+        (3, KeyType::Ecdsa),
+    ] {
+        let key = key_of(&rt, &[0x08, number, 0x12, 0x01], 7, 1)?;
+        assert_eq!(rt; key.kind(), kind, "number {number}");
+        assert!(rt;
+            PublicKey::new(kind, Vec::new(rt.alloc())).is_none(),
+            "number {number}"
+        );
+        assert!(rt;
+            PublicKey::new(kind, vec![in rt.alloc(); 0; 4096]?).is_some(),
+            "number {number}"
+        );
+        assert!(rt;
+            PublicKey::new(kind, vec![in rt.alloc(); 0; 4097]?).is_none(),
+            "number {number}"
+        );
+    }
     Ok(())
 }
 
@@ -157,6 +183,10 @@ fn faults_of_texts(rt: HostRuntime) {
         ),
         ("bAFZBEI", IdFault::NotBase32),
         ("bafz1eiaa", IdFault::NotBase32),
+        (
+            "baaaaaaaaaaaaaaaaaaaaaaaaaaaaaaaaaaaaaaaaaaaaaaaaaaaaaaaaaaaaaaaaaaaaaaaaaaaa",
+            IdFault::BadLength,
+        ),
         ("ba", IdFault::BadLength),
         ("bafzbeiaa=", IdFault::NotBase32),
         ("baa", IdFault::BadPrefix),

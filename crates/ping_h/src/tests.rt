@@ -105,6 +105,7 @@ fn a_ping_that_comes_back_is_finished(rt: HostRuntime) -> Result<(), Fail> {
         assert!(rt; out.closed() && !out.finished());
         assert!(rt; out.end().is_ok());
         assert!(rt; out.finished());
+        assert_eq!(rt; out.give(64)?.len(), 0);
     }
     Ok(())
 }

@@ -108,6 +108,23 @@ fn faults_however_the_input_is_cut(rt: HostRuntime) -> Result<(), Fail> {
 }
 
 #[test]
+fn a_message_of_8192_bytes_may_come(rt: HostRuntime) -> Result<(), Fail> {
+    let mut exchange = fresh(&rt)?;
+    assert_eq!(rt; came(&mut exchange, b"\x80\x40", 1), Ok((2, false)));
+    Ok(())
+}
+
+#[test]
+fn the_last_id_counts(rt: HostRuntime) -> Result<(), Fail> {
+    let mut input = Vec::new(rt.alloc());
+    input.extend_from_slice(b"\x50\x0a\x00")?;
+    input.extend_from_slice(&MESSAGE[1..])?;
+    let mut exchange = fresh(&rt)?;
+    assert_eq!(rt; came(&mut exchange, &input, 7), Ok((81, true)));
+    Ok(())
+}
+
+#[test]
 fn hands_itself_back_before_the_proof(rt: HostRuntime) -> Result<(), Fail> {
     let mut exchange = fresh(&rt)?;
     assert_eq!(rt; came(&mut exchange, &MESSAGE[..78], 7), Ok((78, false)));

@@ -164,6 +164,25 @@ const DATA_BEHIND_THE_END: &[Step] = &[
     Credit(1, None),
 ];
 
+/// Behind the end of the other direction the owner still takes what came, and may reset.
+const TAKEN_AND_RESET_BEHIND_THE_END: &[Step] = &[
+    Fed(SYN_1, &[Told::Opened(1)], ACK_1),
+    Fed(ONE_BYTE, &[Told::Data(1, 97)], &[]),
+    Fed(FIN_1, &[Told::Ended(1)], &[]),
+    Acts(Act::Take(1, 1), Ok(0), &[]),
+    Acts(Act::Reset(1), Ok(0), RST_1),
+];
+
+/// The other end may go away with any code.
+const GONE_AWAY_WITH_A_CODE: &[Step] = &[
+    Fed(
+        &[0, 3, 0, 0, 0, 0, 0, 0, 255, 255, 255, 255],
+        &[Told::GoAway(4294967295)],
+        &[],
+    ),
+    Acts(Act::Start, Err(ActRefused::GoneAway), &[]),
+];
+
 const RESET_BEHIND_THE_END: &[Step] = &[
     Fed(SYN_1, &[Told::Opened(1)], ACK_1),
     Fed(FIN_1, &[Told::Ended(1)], &[]),
@@ -326,6 +345,14 @@ pub const SERVER: &[Row] = &[
     Row {
         name: "reset behind the end",
         steps: RESET_BEHIND_THE_END,
+    },
+    Row {
+        name: "taken and reset behind the end",
+        steps: TAKEN_AND_RESET_BEHIND_THE_END,
+    },
+    Row {
+        name: "gone away with a code",
+        steps: GONE_AWAY_WITH_A_CODE,
     },
     Row {
         name: "more than the window",

@@ -13,9 +13,13 @@ use Rattle.yamux_session.specs.Items.Item.{Came, Did}
 use Rattle.yamux_session.specs.Items.Act.{Start, Write, Take, Close, Reset, Leave}
 use Rattle.yamux_session.specs.Openings.{live, is_live}
 use Rattle.yamux_session.specs.Windows.{credit, receiving_window, untaken}
-use Rattle.yamux_session.specs.Acts.{IsPiece, open_credit, next_own, start_refusal, stream_refusal, direction_refusal}
+use Rattle.yamux_session.specs.Acts.{IsPiece, frames_length, open_credit, next_own, start_refusal, stream_refusal, direction_refusal}
 use Rattle.yamux_session.specs.Meaning.{events, output, inbound}
 use Rattle.yamux_session.specs.Meaning.Told.{Opened, Accepted, Data, Ended, WasReset, Credit, Left, Failed}
+use Rattle.std.specs.List.{AllByRecursion}
+use Rattle.yamux_session.specs.declared.event.Event.TheVariants as event
+use Rattle.yamux_session.specs.Seen.{IsQuiet}
+use Rattle.yamux_session.specs.Naming.{NamesOne}
 
 abbrev pub header : FrameKind → ℕ → ℕ → ℕ → Arrival
 header kind flags stream len = Head (record { kind = kind; flags = flags; stream = stream; length = len })
@@ -74,6 +78,7 @@ pub record OpeningRows : Type 0 where
   pub a_number_left : start_refusal Client (Did (Start 4294967293) ∷ []) ≡ None
   pub no_number_left : start_refusal Client (Did (Start 4294967295) ∷ []) ≡ Some refused.StreamsExhausted
   pub gone_away_first : start_refusal Client (in_order ((Did (Start 4294967295) ∷ []) ∷ bare GoAway 0 0 0 ∷ [])) ≡ Some refused.GoneAway
+  pub gone_away_with_a_code : start_refusal Client (bare GoAway 0 0 2) ≡ Some refused.GoneAway
   pub data_accepted : output Server (Came Tail ∷ Came (Byte 7) ∷ Came (header Payload 1 1 1) ∷ []) ≡ 0 ∷ 1 ∷ 0 ∷ 2 ∷ 0 ∷ 0 ∷ 0 ∷ 1 ∷ 0 ∷ 0 ∷ 0 ∷ 0 ∷ []
   pub payload_behind_leaving : events Server (in_order ((Did (Leave 0) ∷ []) ∷ (Came Tail ∷ Came (Byte 7) ∷ Came (header Payload 1 1 1) ∷ []) ∷ [])) ≡ []
   pub started_by_a_client : output Client (Did (Start 1) ∷ []) ≡ 0 ∷ 1 ∷ 0 ∷ 1 ∷ 0 ∷ 0 ∷ 0 ∷ 1 ∷ 0 ∷ 0 ∷ 0 ∷ 0 ∷ []
@@ -110,6 +115,7 @@ pub record EndingRows : Type 0 where
   pub finished_can_write : direction_refusal Server (in_order (bare Window 1 1 0 ∷ bare Window 4 1 0 ∷ [])) 1 ≡ None
   pub closed_is_live : is_live Server (Did (Close 1) ∷ bare Window 1 1 0) 1 ≡ true
   pub closed_can_be_reset : stream_refusal Server (Did (Close 1) ∷ bare Window 1 1 0) 1 ≡ None
+  pub finished_can_be_reset : stream_refusal Server (in_order (bare Window 1 1 0 ∷ bare Window 4 1 0 ∷ [])) 1 ≡ None
   pub reset_is_dead : is_live Server (in_order (bare Window 1 1 0 ∷ bare Window 8 1 0 ∷ [])) 1 ≡ false
   pub reset_of_one : live Server (in_order (bare Window 1 1 0 ∷ bare Window 1 3 0 ∷ bare Window 8 1 0 ∷ [])) ≡ 3 ∷ []
   pub unknown_refuses : direction_refusal Server [] 1 ≡ Some refused.NoStream
@@ -157,6 +163,11 @@ pub record WindowRows : Type 0 where
   pub window_of_the_first_data : receiving_window Server (Came (header Payload 1 1 2) ∷ []) 1 ≡ 262142
   pub window_given_back : receiving_window Server (Did (Take 1 131072) ∷ full_window) 1 ≡ 131072
   pub window_not_given_back : receiving_window Server (Did (Take 1 131071) ∷ full_window) 1 ≡ 0
+  pub given_back_above_half : output Server (Did (Take 1 131073) ∷ full_window)
+      ≡ output Server full_window ++ (0 ∷ 1 ∷ 0 ∷ 0 ∷ 0 ∷ 0 ∷ 0 ∷ 1 ∷ 0 ∷ 2 ∷ 0 ∷ 1 ∷ [])
+  pub no_frame : frames_length 0 ≡ 0
+  pub one_frame : frames_length 16384 ≡ 16396
+  pub two_frames : frames_length 16385 ≡ 16409
   pub not_taken_yet : untaken Server (Did (Take 1 1) ∷ two_bytes) 1 ≡ 1
   pub taken_of_another : untaken Server (Did (Take 3 1) ∷ two_bytes) 1 ≡ 2
   pub data_arrived : inbound Server two_bytes 1 ≡ 98 ∷ 99 ∷ []
@@ -173,6 +184,25 @@ pub record AnswerRows : Type 0 where
   pub no_header : events Server (Came (Garbled (1 ∷ [])) ∷ []) ≡ Failed BadFrame ∷ []
   pub accepted_with_credit : events Client (in_order ((Did (Start 1) ∷ []) ∷ bare Window 2 1 5 ∷ [])) ≡ Accepted 1 ∷ Credit 1 ∷ []
   pub accepted_with_data : events Client (in_order ((Did (Start 1) ∷ []) ∷ (Came Tail ∷ Came (Byte 7) ∷ Came (header Payload 2 1 1) ∷ []) ∷ [])) ≡ Accepted 1 ∷ Data 1 7 ∷ []
+  pub large_ping_answered : output Server (bare Ping 1 0 4294967295)
+      ≡ 0 ∷ 2 ∷ 0 ∷ 2 ∷ 0 ∷ 0 ∷ 0 ∷ 0 ∷ 255 ∷ 255 ∷ 255 ∷ 255 ∷ []
+  pub gone_away_with_a_large_code : events Server (bare GoAway 0 0 4294967295) ≡ Left 4294967295 ∷ []
+  pub quiet : AllByRecursion (IsQuiet 1)
+      (Accepted 1 ∷ Ended 1 ∷ WasReset 1 ∷ Left 0 ∷ Opened 3 ∷ Data 3 7 ∷ Credit 3 ∷ [])
+  pub no_second_opening : NamesOne (event.Accepted 1 ∷ event.Opened 1 ∷ []) → ⊥
+  pub wrong_parity_behind_leaving :
+      events Client (in_order ((Did (Leave 0) ∷ []) ∷ (Came (header Window 1 1 0) ∷ []) ∷ []))
+      ≡ Failed WrongParity ∷ []
+  pub twice_behind_leaving :
+      events Server (in_order (bare Window 1 1 0 ∷ (Did (Leave 0) ∷ []) ∷ (Came (header Window 1 1 0) ∷ []) ∷ []))
+      ≡ Opened 1 ∷ Failed DuplicateStream ∷ []
+  pub reset_with_data :
+      events Server (in_order (bare Window 1 1 0 ∷ (Came Tail ∷ Came (Byte 7) ∷ Came (header Payload 8 1 1) ∷ []) ∷ []))
+      ≡ Opened 1 ∷ Data 1 7 ∷ WasReset 1 ∷ []
+  pub accepted_behind_the_close :
+      events Client (in_order ((Did (Start 1) ∷ []) ∷ (Did (Close 1) ∷ []) ∷ bare Window 2 1 0 ∷ []))
+      ≡ Accepted 1 ∷ []
+  pub ping_with_ack_answered : output Server (bare Ping 3 0 7) ≡ 0 ∷ 2 ∷ 0 ∷ 2 ∷ 0 ∷ 0 ∷ 0 ∷ 0 ∷ 0 ∷ 0 ∷ 0 ∷ 7 ∷ []
   pub gone_away_unanswered : output Server (bare GoAway 1 0 0) ≡ []
   pub leaving_sent : output Server (Did (Leave 258) ∷ []) ≡ 0 ∷ 3 ∷ 0 ∷ 0 ∷ 0 ∷ 0 ∷ 0 ∷ 0 ∷ 0 ∷ 0 ∷ 1 ∷ 2 ∷ []
   pub no_header_goes_away : output Server (Came (Garbled (1 ∷ [])) ∷ []) ≡ 0 ∷ 3 ∷ 0 ∷ 0 ∷ 0 ∷ 0 ∷ 0 ∷ 0 ∷ 0 ∷ 0 ∷ 0 ∷ 1 ∷ []

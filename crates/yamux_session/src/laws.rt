@@ -1,6 +1,6 @@
 //! What holds of every history of a session.
 
-ghost use Rattle.yamux_session.specs.Limits.{LiveLimit, RoomForOwn, RoomForTheOther, UntakenLimit};
+ghost use Rattle.yamux_session.specs.Limits.{ExhaustedFirst, LiveLimit, RoomForOwn, RoomForTheOther, UntakenLimit};
 ghost use Rattle.yamux_session.specs.Acts.{OneRefusal};
 ghost use Rattle.yamux_session.specs.Received.{ReceivedData, SomeSince};
 ghost use Rattle.yamux_session.specs.Seen.{ActsDo, ActsMove, CreditIsTold, EventsTell};
@@ -27,6 +27,7 @@ pub fn live_limit()
 pub fn room_for_more()
     ensures the_other { RoomForTheOther }
     ensures own { RoomForOwn }
+    ensures exhausted { ExhaustedFirst }
 {}
 
 /// Of no stream more than a window has arrived and wasn't taken.

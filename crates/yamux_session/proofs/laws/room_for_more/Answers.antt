@@ -1,4 +1,4 @@
-use Rattle.yamux_session.proofs.Limits.{room_for_the_other, room_for_own}
+use Rattle.yamux_session.proofs.Limits.{room_for_the_other, room_for_own, exhausted_first}
 use Rattle.yamux_session.proofs.laws.room_for_more.Goals as goal
 
 pub returns-clause-the_other : goal.returns-clause-the_other
@@ -6,3 +6,6 @@ returns-clause-the_other c = room_for_the_other
 
 pub returns-clause-own : goal.returns-clause-own
 returns-clause-own c = room_for_own
+
+pub returns-clause-exhausted : goal.returns-clause-exhausted
+returns-clause-exhausted c = exhausted_first
