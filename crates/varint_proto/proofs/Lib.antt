@@ -10,3 +10,6 @@ pub mod Front
 pub mod Writing
 pub mod SomeReading
 pub mod Least
+pub mod Framed
+pub mod Arriving
+pub mod Rows

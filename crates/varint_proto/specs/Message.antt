@@ -47,7 +47,8 @@ SpellsContent bytes (Fixed32 four) = (bytes ≡ four) × (length four ≡ 4)
 
 -- A value stands at the front, and the rest follows it.
 abbrev pub BeginsContent : List ℕ → Content → List ℕ → Type 0
-BeginsContent bytes content rest = (spelling : List ℕ) × SpellsContent spelling content × (bytes ≡ spelling ++ rest)
+BeginsContent bytes content rest = (spelling : List ℕ) × SpellsContent spelling content
+    × (bytes ≡ spelling ++ rest)
 
 -- A field's tag is its number times 8 plus its wire type, and fits 32 bits.
 abbrev pub IsTag : ℕ → Type 0
@@ -82,7 +83,8 @@ IsShortOfLength bytes = (len : ℕ) × (rest : List ℕ) × BeginsWide bytes len
 -- What keeps the bytes behind a tag from beginning with a value of this wire type.
 abbrev pub ValueFault : ℕ → List ℕ → WireFault → Type 0
 ValueFault wire bytes TooLong = ((wire ≡ 0) ⊎ (wire ≡ 2)) × WideFault bytes TooLong
-ValueFault wire bytes Cut = (((wire ≡ 0) ⊎ (wire ≡ 2)) × WideFault bytes Cut) ⊎ ((wire ≡ 1) × (length bytes < 8))
+ValueFault wire bytes Cut = (((wire ≡ 0) ⊎ (wire ≡ 2)) × WideFault bytes Cut)
+    ⊎ ((wire ≡ 1) × (length bytes < 8))
     ⊎ ((wire ≡ 2) × IsShortOfLength bytes) ⊎ ((wire ≡ 5) × (length bytes < 4))
 ValueFault wire bytes BadWire = (wire ≢ 0) × (wire ≢ 1) × (wire ≢ 2) × (wire ≢ 5)
 ValueFault wire bytes BadNumber = ⊥
@@ -95,7 +97,8 @@ FaultAfterTag tag rest fault = IsTag tag × ValueFault (tag % 8) rest fault
 
 -- What keeps the bytes, of which there are some, from beginning with a field.
 abbrev pub FieldFault : List ℕ → WireFault → Type 0
-FieldFault bytes fault = ((0 < length bytes) × WideFault bytes fault) ⊎ ((tag : ℕ) × (rest : List ℕ) × BeginsWide bytes tag rest × FaultAfterTag tag rest fault)
+FieldFault bytes fault = ((0 < length bytes) × WideFault bytes fault)
+    ⊎ ((tag : ℕ) × (rest : List ℕ) × BeginsWide bytes tag rest × FaultAfterTag tag rest fault)
 
 -- The first field without a spelling has this fault.
 abbrev pub FaultIn : List ℕ → WireFault → Type 0
@@ -154,13 +157,17 @@ shortest_field f = shortest (8 * f.number + wire_type f.content) ++ shortest_con
 
 -- All bytes are a message or have a fault.
 abbrev pub SomeReading : Type 0
-SomeReading = (bytes : List ℕ) → ((fields : List Entry) × IsMessage bytes fields) ⊎ ((fault : WireFault) × FaultIn bytes fault)
+SomeReading = (bytes : List ℕ) → ((fields : List Entry) × IsMessage bytes fields)
+    ⊎ ((fault : WireFault) × FaultIn bytes fault)
 
 -- Bytes have one reading: one list of fields or one first fault, and not both.
 pub record OneReading : Type 0 where
-  pub message : (bytes : List ℕ) (fields others : List Entry) → IsMessage bytes fields → IsMessage bytes others → fields ≡ others
-  pub fault : (bytes : List ℕ) (fault other : WireFault) → FaultIn bytes fault → FaultIn bytes other → fault ≡ other
-  pub either : (bytes : List ℕ) (fields : List Entry) (fault : WireFault) → IsMessage bytes fields → ¬ FaultIn bytes fault
+  pub message : (bytes : List ℕ) (fields others : List Entry)
+      → IsMessage bytes fields → IsMessage bytes others → fields ≡ others
+  pub fault : (bytes : List ℕ) (fault other : WireFault)
+      → FaultIn bytes fault → FaultIn bytes other → fault ≡ other
+  pub either : (bytes : List ℕ) (fields : List Entry) (fault : WireFault)
+      → IsMessage bytes fields → ¬ FaultIn bytes fault
 
 -- ---- writing
 
@@ -177,4 +184,5 @@ IsWritable f = IsTag (8 * f.number + wire_type f.content) × FitsContent f.conte
 
 -- The shortest spellings of fields, joined, are read back as these fields.
 abbrev pub WrittenIsRead : Type 0
-WrittenIsRead = (fields : List Entry) → AllByRecursion IsWritable fields → IsMessage (flat_map shortest_field fields) fields
+WrittenIsRead = (fields : List Entry) → AllByRecursion IsWritable fields
+    → IsMessage (flat_map shortest_field fields) fields

@@ -81,27 +81,33 @@ BeginsShortest bytes n rest = (spelling : List ℕ) × SpellsShortest spelling n
 
 -- What is read stands at the front.
 abbrev pub Takes : Type 0
-Takes = (bytes : List ℕ) (n len : ℕ) → ReadsShortest bytes (Ok (Some (n, len))) → BeginsShortest bytes n (drop len bytes)
+Takes = (bytes : List ℕ) (n len : ℕ) → ReadsShortest bytes (Ok (Some (n, len)))
+    → BeginsShortest bytes n (drop len bytes)
 
 -- What stands at the front is read, whatever follows it.
 abbrev pub Again : Type 0
-Again = (spelling rest : List ℕ) (n : ℕ) → SpellsShortest spelling n → ReadsShortest (spelling ++ rest) (Ok (Some (n, length spelling)))
+Again = (spelling rest : List ℕ) (n : ℕ) → SpellsShortest spelling n
+    → ReadsShortest (spelling ++ rest) (Ok (Some (n, length spelling)))
 
 -- An outcome that asks for no more bytes stays when bytes are added.
 abbrev pub Stays : Type 0
-Stays = (bytes more : List ℕ) (outcome : Result (Option (ℕ × ℕ)) WireFault) → outcome ≢ Ok None → ReadsShortest bytes outcome → ReadsShortest (bytes ++ more) outcome
+Stays = (bytes more : List ℕ) (outcome : Result (Option (ℕ × ℕ)) WireFault)
+    → outcome ≢ Ok None → ReadsShortest bytes outcome → ReadsShortest (bytes ++ more) outcome
 
 -- The length of what is read lies within the bytes, and within nine, and the number is below 2 ^ 63.
 abbrev pub Inside : Type 0
-Inside = (bytes : List ℕ) (n len : ℕ) → ReadsShortest bytes (Ok (Some (n, len))) → (0 < len) × (len ≤ length bytes) × (len ≤ 9) × (n < 2 ^ 63)
+Inside = (bytes : List ℕ) (n len : ℕ) → ReadsShortest bytes (Ok (Some (n, len)))
+    → (0 < len) × (len ≤ length bytes) × (len ≤ 9) × (n < 2 ^ 63)
 
 -- A varint becomes whole at its last byte.
 abbrev pub EndsAt : Type 0
-EndsAt = (bytes : List ℕ) (b n len : ℕ) → ReadsShortest bytes (Ok None) → ReadsShortest (bytes ++ b ∷ []) (Ok (Some (n, len))) → len ≡ length bytes + 1
+EndsAt = (bytes : List ℕ) (b n len : ℕ) → ReadsShortest bytes (Ok None)
+    → ReadsShortest (bytes ++ b ∷ []) (Ok (Some (n, len))) → len ≡ length bytes + 1
 
 -- Reading has one outcome, and some outcome.
 abbrev pub OneOutcome : Type 0
-OneOutcome = (bytes : List ℕ) (r s : Result (Option (ℕ × ℕ)) WireFault) → ReadsShortest bytes r → ReadsShortest bytes s → r ≡ s
+OneOutcome = (bytes : List ℕ) (r s : Result (Option (ℕ × ℕ)) WireFault) → ReadsShortest bytes r
+    → ReadsShortest bytes s → r ≡ s
 
 abbrev pub SomeOutcome : Type 0
 SomeOutcome = (bytes : List ℕ) → (outcome : Result (Option (ℕ × ℕ)) WireFault) × ReadsShortest bytes outcome
@@ -110,7 +116,8 @@ SomeOutcome = (bytes : List ℕ) → (outcome : Result (Option (ℕ × ℕ)) Wir
 
 -- No spelling begins another: where two stand at the front of the same bytes, they are one.
 abbrev pub NoSpellingBeginsAnother : Type 0
-NoSpellingBeginsAnother = (a b x y : List ℕ) → IsSpelling a → IsSpelling b → a ++ x ≡ b ++ y → (a ≡ b) × (x ≡ y)
+NoSpellingBeginsAnother = (a b x y : List ℕ) → IsSpelling a → IsSpelling b → a ++ x ≡ b ++ y
+    → (a ≡ b) × (x ≡ y)
 
 -- `shortest n` is the multiformats spelling of n, where there is one, and a protobuf spelling of n.
 pub record ShortestSpells : Type 0 where
@@ -119,5 +126,6 @@ pub record ShortestSpells : Type 0 where
 
 -- It is the only multiformats spelling of n in bytes, and no protobuf spelling of n has fewer bytes.
 pub record NoneIsShorter : Type 0 where
-  pub multiformats : (bytes : List ℕ) (n : ℕ) → All (λ b. b < 256) bytes → SpellsShortest bytes n → bytes ≡ shortest n
+  pub multiformats : (bytes : List ℕ) (n : ℕ) → All (λ b. b < 256) bytes
+      → SpellsShortest bytes n → bytes ≡ shortest n
   pub protobuf : (bytes : List ℕ) (n : ℕ) → SpellsWide bytes n → length (shortest n) ≤ length bytes

@@ -2,6 +2,7 @@
 
 ghost use Rattle.std.specs.Prelude.{◌≡◌};
 ghost use Rattle.varint_proto.specs.declared.fault.VarintRefused.TheVariants.{OutOfMemory};
+ghost use Rattle.varint_proto.specs.declared.fault.IncomingRefused.TheVariants as incoming;
 
 use std::alloc::AllocError;
 use thiserror::Error;
@@ -35,6 +36,31 @@ pub enum VarintRefused {
     /// The vector could not grow.
     #[error("out of memory")]
     OutOfMemory,
+}
+
+/// Why a message that comes in is refused. `refused as u8` is its number.
+#[derive(Clone, Copy, Debug, PartialEq, Eq, Hash, Error)]
+pub enum IncomingRefused {
+    /// A call after a fault.
+    #[error("the message failed before")]
+    Failed = 1,
+    /// The length is no well spelt varint.
+    #[error("the length of the message is badly spelt")]
+    BadLength,
+    /// The length is above the limit.
+    #[error("the message is too long")]
+    TooLong,
+    /// Room for the body was refused.
+    #[error("out of memory")]
+    OutOfMemory,
+}
+
+impl From<AllocError> for IncomingRefused {
+    ghost from_gives = { λ _ e. e ≡ incoming.OutOfMemory };
+
+    fn from(_e: AllocError) -> IncomingRefused {
+        IncomingRefused::OutOfMemory
+    }
 }
 
 impl From<AllocError> for VarintRefused {

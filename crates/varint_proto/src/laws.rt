@@ -1,7 +1,20 @@
 //! Laws of varints and messages. Each is a function with an empty body, whose contract is the law.
 
-ghost use Rattle.varint_proto.specs.Varint.{NoSpellingBeginsAnother, ShortestSpells, NoneIsShorter, Takes, Again, Stays, Inside, EndsAt, OneOutcome, SomeOutcome};
+ghost use Rattle.varint_proto.specs.Varint.{NoSpellingBeginsAnother, ShortestSpells, NoneIsShorter, Takes, Again};
+ghost use Rattle.varint_proto.specs.Varint.{Stays, Inside, EndsAt, OneOutcome, SomeOutcome};
 ghost use Rattle.varint_proto.specs.Message.{OneReading, SomeReading, WrittenIsRead};
+ghost use Rattle.varint_proto.specs.Incoming.{OneFramed, SomeFramed, FramedStays, FramedEnds, FramedIsRead, StandsRead};
+ghost use Rattle.varint_proto.specs.Rows.{VarintRows, WideRows, FieldRows, FieldFaultRows, PickRows, FramedRows};
+
+/// The definitions say of worked bytes what the standards say.
+pub fn worked_rows()
+    ensures varints { VarintRows }
+    ensures wide { WideRows }
+    ensures fields { FieldRows }
+    ensures faults { FieldFaultRows }
+    ensures picks { PickRows }
+    ensures framed { FramedRows }
+{}
 
 /// No spelling of a varint begins another.
 pub fn no_spelling_begins_another()
@@ -66,4 +79,34 @@ pub fn one_reading()
 /// Written fields are read back.
 pub fn written_is_read()
     ensures { WrittenIsRead }
+{}
+
+/// Reading a message behind its length has one outcome.
+pub fn one_framed()
+    ensures { OneFramed }
+{}
+
+/// Reading a message behind its length has an outcome.
+pub fn some_framed()
+    ensures { SomeFramed }
+{}
+
+/// What is whole and what is refused of a message behind its length stays so when bytes are added.
+pub fn framed_stays()
+    ensures { FramedStays }
+{}
+
+/// A message becomes whole at its last byte.
+pub fn framed_ends()
+    ensures { FramedEnds }
+{}
+
+/// A body behind the shortest spelling of its length is read back.
+pub fn framed_is_read()
+    ensures { FramedIsRead }
+{}
+
+/// Where a message that comes in stands is what is read of its input.
+pub fn stands_read()
+    ensures { StandsRead }
 {}

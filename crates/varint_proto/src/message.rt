@@ -134,7 +134,8 @@ impl<'a> Fields<'a> {
         ensures err { OnErr result (self.new ≡ self.old) }
 
         // The field that stands at the front, and no other, and the fault that stands there.
-        ensures only_field { (f : Entry) (rest : List ℕ) → Begins self.old f rest → IsField result f × (self.new ≡ rest) }
+        ensures only_field { (f : Entry) (rest : List ℕ) → Begins self.old f rest
+            → IsField result f × (self.new ≡ rest) }
         ensures only_fault { (fault : WireFault) → FieldFault self.old fault → result ≡ Err fault }
     {
         if self.rest.is_empty() {
@@ -147,7 +148,7 @@ impl<'a> Fields<'a> {
 }
 
 /// Appends a piece for which there is room.
-fn append(out: &mut Vec<u8>, piece: &[u8])
+pub(crate) fn append(out: &mut Vec<u8>, piece: &[u8])
     requires { vec_len out.old + length piece.now ≤ vec_capacity out.old }
     ensures items { out.new.items ≡ out.old.items ++ piece.now }
     ensures room { vec_capacity out.old ≤ vec_capacity out.new }

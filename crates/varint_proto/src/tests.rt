@@ -129,6 +129,79 @@ fn faults_of_messages(rt: HostRuntime) -> Result<(), Fail> {
     Ok(())
 }
 
+/// What a message that comes in came to: the bytes used, and whether it is whole, or the fault.
+fn came(
+    incoming: &mut Incoming,
+    input: &[u8],
+    size: usize,
+) -> Result<(usize, bool), IncomingRefused> {
+    let mut used = 0usize;
+    let mut whole = false;
+    for piece in input.chunks(size.max(1)) {
+        let step = incoming.feed(piece)?;
+        used = used.saturating_add(step.0);
+        whole = step.1;
+    }
+    Ok((used, whole))
+}
+
+#[test]
+fn reads_messages_however_they_are_cut(rt: HostRuntime) -> Result<(), Fail> {
+    let rows: [(&[u8], Result<(usize, bool), IncomingRefused>, &[u8]); 8] = [
+        (b"\x03abcd", Ok((4, true)), b"abc"),
+        (b"\x03ab", Ok((3, false)), b"ab"),
+        (b"\x00a", Ok((1, true)), b""),
+        (b"\xac", Ok((1, false)), b""),
+        (b"", Ok((0, false)), b""),
+        (b"\x05abcde", Err(IncomingRefused::TooLong), b""),
+        (b"\x80\x00a", Err(IncomingRefused::BadLength), b""),
+        (&[0xff; 9], Err(IncomingRefused::BadLength), b""),
+    ];
+    for (row, (input, outcome, body)) in rows.iter().enumerate() {
+        for size in [1, 2, 1024] {
+            let mut incoming = Incoming::new(rt.alloc(), 4);
+            assert_eq!(rt;
+                came(&mut incoming, *input, size),
+                *outcome,
+                "row {row} in pieces of {size}"
+            );
+            assert_eq!(rt; incoming.body(), *body, "row {row} in pieces of {size}");
+            assert_eq!(rt;
+                incoming.is_whole(),
+                *outcome == Ok((1, true)) || *outcome == Ok((4, true)),
+                "row {row}"
+            );
+            if outcome.is_err() {
+                assert_eq!(rt;
+                    incoming.feed(b"a"),
+                    Err(IncomingRefused::Failed),
+                    "row {row}"
+                );
+            }
+        }
+    }
+    Ok(())
+}
+
+#[test]
+fn reads_one_message_after_another(rt: HostRuntime) {
+    let mut incoming = Incoming::new(rt.alloc(), 4);
+    assert!(rt; incoming.is_at_start());
+    assert_eq!(rt; incoming.feed(b"\x02ab\x03cde"), Ok((3, true)));
+    assert_eq!(rt; incoming.feed(b"\x03cde"), Ok((0, true)));
+    incoming.begin_next(3);
+    assert!(rt; incoming.is_at_start());
+    assert_eq!(rt; incoming.feed_length(b"\x03cde"), Ok(1));
+    assert_eq!(rt; incoming.announced(), Some(3));
+    assert!(rt; !incoming.is_at_start());
+    assert_eq!(rt; incoming.feed(b"cde"), Ok((3, true)));
+    assert_eq!(rt; incoming.body(), b"cde".as_slice());
+    incoming.begin_next(1);
+    assert_eq!(rt; incoming.feed(b"\x02"), Err(IncomingRefused::TooLong));
+    incoming.begin_next(4);
+    assert_eq!(rt; incoming.feed(b"\x01"), Err(IncomingRefused::Failed));
+}
+
 #[test]
 fn numbers_and_texts_of_faults_and_refusals(rt: HostRuntime) -> Result<(), Fail> {
     let faults = [
@@ -151,6 +224,22 @@ fn numbers_and_texts_of_faults_and_refusals(rt: HostRuntime) -> Result<(), Fail>
             "a number of 2^63 or more has no varint",
         ),
         (VarintRefused::OutOfMemory, "out of memory"),
+    ];
+    for (index, (refused, text)) in refusals.iter().enumerate() {
+        assert_eq!(rt; *refused as usize, index + 1);
+        assert_eq!(rt; format!(in rt.alloc(); "{refused}")?.as_str(), *text);
+        for (place, (other, _)) in refusals.iter().enumerate() {
+            assert_eq!(rt; refused == other, index == place);
+        }
+    }
+    let refusals = [
+        (IncomingRefused::Failed, "the message failed before"),
+        (
+            IncomingRefused::BadLength,
+            "the length of the message is badly spelt",
+        ),
+        (IncomingRefused::TooLong, "the message is too long"),
+        (IncomingRefused::OutOfMemory, "out of memory"),
     ];
     for (index, (refused, text)) in refusals.iter().enumerate() {
         assert_eq!(rt; *refused as usize, index + 1);

@@ -15,7 +15,8 @@ fn last_place(bytes: &[u8], limit: usize) -> Option<usize>
 
 /// Splits the bytes behind the first byte without the top bit, where that is one of the first `limit`.
 fn split_spelling(bytes: &[u8], limit: usize) -> Option<(&[u8], &[u8])>
-    ensures found { IfSome result (λ parts. IsSpelling parts.0.now × (length parts.0.now ≤ limit) × (bytes.now ≡ parts.0.now ++ parts.1.now)) }
+    ensures found { IfSome result (λ parts. IsSpelling parts.0.now × (length parts.0.now ≤ limit)
+        × (bytes.now ≡ parts.0.now ++ parts.1.now)) }
     ensures none { IfNone result (IsUnended (take limit bytes.now)) }
 {
     let last = last_place(bytes, limit)?;
@@ -103,7 +104,8 @@ fn shortest_in(bytes: &[u8]) -> Result<Option<(u64, usize)>, WireFault>
 /// Reads the multiformats varint at the front, and gives its length too. `None` asks for more bytes.
 pub fn read_varint(bytes: &[u8]) -> Result<Option<(u64, usize)>, WireFault>
     ensures reads { ReadsShortest bytes.now result }
-    ensures only { (other : Result (Option (ℕ × ℕ)) WireFault) → ReadsShortest bytes.now other → result ≡ other }
+    ensures only { (other : Result (Option (ℕ × ℕ)) WireFault) → ReadsShortest bytes.now other
+        → result ≡ other }
 {
     shortest_in(bytes)
 }

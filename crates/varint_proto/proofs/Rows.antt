@@ -1,0 +1,117 @@
+-- The definitions at worked bytes.
+use Rattle.std.proofs.Common.{ℕ, ◌+◌, ◌^◌, ◌<◌, ◌≤◌, List, [], ◌∷◌, ◌++◌, replicate, refl, inl, inr, arith}
+use Rattle.std.proofs.lemmas.List.{length-replicate}
+use Rattle.varint_proto.specs.declared.fault.WireFault.TheVariants.{TooLong, NotShortest}
+use Rattle.varint_proto.specs.Varint.{IsUnended, BeginsWide, BeginsShortest, shortest, shortest_within}
+use Rattle.varint_proto.specs.Message.{entry, Varint}
+use Rattle.varint_proto.specs.Rows.{VarintRows, WideRows, FieldRows, FieldFaultRows, FramedRows}
+
+pub varint_rows : VarintRows
+unfolding shortest shortest_within
+varint_rows = record {
+  low_group_first = (omega arith, record { ends = (omega arith, omega arith); within = omega arith; shortest = λ _. omega arith; value = refl });
+  zero = (omega arith, record { ends = omega arith; within = omega arith; shortest = λ h. absurd (omega arith); value = refl });
+  one_byte = (omega arith, record { ends = omega arith; within = omega arith; shortest = λ h. absurd (omega arith); value = refl });
+  largest = (omega arith, record { ends = (omega arith, (omega arith, (omega arith, (omega arith, (omega arith, (omega arith, (omega arith, (omega arith, omega arith)))))))); within = omega arith; shortest = λ _. omega arith; value = refl });
+  nothing = (tt, omega arith);
+  cut = ((omega arith, (omega arith, (omega arith, (omega arith, (omega arith, (omega arith, (omega arith, (omega arith, tt)))))))), omega arith);
+  nine_unended = ((omega arith, (omega arith, (omega arith, (omega arith, (omega arith, (omega arith, (omega arith, (omega arith, (omega arith, tt))))))))), omega arith);
+  not_shortest = (2, omega arith, record { ends = (omega arith, omega arith); within = omega arith; several = omega arith; zero = refl });
+  written = refl;
+  largest_written = refl;
+}
+
+nine_unended : (b : ℕ) → 128 ≤ b → IsUnended (replicate 9 b)
+nine_unended b le = (le, (le, (le, (le, (le, (le, (le, (le, (le, tt)))))))))
+
+pub wide_rows : WideRows
+wide_rows = record {
+  longer_than_needed = (129 ∷ 0 ∷ [], record { ends = (omega arith, omega arith); within = omega arith; fits = omega arith; value = refl }, refl);
+  largest = (
+    replicate 9 255 ++ 1 ∷ [],
+    record { ends = (omega arith, (omega arith, (omega arith, (omega arith, (omega arith, (omega arith, (omega arith, (omega arith, (omega arith, omega arith))))))))); within = omega arith; fits = omega arith; value = refl },
+    refl,
+  );
+  cut = (nine_unended 128 (omega arith), omega arith);
+  above_1_in_the_tenth = (nine_unended 128 (omega arith), omega arith, omega arith);
+  ten_unended = (nine_unended 128 (omega arith), omega arith, omega arith);
+}
+
+one_byte : (n : ℕ) (rest : List ℕ) → n < 128 → BeginsWide (n ∷ rest) n rest
+one_byte n rest lt = (n ∷ [], record { ends = lt; within = omega arith; fits = omega arith; value = omega arith }, refl)
+
+pub field_rows : FieldRows
+unfolding shortest shortest_within
+field_rows = record {
+  varint = (8 ∷ 129 ∷ 0 ∷ [], record { value = 129 ∷ 0 ∷ []; fits = (omega arith, omega arith); tag = one_byte 8 _ (omega arith); content = record { ends = (omega arith, omega arith); within = omega arith; fits = omega arith; value = refl } }, refl);
+  eight = (17 ∷ 1 ∷ 2 ∷ 3 ∷ 4 ∷ 5 ∷ 6 ∷ 7 ∷ 8 ∷ [], record { value = 1 ∷ 2 ∷ 3 ∷ 4 ∷ 5 ∷ 6 ∷ 7 ∷ 8 ∷ []; fits = (omega arith, omega arith); tag = one_byte 17 _ (omega arith); content = (refl, refl) }, refl);
+  body = (26 ∷ 2 ∷ 255 ∷ 254 ∷ [], record { value = 2 ∷ 255 ∷ 254 ∷ []; fits = (omega arith, omega arith); tag = one_byte 26 _ (omega arith); content = one_byte 2 _ (omega arith) }, refl);
+  four = (37 ∷ 9 ∷ 8 ∷ 7 ∷ 6 ∷ [], record { value = 9 ∷ 8 ∷ 7 ∷ 6 ∷ []; fits = (omega arith, omega arith); tag = one_byte 37 _ (omega arith); content = (refl, refl) }, refl);
+  largest_tag = (
+    253 ∷ 255 ∷ 255 ∷ 255 ∷ 15 ∷ 9 ∷ 8 ∷ 7 ∷ 6 ∷ [],
+    record { value = 9 ∷ 8 ∷ 7 ∷ 6 ∷ []; fits = (omega arith, omega arith); tag = (253 ∷ 255 ∷ 255 ∷ 255 ∷ 15 ∷ [], record { ends = (omega arith, (omega arith, (omega arith, (omega arith, omega arith)))); within = omega arith; fits = omega arith; value = refl }, refl); content = (refl, refl) },
+    refl,
+  );
+  two_fields = (
+    18 ∷ 0 ∷ [],
+    (8 ∷ 1 ∷ [], record { value = 1 ∷ []; fits = (omega arith, omega arith); tag = one_byte 8 _ (omega arith); content = record { ends = omega arith; within = omega arith; fits = omega arith; value = refl } }, refl),
+    ([], (18 ∷ 0 ∷ [], record { value = 0 ∷ []; fits = (omega arith, omega arith); tag = one_byte 18 _ (omega arith); content = one_byte 0 _ (omega arith) }, refl), refl),
+  );
+  none = refl;
+  number_written = refl;
+  body_written = refl;
+}
+
+pub fault_rows : FieldFaultRows
+fault_rows = record {
+  tag_cut = inl (omega arith, ((omega arith, tt), omega arith));
+  tag_too_long = inl (omega arith, (nine_unended 128 (omega arith), omega arith, omega arith));
+  number_0 = inr (7, [], one_byte 7 _ (omega arith), inl (omega arith));
+  tag_of_33_bits = inr (
+    2 ^ 32,
+    [],
+    (128 ∷ 128 ∷ 128 ∷ 128 ∷ 16 ∷ [], record { ends = (omega arith, (omega arith, (omega arith, (omega arith, omega arith)))); within = omega arith; fits = omega arith; value = refl }, refl),
+    inr (omega arith),
+  );
+  number_before_a_group = inr (
+    2 ^ 32 + 3,
+    [],
+    (131 ∷ 128 ∷ 128 ∷ 128 ∷ 16 ∷ [], record { ends = (omega arith, (omega arith, (omega arith, (omega arith, omega arith)))); within = omega arith; fits = omega arith; value = refl }, refl),
+    inr (omega arith),
+  );
+  group = inr (11, [], one_byte 11 _ (omega arith), ((omega arith, omega arith), (omega arith, omega arith, omega arith, omega arith)));
+  varint_cut = inr (8, 128 ∷ [], one_byte 8 _ (omega arith), ((omega arith, omega arith), inl (inl refl, ((omega arith, tt), omega arith))));
+  varint_too_long = inr (8, replicate 10 128, one_byte 8 _ (omega arith), ((omega arith, omega arith), (inl refl, (nine_unended 128 (omega arith), omega arith, omega arith))));
+  eight_cut = inr (9, replicate 7 1, one_byte 9 _ (omega arith), ((omega arith, omega arith), inr (inl (refl, omega arith))));
+  length_cut = inr (18, 128 ∷ [], one_byte 18 _ (omega arith), ((omega arith, omega arith), inl (inr refl, ((omega arith, tt), omega arith))));
+  length_too_long = inr (18, replicate 10 128, one_byte 18 _ (omega arith), ((omega arith, omega arith), (inr refl, (nine_unended 128 (omega arith), omega arith, omega arith))));
+  body_cut = inr (18, 2 ∷ 0 ∷ [], one_byte 18 _ (omega arith), ((omega arith, omega arith), inr (inr (inl (refl, (2, 0 ∷ [], one_byte 2 _ (omega arith), omega arith))))));
+  four_cut = inr (13, replicate 3 1, one_byte 13 _ (omega arith), ((omega arith, omega arith), inr (inr (inr (refl, omega arith)))));
+  behind_a_field = (
+    entry 1 (Varint 1) ∷ [],
+    11 ∷ [],
+    (11 ∷ [], (8 ∷ 1 ∷ [], record { value = 1 ∷ []; fits = (omega arith, omega arith); tag = one_byte 8 _ (omega arith); content = record { ends = omega arith; within = omega arith; fits = omega arith; value = refl } }, refl), refl),
+    inr (11, [], one_byte 11 _ (omega arith), ((omega arith, omega arith), (omega arith, omega arith, omega arith, omega arith))),
+  );
+}
+
+-- a length of one byte
+short_length : (n : ℕ) (rest : List ℕ) → n < 128 → BeginsShortest (n ∷ rest) n rest
+short_length n rest lt = (n ∷ [], record { ends = lt; within = omega arith; shortest = λ h. absurd (omega arith); value = omega arith }, refl)
+
+three_hundred : (rest : List ℕ) → BeginsShortest (172 ∷ 2 ∷ rest) 300 rest
+three_hundred rest = (172 ∷ 2 ∷ [], record { ends = (omega arith, omega arith); within = omega arith; shortest = λ _. omega arith; value = refl }, refl)
+
+pub framed_rows : FramedRows
+framed_rows = record {
+  empty = record { begins = short_length 0 _ (omega arith); allowed = omega arith };
+  longest = record { begins = short_length 2 _ (omega arith); allowed = omega arith };
+  one_too_long = (3, [], short_length 3 _ (omega arith), omega arith);
+  not_shortest = (NotShortest, (2, omega arith, record { ends = (omega arith, omega arith); within = omega arith; several = omega arith; zero = refl }));
+  nine_unended = (TooLong, (nine_unended 255 (omega arith), omega arith));
+  nothing = inl (tt, omega arith);
+  cut_in_the_length = inl ((omega arith, tt), omega arith);
+  cut_in_the_body = inr (300, replicate 299 7, record { begins = three_hundred _; allowed = omega arith }, omega (arith, length-replicate {A = ℕ} 299 7));
+  asks = (300, record { begins = three_hundred _; allowed = omega arith }, omega arith);
+  room_is_there = λ asks. omega (arith, asks.1.allowed, asks.2);
+}

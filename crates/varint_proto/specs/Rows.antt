@@ -1,0 +1,89 @@
+-- Worked rows of the definitions (multiformats unsigned-varint; Protocol Buffers, "Encoding").
+use Rattle.std.specs.Prelude.{◌≡◌, ◌-◌, ◌^◌, List, [], ◌∷◌, ◌++◌, replicate, Some, None, Ok, Err}
+use Rattle.varint_proto.specs.declared.fault.WireFault.TheVariants.{TooLong, NotShortest, Cut, BadNumber, BadWire}
+use Rattle.varint_proto.specs.declared.fault.IncomingRefused.TheVariants as incoming
+use Rattle.varint_proto.specs.Varint.{ReadsShortest, BeginsWide, WideFault, shortest}
+use Rattle.varint_proto.specs.Message.{Entry, entry, Varint, Fixed64, Bytes, Fixed32, Begins, FieldFault, IsMessage}
+use Rattle.varint_proto.specs.Message.{FaultIn, all_varints, all_bodies, last_varint, last_body, shortest_field}
+use Rattle.varint_proto.specs.Incoming.{ReadsFramed, AsksMemory}
+
+-- Varints of multiformats
+pub record VarintRows : Type 0 where
+  pub low_group_first : ReadsShortest (172 ∷ 2 ∷ 9 ∷ []) (Ok (Some (300, 2)))
+  pub zero : ReadsShortest (0 ∷ 1 ∷ []) (Ok (Some (0, 1)))
+  pub one_byte : ReadsShortest (127 ∷ 128 ∷ []) (Ok (Some (127, 1)))
+  pub largest : ReadsShortest (replicate 8 255 ++ 127 ∷ []) (Ok (Some (2 ^ 63 - 1, 9)))
+  pub nothing : ReadsShortest [] (Ok None)
+  pub cut : ReadsShortest (replicate 8 128) (Ok None)
+  pub nine_unended : ReadsShortest (replicate 9 128) (Err TooLong)
+  pub not_shortest : ReadsShortest (128 ∷ 0 ∷ 1 ∷ []) (Err NotShortest)
+  pub written : shortest 300 ≡ 172 ∷ 2 ∷ []
+  pub largest_written : shortest (2 ^ 64 - 1) ≡ replicate 9 255 ++ 1 ∷ []
+
+-- Varints of protobuf
+pub record WideRows : Type 0 where
+  pub longer_than_needed : BeginsWide (129 ∷ 0 ∷ 7 ∷ []) 1 (7 ∷ [])
+  pub largest : BeginsWide (replicate 9 255 ++ 1 ∷ []) (2 ^ 64 - 1) []
+  pub cut : WideFault (replicate 9 128) Cut
+  pub above_1_in_the_tenth : WideFault (replicate 9 128 ++ 2 ∷ []) TooLong
+  pub ten_unended : WideFault (replicate 10 128) TooLong
+
+-- Fields of each wire type
+pub record FieldRows : Type 0 where
+  pub varint : Begins (8 ∷ 129 ∷ 0 ∷ 7 ∷ []) (entry 1 (Varint 1)) (7 ∷ [])
+  pub eight : Begins (17 ∷ 1 ∷ 2 ∷ 3 ∷ 4 ∷ 5 ∷ 6 ∷ 7 ∷ 8 ∷ 9 ∷ [])
+      (entry 2 (Fixed64 (1 ∷ 2 ∷ 3 ∷ 4 ∷ 5 ∷ 6 ∷ 7 ∷ 8 ∷ []))) (9 ∷ [])
+  pub body : Begins (26 ∷ 2 ∷ 255 ∷ 254 ∷ 7 ∷ []) (entry 3 (Bytes (255 ∷ 254 ∷ []))) (7 ∷ [])
+  pub four : Begins (37 ∷ 9 ∷ 8 ∷ 7 ∷ 6 ∷ 5 ∷ []) (entry 4 (Fixed32 (9 ∷ 8 ∷ 7 ∷ 6 ∷ [])))
+      (5 ∷ [])
+  pub largest_tag : Begins (253 ∷ 255 ∷ 255 ∷ 255 ∷ 15 ∷ 9 ∷ 8 ∷ 7 ∷ 6 ∷ [])
+      (entry 536870911 (Fixed32 (9 ∷ 8 ∷ 7 ∷ 6 ∷ []))) []
+  pub two_fields : IsMessage (8 ∷ 1 ∷ 18 ∷ 0 ∷ []) (entry 1 (Varint 1) ∷ entry 2 (Bytes []) ∷ [])
+  pub none : IsMessage [] []
+  pub number_written : shortest_field (entry 1 (Varint 300)) ≡ 8 ∷ 172 ∷ 2 ∷ []
+  pub body_written : shortest_field (entry 2 (Bytes (97 ∷ 98 ∷ []))) ≡ 18 ∷ 2 ∷ 97 ∷ 98 ∷ []
+
+-- What keeps bytes from beginning with a field
+pub record FieldFaultRows : Type 0 where
+  pub tag_cut : FieldFault (136 ∷ []) Cut
+  pub tag_too_long : FieldFault (replicate 10 128) TooLong
+  pub number_0 : FieldFault (7 ∷ []) BadNumber
+  pub tag_of_33_bits : FieldFault (128 ∷ 128 ∷ 128 ∷ 128 ∷ 16 ∷ []) BadNumber
+  pub number_before_a_group : FieldFault (131 ∷ 128 ∷ 128 ∷ 128 ∷ 16 ∷ []) BadNumber
+  pub group : FieldFault (11 ∷ []) BadWire
+  pub varint_cut : FieldFault (8 ∷ 128 ∷ []) Cut
+  pub varint_too_long : FieldFault (8 ∷ replicate 10 128) TooLong
+  pub eight_cut : FieldFault (9 ∷ replicate 7 1) Cut
+  pub length_cut : FieldFault (18 ∷ 128 ∷ []) Cut
+  pub length_too_long : FieldFault (18 ∷ replicate 10 128) TooLong
+  pub body_cut : FieldFault (18 ∷ 2 ∷ 0 ∷ []) Cut
+  pub four_cut : FieldFault (13 ∷ replicate 3 1) Cut
+  pub behind_a_field : FaultIn (8 ∷ 1 ∷ 11 ∷ []) BadWire
+
+-- fields of two numbers and two kinds
+abbrev pub some_fields : List Entry
+some_fields =
+    entry 1 (Varint 5) ∷ entry 2 (Varint 6) ∷ entry 1 (Bytes (7 ∷ [])) ∷ entry 1 (Varint 8) ∷ entry 2
+    (Bytes (9 ∷ []))
+    ∷ entry 1 (Bytes []) ∷ entry 1 (Fixed32 (1 ∷ 2 ∷ 3 ∷ 4 ∷ [])) ∷ []
+
+-- A number of another kind isn't picked.
+pub record PickRows : Type 0 where
+  pub varints : all_varints 1 some_fields ≡ 5 ∷ 8 ∷ []
+  pub bodies : all_bodies 1 some_fields ≡ (7 ∷ []) ∷ [] ∷ []
+  pub last : last_varint 1 some_fields ≡ Some 8
+  pub last_of_bodies : last_body 1 some_fields ≡ Some []
+  pub no_last : last_body 3 some_fields ≡ None
+
+-- Messages behind their length
+pub record FramedRows : Type 0 where
+  pub empty : ReadsFramed 0 (0 ∷ 9 ∷ []) (Ok (Some ([], 9 ∷ [])))
+  pub longest : ReadsFramed 2 (2 ∷ 7 ∷ 8 ∷ 9 ∷ []) (Ok (Some (7 ∷ 8 ∷ [], 9 ∷ [])))
+  pub one_too_long : ReadsFramed 2 (3 ∷ []) (Err incoming.TooLong)
+  pub not_shortest : ReadsFramed 2 (128 ∷ 0 ∷ []) (Err incoming.BadLength)
+  pub nine_unended : ReadsFramed 2 (replicate 9 255) (Err incoming.BadLength)
+  pub nothing : ReadsFramed 2 [] (Ok None)
+  pub cut_in_the_length : ReadsFramed 300 (172 ∷ []) (Ok None)
+  pub cut_in_the_body : ReadsFramed 300 (172 ∷ 2 ∷ replicate 299 7) (Ok None)
+  pub asks : AsksMemory 300 299 (172 ∷ 2 ∷ [])
+  pub room_is_there : ¬ AsksMemory 300 300 (172 ∷ 2 ∷ [])
