@@ -1,5 +1,5 @@
 -- A talk that is decided is decided by the bytes that it used; a fault and a decision stay when bytes are added.
-use Rattle.std.proofs.Common.{◌≡◌, ◌≢◌, ℕ, zero, suc, ◌+◌, List, [], ◌∷◌, ◌++◌, length, take, refl, sym, ap, ◌∙◌, subst, append_assoc, add-one, arith}
+use Rattle.std.proofs.Common.{◌≡◌, ℕ, zero, suc, ◌+◌, List, [], ◌∷◌, ◌++◌, length, take, refl, sym, ap, ◌∙◌, subst, append_assoc, add-one, arith}
 use Rattle.std.specs.Prelude.{Result, Ok, Err}
 use Rattle.std.proofs.lemmas.List.{append-nil}
 use Rattle.varint_proto.proofs.Lists.{used_front, no_rest}
@@ -9,32 +9,24 @@ use Rattle.ms_select.specs.declared.fault.SelectFault.{SelectFault}
 use Rattle.ms_select.specs.Messages.{message, spelled, header}
 use Rattle.ms_select.specs.Listening.{Listens}
 use Rattle.ms_select.specs.Dialing.{Dials, refused, proposals}
-use Rattle.ms_select.specs.Laws.{DecisionStays, FaultStays, NothingBehind, AnswersAsDefined, AskedAll}
-use Rattle.ms_select.proofs.ListenSteps.{stands, agreed_stays}
-use Rattle.ms_select.proofs.ListenSteps as listen
-use Rattle.ms_select.proofs.DialSteps.{dials, dial_fault_stays, agreed_dial_stays, none_left_stays}
+use Rattle.ms_select.specs.declared.verdict.Role.TheVariants.{Dialer, Listener}
+use Rattle.ms_select.specs.Sides.{AnswersAsDefined}
+use Rattle.ms_select.specs.Laws.{DecisionStays, FaultStays, NothingBehind, AskedAll}
+use Rattle.ms_select.proofs.Staying.{fault_stays as refused_stays, decision_stays as stays}
+use Rattle.ms_select.proofs.Feeding.{comes}
 
 -- ---- what follows changes nothing
 
-listener_stays : (names : List (List ℕ)) (input more : List ℕ) (answer : Answer) (used : ℕ) (output : List ℕ) → answer ≢ Going
-    → Listens names input (Ok answer) used output → Listens names (input ++ more) (Ok answer) used output
-listener_stays names input more Going used output decided l = absurd (decided refl)
-listener_stays names input more (Agreed index) used output decided l = agreed_stays names input more output index used l
-listener_stays names input more NoneLeft used output decided l = absurd l
-
-dialer_stays : (names : List (List ℕ)) (input more : List ℕ) (answer : Answer) (used : ℕ) (output : List ℕ) → answer ≢ Going
-    → Dials names input (Ok answer) used output → Dials names (input ++ more) (Ok answer) used output
-dialer_stays names input more Going used output decided d = absurd (decided refl)
-dialer_stays names input more (Agreed index) used output decided d = agreed_dial_stays names input more output index used d
-dialer_stays names input more NoneLeft used output decided d = none_left_stays names input more output used d
-
 pub decision_stays : DecisionStays
-decision_stays = record { listener = listener_stays; dialer = dialer_stays }
+decision_stays = record {
+  listener = λ names input more answer used output decided l. stays Listener names input more output answer used decided l;
+  dialer = λ names input more answer used output decided d. stays Dialer names input more output answer used decided d;
+}
 
 pub fault_stays : FaultStays
 fault_stays = record {
-  listener = λ names input more fault used output l. listen.fault_stays names input more output fault used l;
-  dialer = λ names input more fault used output d. dial_fault_stays names input more output fault used d;
+  listener = λ names input more fault used output l. refused_stays Listener names input more output fault used l;
+  dialer = λ names input more fault used output d. refused_stays Dialer names input more output fault used d;
 }
 
 -- ---- what was used decides
@@ -74,7 +66,7 @@ nothing_behind = record { listener = listener_cut; dialer = dialer_cut }
 -- ---- standings
 
 pub answers_as_defined : AnswersAsDefined
-answers_as_defined = record { listener = stands; dialer = dials }
+answers_as_defined x input used taken answer e s = comes x input used taken answer e s
 
 -- ---- one name
 

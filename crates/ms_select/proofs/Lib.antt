@@ -1,8 +1,14 @@
 pub mod Lists
 pub mod OneSpelling
 pub mod Reading
-pub mod ListenSteps
-pub mod DialSteps
 pub mod Readings
-pub mod SomeTalk
+pub mod Texts
+pub mod Framing
+pub mod Judging
+pub mod Hearing
+pub mod Staying
+pub mod Feeding
+pub mod Fresh
 pub mod Cut
+pub mod SomeTalk
+pub mod Rows

@@ -1,5 +1,5 @@
 -- What is missing of lists, tests and results.
-use Rattle.std.proofs.Common.{◌≡◌, ℕ, ◌+◌, ◌<◌, Bool, true, false, cond, List, [], ◌∷◌, ◌++◌, length, map, get_or, Some, option_map, refl, ap, sym, ◌∙◌, ◌⊎◌, inl, inr, length-append, arith}
+use Rattle.std.proofs.Common.{◌≡◌, ℕ, ◌+◌, ◌<◌, Bool, true, false, cond, List, [], ◌∷◌, length, map, get_or, Some, option_map, refl, ap, sym, ◌∙◌, ◌⊎◌, inl, inr}
 use Rattle.std.specs.Prelude.{slice_get}
 use mathlib.Core.Bool.{not}
 use Rattle.std.specs.List.{position, position_or_len}
@@ -17,25 +17,6 @@ position_map f p xs = rw (position_or_len_map f p xs, length-map) refl
 pub chosen : {A : Type 0} (b : Bool) (x y z : A) → cond b x y ≡ z → ((b ≡ true) × (x ≡ z)) ⊎ ((b ≡ false) × (y ≡ z))
 chosen true x y z e = inl (refl, e)
 chosen false x y z e = inr (refl, e)
-
--- a list is empty or ends with an item
-pub data Ends {A : Type 0} (xs : List A) : Type 0 where
-  empty : xs ≡ [] → Ends xs
-  last : (front : List A) (x : A) → xs ≡ front ++ x ∷ [] → Ends xs
-
-pub ends : {A : Type 0} (xs : List A) → Ends xs
-ends [] = empty refl
-ends (x ∷ xs) = elim (ends xs) [ empty e ↦ last [] x (ap (λ ys. x ∷ ys) e) | last front y e ↦ last (x ∷ front) y (ap (λ ys. x ∷ ys) e) ]
-
--- Of two lists that end with an item each, the fronts are the same.
-pub same_fronts : {A : Type 0} (xs ys : List A) (x y : A) → xs ++ x ∷ [] ≡ ys ++ y ∷ [] → xs ≡ ys
-same_fronts [] [] x y e = refl
-same_fronts [] (b ∷ ys) x y e = absurd (omega (arith, ap length e, length-append ys (y ∷ [])))
-same_fronts (a ∷ xs) [] x y e = absurd (omega (arith, ap length e, length-append xs (x ∷ [])))
-same_fronts (a ∷ xs) (b ∷ ys) x y e =
-    let tails : xs ++ x ∷ [] ≡ ys ++ y ∷ [] = cc in
-    let same = same_fronts xs ys x y tails in
-    cc
 
 -- an element of a list that a function went over
 pub get_map : {X Y : Type 0} (f : X → Y) (xs : List X) (i : ℕ) (x : X) (y : Y) → i < length xs → x ≡ get_or xs i x → y ≡ f x → slice_get (map f xs) i ≡ Some y

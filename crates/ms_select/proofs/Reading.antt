@@ -1,7 +1,7 @@
 -- The message at the front: it has one reading, which stays when bytes are added, and what is spelt is read.
 use Rattle.std.proofs.Common.{◌≡◌, ◌≢◌, ℕ, ◌+◌, ◌-◌, ◌<◌, ◌≤◌, cond, eqb, ltb, List, [], ◌∷◌, ◌++◌, length, take, drop, get_or, Option, Some, None, Result, Ok, Err, refl, ap, sym, subst, ◌∙◌, ◌⊎◌, inl, inr, append_assoc, arith}
 use Rattle.std.proofs.lemmas.Bool.{cases_lt, cases_eq, lt-ltb, le-ltb, ne_eqb, eq-eqb}
-use Rattle.std.proofs.lemmas.List.{length-append, length-take, length-drop, take-append-drop, take_at, take_all, get_or_append_left, append-nil, get_or-append_right, take_more}
+use Rattle.std.proofs.lemmas.List.{length-append, length-take, take-append-drop, take_at, get_or_append_left, get_or-append_right, take_more}
 use Rattle.varint_proto.specs.declared.fault.WireFault.{WireFault}
 use Rattle.varint_proto.specs.Varint.{BeginsShortest, ReadsShortest, shortest}
 use Rattle.varint_proto.proofs.Front.{takes, again, stays, some_outcome}
@@ -10,7 +10,6 @@ use Rattle.varint_proto.proofs.Shortest.{spells_shortest}
 use Rattle.ms_select.specs.declared.fault.SelectFault.{SelectFault}
 use Rattle.ms_select.specs.declared.fault.SelectFault.TheVariants.{Failed, BadLength, NoNewline, BadHeader, NotProposed, OutOfMemory}
 use Rattle.ms_select.specs.Messages.{message, IsLength, IsShort, IsMessage, ReadsMessage, OneMessage, SomeMessage}
-use Rattle.ms_select.proofs.Lists.{empty, last, ends, same_fronts}
 use Rattle.ms_select.proofs.OneSpelling.{number_leads}
 
 abbrev pub Read : Type 0
@@ -186,23 +185,3 @@ message_stays bytes more (Err Failed) h some = absurd h
 message_stays bytes more (Err BadHeader) h some = absurd h
 message_stays bytes more (Err NotProposed) h some = absurd h
 message_stays bytes more (Err OutOfMemory) h some = absurd h
-
--- A message that becomes whole by a byte ends with it.
-pub whole_by : (held text : List ℕ) (byte : ℕ) → ReadsMessage (held ++ byte ∷ []) (Ok (Some text)) → ReadsMessage held (Ok None) → (held ++ byte ∷ [] ≡ message text) × IsShort text
-whole_by held text byte fits partial =
-    elim (ends fits.0) [
-      | empty none ↦ (fits.1.parts ∙ ap (λ (r : List ℕ). message text ++ r) none ∙ append-nil (message text), fits.1.short)
-      | last front z e ↦
-          let both : held ++ byte ∷ [] ≡ (message text ++ front) ++ z ∷ [] = fits.1.parts ∙ ap (λ (r : List ℕ). message text ++ r) e ∙ sym (append_assoc (message text) front (z ∷ [])) in
-          let before : held ≡ message text ++ front = same_fronts held (message text ++ front) byte z both in
-          let early : no_text ≡ some_text text = one_message held no_text (some_text text) partial (front, record { parts = before; short = fits.1.short }) in
-          absurd cc
-    ]
-
--- nothing has come of the next message
-pub nothing : ReadsMessage [] (Ok None)
-nothing = inl (tt, omega arith)
-
--- the slice from a place to the end
-pub rest_is : (bytes : List ℕ) (size : ℕ) → take (length bytes - size) (drop size bytes) ≡ drop size bytes
-rest_is bytes size = take_all (length bytes - size) (drop size bytes) (omega (arith, length-drop size bytes))

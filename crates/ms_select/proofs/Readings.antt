@@ -139,7 +139,7 @@ some_standing a = Some a
 along : {A B C : Type 0} (P : A → B → C → Type 0) {a a' : A} {b b' : B} {c c' : C} → a ≡ a' → b ≡ b' → c ≡ c' → P a b c → P a' b' c'
 along P {a} {a'} {b} {b'} {c} {c'} p q r x = subst (λ z. P a' b' z) r (subst (λ y. P a' y c) q (subst (λ w. P w b c) p x))
 
-not_true : (b : Bool) → (b ≡ true → ⊥) → b ≡ false
+pub not_true : (b : Bool) → (b ≡ true → ⊥) → b ≡ false
 not_true true h = absurd (h refl)
 not_true false h = refl
 

@@ -16,8 +16,8 @@ use Rattle.ms_select.specs.Messages.{header, na, message, spelled, IsShort, Read
 use Rattle.ms_select.specs.Listening.{choice, Heard, refusals, Listens, SomeListener}
 use Rattle.ms_select.specs.Dialing.{Answered, refused, proposals, Dials, SomeDialer}
 use Rattle.ms_select.proofs.Reading.{Read, IsBytes, some_message}
-use Rattle.ms_select.proofs.ListenSteps.{spelled_more, undecided_more, any_refused}
-use Rattle.ms_select.proofs.DialSteps.{refusals_push, refused_push, any_not_answer}
+use Rattle.ms_select.proofs.Texts.{spelled_more, undecided_more, refusals_push, refused_push}
+use Rattle.ms_select.proofs.Judging.{any_refused, any_not_answer}
 
 -- what stands behind a message
 behind_message : (text rest : List ℕ) → length rest < length (message text ++ rest)

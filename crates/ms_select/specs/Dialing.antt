@@ -1,13 +1,13 @@
 -- The dialer's side of a talk.
 -- Source: multistream-select 1.0, "Protocol Negotiation"; the order of refusals is this project's profile.
-use Rattle.std.specs.Prelude.{◌≡◌, ◌≢◌, ◌⊎◌, ℕ, ◌+◌, ◌<◌, Bool, List, [], ◌∷◌, ◌++◌, length, drop, take, slice_get, slice_index, Option, Some, None, Result, Ok, Err}
+use Rattle.std.specs.Prelude.{◌≡◌, ◌≢◌, ◌⊎◌, ℕ, ◌+◌, ◌<◌, List, [], ◌∷◌, ◌++◌, length, drop, take, slice_get}
+use Rattle.std.specs.Prelude.{slice_index, Option, Some, None, Result, Ok, Err}
 use Rattle.std.specs.List.{All}
 use Rattle.ms_select.specs.declared.answer.Answer.{Answer}
 use Rattle.ms_select.specs.declared.answer.Answer.TheVariants.{Going, Agreed, NoneLeft}
 use Rattle.ms_select.specs.declared.fault.SelectFault.{SelectFault}
 use Rattle.ms_select.specs.declared.fault.SelectFault.TheVariants.{BadHeader, NotProposed}
 use Rattle.ms_select.specs.Messages.{header, na, message, spelled, IsShort, ReadsMessage}
-use Rattle.ms_select.specs.Listening.{is_begun, HasRoom}
 
 -- texts that agree on nothing: the header, and then na
 abbrev pub IsRefusals : List (List ℕ) → Type 0
@@ -30,7 +30,9 @@ proposals (name ∷ names) count = spelled (header ∷ take (count + 1) (name �
 
 -- the message at the front of the rest is refused
 abbrev pub IsNotAnswer : List (List ℕ) → List (List ℕ) → List ℕ → SelectFault → Type 0
-IsNotAnswer names [] rest fault = ReadsMessage rest (Err fault) ⊎ ((text : List ℕ) × ReadsMessage rest (Ok (Some text)) × (text ≢ header) × (fault ≡ BadHeader))
+IsNotAnswer names [] rest fault =
+    ReadsMessage rest (Err fault)
+    ⊎ ((text : List ℕ) × ReadsMessage rest (Ok (Some text)) × (text ≢ header) × (fault ≡ BadHeader))
 IsNotAnswer names (first ∷ answers) rest fault =
     ReadsMessage rest (Err fault) ⊎ ((text : List ℕ) × ReadsMessage rest (Ok (Some text)) × (text ≢ na)
     × (slice_get names (length answers) ≢ Some text) × (fault ≡ NotProposed))
@@ -39,66 +41,24 @@ IsNotAnswer names (first ∷ answers) rest fault =
 abbrev pub Dials : List (List ℕ) → List ℕ → Result Answer SelectFault → ℕ → List ℕ → Type 0
 -- a message isn't whole, and nothing is decided
 Dials names input (Ok Going) used output =
-    (texts : List (List ℕ)) × (rest : List ℕ) × Answered input texts rest × (refused texts < length names) × ReadsMessage rest (Ok None)
-    × (used ≡ length input) × (output ≡ proposals names (refused texts))
+    (texts : List (List ℕ)) × (rest : List ℕ) × Answered input texts rest × (refused texts < length names)
+    × ReadsMessage rest (Ok None) × (used ≡ length input) × (output ≡ proposals names (refused texts))
 -- the standing proposal is echoed
 Dials names input (Ok (Agreed index)) used output =
-    (answers : List (List ℕ)) × (name : List ℕ) × (after : List ℕ) × Answered input (header ∷ answers) (message name ++ after)
-    × IsShort name × (length answers ≡ index) × (slice_get names index ≡ Some name) × (name ≢ na)
+    (answers : List (List ℕ)) × (name : List ℕ) × (after : List ℕ)
+    × Answered input (header ∷ answers) (message name ++ after) × IsShort name × (length answers ≡ index)
+    × (slice_get names index ≡ Some name) × (name ≢ na)
     × (used + length after ≡ length input) × (output ≡ proposals names index)
 -- each name got na
 Dials names input (Ok NoneLeft) used output =
-    (texts : List (List ℕ)) × (after : List ℕ) × Answered input texts after × (refused texts ≡ length names) × (names ≡ [] → texts ≡ [])
-    × (used + length after ≡ length input) × (output ≡ proposals names (length names))
+    (texts : List (List ℕ)) × (after : List ℕ) × Answered input texts after × (refused texts ≡ length names)
+    × (names ≡ [] → texts ≡ []) × (used + length after ≡ length input) × (output ≡ proposals names (length names))
 Dials names input (Err fault) used output =
     (texts : List (List ℕ)) × (rest : List ℕ) × Answered input texts rest × (refused texts < length names)
     × IsNotAnswer names texts rest fault × (used ≡ length input) × (output ≡ proposals names (refused texts))
 
--- by this input nothing is refused and nothing is decided
-abbrev pub IsUndecided : List (List ℕ) → List ℕ → Type 0
-IsUndecided names input = (used : ℕ) × (output : List ℕ) × Dials names input (Ok Going) used output
-
--- ---- what a dialer is to its callers
-
-pub record Dialing : Type 0 where
-  pub names : List (List ℕ)
-  -- the header has come
-  pub begun : Bool
-  -- how many names got na
-  pub refusals : ℕ
-  -- of a message that isn't whole
-  pub held : List ℕ
-  -- None after a fault
-  pub answer : Option Answer
-  -- written, and not yet taken
-  pub pending : List ℕ
-
--- what a dialer that nothing decided has read
-pub record Awaits (dial : Dialing) (input taken : List ℕ) (texts : List (List ℕ)) : Type 0 where
-  pub answered : Answered input texts dial.held
-  pub partial : ReadsMessage dial.held (Ok None)
-  pub begun : dial.begun ≡ is_begun texts
-  pub count : dial.refusals ≡ refused texts
-  pub below : dial.refusals < length dial.names
-  pub written : taken ++ dial.pending ≡ proposals dial.names dial.refusals
-
-abbrev pub IsDialAt : Option Answer → Dialing → List ℕ → ℕ → List ℕ → Type 0
-IsDialAt None dial input used taken = Unit {0}
-IsDialAt (Some Going) dial input used taken = (texts : List (List ℕ)) × Awaits dial input taken texts × (used ≡ length input)
-IsDialAt (Some (Agreed index)) dial input used taken = Dials dial.names input (Ok (Agreed index)) used (taken ++ dial.pending)
-IsDialAt (Some NoneLeft) dial input used taken = Dials dial.names input (Ok NoneLeft) used (taken ++ dial.pending)
-
--- The talk is what a dialer comes to by this whole input, of which it has used so many bytes, where `taken` is what was taken of its output.
-abbrev pub Pursues : Dialing → List ℕ → ℕ → List ℕ → Type 0
-Pursues dial input used taken = IsDialAt dial.answer dial input used taken
-
--- what the fields of a dialer keep
-pub record AreDialed (names : List (List ℕ)) (refusals : ℕ) (answer : Option Answer) (len capacity : ℕ) : Type 0 where
-  pub short : All IsShort names
-  pub going : answer ≡ Some Going → refusals < length names
-  pub room : HasRoom answer len capacity
-
--- An end with this dialer may send more than the dialer wrote: once it has agreed, and with one name also before the answer.
+-- An end with this dialer may send more than the dialer wrote: once it has agreed, and with one name also before the
+-- answer.
 abbrev pub MaySend : List (List ℕ) → Option Answer → Type 0
 MaySend names (Some (Agreed index)) = Unit {0}
 MaySend names (Some Going) = length names ≡ 1

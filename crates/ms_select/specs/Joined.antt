@@ -12,7 +12,8 @@ abbrev pub ServesMore : Result Answer SelectFault → Type 0
 ServesMore standing = (index : ℕ) × (standing ≡ Ok (Agreed index))
 
 -- What a listener's end has written that stands here: its side of the talk, and what it may write behind it.
-pub record Serves (names : List (List ℕ)) (input : List ℕ) (standing : Result Answer SelectFault) (written : List ℕ) : Type 0 where
+pub record Serves (names : List (List ℕ)) (input : List ℕ) (standing : Result Answer SelectFault) (written : List ℕ)
+    : Type 0 where
   pub used : ℕ
   pub talk : List ℕ
   pub more : List ℕ
@@ -25,7 +26,8 @@ abbrev pub CallsMore : List (List ℕ) → Result Answer SelectFault → Type 0
 CallsMore names standing = (length names ≡ 1) ⊎ ((index : ℕ) × (standing ≡ Ok (Agreed index)))
 
 -- What a dialer's end has written that stands here: its side of the talk, and what it may write behind it.
-pub record Calls (names : List (List ℕ)) (input : List ℕ) (standing : Result Answer SelectFault) (written : List ℕ) : Type 0 where
+pub record Calls (names : List (List ℕ)) (input : List ℕ) (standing : Result Answer SelectFault) (written : List ℕ)
+    : Type 0 where
   pub used : ℕ
   pub talk : List ℕ
   pub more : List ℕ
@@ -34,7 +36,8 @@ pub record Calls (names : List (List ℕ)) (input : List ℕ) (standing : Result
   pub silent : ¬ CallsMore names standing → more ≡ []
 
 -- At one place of two joined ends the input of each is a front of what the other has written.
-pub record Joined (dialed served : List (List ℕ)) (to_dialer to_listener : List ℕ) (dialer listener : Result Answer SelectFault) : Type 0 where
+pub record Joined (dialed served : List (List ℕ)) (to_dialer to_listener : List ℕ)
+    (dialer listener : Result Answer SelectFault) : Type 0 where
   pub from_dialer : List ℕ
   pub from_listener : List ℕ
   pub calls : Calls dialed to_dialer dialer from_dialer
@@ -47,5 +50,6 @@ pub record Joined (dialed served : List (List ℕ)) (to_dialer to_listener : Lis
 -- Two ends that both agree in one talk name the same protocol.
 abbrev pub OneName : Type 0
 OneName =
-    (dialed served : List (List ℕ)) (to_dialer to_listener : List ℕ) (i j : ℕ) → Joined dialed served to_dialer to_listener (Ok (Agreed i)) (Ok (Agreed j))
+    (dialed served : List (List ℕ)) (to_dialer to_listener : List ℕ) (i j : ℕ)
+    → Joined dialed served to_dialer to_listener (Ok (Agreed i)) (Ok (Agreed j))
     → (name : List ℕ) × (slice_get dialed i ≡ Some name) × (slice_get served j ≡ Some name)

@@ -1,6 +1,7 @@
 -- The listener's side of a talk.
 -- Source: multistream-select 1.0, "Protocol Negotiation"; the order of refusals is this project's profile.
-use Rattle.std.specs.Prelude.{◌≡◌, ◌≢◌, ◌⊎◌, ℕ, ◌+◌, ◌<◌, Bool, true, false, ◌||◌, if◌then◌else◌, List, [], ◌∷◌, ◌++◌, length, drop, map, slice_index, Option, Some, None, Result, Ok, Err}
+use Rattle.std.specs.Prelude.{◌≡◌, ◌≢◌, ◌⊎◌, ℕ, ◌+◌, ◌<◌, Bool, ◌||◌, if◌then◌else◌, List, [], ◌∷◌, ◌++◌, length, drop}
+use Rattle.std.specs.Prelude.{map, slice_index, Option, Some, None, Result, Ok, Err}
 use Rattle.std.specs.List.{position, All}
 use Rattle.std.specs.Str.{bytes_eq}
 use Rattle.ms_select.specs.declared.answer.Answer.{Answer}
@@ -39,64 +40,26 @@ refusals texts = spelled (header ∷ map (λ _. na) (drop 1 texts))
 -- the message at the front of the rest is refused
 abbrev pub IsRefused : List (List ℕ) → List ℕ → SelectFault → Type 0
 IsRefused (first ∷ proposals) rest fault = ReadsMessage rest (Err fault)
-IsRefused [] rest fault = ReadsMessage rest (Err fault) ⊎ ((text : List ℕ) × ReadsMessage rest (Ok (Some text)) × (text ≢ header) × (fault ≡ BadHeader))
+IsRefused [] rest fault =
+    ReadsMessage rest (Err fault)
+    ⊎ ((text : List ℕ) × ReadsMessage rest (Ok (Some text)) × (text ≢ header) × (fault ≡ BadHeader))
 
 -- A listener of these names, told this whole input, stands here, has used so many bytes of it, and has written this.
 abbrev pub Listens : List (List ℕ) → List ℕ → Result Answer SelectFault → ℕ → List ℕ → Type 0
 -- a message isn't whole, and nothing is decided
 Listens names input (Ok Going) used output =
-    (texts : List (List ℕ)) × (rest : List ℕ) × Heard names input texts rest × ReadsMessage rest (Ok None) × (used ≡ length input) × (output ≡ refusals texts)
+    (texts : List (List ℕ)) × (rest : List ℕ) × Heard names input texts rest × ReadsMessage rest (Ok None)
+    × (used ≡ length input) × (output ≡ refusals texts)
 -- a proposal is supported, and the output ends with its echo
 Listens names input (Ok (Agreed index)) used output =
-    (proposals : List (List ℕ)) × (name : List ℕ) × (after : List ℕ) × Heard names input (header ∷ proposals) (message name ++ after) × IsShort name
-    × (choice names name ≡ Some index)
+    (proposals : List (List ℕ)) × (name : List ℕ) × (after : List ℕ)
+    × Heard names input (header ∷ proposals) (message name ++ after) × IsShort name × (choice names name ≡ Some index)
     × (used + length after ≡ length input) × (output ≡ refusals (header ∷ proposals) ++ message name)
 -- a listener never gives up
 Listens names input (Ok NoneLeft) used output = ⊥
 Listens names input (Err fault) used output =
-    (texts : List (List ℕ)) × (rest : List ℕ) × Heard names input texts rest × IsRefused texts rest fault × (used ≡ length input) × (output ≡ refusals texts)
-
--- a listener of these names comes to no fault by this input
-abbrev pub ListensWell : List (List ℕ) → List ℕ → Type 0
-ListensWell names input = (answer : Answer) × (used : ℕ) × (output : List ℕ) × Listens names input (Ok answer) used output
-
--- ---- what a listener is to its callers
-
-pub record Listening : Type 0 where
-  pub names : List (List ℕ)
-  -- the header has come
-  pub begun : Bool
-  -- of a message that isn't whole
-  pub held : List ℕ
-  -- None after a fault
-  pub answer : Option Answer
-  -- written, and not yet taken
-  pub pending : List ℕ
-
-abbrev pub is_begun : List (List ℕ) → Bool
-is_begun [] = false
-is_begun (text ∷ texts) = true
-
--- what a listener that nothing decided has read
-pub record Waits (talk : Listening) (input taken : List ℕ) (texts : List (List ℕ)) : Type 0 where
-  pub heard : Heard talk.names input texts talk.held
-  pub partial : ReadsMessage talk.held (Ok None)
-  pub begun : talk.begun ≡ is_begun texts
-  pub written : taken ++ talk.pending ≡ refusals texts
-
-abbrev pub IsAt : Option Answer → Listening → List ℕ → ℕ → List ℕ → Type 0
-IsAt None talk input used taken = Unit {0}
-IsAt (Some Going) talk input used taken = (texts : List (List ℕ)) × Waits talk input taken texts × (used ≡ length input)
-IsAt (Some (Agreed index)) talk input used taken = Listens talk.names input (Ok (Agreed index)) used (taken ++ talk.pending)
-IsAt (Some NoneLeft) talk input used taken = ⊥
-
--- The talk is what a listener comes to by this whole input, of which it has used so many bytes, where `taken` is what was taken of its output.
-abbrev pub Follows : Listening → List ℕ → ℕ → List ℕ → Type 0
-Follows talk input used taken = IsAt talk.answer talk input used taken
-
--- While nothing is decided there is room for one byte more.
-abbrev pub HasRoom : Option Answer → ℕ → ℕ → Type 0
-HasRoom answer len capacity = answer ≡ Some Going → len < capacity
+    (texts : List (List ℕ)) × (rest : List ℕ) × Heard names input texts rest × IsRefused texts rest fault
+    × (used ≡ length input) × (output ≡ refusals texts)
 
 -- ---- one outcome
 

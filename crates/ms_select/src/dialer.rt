@@ -1,68 +1,65 @@
 //! The side that asks.
 
-ghost use Rattle.std.specs.Prelude.{◌≡◌, ◌≢◌, ◌⊎◌, ◌↔◌, ◌==◌, if◌then◌else◌, ◌≤◌, ◌<◌, ◌+◌, ℕ, List, [], ◌∷◌, ◌++◌, length, take, map, Some, None, Ok, Err, IsTrue, IfOk, IfErr, OnOk, OnErr};
+ghost use Rattle.std.specs.Prelude.{◌≡◌, ◌≢◌, ◌⊎◌, ◌↔◌, ◌==◌, if◌then◌else◌, ◌≤◌, ◌<◌, ◌+◌, ℕ, List, [], ◌++◌, length};
+ghost use Rattle.std.specs.Prelude.{map};
+ghost use Rattle.std.specs.Prelude.{Some, None, Ok, Err, IsTrue, IfOk, IfErr, OnOk, OnErr};
 ghost use Rattle.std.specs.List.{All};
 ghost use Rattle.ms_select.specs.Messages.{header, message};
 ghost use Rattle.ms_select.specs.Listening.{IsName};
-ghost use Rattle.ms_select.specs.Dialing.{Dials, IsUndecided, Pursues, MaySend};
+ghost use Rattle.ms_select.specs.Dialing.{Dials, MaySend};
+ghost use Rattle.ms_select.specs.Sides.{Stands, Whenever, RunsOut};
 ghost use Rattle.ms_select.specs.declared.answer.Answer.{Answer};
+ghost use Rattle.ms_select.specs.declared.verdict.Role.TheVariants as role;
 
 use crate::answer::{Answer, Step};
 use crate::fault::SelectFault;
-use crate::message::{HEADER, HEADER_MESSAGE, NA, encoded, read_message};
+use crate::message::HEADER;
 use crate::names::{checked_names, name_at};
+use crate::output::Output;
+use crate::side::Side;
+use crate::verdict::Role;
 use std::alloc::Global;
 use std::marker::Model;
-use std::mem;
-
-/// Room for the first bytes of the other end.
-const FIRST_ROOM: usize = 32;
 
 /// The header and a proposal.
-fn first_proposal(alloc: Global, name: &[u8]) -> Result<Vec<u8>, SelectFault>
+fn first_output(alloc: Global, name: &[u8]) -> Result<Output, SelectFault>
     requires { length name.now < 1024 }
-    ensures ok { IfOk result (λ output. output.items ≡ 19 ∷ header ++ 10 ∷ message name.now) }
+    ensures ok { IfOk result (λ output. output.pending ≡ message header ++ message name.now) }
     ensures fault { IfErr result (λ fault. fault ≡ SelectFault.OutOfMemory) }
 {
-    let mut output = Vec::from_slice(alloc, HEADER_MESSAGE)?;
-    let proposal = encoded(alloc, name)?;
-    output.extend_from_slice(&proposal)?;
+    let mut output = Output::new(alloc);
+    output.append_message(HEADER)?;
+    output.append_message(name)?;
     Ok(output)
 }
 
-/// The dialer of a negotiation: it sends the header and its first name together, and one further name after each refusal.
+/// The dialer of a negotiation: it sends the header and its first name together, and one further name after each
+/// refusal.
 #[derive(Debug, Drop)]
 pub struct Dialer {
-    names: Vec<String>,
-    /// Whether the other end's header has come.
-    begun: bool,
-    /// How many names were refused.
-    refusals: usize,
-    /// Of a message that isn't whole. While nothing is decided there is room for a byte more.
-    held: Vec<u8>,
-    answer: Option<Answer>,
-    output: Vec<u8>,
-    alloc: Global,
+    pub(crate) side: Side,
 }
 
 impl Model for Dialer {
-    ghost use Rattle.std.specs.Prelude.{map, string_bytes, vec_len, vec_capacity};
-    ghost use Rattle.ms_select.specs.Dialing.{Dialing, AreDialed};
+    ghost use Rattle.ms_select.specs.Sides.{Negotiating};
+    ghost use Rattle.std.specs.Prelude.{◌≡◌};
+    ghost use Rattle.ms_select.specs.declared.verdict.Role.TheVariants as roles;
 
-    ghost Value = { Dialing };
+    ghost Value = { Negotiating };
 
-    ghost view = { λ a. record { names = map string_bytes a.names.items; begun = a.begun; refusals = a.refusals; held = a.held.items; answer = a.answer; pending = a.output.items } };
+    ghost view = { λ a. a.side };
 
-    ghost invariant = { λ a. AreDialed (map string_bytes a.names.items) a.refusals a.answer (vec_len a.held) (vec_capacity a.held) };
+    ghost invariant = { λ a. a.side.role ≡ roles.Dialer };
 }
 
 impl Dialer {
-    /// A dialer of these names, the first of which it likes best. It has written the header and that name. Without names it is at
-    /// `NoneLeft` and writes nothing.
+    /// A dialer of these names, the first of which it likes best. It has written the header and that name. Without
+    /// names it is at `NoneLeft` and writes nothing.
     pub fn new(alloc: Global, names: &[&str]) -> Result<Dialer, SelectFault>
         ensures names { IfOk result (λ dial. dial.names ≡ map (λ name. name.now) names.now) }
-        ensures answer { IfOk result (λ dial. dial.answer ≡ (if length names.now == 0 then Some Answer.NoneLeft else Some Answer.Going)) }
-        ensures fresh { IfOk result (λ dial. Pursues dial [] 0 []) }
+        ensures answer { IfOk result (λ dial.
+            dial.answer ≡ (if length names.now == 0 then Some Answer.NoneLeft else Some Answer.Going)) }
+        ensures fresh { IfOk result (λ dial. (dial.role ≡ role.Dialer) × Stands dial [] 0 []) }
         ensures bad_length { (result ≡ Err SelectFault.BadLength) ↔ ¬ All (λ name. IsName name.now) names.now }
         ensures checked { OnOk result (All (λ name. IsName name.now) names.now) }
         ensures fault { IfErr result (λ fault. (fault ≡ SelectFault.BadLength) ⊎ (fault ≡ SelectFault.OutOfMemory)) }
@@ -70,29 +67,24 @@ impl Dialer {
     {
         if names.is_empty() {
             return Ok(Dialer {
-                names: Vec::new(alloc),
-                begun: false,
-                refusals: 0,
-                held: Vec::new(alloc),
-                answer: Some(Answer::NoneLeft),
-                output: Vec::new(alloc),
-                alloc,
+                side: Side::new(
+                    alloc,
+                    Role::Dialer,
+                    Vec::new(alloc),
+                    Answer::NoneLeft,
+                    Output::new(alloc),
+                ),
             });
         }
         let names = checked_names(alloc, names)?;
-        let output = first_proposal(alloc, name_at(&names, 0))?;
+        let output = first_output(alloc, name_at(&names, 0))?;
         Ok(Dialer {
-            names,
-            begun: false,
-            refusals: 0,
-            held: Vec::with_capacity(alloc, FIRST_ROOM)?,
-            answer: Some(Answer::Going),
-            output,
-            alloc,
+            side: Side::new(alloc, Role::Dialer, names, Answer::Going, output),
         })
     }
 
-    /// Takes the next piece of the input. Only the bytes up to the deciding message are used, and nothing behind it is read.
+    /// Takes the next piece of the input. Only the bytes up to the deciding message are used, and nothing behind it is
+    /// read.
     pub fn feed(&mut self, piece: &[u8]) -> Result<Step, SelectFault>
         ensures names { self.new.names ≡ self.old.names }
         // What is decided stands, and nothing more is used.
@@ -105,110 +97,42 @@ impl Dialer {
         ensures all_used { IfOk result (λ step. step.answer ≡ Answer.Going → step.used ≡ length piece.now) }
 
         // The answer, the bytes used and the output are those of the whole input so far, however it was cut.
-        ensures follows { (input : List ℕ) (used : ℕ) (taken : List ℕ) → Pursues self.old input used taken
-            → IfOk result (λ step. Pursues self.new (input ++ piece.now) (used + step.used) taken) }
-        ensures dials { (input : List ℕ) (used : ℕ) (taken : List ℕ) → Pursues self.old input used taken
-            → IfOk result (λ step. Dials self.old.names (input ++ piece.now) (Ok step.answer) (used + step.used) (taken ++ self.new.pending)) }
-        ensures fault { (input : List ℕ) (used : ℕ) (taken : List ℕ) → self.old.answer ≡ Some Answer.Going → Pursues self.old input used taken
-            → IfErr result (λ fault. fault ≢ SelectFault.OutOfMemory
-            → Dials self.old.names (input ++ piece.now) (Err fault) (length (input ++ piece.now)) (taken ++ self.new.pending)) }
-        // Where memory is refused a first part of the piece was heard and answered, and the byte behind it neither has a fault
-        // nor decides anything: want of memory hides no agreement.
-        ensures memory { (input : List ℕ) (used : ℕ) (taken : List ℕ) → self.old.answer ≡ Some Answer.Going → Pursues self.old input used taken
-            → result ≡ Err SelectFault.OutOfMemory
-            → (n : ℕ) × (n < length piece.now) × Dials self.old.names (input ++ take n piece.now) (Ok Answer.Going) (length (input ++ take n piece.now)) (taken ++ self.new.pending)
-            × IsUndecided self.old.names (input ++ take (n + 1) piece.now) }
+        ensures stands { (input : List ℕ) (used : ℕ) (taken : List ℕ) → Stands self.old input used taken
+            → IfOk result (λ step. Stands self.new (input ++ piece.now) (used + step.used) taken) }
+        ensures dials { Whenever self.old (λ input used taken. IfOk result (λ step.
+            Dials self.old.names (input ++ piece.now) (Ok step.answer) (used + step.used)
+            (taken ++ self.new.pending))) }
+        ensures fault { self.old.answer ≡ Some Answer.Going → Whenever self.old (λ input used taken.
+            IfErr result (λ fault. fault ≢ SelectFault.OutOfMemory
+            → Dials self.old.names (input ++ piece.now) (Err fault) (length (input ++ piece.now))
+            (taken ++ self.new.pending))) }
+        // Memory is refused nowhere but at the last byte of a length, which decides nothing.
+        ensures memory { self.old.answer ≡ Some Answer.Going → Whenever self.old (λ input used taken.
+            result ≡ Err SelectFault.OutOfMemory
+            → RunsOut role.Dialer self.old.names (taken ++ self.new.pending) input piece.now) }
     {
-        match self.answer {
-            None => return Err(SelectFault::Failed),
-            Some(Answer::Going) => {}
-            Some(answer) => return Ok(Step { used: 0, answer }),
-        }
-        for (index, byte) in piece.iter().enumerate() {
-            let answer = self.hear(*byte)?;
-            if answer != Answer::Going {
-                return Ok(Step {
-                    used: index + 1,
-                    answer,
-                });
-            }
-        }
-        Ok(Step {
-            used: piece.len(),
-            answer: Answer::Going,
-        })
-    }
-
-    /// Takes one byte of a talk that nothing has decided yet. Memory is asked for only behind a byte that has no fault and
-    /// decides nothing.
-    fn hear(&mut self, byte: u8) -> Result<Answer, SelectFault>
-        requires { self.old.answer ≡ Some Answer.Going }
-        ensures names { self.new.names ≡ self.old.names }
-        ensures answer { IfOk result (λ answer. self.new.answer ≡ Some answer) }
-        ensures fails { OnErr result (self.new.answer ≡ None) }
-        ensures follows { (input taken : List ℕ) → Pursues self.old input (length input) taken
-            → IfOk result (λ answer. Pursues self.new (input ++ byte ∷ []) (length (input ++ byte ∷ [])) taken) }
-        ensures fault { (input taken : List ℕ) → Pursues self.old input (length input) taken
-            → IfErr result (λ fault. fault ≢ SelectFault.OutOfMemory
-            → Dials self.old.names (input ++ byte ∷ []) (Err fault) (length (input ++ byte ∷ [])) (taken ++ self.new.pending)) }
-        ensures kept { result ≡ Err SelectFault.OutOfMemory → self.new.pending ≡ self.old.pending }
-        ensures memory { (input taken : List ℕ) → Pursues self.old input (length input) taken → result ≡ Err SelectFault.OutOfMemory
-            → IsUndecided self.old.names (input ++ byte ∷ []) }
-    {
-        self.answer = None;
-        self.held.push_reserved(byte);
-        let Some(text) = read_message(&self.held)? else {
-            self.held.reserve(1)?;
-            self.answer = Some(Answer::Going);
-            return Ok(Answer::Going);
-        };
-        if !self.begun {
-            if text != HEADER {
-                return Err(SelectFault::BadHeader);
-            }
-            self.begun = true;
-            self.held.clear();
-            self.answer = Some(Answer::Going);
-            return Ok(Answer::Going);
-        }
-        if text == NA {
-            let next = self.refusals + 1;
-            if next == self.names.len() {
-                self.answer = Some(Answer::NoneLeft);
-                return Ok(Answer::NoneLeft);
-            }
-            let proposal = encoded(self.alloc, name_at(&self.names, next))?;
-            self.output.extend_from_slice(&proposal)?;
-            self.refusals = next;
-            self.held.clear();
-            self.answer = Some(Answer::Going);
-            return Ok(Answer::Going);
-        }
-        if text != name_at(&self.names, self.refusals) {
-            return Err(SelectFault::NotProposed);
-        }
-        let index = self.refusals;
-        self.answer = Some(Answer::Agreed(index));
-        Ok(Answer::Agreed(index))
+        self.side.feed(piece)
     }
 
     /// The output that waits to be sent. Takes no memory.
     pub fn take_output(&mut self) -> Vec<u8>
         ensures output { result.items ≡ self.old.pending }
-        ensures kept { self.new ≡ record self.old { pending = [] } }
-        ensures follows { (input : List ℕ) (used : ℕ) (taken : List ℕ) → Pursues self.old input used taken → Pursues self.new input used (taken ++ result.items) }
+        ensures kept { self.new ≡ record self.old { pending = []; room = self.new.room } }
+        ensures room { self.old.room ≤ self.new.room }
+        ensures stands { (input : List ℕ) (used : ℕ) (taken : List ℕ) → Stands self.old input used taken
+            → Stands self.new input used (taken ++ result.items) }
     {
-        mem::replace(&mut self.output, Vec::new(self.alloc))
+        self.side.take_output()
     }
 
-    /// Whether an end may send more than the dialer wrote: once it has agreed, and before any answer where it has exactly one name.
-    /// Takes no memory.
+    /// Whether an end may send more than the dialer wrote: once it has agreed, and before any answer where it has
+    /// exactly one name. Takes no memory.
     pub fn may_send(&self) -> bool
         ensures { IsTrue result ↔ MaySend self.now.names self.now.answer }
     {
-        match self.answer {
+        match self.side.answer() {
             Some(Answer::Agreed(_)) => true,
-            Some(Answer::Going) => self.names.len() == 1,
+            Some(Answer::Going) => self.side.count_names() == 1,
             Some(Answer::NoneLeft) | None => false,
         }
     }

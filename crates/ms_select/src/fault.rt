@@ -1,11 +1,13 @@
 //! Why a negotiation fails.
 
 ghost use Rattle.std.specs.Prelude.{◌≡◌};
-ghost use Rattle.ms_select.specs.declared.fault.SelectFault.TheVariants.{BadLength, OutOfMemory};
+ghost use Rattle.ms_select.specs.declared.fault.SelectFault.TheVariants.{OutOfMemory};
+ghost use Rattle.varint_proto.specs.declared.fault.IncomingRefused.{IncomingRefused};
+ghost use Rattle.ms_select.specs.Messages.{of_refused};
 
 use std::alloc::{AllocError, AllocFailed};
 use thiserror::Error;
-use varint_proto::WireFault;
+use varint_proto::IncomingRefused;
 
 /// Why a negotiation fails. `fault as u8` is its number.
 #[derive(Clone, Copy, Debug, PartialEq, Eq, Hash, Error)]
@@ -13,7 +15,8 @@ pub enum SelectFault {
     /// A call after a fault.
     #[error("the negotiation failed before")]
     Failed = 1,
-    /// The length of a message isn't from 1 to 1024, or isn't a well spelt varint. Of a constructor: a name isn't of 1 to 1023 bytes.
+    /// The length of a message isn't from 1 to 1024, or isn't a well spelt varint. Of a constructor: a name isn't of 1
+    /// to 1023 bytes.
     #[error("a message or a name has a bad length")]
     BadLength,
     /// The last byte of a message isn't a newline.
@@ -30,11 +33,15 @@ pub enum SelectFault {
     OutOfMemory,
 }
 
-impl From<WireFault> for SelectFault {
-    ghost from_gives = { λ _ e. e ≡ BadLength };
+impl From<IncomingRefused> for SelectFault {
+    ghost from_gives = { λ refused e. e ≡ of_refused refused };
 
-    fn from(_fault: WireFault) -> SelectFault {
-        SelectFault::BadLength
+    fn from(refused: IncomingRefused) -> SelectFault {
+        match refused {
+            IncomingRefused::Failed => SelectFault::Failed,
+            IncomingRefused::BadLength | IncomingRefused::TooLong => SelectFault::BadLength,
+            IncomingRefused::OutOfMemory => SelectFault::OutOfMemory,
+        }
     }
 }
 

@@ -4,7 +4,19 @@ ghost use Rattle.ms_select.specs.Messages.{OneMessage, SomeMessage};
 ghost use Rattle.ms_select.specs.Listening.{OneListener, SomeListener};
 ghost use Rattle.ms_select.specs.Dialing.{OneDialer, SomeDialer};
 ghost use Rattle.ms_select.specs.Joined.{OneName};
-ghost use Rattle.ms_select.specs.Laws.{DecisionStays, FaultStays, NothingBehind, AnswersAsDefined, AskedAll};
+ghost use Rattle.ms_select.specs.Sides.{AnswersAsDefined};
+ghost use Rattle.ms_select.specs.Laws.{DecisionStays, FaultStays, NothingBehind, AskedAll};
+ghost use Rattle.ms_select.specs.Rows.{MessageRows, ChoiceRows, ListenRows, DialRows, SendRows, MemoryRows};
+
+/// The definitions say of worked bytes what the standard and this project's profile say.
+pub fn worked_rows()
+    ensures messages { MessageRows }
+    ensures choices { ChoiceRows }
+    ensures listener { ListenRows }
+    ensures dialer { DialRows }
+    ensures sends { SendRows }
+    ensures memory { MemoryRows }
+{}
 
 /// Two ends that both agree in one talk name the same protocol.
 pub fn one_name()

@@ -1,7 +1,7 @@
 //! Negotiation of a protocol by multistream-select 1.0, for a stream of bytes that comes in any pieces.
 //!
-//! Both sides take bytes and give bytes, and do no input or output of their own. Where a side stands depends on the bytes so far alone,
-//! however they were cut (`laws`).
+//! Both sides take bytes and give bytes, and do no input or output of their own. Where a side stands depends on the
+//! bytes so far alone, however they were cut (`laws`).
 #![tactic(auto)]
 
 mod answer;
@@ -11,7 +11,10 @@ pub mod laws;
 mod listener;
 mod message;
 mod names;
+mod output;
 mod run;
+mod side;
+mod verdict;
 
 pub use answer::{Answer, Step};
 pub use dialer::Dialer;

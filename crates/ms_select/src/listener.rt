@@ -1,66 +1,71 @@
 //! The side that is asked.
 
-ghost use Rattle.std.specs.Prelude.{◌≡◌, ◌≢◌, ◌⊎◌, ◌↔◌, ◌≤◌, ◌<◌, ◌+◌, ℕ, List, [], ◌∷◌, ◌++◌, length, take, map, Some, None, Ok, Err, IfOk, IfErr, OnOk, OnErr};
+ghost use Rattle.std.specs.Prelude.{◌≡◌, ◌≢◌, ◌⊎◌, ◌↔◌, ◌≤◌, ◌<◌, ◌+◌, ℕ, List, [], ◌++◌, length, map};
+ghost use Rattle.std.specs.Prelude.{Some, None, Ok, Err, IfOk, IfErr, OnOk, OnErr};
 ghost use Rattle.std.specs.List.{All};
-ghost use Rattle.ms_select.specs.Listening.{IsName, Follows, Listens, ListensWell};
+ghost use Rattle.ms_select.specs.Messages.{header, message};
+ghost use Rattle.ms_select.specs.Listening.{IsName, Listens};
+ghost use Rattle.ms_select.specs.Sides.{Stands, Whenever, RunsOut};
 ghost use Rattle.ms_select.specs.declared.answer.Answer.{Answer};
+ghost use Rattle.ms_select.specs.declared.verdict.Role.TheVariants as role;
 
 use crate::answer::{Answer, Step};
 use crate::fault::SelectFault;
-use crate::message::{HEADER, HEADER_MESSAGE, NA_MESSAGE, read_message};
-use crate::names::{checked_names, choice};
+use crate::message::HEADER;
+use crate::names::checked_names;
+use crate::output::Output;
+use crate::side::Side;
+use crate::verdict::Role;
 use std::alloc::Global;
 use std::marker::Model;
-use std::mem;
-
-/// Room for the first bytes of the other end.
-const FIRST_ROOM: usize = 32;
 
 /// The listener of a negotiation: it sends the header, and answers each proposal, by its echo where it knows the name.
 #[derive(Debug, Drop)]
 pub struct Listener {
-    names: Vec<String>,
-    /// Whether the other end's header has come.
-    begun: bool,
-    /// Of a message that isn't whole. While nothing is decided there is room for a byte more.
-    held: Vec<u8>,
-    answer: Option<Answer>,
-    output: Vec<u8>,
-    alloc: Global,
+    pub(crate) side: Side,
 }
 
 impl Model for Listener {
-    ghost use Rattle.std.specs.Prelude.{map, string_bytes, vec_len, vec_capacity};
-    ghost use Rattle.ms_select.specs.Listening.{Listening, HasRoom};
+    ghost use Rattle.ms_select.specs.Sides.{Negotiating};
+    ghost use Rattle.std.specs.Prelude.{◌≡◌};
+    ghost use Rattle.ms_select.specs.declared.verdict.Role.TheVariants as roles;
 
-    ghost Value = { Listening };
+    ghost Value = { Negotiating };
 
-    ghost view = { λ a. record { names = map string_bytes a.names.items; begun = a.begun; held = a.held.items; answer = a.answer; pending = a.output.items } };
+    ghost view = { λ a. a.side };
 
-    ghost invariant = { λ a. HasRoom a.answer (vec_len a.held) (vec_capacity a.held) };
+    ghost invariant = { λ a. a.side.role ≡ roles.Listener };
+}
+
+/// The header.
+fn header_output(alloc: Global) -> Result<Output, SelectFault>
+    ensures ok { IfOk result (λ output. output.pending ≡ message header) }
+    ensures fault { IfErr result (λ fault. fault ≡ SelectFault.OutOfMemory) }
+{
+    let mut output = Output::new(alloc);
+    output.append_message(HEADER)?;
+    Ok(output)
 }
 
 impl Listener {
     /// A listener that knows these names. It has written the header.
     pub fn new(alloc: Global, names: &[&str]) -> Result<Listener, SelectFault>
         ensures names { IfOk result (λ talk. talk.names ≡ map (λ name. name.now) names.now) }
-        ensures fresh { IfOk result (λ talk. (talk.answer ≡ Some Answer.Going) × Follows talk [] 0 []) }
+        ensures fresh { IfOk result (λ talk.
+            (talk.role ≡ role.Listener) × (talk.answer ≡ Some Answer.Going) × Stands talk [] 0 []) }
         ensures bad_length { (result ≡ Err SelectFault.BadLength) ↔ ¬ All (λ name. IsName name.now) names.now }
         ensures checked { OnOk result (All (λ name. IsName name.now) names.now) }
         ensures fault { IfErr result (λ fault. (fault ≡ SelectFault.BadLength) ⊎ (fault ≡ SelectFault.OutOfMemory)) }
     {
         let names = checked_names(alloc, names)?;
+        let output = header_output(alloc)?;
         Ok(Listener {
-            names,
-            begun: false,
-            held: Vec::with_capacity(alloc, FIRST_ROOM)?,
-            answer: Some(Answer::Going),
-            output: Vec::from_slice(alloc, HEADER_MESSAGE)?,
-            alloc,
+            side: Side::new(alloc, Role::Listener, names, Answer::Going, output),
         })
     }
 
-    /// Takes the next piece of the input. Only the bytes up to the deciding message are used, and nothing behind it is read.
+    /// Takes the next piece of the input. Only the bytes up to the deciding message are used, and nothing behind it is
+    /// read.
     pub fn feed(&mut self, piece: &[u8]) -> Result<Step, SelectFault>
         ensures names { self.new.names ≡ self.old.names }
         // What is decided stands, and nothing more is used.
@@ -73,88 +78,31 @@ impl Listener {
         ensures all_used { IfOk result (λ step. step.answer ≡ Answer.Going → step.used ≡ length piece.now) }
 
         // The answer, the bytes used and the output are those of the whole input so far, however it was cut.
-        ensures follows { (input : List ℕ) (used : ℕ) (taken : List ℕ) → Follows self.old input used taken
-            → IfOk result (λ step. Follows self.new (input ++ piece.now) (used + step.used) taken) }
-        ensures listens { (input : List ℕ) (used : ℕ) (taken : List ℕ) → Follows self.old input used taken
-            → IfOk result (λ step. Listens self.old.names (input ++ piece.now) (Ok step.answer) (used + step.used) (taken ++ self.new.pending)) }
-        ensures fault { (input : List ℕ) (used : ℕ) (taken : List ℕ) → self.old.answer ≡ Some Answer.Going → Follows self.old input used taken
-            → IfErr result (λ fault. fault ≢ SelectFault.OutOfMemory
-            → Listens self.old.names (input ++ piece.now) (Err fault) (length (input ++ piece.now)) (taken ++ self.new.pending)) }
-        // Where memory is refused a front of the piece was heard and answered, and the byte behind it has no fault either.
-        ensures memory { (input : List ℕ) (used : ℕ) (taken : List ℕ) → self.old.answer ≡ Some Answer.Going → Follows self.old input used taken
-            → result ≡ Err SelectFault.OutOfMemory
-            → (n : ℕ) × (n < length piece.now) × Listens self.old.names (input ++ take n piece.now) (Ok Answer.Going) (length (input ++ take n piece.now)) (taken ++ self.new.pending)
-            × ListensWell self.old.names (input ++ take (n + 1) piece.now) }
+        ensures stands { (input : List ℕ) (used : ℕ) (taken : List ℕ) → Stands self.old input used taken
+            → IfOk result (λ step. Stands self.new (input ++ piece.now) (used + step.used) taken) }
+        ensures listens { Whenever self.old (λ input used taken. IfOk result (λ step.
+            Listens self.old.names (input ++ piece.now) (Ok step.answer) (used + step.used)
+            (taken ++ self.new.pending))) }
+        ensures fault { self.old.answer ≡ Some Answer.Going → Whenever self.old (λ input used taken.
+            IfErr result (λ fault. fault ≢ SelectFault.OutOfMemory
+            → Listens self.old.names (input ++ piece.now) (Err fault) (length (input ++ piece.now))
+            (taken ++ self.new.pending))) }
+        // Memory is refused nowhere but at the last byte of a length, which decides nothing.
+        ensures memory { self.old.answer ≡ Some Answer.Going → Whenever self.old (λ input used taken.
+            result ≡ Err SelectFault.OutOfMemory
+            → RunsOut role.Listener self.old.names (taken ++ self.new.pending) input piece.now) }
     {
-        match self.answer {
-            None => return Err(SelectFault::Failed),
-            Some(Answer::Going) => {}
-            Some(answer) => return Ok(Step { used: 0, answer }),
-        }
-        for (index, byte) in piece.iter().enumerate() {
-            let answer = self.hear(*byte)?;
-            if answer != Answer::Going {
-                return Ok(Step {
-                    used: index + 1,
-                    answer,
-                });
-            }
-        }
-        Ok(Step {
-            used: piece.len(),
-            answer: Answer::Going,
-        })
-    }
-
-    /// Takes one byte of a talk that nothing has decided yet. Memory is asked for only behind a byte that has no fault.
-    fn hear(&mut self, byte: u8) -> Result<Answer, SelectFault>
-        requires { self.old.answer ≡ Some Answer.Going }
-        ensures names { self.new.names ≡ self.old.names }
-        ensures answer { IfOk result (λ answer. self.new.answer ≡ Some answer) }
-        ensures fails { OnErr result (self.new.answer ≡ None) }
-        ensures follows { (input taken : List ℕ) → Follows self.old input (length input) taken
-            → IfOk result (λ answer. Follows self.new (input ++ byte ∷ []) (length (input ++ byte ∷ [])) taken) }
-        ensures fault { (input taken : List ℕ) → Follows self.old input (length input) taken
-            → IfErr result (λ fault. fault ≢ SelectFault.OutOfMemory
-            → Listens self.old.names (input ++ byte ∷ []) (Err fault) (length (input ++ byte ∷ [])) (taken ++ self.new.pending)) }
-        ensures kept { result ≡ Err SelectFault.OutOfMemory → self.new.pending ≡ self.old.pending }
-        ensures memory { (input taken : List ℕ) → Follows self.old input (length input) taken → result ≡ Err SelectFault.OutOfMemory
-            → ListensWell self.old.names (input ++ byte ∷ []) }
-    {
-        self.answer = None;
-        self.held.push_reserved(byte);
-        let Some(text) = read_message(&self.held)? else {
-            self.held.reserve(1)?;
-            self.answer = Some(Answer::Going);
-            return Ok(Answer::Going);
-        };
-        if !self.begun {
-            if text != HEADER {
-                return Err(SelectFault::BadHeader);
-            }
-            self.begun = true;
-            self.held.clear();
-            self.answer = Some(Answer::Going);
-            return Ok(Answer::Going);
-        }
-        let Some(index) = choice(&self.names, text) else {
-            self.output.extend_from_slice(NA_MESSAGE)?;
-            self.held.clear();
-            self.answer = Some(Answer::Going);
-            return Ok(Answer::Going);
-        };
-        // The message itself is its echo.
-        self.output.extend_from_slice(&self.held)?;
-        self.answer = Some(Answer::Agreed(index));
-        Ok(Answer::Agreed(index))
+        self.side.feed(piece)
     }
 
     /// The output that waits to be sent. Takes no memory.
     pub fn take_output(&mut self) -> Vec<u8>
         ensures output { result.items ≡ self.old.pending }
-        ensures kept { self.new ≡ record self.old { pending = [] } }
-        ensures follows { (input : List ℕ) (used : ℕ) (taken : List ℕ) → Follows self.old input used taken → Follows self.new input used (taken ++ result.items) }
+        ensures kept { self.new ≡ record self.old { pending = []; room = self.new.room } }
+        ensures room { self.old.room ≤ self.new.room }
+        ensures stands { (input : List ℕ) (used : ℕ) (taken : List ℕ) → Stands self.old input used taken
+            → Stands self.new input used (taken ++ result.items) }
     {
-        mem::replace(&mut self.output, Vec::new(self.alloc))
+        self.side.take_output()
     }
 }

@@ -5,3 +5,4 @@ pub mod OneOutcome
 pub mod Own
 pub mod SomeOutcome
 pub mod Cut
+pub mod Rows

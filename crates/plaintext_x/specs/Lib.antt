@@ -1,3 +1,5 @@
+-- cited by public clauses and laws
 pub mod Exchange
-pub mod Incoming
+pub mod Rows
+-- inside: no public clause cites them
 pub mod Standing

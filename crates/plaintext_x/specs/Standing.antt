@@ -1,8 +1,7 @@
 -- Where the reading of an exchange stands.
 -- Inside: no public clause cites it but by the calls of an exchange.
-use Rattle.std.specs.Prelude.{◌≡◌, ℕ, List, Option, Some, None}
+use Rattle.std.specs.Prelude.{Option, Some, None}
 use Rattle.peer_ids.specs.Key.{Key}
-use Rattle.plaintext_x.specs.Incoming.{IsPartial}
 use Rattle.plaintext_x.specs.declared.exchange.Standing.{Standing}
 use Rattle.plaintext_x.specs.declared.exchange.Standing.TheVariants.{Reading, Done, Failed}
 
@@ -10,7 +9,3 @@ abbrev pub answer_of : Standing → Option (Option Key)
 answer_of Reading = Some None
 answer_of (Done key) = Some (Some key)
 answer_of Failed = None
-
--- While more bytes are needed the message isn't whole.
-abbrev pub IsReading : Standing → Option ℕ → List ℕ → Type 0
-IsReading standing expected bytes = answer_of standing ≡ Some None → IsPartial expected bytes

@@ -1,19 +1,22 @@
 //! An end of an exchange.
 
-ghost use Rattle.std.specs.Prelude.{◌≡◌, ◌≢◌, ◌⊎◌, ◌↔◌, ◌≤◌, ◌<◌, ◌+◌, ℕ, Bool, true, false, List, [], ◌∷◌, ◌++◌, length, take, Option, Some, None, Result, Ok, Err, IsOk, IsErr, IfOk, IfErr, OnOk, OnErr, IfSome};
+ghost use Rattle.std.specs.Prelude.{◌≡◌, ◌≢◌, ◌⊎◌, ◌↔◌, ◌≤◌, ◌<◌, ◌+◌, ℕ, Bool, true, false, List, [], ◌∷◌, ◌++◌};
+ghost use Rattle.std.specs.Prelude.{length, take, Option, Some, None, Result, Ok, Err, IsOk, IsErr, IfOk, IfErr, OnOk};
+ghost use Rattle.std.specs.Prelude.{OnErr, IfSome};
 ghost use Rattle.peer_ids.specs.Key.{Key};
 ghost use Rattle.peer_ids.specs.PeerId.{id_of};
-ghost use Rattle.plaintext_x.specs.Exchange.{Exchanges, HasFault, AsksMemory, IsAt, Follows, is_proven};
+ghost use Rattle.plaintext_x.specs.Exchange.{Exchanges, RunsOut, Stands, Whenever, is_proven};
 
 use crate::body::{message, proven_key};
 use crate::fault::ExchangeFault;
-use crate::incoming::Incoming;
 use peer_ids::{PeerId, PublicKey};
 use std::alloc::{AllocError, Global};
 use std::marker::Model;
 use std::mem;
+use varint_proto::Incoming;
 
-/// The key of another end, which has shown the peer id of that key. It is made by an exchange alone. Contracts see the key.
+/// The key of another end, which has shown the peer id of that key. It is made by an exchange alone. Contracts see the
+/// key.
 #[derive(Debug, Drop)]
 pub struct Proven {
     key: PublicKey,
@@ -48,6 +51,9 @@ impl Proven {
     }
 }
 
+/// The largest length of a message, of this project's profile.
+const LONGEST: usize = 8192;
+
 /// Where the reading of the other end's message stands.
 #[derive(Debug, Drop)]
 enum Standing {
@@ -67,95 +73,74 @@ pub struct Exchange {
 
 impl Model for Exchange {
     ghost use Rattle.plaintext_x.specs.Exchange.{Exchanging};
-    ghost use Rattle.plaintext_x.specs.Standing.{answer_of, IsReading};
+    ghost use Rattle.plaintext_x.specs.Standing.{answer_of};
 
     ghost Value = { Exchanging };
 
-    ghost view = { λ a. record { expected = a.incoming.expected; held = a.incoming.bytes; answer = answer_of a.standing; pending = a.output.items } };
-
-    ghost invariant = { λ a. IsReading a.standing a.incoming.expected a.incoming.bytes };
+    ghost view = { λ a. record { incoming = a.incoming; answer = answer_of a.standing; pending = a.output.items } };
 }
 
 impl Exchange {
     /// An end with this key. It has written its message.
     pub fn new(alloc: Global, own: &PublicKey) -> Result<Exchange, AllocError>
-        ensures fresh { IfOk result (λ exchange. (exchange.answer ≡ Some None) × Follows own.now exchange [] 0 []) }
+        ensures fresh { IfOk result (λ exchange. (exchange.answer ≡ Some None) × Stands own.now exchange [] 0 []) }
     {
         Ok(Exchange {
             standing: Standing::Reading,
-            incoming: Incoming::new(alloc)?,
+            incoming: Incoming::new(alloc, LONGEST),
             output: message(alloc, own)?,
             alloc,
         })
     }
 
-    /// Takes the next piece of the input. How many of its bytes belong to the exchange, and whether the other end is proven. Nothing
-    /// behind the message is read.
+    /// Takes the next piece of the input. How many of its bytes belong to the exchange, and whether the other end is
+    /// proven. Nothing behind the message is read.
     pub fn feed(&mut self, piece: &[u8]) -> Result<(usize, bool), ExchangeFault>
         ensures pending { self.new.pending ≡ self.old.pending }
         // After a fault, and after the proof.
         ensures failed { self.old.answer ≡ None → (result ≡ Err ExchangeFault.Failed) × (self.new ≡ self.old) }
-        ensures proven { (key : Key) → self.old.answer ≡ Some (Some key) → (result ≡ Ok (0, true)) × (self.new ≡ self.old) }
+        ensures proven { (key : Key) → self.old.answer ≡ Some (Some key)
+            → (result ≡ Ok (0, true)) × (self.new ≡ self.old) }
         ensures answer { IfOk result (λ step. (step.1 ≡ is_proven self.new.answer) × (self.new.answer ≢ None)) }
         ensures fails { OnErr result (self.new.answer ≡ None) }
         ensures within { IfOk result (λ step. step.0 ≤ length piece.now) }
 
         // The answer and the bytes used are those of the whole input so far, however it was cut.
-        ensures follows { (own : Key) (input : List ℕ) (used : ℕ) (taken : List ℕ) → Follows own self.old input used taken
-            → IfOk result (λ step. Follows own self.new (input ++ piece.now) (used + step.0) taken) }
-        ensures outcome { (own : Key) (input : List ℕ) (used : ℕ) (taken : List ℕ) → Follows own self.old input used taken
-            → IfOk result (λ step. IfSome self.new.answer (λ answer. Exchanges (input ++ piece.now) (Ok answer) (used + step.0))) }
-        ensures fault { (own : Key) (input : List ℕ) (used : ℕ) (taken : List ℕ) → self.old.answer ≡ Some None → Follows own self.old input used taken
-            → IfErr result (λ fault. fault ≢ ExchangeFault.OutOfMemory → Exchanges (input ++ piece.now) (Err fault) (length (input ++ piece.now))) }
+        ensures stands { (own : Key) (input : List ℕ) (used : ℕ) (taken : List ℕ)
+            → Stands own self.old input used taken
+            → IfOk result (λ step. Stands own self.new (input ++ piece.now) (used + step.0) taken) }
+        ensures outcome { Whenever self.old (λ input used. IfOk result (λ step. IfSome self.new.answer (λ answer.
+            Exchanges (input ++ piece.now) (Ok answer) (used + step.0)))) }
+        ensures fault { self.old.answer ≡ Some None → Whenever self.old (λ input used. IfErr result (λ fault.
+            fault ≢ ExchangeFault.OutOfMemory
+            → Exchanges (input ++ piece.now) (Err fault) (length (input ++ piece.now)))) }
         // Where memory is refused a front of the piece was read, and the byte behind it asks for memory.
-        ensures memory { (own : Key) (input : List ℕ) (used : ℕ) (taken : List ℕ) → self.old.answer ≡ Some None
-            → Follows own self.old input used taken → result ≡ Err ExchangeFault.OutOfMemory
-            → (n : ℕ) × (n < length piece.now) × Exchanges (input ++ take n piece.now) (Ok None) (length (input ++ take n piece.now))
-            × AsksMemory (input ++ take (n + 1) piece.now) }
+        ensures memory { self.old.answer ≡ Some None → Whenever self.old (λ input used.
+            result ≡ Err ExchangeFault.OutOfMemory → RunsOut input piece.now) }
     {
         match &self.standing {
             Standing::Failed => return Err(ExchangeFault::Failed),
             Standing::Done(_) => return Ok((0, true)),
             Standing::Reading => {}
         }
-        for (index, byte) in piece.iter().enumerate() {
-            if self.hear(*byte)? {
-                return Ok((index + 1, true));
-            }
-        }
-        Ok((piece.len(), false))
-    }
-
-    /// Takes one byte while more are needed. Whether it proves the other end.
-    fn hear(&mut self, byte: u8) -> Result<bool, ExchangeFault>
-        requires { self.old.answer ≡ Some None }
-        ensures pending { self.new.pending ≡ self.old.pending }
-        ensures more { result ≡ Ok false → self.new.answer ≡ Some None }
-        ensures done { result ≡ Ok true → (key : Key) × (self.new.answer ≡ Some (Some key)) }
-        ensures fails { OnErr result (self.new.answer ≡ None) }
-        ensures read { (input : List ℕ) → IsAt self.old.answer self.old input (length input)
-            → IfOk result (λ done. IsAt self.new.answer self.new (input ++ byte ∷ []) (length (input ++ byte ∷ []))) }
-        ensures fault { (input : List ℕ) → IsAt self.old.answer self.old input (length input)
-            → IfErr result (λ fault. fault ≢ ExchangeFault.OutOfMemory → HasFault (input ++ byte ∷ []) fault) }
-        ensures memory { (input : List ℕ) → IsAt self.old.answer self.old input (length input) → result ≡ Err ExchangeFault.OutOfMemory
-            → AsksMemory (input ++ byte ∷ []) }
-    {
         self.standing = Standing::Failed;
-        if !self.incoming.take(byte)? {
+        let (used, whole) = self.incoming.feed(piece)?;
+        if !whole {
             self.standing = Standing::Reading;
-            return Ok(false);
+            return Ok((used, false));
         }
-        let (key, peer) = proven_key(self.alloc, self.incoming.bytes())?;
+        let (key, peer) = proven_key(self.alloc, self.incoming.body())?;
         self.standing = Standing::Done(Proven { key, peer });
-        Ok(true)
+        Ok((used, true))
     }
 
     /// The output that waits to be sent. Takes no memory.
     pub fn take_output(&mut self) -> Vec<u8>
         ensures output { result.items ≡ self.old.pending }
         ensures kept { self.new ≡ record self.old { pending = [] } }
-        ensures follows { (own : Key) (input : List ℕ) (used : ℕ) (taken : List ℕ) → Follows own self.old input used taken
-            → Follows own self.new input used (taken ++ result.items) }
+        ensures stands { (own : Key) (input : List ℕ) (used : ℕ) (taken : List ℕ)
+            → Stands own self.old input used taken
+            → Stands own self.new input used (taken ++ result.items) }
     {
         mem::replace(&mut self.output, Vec::new(self.alloc))
     }

@@ -2,13 +2,14 @@
 
 ghost use Rattle.std.specs.Prelude.{◌≡◌};
 ghost use Rattle.peer_ids.specs.declared.fault.KeyFault.{KeyFault};
+ghost use Rattle.varint_proto.specs.declared.fault.IncomingRefused.{IncomingRefused};
 ghost use Rattle.plaintext_x.specs.declared.fault.ExchangeFault.TheVariants.{Wire, OutOfMemory};
-ghost use Rattle.plaintext_x.specs.Exchange.{of_key_fault};
+ghost use Rattle.plaintext_x.specs.Exchange.{of_key_fault, of_refused};
 
 use peer_ids::KeyFault;
 use std::alloc::{AllocError, AllocFailed};
 use thiserror::Error;
-use varint_proto::WireFault;
+use varint_proto::{IncomingRefused, WireFault};
 
 /// Why an exchange fails. `fault as u8` is its number; of several that hold the lowest is given.
 #[derive(Clone, Copy, Debug, PartialEq, Eq, Hash, Error)]
@@ -44,6 +45,19 @@ impl From<WireFault> for ExchangeFault {
 
     fn from(_fault: WireFault) -> ExchangeFault {
         ExchangeFault::Wire
+    }
+}
+
+impl From<IncomingRefused> for ExchangeFault {
+    ghost from_gives = { λ refused e. e ≡ of_refused refused };
+
+    fn from(refused: IncomingRefused) -> ExchangeFault {
+        match refused {
+            IncomingRefused::Failed => ExchangeFault::Failed,
+            IncomingRefused::BadLength => ExchangeFault::Wire,
+            IncomingRefused::TooLong => ExchangeFault::TooLong,
+            IncomingRefused::OutOfMemory => ExchangeFault::OutOfMemory,
+        }
     }
 }
 

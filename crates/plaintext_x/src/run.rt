@@ -24,10 +24,12 @@ pub fn exchange_keys(
     own: &PublicKey,
     pieces: &[&[u8]],
 ) -> Result<Exchanged, ExchangeFault>
-    ensures outcome { IfOk result (λ done. (used : ℕ) × Exchanges (flat_map (λ piece. piece.now) pieces.now) (Ok done.proven) used) }
+    ensures outcome { IfOk result (λ done. (used : ℕ)
+        × Exchanges (flat_map (λ piece. piece.now) pieces.now) (Ok done.proven) used) }
     ensures output { IfOk result (λ done. done.output.items ≡ message_of own.now) }
     ensures fault { IfErr result (λ fault. fault ≢ ExchangeFault.OutOfMemory
-        → Exchanges (flat_map (λ piece. piece.now) pieces.now) (Err fault) (length (flat_map (λ piece. piece.now) pieces.now))) }
+        → Exchanges (flat_map (λ piece. piece.now) pieces.now) (Err fault)
+        (length (flat_map (λ piece. piece.now) pieces.now))) }
 {
     let mut exchange = Exchange::new(alloc, own)?;
     for piece in pieces {

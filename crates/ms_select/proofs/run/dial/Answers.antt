@@ -1,50 +1,18 @@
-use Rattle.std.proofs.Common.{◌≡◌, ℕ, List, [], ◌++◌, ◌+◌, length, map, take, drop, Ok, Err, ap, sym, subst, ◌∙◌, arith}
-use Rattle.std.proofs.lemmas.Result.{err_from_is_err_and}
-use Rattle.ms_select.specs.Dialing.{Dialing, Pursues, Dials}
-use Rattle.ms_select.specs.declared.answer.Answer.TheVariants.{NoneLeft}
-use Rattle.varint_proto.proofs.Pieces.{joined, joined_more, joined_parts, take_past}
-use Rattle.ms_select.proofs.ListenSteps.{going_on}
-use Rattle.ms_select.proofs.DialSteps.{dials, dial_fault_stays}
+use Rattle.std.proofs.Common.{◌≢◌, List, ℕ, length, Err, ap, subst, ◌∙◌}
+use Rattle.std.specs.Prelude.{IfErr}
+use Rattle.ms_select.specs.declared.fault.SelectFault.TheVariants.{OutOfMemory}
+use Rattle.ms_select.specs.declared.verdict.Role.{Role}
+use Rattle.ms_select.specs.declared.verdict.Role.TheVariants.{Dialer}
+use Rattle.ms_select.specs.Sides.{Negotiating, Comes}
+use Rattle.varint_proto.proofs.Pieces.{joined}
+use Rattle.ms_select.proofs.Feeding.{each_fault}
 use Rattle.ms_select.proofs.run.dial.Goals as goal
 
-pub returns-in_err-answer-clause-fault : goal.returns-in_err-answer-clause-fault
-returns-in_err-answer-clause-fault c =
-    let p = err_from_is_err_and c.from_residual-in_err-answer.result c.from_residual-in_err-answer.ensures.1 in
-    let pieces = c.args.pieces.now in
-    let i = c.loop-piece.piece-index in
-    let fault = c.in_err-answer.field-0.0 in
-    let before = joined (take i pieces) in
-    let behind = joined (drop (i + 1) pieces) in
-    let told = c.loop-piece.invariant.told in
-    let going = going_on c.loop-piece.answer c.loop-piece.dialer.answer c.loop-piece.invariant.answer (λ a e ne. let wrong = (c.in_err-answer.ensures.decided a e ne).0 in cc) in
-    let whole : (before ++ _) ++ behind ≡ joined pieces = ap (λ (b : List ℕ). b ++ behind) (joined_more pieces i _ c.loop-piece-test.true) ∙ joined_parts pieces (i + 1) in
-    rw (p.1, p.2) (λ ne names.
-    let here = c.in_err-answer.ensures.fault before told.0 [] going told.1 ne in
-    let all = subst (λ (b : List ℕ). Dials c.loop-piece.dialer.names b (Err fault) (length b) c.feed.new.self.pending) whole (dial_fault_stays c.loop-piece.dialer.names _ behind c.feed.new.self.pending fault _ here) in
-    (c.feed.new.self.pending, subst (λ (names : List (List ℕ)). Dials names (joined pieces) (Err fault) (length (joined pieces)) c.feed.new.self.pending) c.loop-piece.invariant.names all))
-
-pub loop-piece-preserved : goal.loop-piece-preserved
-loop-piece-preserved c =
-    let pieces = c.args.pieces.now in
-    let i = c.loop-piece.piece-index in
-    let told = c.loop-piece.invariant.told in
-    let used = told.0 + c.in_ok-answer.field-0.used in
-    let next = c.in_ok-answer.ensures.follows (joined (take i pieces)) told.0 [] told.1 in
-    record {
-      names = c.in_ok-answer.ensures.names ∙ c.loop-piece.invariant.names;
-      answer = c.in_ok-answer.ensures.answer;
-      nameless = λ none. ap (λ (d : Dialing). d.answer) (c.in_ok-answer.ensures.decided NoneLeft (c.loop-piece.invariant.nameless none) (λ e. cc)).1 ∙ c.loop-piece.invariant.nameless none;
-      told = (used, subst (λ (b : List ℕ). Pursues c.feed.new.self b used []) (joined_more pieces i _ c.loop-piece-test.true) next);
-    }
-
-pub returns-clause-outcome : goal.returns-clause-outcome
-returns-clause-outcome c =
-    let pieces = c.args.pieces.now in
-    let i = c.loop-piece.piece-index in
-    let talk = c.loop-piece.dialer in
-    let told = c.loop-piece.invariant.told in
-    let all = ap joined (take_past pieces i (omega (arith, c.loop-piece-test.false))) in
-    let stood = dials talk (joined (take i pieces)) told.0 [] c.loop-piece.answer c.loop-piece.invariant.answer told.1 in
-    let whole = subst (λ (b : List ℕ). Dials talk.names b (Ok c.loop-piece.answer) told.0 talk.pending) all stood in
-    let named = subst (λ (names : List (List ℕ)). Dials names (joined pieces) (Ok c.loop-piece.answer) told.0 talk.pending) c.loop-piece.invariant.names whole in
-    (told.0, subst (λ (b : List ℕ). Dials (map (λ name. name.now) c.args.names.now) (joined pieces) (Ok c.loop-piece.answer) told.0 b) (sym c.take_output.ensures.output) named)
+pub returns-clause-fault : goal.returns-clause-fault
+returns-clause-fault c =
+    let input = joined c.args.pieces.now in
+    let x = c.dialer.inside.side in
+    let names = ap (λ (y : Negotiating). y.names) c.dialer.view_is ∙ c.in_ok-dialer.ensures.names in
+    let role-told = subst (λ (role : Role). IfErr c.whole_talk.result (λ fault. fault ≢ OutOfMemory → (output : List ℕ) × Comes role x.names input (Err fault) (length input) output)) c.dialer.invariant c.whole_talk.ensures.fault in
+    let told = subst (λ (names : List (List ℕ)). IfErr c.whole_talk.result (λ fault. fault ≢ OutOfMemory → (output : List ℕ) × Comes Dialer names input (Err fault) (length input) output)) names role-told in
+    each_fault c.whole_talk.result (λ fault h ne all. h ne) told

@@ -1,32 +1,25 @@
-use Rattle.std.proofs.Common.{◌≡◌, refl, ap, sym, ◌∙◌, [], Some, false, map, string_bytes, arith}
-use Rattle.std.specs.List.{All}
+use Rattle.std.proofs.Common.{◌≡◌, [], map, string_bytes, Some, ap, sym, ◌∙◌}
 use Rattle.std.specs.Prelude.{slice_get}
 use Rattle.ms_select.specs.declared.answer.Answer.TheVariants.{Going}
-use Rattle.ms_select.specs.Messages.{IsShort}
-use Rattle.ms_select.specs.contracts.dialer.Dialer.{the_view}
-use Rattle.ms_select.proofs.DialSteps.{dial_fresh, names_short, first_short, some_below, proposed}
+use Rattle.ms_select.specs.Sides.{Negotiating}
+use Rattle.ms_select.proofs.Feeding.{stands_at}
+use Rattle.ms_select.proofs.Fresh.{names_short, dialer_fresh}
 use Rattle.ms_select.proofs.dialer.Dialer.new.Goals as goal
 
-pub first_proposal-requires : goal.first_proposal-requires
-first_proposal-requires c =
-    let texts = map string_bytes c.in_ok-names.names.items in
-    let short : All IsShort texts = names_short (λ name. name.now) c.args.names.now texts c.in_ok-names.ensures.names c.in_ok-names.ensures.checked in
-    let at : slice_get texts 0 ≡ Some c.name_at.result.now = ap (λ xs. slice_get (map string_bytes xs) 0) (sym c.deref.ensures.value) ∙ c.name_at.ensures in
-    first_short texts c.name_at.result.now at short
-
-pub invariant_of-result-2 : goal.invariant_of-result-2
-invariant_of-result-2 c =
-    let texts = map string_bytes c.in_ok-names.names.items in
-    let at : slice_get texts 0 ≡ Some c.name_at.result.now = ap (λ xs. slice_get (map string_bytes xs) 0) (sym c.deref.ensures.value) ∙ c.name_at.ensures in
-    record {
-      short = names_short (λ name. name.now) c.args.names.now texts c.in_ok-names.ensures.names c.in_ok-names.ensures.checked;
-      going = λ _. some_below texts c.name_at.result.now at;
-      room = λ _. omega (arith, c.in_ok-with_capacity.ensures.exact, c.in_ok-with_capacity.ensures.len);
-    }
+pub new-requires-2-clause-short : goal.new-requires-2-clause-short
+new-requires-2-clause-short c =
+    names_short (λ name. name.now) c.args.names.now (map string_bytes c.in_ok-names.names.items) c.in_ok-names.ensures.names c.in_ok-names.ensures.checked
 
 pub returns-clause-fresh : goal.returns-clause-fresh
 returns-clause-fresh c =
     let texts = map string_bytes c.in_ok-names.names.items in
-    let at : slice_get texts 0 ≡ Some c.name_at.result.now = ap (λ xs. slice_get (map string_bytes xs) 0) (sym c.deref.ensures.value) ∙ c.name_at.ensures in
-    let made = the_view (record { names = c.in_ok-names.names; begun = false; refusals = 0; held = c.in_ok-with_capacity.field-0; answer = Some Going; output = c.in_ok-output.output; alloc = c.args.alloc }) in
-    ([], dial_fresh made c.name_at.result.now refl refl c.in_ok-with_capacity.ensures.items at (proposed c.name_at.result.now c.in_ok-output.output.items c.in_ok-output.ensures.ok), refl)
+    let x = c.new-2.result in
+    let is = c.new-2.ensures.is in
+    let i = c.new-2.ensures.incoming in
+    let names : x.names ≡ texts = ap (λ (y : Negotiating). y.names) is in
+    let role = ap (λ (y : Negotiating). y.role) is in
+    let at : slice_get x.names 0 ≡ Some c.name_at.result.now =
+    ap (λ xs. slice_get xs 0) names ∙ ap (λ xs. slice_get (map string_bytes xs) 0) (sym c.deref.ensures.value) ∙ c.name_at.ensures in
+    let begins = dialer_fresh x c.name_at.result.now role (ap (λ (y : Negotiating). y.begun) is) (ap (λ (y : Negotiating). y.count) is) i.0 i.1 i.2 at
+    (ap (λ (y : Negotiating). y.pending) is ∙ c.in_ok-output.ensures.ok) in
+    (role, stands_at x [] 0 [] (Some Going) (ap (λ (y : Negotiating). y.answer) is) begins)

@@ -1,10 +1,21 @@
-use Rattle.std.proofs.Common.{refl, [], Some, false}
+use Rattle.std.proofs.Common.{[], map, string_bytes, Some, ap, ◌∙◌}
 use Rattle.ms_select.specs.declared.answer.Answer.TheVariants.{Going}
-use Rattle.ms_select.specs.contracts.listener.Listener.{the_view}
-use Rattle.ms_select.proofs.ListenSteps.{fresh}
+use Rattle.ms_select.specs.Sides.{Negotiating}
+use Rattle.ms_select.proofs.Feeding.{stands_at}
+use Rattle.ms_select.proofs.Fresh.{names_short, listener_fresh}
 use Rattle.ms_select.proofs.listener.Listener.new.Goals as goal
+
+pub new-requires-clause-short : goal.new-requires-clause-short
+new-requires-clause-short c =
+    names_short (λ name. name.now) c.args.names.now (map string_bytes c.in_ok-names.names.items) c.in_ok-names.ensures.names c.in_ok-names.ensures.checked
 
 pub returns-clause-fresh : goal.returns-clause-fresh
 returns-clause-fresh c =
-    let made = the_view (record { names = c.in_ok-names.names; begun = false; held = c.in_ok-with_capacity.field-0; answer = Some Going; output = c.in_ok-from_slice.field-0; alloc = c.args.alloc }) in
-    (refl, ([], fresh made refl c.in_ok-with_capacity.ensures.items c.in_ok-from_slice.ensures.items, refl))
+    let x = c.new.result in
+    let is = c.new.ensures.is in
+    let i = c.new.ensures.incoming in
+    let role = ap (λ (y : Negotiating). y.role) is in
+    let answer = ap (λ (y : Negotiating). y.answer) is in
+    let begins = listener_fresh x role (ap (λ (y : Negotiating). y.begun) is) (ap (λ (y : Negotiating). y.count) is) i.0 i.1 i.2
+    (ap (λ (y : Negotiating). y.pending) is ∙ c.in_ok-output.ensures.ok) in
+    (role, answer, stands_at x [] 0 [] (Some Going) answer begins)

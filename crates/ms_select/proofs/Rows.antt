@@ -1,0 +1,176 @@
+-- The definitions of messages and talks at worked bytes.
+use Rattle.std.proofs.Common.{◌≡◌, ◌≢◌, ℕ, ◌+◌, ◌<◌, ◌≤◌, List, [], ◌∷◌, length, get_or, Option, Some, None, Ok, Err, refl, ap, sym, subst, ◌∙◌, inl, inr, arith, lit<}
+use Rattle.std.specs.Prelude.{unwrap_or}
+use Rattle.std.specs.List.{All}
+use Rattle.std.proofs.lemmas.List.{length-append, nil_from_length}
+use Rattle.std.proofs.lemmas.List.Elements.{All-nil, All-cons}
+use Rattle.varint_proto.specs.declared.fault.WireFault.TheVariants.{NotShortest}
+use Rattle.varint_proto.specs.Varint.{IsSpelling, BeginsShortest, shortest, shortest_within}
+use Rattle.ms_select.specs.declared.fault.SelectFault.TheVariants.{BadLength}
+use Rattle.ms_select.specs.Messages.{header, na, message, spelled, IsShort, ReadsMessage}
+use Rattle.ms_select.specs.Listening.{choice}
+use Rattle.ms_select.specs.Sides.{EndsLength}
+use Rattle.ms_select.specs.Rows.{x, y, header_bytes, x_bytes, y_bytes, MessageRows, ChoiceRows, ListenRows, DialRows, SendRows, MemoryRows}
+
+-- a length of one byte
+one_byte : (n : ℕ) (rest : List ℕ) → n < 128 → BeginsShortest (n ∷ rest) n rest
+one_byte n rest lt = (n ∷ [], record { ends = lt; within = omega arith; shortest = λ h. absurd (omega arith); value = omega arith }, refl)
+
+-- and of two
+two_bytes : (b : ℕ) (rest : List ℕ) → 128 ≤ b → b < 130 → BeginsShortest (b ∷ 8 ∷ rest) (b + 896) rest
+two_bytes b rest le lt = (b ∷ 8 ∷ [], record { ends = (le, omega arith); within = omega arith; shortest = λ _. omega arith; value = omega arith }, refl)
+
+no_length : ReadsMessage (0 ∷ []) (Err BadLength)
+no_length = inr (0, [], one_byte 0 [] (omega arith), inl refl)
+
+length_came : (rest : List ℕ) → length rest < 3 → ReadsMessage (3 ∷ rest) (Ok None)
+length_came rest lt = inr (3, rest, one_byte 3 rest (omega arith), (omega arith, omega arith), lt)
+
+pub message_rows : MessageRows
+unfolding message shortest shortest_within
+message_rows = record {
+  header_is = refl;
+  na_is = refl;
+  length_of_two_bytes = refl;
+  text = (7 ∷ [], record { parts = refl; short = lit< tt });
+  empty_text = ([], record { parts = refl; short = lit< tt });
+  nothing = inl (tt, omega arith);
+  in_the_length = inl ((omega arith, tt), omega arith);
+  shortest_length = inr (1, [], one_byte 1 [] (omega arith), (omega arith, omega arith), omega arith);
+  longest = inr (1024, [], two_bytes 128 [] (omega arith) (omega arith), (omega arith, omega arith), omega arith);
+  in_the_text = length_came (47 ∷ []) (omega arith);
+  length_0 = no_length;
+  length_1025 = inr (1025, [], two_bytes 129 [] (omega arith) (omega arith), inr (omega arith));
+  badly_spelt = inl (NotShortest, (2, omega arith, record { ends = (omega arith, omega arith); within = omega arith; several = omega arith; zero = refl }));
+  no_newline = (2, 97 ∷ 98 ∷ [], one_byte 2 (97 ∷ 98 ∷ []) (omega arith), (omega arith, omega arith), omega arith, omega arith);
+}
+
+pub choice_rows : ChoiceRows
+choice_rows = record { least = refl; unknown = refl; no_header = refl; no_na = refl; no_ls = refl }
+
+nothing_came : ReadsMessage [] (Ok None)
+nothing_came = inl (tt, omega arith)
+
+short_header : All IsShort (header ∷ [])
+short_header = All-cons IsShort header [] (lit< tt) (All-nil IsShort)
+
+short_both : All IsShort (header ∷ x ∷ [])
+short_both = All-cons IsShort header (x ∷ []) (lit< tt) (All-cons IsShort x [] (lit< tt) (All-nil IsShort))
+
+none_chosen : All (λ t. choice (y ∷ []) t ≡ None) []
+none_chosen = All-nil (λ t. choice (y ∷ []) t ≡ None)
+
+x_not_chosen : All (λ t. choice (y ∷ []) t ≡ None) (x ∷ [])
+x_not_chosen = All-cons (λ t. choice (y ∷ []) t ≡ None) x [] refl none_chosen
+
+pub listen_rows : ListenRows
+unfolding message shortest shortest_within
+listen_rows = record {
+  header_at_once = ([], [], record { parts = refl; short = All-nil IsShort; undecided = tt }, nothing_came, refl, refl);
+  in_a_message = (header ∷ [], 3 ∷ [], record { parts = refl; short = short_header; undecided = (refl, none_chosen) }, length_came [] (omega arith), refl, refl);
+  refused = (header ∷ x ∷ [], [], record { parts = refl; short = short_both; undecided = (refl, x_not_chosen) }, nothing_came, refl, refl);
+  refused_empty = (
+    header ∷ [] ∷ [],
+    [],
+    record {
+      parts = refl;
+      short = All-cons IsShort header ([] ∷ []) (lit< tt) (All-cons IsShort [] [] (lit< tt) (All-nil IsShort));
+      undecided = (refl, All-cons (λ t. choice (y ∷ []) t ≡ None) [] [] refl none_chosen);
+    },
+    nothing_came,
+    refl,
+    refl,
+  );
+  agreed = (x ∷ [], y, 7 ∷ [], record { parts = refl; short = short_both; undecided = (refl, x_not_chosen) }, lit< tt, refl, refl, refl);
+  other_header = ([], y_bytes, record { parts = refl; short = All-nil IsShort; undecided = tt }, inr (y, ([], record { parts = refl; short = lit< tt }), (λ e. cc), refl), refl, refl);
+  no_header = ([], 0 ∷ [], record { parts = refl; short = All-nil IsShort; undecided = tt }, inl no_length, refl, refl);
+  bad_length = (header ∷ [], 0 ∷ [], record { parts = refl; short = short_header; undecided = (refl, none_chosen) }, no_length, refl, refl);
+}
+
+no_na : All (λ t. t ≡ na) []
+no_na = All-nil (λ t. t ≡ na)
+
+one_na : All (λ t. t ≡ na) (na ∷ [])
+one_na = All-cons (λ t. t ≡ na) na [] refl no_na
+
+two_na : All (λ t. t ≡ na) (na ∷ na ∷ [])
+two_na = All-cons (λ t. t ≡ na) na (na ∷ []) refl one_na
+
+-- texts that differ at a place
+differs : (i : ℕ) (s t : List ℕ) → get_or s i 0 ≢ get_or t i 0 → s ≢ t
+differs i s t ne e = ne (ap (λ (u : List ℕ). get_or u i 0) e)
+
+not_proposed : (i : ℕ) (s t : List ℕ) → get_or s i 0 ≢ get_or t i 0 → Some s ≢ Some t
+not_proposed i s t ne e = ne (ap (λ (o : Option (List ℕ)). get_or (unwrap_or o []) i 0) e)
+
+pub dial_rows : DialRows
+unfolding message shortest shortest_within
+dial_rows = record {
+  first_at_once = ([], [], record { parts = refl; refusals = tt }, omega arith, nothing_came, refl, refl);
+  next = (header ∷ na ∷ [], [], record { parts = refl; refusals = (refl, one_na) }, omega arith, nothing_came, refl, refl);
+  agreed = ([], x, 7 ∷ [], record { parts = refl; refusals = (refl, no_na) }, lit< tt, refl, refl, (λ e. cc), refl, refl);
+  second = (na ∷ [], y, [], record { parts = refl; refusals = (refl, one_na) }, lit< tt, refl, refl, (λ e. cc), refl, refl);
+  none_left = (header ∷ na ∷ na ∷ [], 7 ∷ [], record { parts = refl; refusals = (refl, two_na) }, refl, (λ e. absurd (omega (arith, ap length e))), refl, refl);
+  nameless = ([], 7 ∷ [], record { parts = refl; refusals = tt }, refl, (λ e. refl), refl, refl);
+  other_header = ([], x_bytes, record { parts = refl; refusals = tt }, omega arith, inr (x, ([], record { parts = refl; short = lit< tt }), (λ e. cc), refl), refl, refl);
+  other_name = (
+    header ∷ [],
+    y_bytes,
+    record { parts = refl; refusals = (refl, no_na) },
+    omega arith,
+    inr (y, ([], record { parts = refl; short = lit< tt }), differs 0 y na (omega arith), not_proposed 1 x y (omega arith), refl),
+    refl,
+    refl,
+  );
+  header_again = (
+    header ∷ [],
+    header_bytes,
+    record { parts = refl; refusals = (refl, no_na) },
+    omega arith,
+    inr (header, ([], record { parts = refl; short = lit< tt }), differs 0 header na (omega arith), not_proposed 1 x header (omega arith), refl),
+    refl,
+    refl,
+  );
+  refused_name = (
+    header ∷ na ∷ [],
+    x_bytes,
+    record { parts = refl; refusals = (refl, one_na) },
+    omega arith,
+    inr (x, ([], record { parts = refl; short = lit< tt }), differs 0 x na (omega arith), not_proposed 1 y x (omega arith), refl),
+    refl,
+    refl,
+  );
+  bad_length = (header ∷ [], 0 ∷ [], record { parts = refl; refusals = (refl, no_na) }, omega arith, inl no_length, refl, refl);
+}
+
+pub send_rows : SendRows
+send_rows = record { one_name = refl; two_names = λ e. omega arith; agreed = tt; none_left = λ e. e; failed = λ e. e }
+
+no_length_yet : EndsLength [] → ⊥
+no_length_yet (texts, rest, len, parts, begins) =
+    let size : length rest ≡ 0 = omega (arith, ap length parts, length-append (spelled texts) rest) in
+    let spelt : 0 ≡ length begins.0 + 0 = sym size ∙ ap length begins.2 ∙ length-append begins.0 [] in
+    let none : begins.0 ≡ [] = nil_from_length begins.0 (omega (arith, spelt)) in
+    let spelling : IsSpelling [] = subst IsSpelling none begins.1.ends in
+    spelling
+
+pub memory_rows : MemoryRows
+unfolding message shortest shortest_within
+memory_rows = record {
+  length_alone = (header ∷ [], 3 ∷ [], 3, refl, one_byte 3 [] (omega arith));
+  nothing = no_length_yet;
+  listener = record {
+    n = 0;
+    within = omega arith;
+    before = ([], [], record { parts = refl; short = All-nil IsShort; undecided = tt }, nothing_came, refl, refl);
+    behind = ([], 19 ∷ [], record { parts = refl; short = All-nil IsShort; undecided = tt }, inr (19, [], one_byte 19 [] (omega arith), (omega arith, omega arith), omega arith), refl, refl);
+    ends = ([], 19 ∷ [], 19, refl, one_byte 19 [] (omega arith));
+  };
+  dialer = record {
+    n = 0;
+    within = omega arith;
+    before = (header ∷ [], [], record { parts = refl; refusals = (refl, no_na) }, omega arith, nothing_came, refl, refl);
+    behind = (header ∷ [], 3 ∷ [], record { parts = refl; refusals = (refl, no_na) }, omega arith, length_came [] (omega arith), refl, refl);
+    ends = (header ∷ [], 3 ∷ [], 3, refl, one_byte 3 [] (omega arith));
+  };
+}

@@ -1,0 +1,97 @@
+-- Worked rows of messages and talks (multistream-select 1.0; lengths and the order of refusals are this project's
+-- profile).
+use Rattle.std.specs.Prelude.{◌≡◌, ℕ, List, [], ◌∷◌, ◌++◌, replicate, Some, None, Ok, Err}
+use Rattle.ms_select.specs.declared.answer.Answer.TheVariants.{Going, Agreed, NoneLeft}
+use Rattle.ms_select.specs.declared.fault.SelectFault.TheVariants.{BadLength, NoNewline, BadHeader, NotProposed}
+use Rattle.ms_select.specs.declared.verdict.Role.TheVariants.{Dialer, Listener}
+use Rattle.ms_select.specs.Messages.{header, na, ls, message, ReadsMessage}
+use Rattle.ms_select.specs.Listening.{choice, Listens}
+use Rattle.ms_select.specs.Dialing.{Dials, MaySend}
+use Rattle.ms_select.specs.Sides.{EndsLength, RunsOut}
+
+-- two names, and messages as they are spelt
+abbrev pub x : List ℕ
+x = 47 ∷ 120 ∷ []
+
+abbrev pub y : List ℕ
+y = 47 ∷ 121 ∷ []
+
+abbrev pub header_bytes : List ℕ
+header_bytes = 19 ∷ (header ++ 10 ∷ [])
+
+abbrev pub x_bytes : List ℕ
+x_bytes = 3 ∷ 47 ∷ 120 ∷ 10 ∷ []
+
+abbrev pub y_bytes : List ℕ
+y_bytes = 3 ∷ 47 ∷ 121 ∷ 10 ∷ []
+
+abbrev pub na_bytes : List ℕ
+na_bytes = 3 ∷ 110 ∷ 97 ∷ 10 ∷ []
+
+pub record MessageRows : Type 0 where
+  pub header_is : message header ≡ header_bytes
+  pub na_is : message na ≡ na_bytes
+  pub length_of_two_bytes : message (replicate 127 97) ≡ 128 ∷ 1 ∷ (replicate 127 97 ++ 10 ∷ [])
+  pub text : ReadsMessage (x_bytes ++ 7 ∷ []) (Ok (Some x))
+  pub empty_text : ReadsMessage (1 ∷ 10 ∷ []) (Ok (Some []))
+  pub nothing : ReadsMessage [] (Ok None)
+  pub in_the_length : ReadsMessage (128 ∷ []) (Ok None)
+  pub shortest_length : ReadsMessage (1 ∷ []) (Ok None)
+  pub longest : ReadsMessage (128 ∷ 8 ∷ []) (Ok None)
+  pub in_the_text : ReadsMessage (3 ∷ 47 ∷ []) (Ok None)
+  pub length_0 : ReadsMessage (0 ∷ []) (Err BadLength)
+  pub length_1025 : ReadsMessage (129 ∷ 8 ∷ []) (Err BadLength)
+  pub badly_spelt : ReadsMessage (131 ∷ 0 ∷ []) (Err BadLength)
+  pub no_newline : ReadsMessage (2 ∷ 97 ∷ 98 ∷ []) (Err NoNewline)
+
+-- The least index of a name, which reserved texts never are
+pub record ChoiceRows : Type 0 where
+  pub least : choice (x ∷ y ∷ y ∷ []) y ≡ Some 1
+  pub unknown : choice (x ∷ []) y ≡ None
+  pub no_header : choice (header ∷ []) header ≡ None
+  pub no_na : choice (na ∷ []) na ≡ None
+  pub no_ls : choice (ls ∷ []) ls ≡ None
+
+-- A listener that knows y
+pub record ListenRows : Type 0 where
+  pub header_at_once : Listens (y ∷ []) [] (Ok Going) 0 header_bytes
+  pub in_a_message : Listens (y ∷ []) (header_bytes ++ 3 ∷ []) (Ok Going) 21 header_bytes
+  pub refused : Listens (y ∷ []) (header_bytes ++ x_bytes) (Ok Going) 24 (header_bytes ++ na_bytes)
+  pub refused_empty : Listens (y ∷ []) (header_bytes ++ 1 ∷ 10 ∷ []) (Ok Going) 22 (header_bytes ++ na_bytes)
+  pub agreed : Listens (y ∷ []) (header_bytes ++ x_bytes ++ y_bytes ++ 7 ∷ []) (Ok (Agreed 0)) 28
+      (header_bytes ++ na_bytes ++ y_bytes)
+  pub other_header : Listens (y ∷ []) y_bytes (Err BadHeader) 4 header_bytes
+  pub no_header : Listens (y ∷ []) (0 ∷ []) (Err BadLength) 1 header_bytes
+  pub bad_length : Listens (y ∷ []) (header_bytes ++ 0 ∷ []) (Err BadLength) 21 header_bytes
+
+-- A dialer of x and y
+pub record DialRows : Type 0 where
+  pub first_at_once : Dials (x ∷ y ∷ []) [] (Ok Going) 0 (header_bytes ++ x_bytes)
+  pub next : Dials (x ∷ y ∷ []) (header_bytes ++ na_bytes) (Ok Going) 24 (header_bytes ++ x_bytes ++ y_bytes)
+  pub agreed : Dials (x ∷ y ∷ []) (header_bytes ++ x_bytes ++ 7 ∷ []) (Ok (Agreed 0)) 24 (header_bytes ++ x_bytes)
+  pub second : Dials (x ∷ y ∷ []) (header_bytes ++ na_bytes ++ y_bytes) (Ok (Agreed 1)) 28
+      (header_bytes ++ x_bytes ++ y_bytes)
+  pub none_left : Dials (x ∷ y ∷ []) (header_bytes ++ na_bytes ++ na_bytes ++ 7 ∷ []) (Ok NoneLeft) 28
+      (header_bytes ++ x_bytes ++ y_bytes)
+  pub nameless : Dials [] (7 ∷ []) (Ok NoneLeft) 0 []
+  pub other_header : Dials (x ∷ y ∷ []) x_bytes (Err BadHeader) 4 (header_bytes ++ x_bytes)
+  pub other_name : Dials (x ∷ y ∷ []) (header_bytes ++ y_bytes) (Err NotProposed) 24 (header_bytes ++ x_bytes)
+  pub header_again : Dials (x ∷ y ∷ []) (header_bytes ++ header_bytes) (Err NotProposed) 40 (header_bytes ++ x_bytes)
+  pub refused_name : Dials (x ∷ y ∷ []) (header_bytes ++ na_bytes ++ x_bytes) (Err NotProposed) 28
+      (header_bytes ++ x_bytes ++ y_bytes)
+  pub bad_length : Dials (x ∷ y ∷ []) (header_bytes ++ 0 ∷ []) (Err BadLength) 21 (header_bytes ++ x_bytes)
+
+-- Whether more may be sent
+pub record SendRows : Type 0 where
+  pub one_name : MaySend (x ∷ []) (Some Going)
+  pub two_names : ¬ MaySend (x ∷ y ∷ []) (Some Going)
+  pub agreed : MaySend (x ∷ y ∷ []) (Some (Agreed 1))
+  pub none_left : ¬ MaySend (x ∷ []) (Some NoneLeft)
+  pub failed : ¬ MaySend (x ∷ []) None
+
+-- Where memory may be refused
+pub record MemoryRows : Type 0 where
+  pub length_alone : EndsLength (header_bytes ++ 3 ∷ [])
+  pub nothing : ¬ EndsLength []
+  pub listener : RunsOut Listener (y ∷ []) header_bytes [] (19 ∷ 47 ∷ [])
+  pub dialer : RunsOut Dialer (x ∷ y ∷ []) (header_bytes ++ x_bytes) header_bytes (3 ∷ 47 ∷ [])

@@ -1,0 +1,191 @@
+-- The definitions of an exchange at worked bytes.
+use Rattle.std.proofs.Common.{◌≡◌, ℕ, ◌+◌, ◌*◌, ◌%◌, ◌<◌, ◌≤◌, List, [], ◌∷◌, ◌++◌, length, Some, Ok, Err, refl, sym, subst, inl, inr, arith}
+use Rattle.std.specs.Prelude.{IsSome}
+use Rattle.std.specs.List.{AllByRecursion, flat_map}
+use Rattle.std.proofs.lemmas.List.{length-append}
+use Rattle.varint_proto.specs.declared.fault.WireFault.TheVariants as wire
+use Rattle.varint_proto.specs.Varint.{BeginsShortest, BeginsWide, shortest, shortest_within}
+use Rattle.varint_proto.specs.Message.{Entry, entry, Varint, Bytes, IsMessage, FaultIn, IsWritable, shortest_field}
+use Rattle.varint_proto.specs.Incoming.{Frames}
+use Rattle.varint_proto.proofs.Framed.{one_frame}
+use Rattle.varint_proto.proofs.Front.{one_begins}
+use Rattle.varint_proto.proofs.Writing.{written_is_read}
+use Rattle.varint_proto.proofs.OneReading.{one_message}
+use Rattle.peer_ids.specs.declared.fault.KeyFault.TheVariants as keys
+use Rattle.peer_ids.specs.declared.kind.KeyType.TheVariants.{Secp256k1}
+use Rattle.peer_ids.specs.ReadsKey.{SpellsKey}
+use Rattle.peer_ids.proofs.Written.{canonical_spells}
+use Rattle.plaintext_x.specs.declared.fault.ExchangeFault.{ExchangeFault}
+use Rattle.plaintext_x.specs.declared.fault.ExchangeFault.TheVariants.{Wire, NoId, NoKey, BadKey, Differs}
+use Rattle.plaintext_x.specs.Exchange.{SpellsExchange, RefusesBody, Exchanges, AsksMemory, longest, last_id, joined_key}
+use Rattle.plaintext_x.specs.Rows.{short_key, key_bytes, id_bytes, id_field, key_field, ProofRows, WaitingRows, RefusalRows}
+use Rattle.plaintext_x.proofs.Steps.{faulty_in}
+
+-- a length of one byte
+one_byte : (n : ℕ) (rest : List ℕ) → n < 128 → BeginsShortest (n ∷ rest) n rest
+one_byte n rest lt = (n ∷ [], record { ends = lt; within = omega arith; shortest = λ h. absurd (omega arith); value = omega arith }, refl)
+
+framed : (body rest : List ℕ) → length body < 128 → Frames longest (length body ∷ (body ++ rest)) body rest
+framed body rest lt = record { begins = one_byte (length body) (body ++ rest) lt; allowed = omega arith }
+
+spells_key : SpellsKey key_bytes short_key
+unfolding shortest shortest_within
+spells_key = canonical_spells short_key (omega arith, omega arith)
+
+-- two fields that hold bytes
+written : (fields : List Entry) → AllByRecursion IsWritable fields → IsMessage (flat_map shortest_field fields) fields
+written fields w = written_is_read fields w
+
+id_entry : Entry
+id_entry = entry 1 (Bytes id_bytes)
+
+key_entry : Entry
+key_entry = entry 2 (Bytes key_bytes)
+
+-- a body of these fields proves the key
+exchanged : (body rest : List ℕ) (fields : List Entry) → length body < 128 → IsMessage body fields → last_id fields ≡ Some id_bytes → joined_key fields ≡ key_bytes
+    → Exchanges (length body ∷ (body ++ rest)) (Ok (Some short_key)) (1 + length body)
+unfolding shortest shortest_within
+exchanged body rest fields lt m i j =
+    let proves : SpellsExchange body short_key = (fields, m, record { spells = subst (λ (b : List ℕ). SpellsKey b short_key) (sym j) spells_key; id = i }) in
+    (body, rest, framed body rest lt, proves, omega (arith, length-append body rest))
+
+-- a body that is refused
+refuses : (body : List ℕ) (fault : ExchangeFault) → length body < 128 → RefusesBody body fault → Exchanges (length body ∷ (body ++ [])) (Err fault) (1 + length body)
+refuses body fault lt r = (faulty_in (length body ∷ (body ++ [])) body [] fault (framed body [] lt) r, omega (arith, length-append body []))
+
+both_writable : AllByRecursion IsWritable (id_entry ∷ key_entry ∷ [])
+unfolding id_entry key_entry
+both_writable = (((omega arith, omega arith), omega arith), (((omega arith, omega arith), omega arith), tt))
+
+pub proof_rows : ProofRows
+unfolding id_entry key_entry shortest shortest_within
+proof_rows = record {
+  id = refl;
+  sent = refl;
+  proven = exchanged (id_field ++ key_field) [] (id_entry ∷ key_entry ∷ []) (omega arith) (written (id_entry ∷ key_entry ∷ []) both_writable) refl refl;
+  more_is_not_used = exchanged (id_field ++ key_field) (7 ∷ []) (id_entry ∷ key_entry ∷ []) (omega arith) (written (id_entry ∷ key_entry ∷ []) both_writable) refl refl;
+  other_order = exchanged (key_field ++ id_field) [] (key_entry ∷ id_entry ∷ []) (omega arith)
+      (written (key_entry ∷ id_entry ∷ []) (both_writable.1.0, (both_writable.0, tt))) refl refl;
+  last_id_counts = exchanged (10 ∷ 0 ∷ id_field ++ key_field) [] (entry 1 (Bytes []) ∷ id_entry ∷ key_entry ∷ []) (omega arith)
+      (written (entry 1 (Bytes []) ∷ id_entry ∷ key_entry ∷ []) (((omega arith, omega arith), omega arith), both_writable)) refl refl;
+  keys_are_joined = exchanged (id_field ++ 18 ∷ 2 ∷ 8 ∷ 2 ∷ 18 ∷ 3 ∷ 18 ∷ 1 ∷ 5 ∷ []) []
+      (id_entry ∷ entry 2 (Bytes (8 ∷ 2 ∷ [])) ∷ entry 2 (Bytes (18 ∷ 1 ∷ 5 ∷ [])) ∷ []) (omega arith)
+      (written (id_entry ∷ entry 2 (Bytes (8 ∷ 2 ∷ [])) ∷ entry 2 (Bytes (18 ∷ 1 ∷ 5 ∷ [])) ∷ [])
+      (both_writable.0, (((omega arith, omega arith), omega arith), (((omega arith, omega arith), omega arith), tt)))) refl refl;
+}
+
+-- 8192 and 8193
+two_bytes : (b : ℕ) → 128 ≤ b → b < 256 → BeginsShortest (b ∷ 64 ∷ []) (b % 128 + 128 * 64) []
+two_bytes b le lt = (b ∷ 64 ∷ [], record { ends = (le, omega arith); within = omega arith; shortest = λ _. omega arith; value = omega arith }, refl)
+
+no_fields : (body rest : List ℕ) → Frames longest (0 ∷ []) body rest → body ≡ []
+no_fields body rest f = (one_frame longest (0 ∷ []) body [] rest [] f (framed [] [] (omega arith))).0
+
+asks_nothing : AsksMemory (0 ∷ []) → ⊥
+asks_nothing (inl h) = omega (arith, h.2, (one_begins (0 ∷ []) h.0 0 [] [] h.1.begins (one_byte 0 [] (omega arith))).0)
+asks_nothing (inr h) =
+    let message : IsMessage [] h.3.0 = subst (λ (b : List ℕ). IsMessage b h.3.0) (no_fields h.0 h.1 h.2) h.3.1 in
+    let none : h.3.0 ≡ [] = one_message [] h.3.0 [] message refl in
+    let some : IsSome (last_id []) = subst (λ (fields : List Entry). IsSome (last_id fields)) none h.3.2.0 in
+    absurd cc
+
+pub waiting_rows : WaitingRows
+unfolding id_entry key_entry shortest shortest_within
+waiting_rows = record {
+  nothing = (inl (tt, omega arith), refl);
+  in_the_length = (inl ((omega arith, tt), omega arith), refl);
+  longest = (inr (8192, [], record { begins = two_bytes 128 (omega arith) (omega arith); allowed = omega arith }, omega arith), refl);
+  in_the_message = (inr (16, id_field, record { begins = one_byte 16 id_field (omega arith); allowed = omega arith }, omega arith), refl);
+  asks_for_the_message = inl (16, record { begins = one_byte 16 [] (omega arith); allowed = omega arith }, omega arith);
+  asks_for_the_key = inr (
+    id_field ++ key_field,
+    [],
+    framed (id_field ++ key_field) [] (omega arith),
+    (id_entry ∷ key_entry ∷ [], written (id_entry ∷ key_entry ∷ []) both_writable, (refl, refl)),
+  );
+  asks_for_an_unread_key = inr (
+    10 ∷ 0 ∷ 18 ∷ 0 ∷ [],
+    [],
+    framed (10 ∷ 0 ∷ 18 ∷ 0 ∷ []) [] (omega arith),
+    (
+      entry 1 (Bytes []) ∷ entry 2 (Bytes []) ∷ [],
+      written (entry 1 (Bytes []) ∷ entry 2 (Bytes []) ∷ []) (((omega arith, omega arith), omega arith), (((omega arith, omega arith), omega arith), tt)),
+      (refl, refl),
+    ),
+  );
+  nothing_for_no_message = asks_nothing;
+}
+
+number_0 : FaultIn (0 ∷ []) wire.BadNumber
+number_0 = ([], 0 ∷ [], refl, inr (0, [], (0 ∷ [], record { ends = omega arith; within = omega arith; fits = omega arith; value = refl }, refl), inl (omega arith)))
+
+-- type 7, and no data in it
+unknown : IsMessage (8 ∷ 7 ∷ 18 ∷ 0 ∷ []) (entry 1 (Varint 7) ∷ entry 2 (Bytes []) ∷ [])
+unfolding shortest shortest_within
+unknown = written (entry 1 (Varint 7) ∷ entry 2 (Bytes []) ∷ []) (((omega arith, omega arith), omega arith), (((omega arith, omega arith), omega arith), tt))
+
+-- type 2 alone
+no_data : IsMessage (8 ∷ 2 ∷ []) (entry 1 (Varint 2) ∷ [])
+unfolding shortest shortest_within
+no_data = written (entry 1 (Varint 2) ∷ []) (((omega arith, omega arith), omega arith), tt)
+
+-- type 2, and no data in it
+no_bytes : IsMessage (8 ∷ 2 ∷ 18 ∷ 0 ∷ []) (entry 1 (Varint 2) ∷ entry 2 (Bytes []) ∷ [])
+unfolding shortest shortest_within
+no_bytes = written (entry 1 (Varint 2) ∷ entry 2 (Bytes []) ∷ []) (((omega arith, omega arith), omega arith), (((omega arith, omega arith), omega arith), tt))
+
+-- an id of no bytes, and then this key
+with_key : (key : List ℕ) → length key < 128 → IsMessage (10 ∷ 0 ∷ 18 ∷ length key ∷ (key ++ [])) (entry 1 (Bytes []) ∷ entry 2 (Bytes key) ∷ [])
+with_key key lt = (
+  18 ∷ length key ∷ (key ++ []),
+  (10 ∷ 0 ∷ [], record { value = 0 ∷ []; fits = (omega arith, omega arith); tag = small 10 _ (omega arith); content = small 0 _ (omega arith) }, refl),
+  ([], (18 ∷ length key ∷ key, record { value = length key ∷ key; fits = (omega arith, omega arith); tag = small 18 _ (omega arith); content = small (length key) key lt }, refl), refl),
+)
+  where
+    small : (n : ℕ) (rest : List ℕ) → n < 128 → BeginsWide (n ∷ rest) n rest
+    small n rest few = (n ∷ [], record { ends = few; within = omega arith; fits = omega arith; value = omega arith }, refl)
+
+pub refusal_rows : RefusalRows
+unfolding id_entry key_entry shortest shortest_within
+refusal_rows = record {
+  one_too_long = ((8193, [], two_bytes 129 (omega arith) (omega arith), omega arith), refl);
+  length_badly_spelt = (inl (wire.NotShortest, (2, omega arith, record { ends = (omega arith, omega arith); within = omega arith; several = omega arith; zero = refl })), refl);
+  message_badly_spelt = refuses (0 ∷ []) Wire (omega arith) (wire.BadNumber, number_0);
+  empty = refuses [] NoId (omega arith) ([], refl, refl);
+  no_id = refuses key_field NoId (omega arith) (key_entry ∷ [], written (key_entry ∷ []) both_writable.1, refl);
+  no_key = refuses id_field NoKey (omega arith) (id_entry ∷ [], written (id_entry ∷ []) (both_writable.0, tt), (refl, refl));
+  no_key_behind_a_wrong_id = refuses (10 ∷ 0 ∷ []) NoKey (omega arith)
+      (entry 1 (Bytes []) ∷ [], written (entry 1 (Bytes []) ∷ []) (((omega arith, omega arith), omega arith), tt), (refl, refl));
+  unknown_type = refuses (10 ∷ 0 ∷ 18 ∷ 4 ∷ 8 ∷ 7 ∷ 18 ∷ 0 ∷ []) BadKey (omega arith) (
+    entry 1 (Bytes []) ∷ entry 2 (Bytes (8 ∷ 7 ∷ 18 ∷ 0 ∷ [])) ∷ [],
+    written (entry 1 (Bytes []) ∷ entry 2 (Bytes (8 ∷ 7 ∷ 18 ∷ 0 ∷ [])) ∷ [])
+        (((omega arith, omega arith), omega arith), (((omega arith, omega arith), omega arith), tt)),
+    (refl, refl, keys.UnknownType, (λ e. cc), (entry 1 (Varint 7) ∷ entry 2 (Bytes []) ∷ [], unknown, (7, refl, omega arith, refl))),
+  );
+  key_badly_spelt = refuses (10 ∷ 0 ∷ 18 ∷ 1 ∷ 0 ∷ []) BadKey (omega arith) (
+    entry 1 (Bytes []) ∷ entry 2 (Bytes (0 ∷ [])) ∷ [],
+    with_key (0 ∷ []) (omega arith),
+    (refl, refl, keys.Wire, (λ e. cc), (wire.BadNumber, number_0)),
+  );
+  empty_key = refuses (10 ∷ 0 ∷ 18 ∷ 0 ∷ []) BadKey (omega arith) (
+    entry 1 (Bytes []) ∷ entry 2 (Bytes []) ∷ [],
+    with_key [] (omega arith),
+    (refl, refl, keys.NoType, (λ e. cc), ([], refl, refl)),
+  );
+  key_without_data = refuses (10 ∷ 0 ∷ 18 ∷ 2 ∷ 8 ∷ 2 ∷ []) BadKey (omega arith) (
+    entry 1 (Bytes []) ∷ entry 2 (Bytes (8 ∷ 2 ∷ [])) ∷ [],
+    with_key (8 ∷ 2 ∷ []) (omega arith),
+    (refl, refl, keys.NoData, (λ e. cc), (entry 1 (Varint 2) ∷ [], no_data, (refl, refl))),
+  );
+  data_of_no_bytes = refuses (10 ∷ 0 ∷ 18 ∷ 4 ∷ 8 ∷ 2 ∷ 18 ∷ 0 ∷ []) BadKey (omega arith) (
+    entry 1 (Bytes []) ∷ entry 2 (Bytes (8 ∷ 2 ∷ 18 ∷ 0 ∷ [])) ∷ [],
+    with_key (8 ∷ 2 ∷ 18 ∷ 0 ∷ []) (omega arith),
+    (refl, refl, keys.BadLength, (λ e. cc), (entry 1 (Varint 2) ∷ entry 2 (Bytes []) ∷ [], no_bytes, (Secp256k1, [], refl, refl, (λ h. omega (arith, h.0))))),
+  );
+  other_id = refuses (10 ∷ 0 ∷ key_field) Differs (omega arith) (
+    entry 1 (Bytes []) ∷ key_entry ∷ [],
+    written (entry 1 (Bytes []) ∷ key_entry ∷ []) (((omega arith, omega arith), omega arith), both_writable.1),
+    ([], short_key, refl, spells_key, (λ e. cc)),
+  );
+}

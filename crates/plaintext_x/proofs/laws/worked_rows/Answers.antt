@@ -1,0 +1,11 @@
+use Rattle.plaintext_x.proofs.Rows.{proof_rows, waiting_rows, refusal_rows}
+use Rattle.plaintext_x.proofs.laws.worked_rows.Goals as goal
+
+pub returns-clause-proofs : goal.returns-clause-proofs
+returns-clause-proofs c = proof_rows
+
+pub returns-clause-waiting : goal.returns-clause-waiting
+returns-clause-waiting c = waiting_rows
+
+pub returns-clause-refusals : goal.returns-clause-refusals
+returns-clause-refusals c = refusal_rows

@@ -1,0 +1,63 @@
+-- Worked rows of an exchange (libp2p plaintext 2.0.0; lengths and refusals are this project's profile).
+use Rattle.std.specs.Prelude.{◌≡◌, ℕ, List, [], ◌∷◌, ◌++◌, Some, None, Ok, Err}
+use Rattle.peer_ids.specs.declared.kind.KeyType.TheVariants.{Secp256k1}
+use Rattle.peer_ids.specs.Key.{Key}
+use Rattle.peer_ids.specs.PeerId.{id_of}
+use Rattle.plaintext_x.specs.declared.fault.ExchangeFault.TheVariants.{TooLong, Wire, NoId, NoKey, BadKey, Differs}
+use Rattle.plaintext_x.specs.Exchange.{Exchanges, AsksMemory, message_of}
+
+-- a key of one byte, the message that spells it, and its peer id
+abbrev pub short_key : Key
+short_key = record { kind = Secp256k1; body = 5 ∷ [] }
+
+abbrev pub key_bytes : List ℕ
+key_bytes = 8 ∷ 2 ∷ 18 ∷ 1 ∷ 5 ∷ []
+
+abbrev pub id_bytes : List ℕ
+id_bytes = 0 ∷ 5 ∷ key_bytes
+
+-- the fields of an exchange
+abbrev pub id_field : List ℕ
+id_field = 10 ∷ 7 ∷ id_bytes
+
+abbrev pub key_field : List ℕ
+key_field = 18 ∷ 5 ∷ key_bytes
+
+-- What an end sends, and what proves its key
+pub record ProofRows : Type 0 where
+  pub id : id_of short_key ≡ id_bytes
+  pub sent : message_of short_key ≡ 16 ∷ (id_field ++ key_field)
+  pub proven : Exchanges (16 ∷ (id_field ++ key_field)) (Ok (Some short_key)) 17
+  pub more_is_not_used : Exchanges (16 ∷ (id_field ++ key_field) ++ 7 ∷ []) (Ok (Some short_key)) 17
+  pub other_order : Exchanges (16 ∷ (key_field ++ id_field)) (Ok (Some short_key)) 17
+  pub last_id_counts : Exchanges (18 ∷ (10 ∷ 0 ∷ id_field ++ key_field)) (Ok (Some short_key)) 19
+  pub keys_are_joined :
+      Exchanges (18 ∷ (id_field
+      ++ 18 ∷ 2 ∷ 8 ∷ 2 ∷ 18 ∷ 3 ∷ 18 ∷ 1 ∷ 5 ∷ [])) (Ok (Some short_key)) 19
+
+-- Where an exchange stands while its message comes
+pub record WaitingRows : Type 0 where
+  pub nothing : Exchanges [] (Ok None) 0
+  pub in_the_length : Exchanges (128 ∷ []) (Ok None) 1
+  pub longest : Exchanges (128 ∷ 64 ∷ []) (Ok None) 2
+  pub in_the_message : Exchanges (16 ∷ id_field) (Ok None) 10
+  pub asks_for_the_message : AsksMemory (16 ∷ [])
+  pub asks_for_the_key : AsksMemory (16 ∷ (id_field ++ key_field))
+  pub asks_for_an_unread_key : AsksMemory (4 ∷ 10 ∷ 0 ∷ 18 ∷ 0 ∷ [])
+  pub nothing_for_no_message : ¬ AsksMemory (0 ∷ [])
+
+-- Each refusal
+pub record RefusalRows : Type 0 where
+  pub one_too_long : Exchanges (129 ∷ 64 ∷ []) (Err TooLong) 2
+  pub length_badly_spelt : Exchanges (128 ∷ 0 ∷ []) (Err Wire) 2
+  pub message_badly_spelt : Exchanges (1 ∷ 0 ∷ []) (Err Wire) 2
+  pub empty : Exchanges (0 ∷ []) (Err NoId) 1
+  pub no_id : Exchanges (7 ∷ key_field) (Err NoId) 8
+  pub no_key : Exchanges (9 ∷ id_field) (Err NoKey) 10
+  pub no_key_behind_a_wrong_id : Exchanges (2 ∷ 10 ∷ 0 ∷ []) (Err NoKey) 3
+  pub unknown_type : Exchanges (8 ∷ 10 ∷ 0 ∷ 18 ∷ 4 ∷ 8 ∷ 7 ∷ 18 ∷ 0 ∷ []) (Err BadKey) 9
+  pub key_badly_spelt : Exchanges (5 ∷ 10 ∷ 0 ∷ 18 ∷ 1 ∷ 0 ∷ []) (Err BadKey) 6
+  pub empty_key : Exchanges (4 ∷ 10 ∷ 0 ∷ 18 ∷ 0 ∷ []) (Err BadKey) 5
+  pub key_without_data : Exchanges (6 ∷ 10 ∷ 0 ∷ 18 ∷ 2 ∷ 8 ∷ 2 ∷ []) (Err BadKey) 7
+  pub data_of_no_bytes : Exchanges (8 ∷ 10 ∷ 0 ∷ 18 ∷ 4 ∷ 8 ∷ 2 ∷ 18 ∷ 0 ∷ []) (Err BadKey) 9
+  pub other_id : Exchanges (9 ∷ 10 ∷ 0 ∷ key_field) (Err Differs) 10
