@@ -155,9 +155,6 @@ no_value_fault P2p v x fault p h = no_sized_fault P2p v x fault p (hash_below v 
 
 -- ---- parts
 
-pub part_again : (p : Part) → part p.protocol p.value ≡ p
-part_again p = refl
-
 pub one_part : (p q : Protocol) (v w x y : List ℕ) → IsValue p v → IsValue q w → spelling (part p v) ++ x ≡ spelling (part q w) ++ y → (part p v ≡ part q w) × (x ≡ y)
 one_part p q v w x y h k e =
     let joined : shortest (code_of p) ++ (sized p v ++ x) ≡ shortest (code_of q) ++ (sized q w ++ y) = sym (append_assoc (shortest (code_of p)) (sized p v) x) ∙ e ∙ append_assoc (shortest (code_of q)) (sized q w) y in

@@ -22,9 +22,6 @@ pub record PeerSoFar (bytes rest : List ℕ) (peer : Option (List ℕ)) : Type 0
   pub spelt : bytes ≡ flat_map spelling parts ++ rest
   pub peer_is : peer ≡ last_peer parts
 
-pub peer_none : (bytes : List ℕ) → PeerSoFar bytes bytes None
-peer_none bytes = record { parts = []; are_parts = tt; spelt = refl; peer_is = refl }
-
 last_peer-more : (parts : List Part) (p : Part) → last_peer (parts ++ p ∷ []) ≡ peer_in p.protocol p.value
 last_peer-more [] p = refl
 last_peer-more (q ∷ []) p = refl
@@ -124,11 +121,6 @@ no_end bytes some stuck (inr peer) = stuck P2p peer.0 [] peer.1 (peer.2 ∙ sym 
 -- the parts behind the first one
 behind : (bytes rest value : List ℕ) (p : Protocol) (a : Address) → SpellsAddress bytes a → IsValue p value → bytes ≡ spelling (part p value) ++ rest → (tail : List Part) × (a.parts ≡ part p value ∷ tail) × AreParts tail × (flat_map spelling tail ++ a.opaque ≡ rest)
 behind bytes rest value p a s v e = front a.parts a.opaque rest value p s.0.parts (stuck_end a s.0) v (sym s.1 ∙ e)
-
-pub no_host : (bytes : List ℕ) → IsStuck bytes → (a : Address) → SpellsAddress bytes a → (ip : Ip) (port : ℕ) → ¬ IsSocket a ip port
-no_host bytes stuck a s ip port h =
-    let none : host_part ip ∷ port_part port ∷ h.tail ≡ [] = sym h.parts ∙ no_front a.parts a.opaque bytes s.0.parts (sym s.1) stuck in
-    absurd cc
 
 head_of : (p q : Part) (ps qs : List Part) → p ∷ ps ≡ q ∷ qs → p ≡ q
 head_of p q ps qs e = cc

@@ -53,7 +53,8 @@ spelling p = shortest (code_of p.protocol) ++ sized p.protocol p.value
 
 -- Bytes that begin with a well spelt code which isn't in the table.
 abbrev pub IsOpaque : List ℕ → Type 0
-IsOpaque bytes = (code : ℕ) × (rest : List ℕ) × (code < 2 ^ 63) × (bytes ≡ shortest code ++ rest) × ((p : Protocol) → code_of p ≢ code)
+IsOpaque bytes = (code : ℕ) × (rest : List ℕ) × (code < 2 ^ 63) × (bytes ≡ shortest code ++ rest)
+    × ((p : Protocol) → code_of p ≢ code)
 
 -- An address: parts, and the bytes of the opaque part behind them, or none.
 pub record Address : Type 0 where
@@ -80,26 +81,30 @@ NumberFault bytes OutOfMemory = ⊥
 
 -- No length and so many bytes stand at the front.
 abbrev pub BodyFault : List ℕ → AddrFault → Type 0
-BodyFault bytes fault = NumberFault bytes fault ⊎ ((fault ≡ Cut) × (len : ℕ) × (body : List ℕ) × (len < 2 ^ 63) × (bytes ≡ shortest len ++ body) × (length body < len))
+BodyFault bytes fault = NumberFault bytes fault
+    ⊎ ((fault ≡ Cut) × (len : ℕ) × (body : List ℕ) × (len < 2 ^ 63) × (bytes ≡ shortest len ++ body)
+    × (length body < len))
 
 -- What keeps the bytes behind a code from beginning with a value.
 abbrev pub ValueFault : Protocol → List ℕ → AddrFault → Type 0
 ValueFault Ip4 bytes fault = (fault ≡ Cut) × (length bytes < 4)
 ValueFault Tcp bytes fault = (fault ≡ Cut) × (length bytes < 2)
 ValueFault Ip6 bytes fault = (fault ≡ Cut) × (length bytes < 16)
-ValueFault p bytes fault = BodyFault bytes fault ⊎ ((fault ≡ BadValue) × (value : List ℕ) × (rest : List ℕ) × (length value < 2 ^ 63)
+ValueFault p bytes fault = BodyFault bytes fault
+    ⊎ ((fault ≡ BadValue) × (value : List ℕ) × (rest : List ℕ) × (length value < 2 ^ 63)
     × (bytes ≡ sized p value ++ rest) × ¬ IsValue p value)
 
 -- What keeps the bytes from beginning with a part.
 abbrev pub PartFault : List ℕ → AddrFault → Type 0
-PartFault bytes fault = NumberFault bytes fault ⊎ ((p : Protocol) × (rest : List ℕ) × (bytes ≡ shortest (code_of p) ++ rest) × ValueFault p rest fault)
+PartFault bytes fault = NumberFault bytes fault
+    ⊎ ((p : Protocol) × (rest : List ℕ) × (bytes ≡ shortest (code_of p) ++ rest) × ValueFault p rest fault)
 
 -- Why bytes are no address: the first faulty part from the left decides.
 abbrev pub AddressFault : List ℕ → AddrFault → Type 0
 AddressFault bytes fault =
     ((fault ≡ Empty) × (bytes ≡ []))
-    ⊎ ((parts : List Part) × (rest : List ℕ) × AllByRecursion (λ p. IsValue p.protocol p.value) parts × (bytes ≡ flat_map spelling parts ++ rest)
-    × (0 < length rest) × PartFault rest fault)
+    ⊎ ((parts : List Part) × (rest : List ℕ) × AllByRecursion (λ p. IsValue p.protocol p.value) parts
+    × (bytes ≡ flat_map spelling parts ++ rest) × (0 < length rest) × PartFault rest fault)
 
 abbrev pub SpellsAddress : List ℕ → Address → Type 0
 SpellsAddress bytes a = IsAddress a × (bytes ≡ bytes_of a)

@@ -46,7 +46,8 @@ fn address_in(alloc: Global, bytes: &[u8]) -> Result<Multiaddr, AddrFault>
 
 /// The address that a text spells.
 fn address_of(alloc: Global, text: &str) -> Result<Multiaddr, AddrFault>
-    ensures found { IfOk result (λ a. (parts : List Part) × ReadsParts text.now parts × (a ≡ flat_map spelling parts)) }
+    ensures found { IfOk result (λ a. (parts : List Part) × ReadsParts text.now parts
+        × (a ≡ flat_map spelling parts)) }
     ensures fault { IfErr result (RefusesText text.now) }
 {
     let bytes = parse(alloc, text)?;
@@ -61,7 +62,8 @@ impl Multiaddr {
         ensures fault { IfErr result (RefusesAddress bytes.now) }
 
         // An address is read, unless memory runs out, and each fault is answered.
-        ensures only_address { (a : Address) → SpellsAddress bytes.now a → (result ≡ Ok bytes.now) ⊎ (result ≡ Err AddrFault.OutOfMemory) }
+        ensures only_address { (a : Address) → SpellsAddress bytes.now a
+            → (result ≡ Ok bytes.now) ⊎ (result ≡ Err AddrFault.OutOfMemory) }
         ensures only_fault { (fault : AddrFault) → AddressFault bytes.now fault → result ≡ Err fault }
     {
         address_in(alloc, bytes)
@@ -69,11 +71,13 @@ impl Multiaddr {
 
     /// The address that a text spells.
     pub fn parse(alloc: Global, text: &str) -> Result<Multiaddr, AddrFault>
-        ensures found { IfOk result (λ a. (parts : List Part) × ReadsParts text.now parts × (a ≡ flat_map spelling parts)) }
+        ensures found { IfOk result (λ a. (parts : List Part) × ReadsParts text.now parts
+            × (a ≡ flat_map spelling parts)) }
         ensures fault { IfErr result (RefusesText text.now) }
 
         // An address is read, unless memory runs out, and each fault is answered.
-        ensures only_address { (parts : List Part) → ReadsParts text.now parts → (result ≡ Ok (flat_map spelling parts)) ⊎ (result ≡ Err AddrFault.OutOfMemory) }
+        ensures only_address { (parts : List Part) → ReadsParts text.now parts
+            → (result ≡ Ok (flat_map spelling parts)) ⊎ (result ≡ Err AddrFault.OutOfMemory) }
         ensures only_fault { (fault : AddrFault) → TextFault text.now fault → result ≡ Err fault }
     {
         address_of(alloc, text)
@@ -102,11 +106,13 @@ impl Multiaddr {
     }
 
     /// The text. An address with an opaque part has none. Memory is asked for only where there is a text.
-    pub fn print(&self, alloc: Global) -> Result<String, AddrFault>
-        ensures found { IfOk result (λ text. (a : Address) × SpellsAddress self.now a × (a.opaque ≡ []) × PrintsParts (string_bytes text) a.parts) }
+    pub fn print(&self) -> Result<String, AddrFault>
+        ensures found { IfOk result (λ text. (a : Address) × SpellsAddress self.now a × (a.opaque ≡ [])
+            × PrintsParts (string_bytes text) a.parts) }
         ensures fault { IfErr result (RefusesPrint self.now) }
-        ensures opaque { (a : Address) → SpellsAddress self.now a → IsOpaque a.opaque → result ≡ Err AddrFault.UnknownProtocol }
+        ensures opaque { (a : Address) → SpellsAddress self.now a → IsOpaque a.opaque
+            → result ≡ Err AddrFault.UnknownProtocol }
     {
-        print(alloc, &self.bytes)
+        print(*self.bytes.allocator(), &self.bytes)
     }
 }

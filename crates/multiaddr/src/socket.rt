@@ -19,8 +19,10 @@ pub enum Ip {
 
 /// The part at the front, where its protocol is in the table, and what follows it.
 fn known_part(bytes: &[u8]) -> Option<(Protocol, &[u8], &[u8])>
-    ensures found { IfSome result (λ read. IsValue read.0 read.1.now × (bytes.now ≡ spelling (part read.0 read.1.now) ++ read.2.now)) }
-    ensures none { IfNone result ((p : Protocol) (value rest : List ℕ) → IsValue p value → bytes.now ≢ spelling (part p value) ++ rest) }
+    ensures found { IfSome result (λ read. IsValue read.0 read.1.now
+        × (bytes.now ≡ spelling (part read.0 read.1.now) ++ read.2.now)) }
+    ensures none { IfNone result ((p : Protocol) (value rest : List ℕ) → IsValue p value
+        → bytes.now ≢ spelling (part p value) ++ rest) }
 {
     match part_at(bytes) {
         Ok(read) => read,

@@ -1,9 +1,10 @@
 -- The canonical message of a key spells it, and is short.
-use Rattle.std.proofs.Common.{ℕ, ◌≤◌, List, [], ◌∷◌, length, refl, arith, inl, inr}
+use Rattle.std.proofs.Common.{◌≡◌, ℕ, ◌≤◌, List, [], ◌∷◌, length, refl, arith, inl, inr}
 use Rattle.std.proofs.lemmas.Bool.{cases_lt, le-leb, lt-leb}
 use Rattle.std.proofs.lemmas.List.{length-append}
 use Rattle.sha2.specs.Sha256.{sha256}
 use Rattle.sha2.proofs.Facts256.{length-sha256}
+use Rattle.varint_proto.specs.Varint.{shortest, shortest_within}
 use Rattle.varint_proto.specs.Message.{entry, Varint, Bytes, shortest_field}
 use Rattle.varint_proto.proofs.Writing.{number_field, body_field, two_fields, number_length, body_length}
 use Rattle.peer_ids.specs.declared.kind.KeyType.{KeyType}
@@ -54,3 +55,11 @@ multihash_is bytes = elim (cases_lt 42 (length bytes)) [
 
 pub id_is_multihash : (key : Key) → IsMultihash (id_of key)
 id_is_multihash key = multihash_is (canonical_of key)
+
+-- the canonical message of an Ed25519 key, and its id, have its bytes
+pub canonical_ed25519 : (body : List ℕ) → length body ≡ 32 → canonical_of (record { kind = Ed25519; body = body }) ≡ 8 ∷ 1 ∷ 18 ∷ 32 ∷ body
+unfolding shortest shortest_within
+canonical_ed25519 body len = rw len
+
+pub id_of_ed25519 : (body : List ℕ) → length body ≡ 32 → multihash_of (8 ∷ 1 ∷ 18 ∷ 32 ∷ body) ≡ 0 ∷ 36 ∷ 8 ∷ 1 ∷ 18 ∷ 32 ∷ body
+id_of_ed25519 body len = rw len

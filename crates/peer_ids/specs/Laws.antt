@@ -11,12 +11,15 @@ use Rattle.peer_ids.specs.Base32.{IsIdText, id_text}
 -- Bytes spell at most one key, have at most one fault, and not both; want of memory is no fault of theirs.
 pub record OneKey : Type 0 where
   pub key : (bytes : List ℕ) (key other : Key) → SpellsKey bytes key → SpellsKey bytes other → key ≡ other
-  pub fault : (bytes : List ℕ) (fault other : KeyFault) → fault ≢ OutOfMemory → other ≢ OutOfMemory → RefusesKey bytes fault → RefusesKey bytes other → fault ≡ other
-  pub either : (bytes : List ℕ) (key : Key) (fault : KeyFault) → fault ≢ OutOfMemory → SpellsKey bytes key → ¬ RefusesKey bytes fault
+  pub fault : (bytes : List ℕ) (fault other : KeyFault) → fault ≢ OutOfMemory → other ≢ OutOfMemory
+      → RefusesKey bytes fault → RefusesKey bytes other → fault ≡ other
+  pub either : (bytes : List ℕ) (key : Key) (fault : KeyFault) → fault ≢ OutOfMemory → SpellsKey bytes key
+      → ¬ RefusesKey bytes fault
 
 -- All bytes spell a key or are refused.
 abbrev pub SomeKey : Type 0
-SomeKey = (bytes : List ℕ) → ((key : Key) × SpellsKey bytes key) ⊎ ((fault : KeyFault) × (fault ≢ OutOfMemory) × RefusesKey bytes fault)
+SomeKey = (bytes : List ℕ) → ((key : Key) × SpellsKey bytes key)
+    ⊎ ((fault : KeyFault) × (fault ≢ OutOfMemory) × RefusesKey bytes fault)
 
 -- The canonical message of a key spells that key.
 abbrev pub CanonicalIsRead : Type 0

@@ -94,7 +94,8 @@ pub(crate) fn decode(letters: &[u8]) -> ([u8; 46], usize, u32)
     requires letters { All IsLetter letters.now }
     requires short { length letters.now ≤ 74 }
     ensures within { result.1 ≤ 46 }
-    ensures spelt { (values : List ℕ) × (count : ℕ) × (count < 8) × AreLetters letters.now values × IsRegrouped 5 8 values (take result.1 result.0) result.2 count }
+    ensures spelt { (values : List ℕ) × (count : ℕ) × (count < 8) × AreLetters letters.now values
+        × IsRegrouped 5 8 values (take result.1 result.0) result.2 count }
 {
     let mut bytes = [0; 46];
     let mut len = 0;

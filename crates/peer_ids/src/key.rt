@@ -31,8 +31,8 @@ impl Model for PublicKey {
 
 /// The last type and the last data of a message.
 fn last_parts(bytes: &[u8]) -> Result<(Option<u64>, Option<&[u8]>), WireFault>
-    ensures found { IfOk result (λ parts. (fields : List Entry) × IsMessage bytes.now fields × (parts.0 ≡ last_varint 1 fields)
-        × (option_copied parts.1 ≡ last_body 2 fields)) }
+    ensures found { IfOk result (λ parts. (fields : List Entry) × IsMessage bytes.now fields
+        × (parts.0 ≡ last_varint 1 fields) × (option_copied parts.1 ≡ last_body 2 fields)) }
     ensures fault { IfErr result (FaultIn bytes.now) }
 {
     let mut kind = None;
@@ -78,14 +78,27 @@ impl PublicKey {
         Some(PublicKey { kind, body })
     }
 
+    /// The Ed25519 key of these 32 bytes.
+    pub fn ed25519(alloc: Global, bytes: &[u8; 32]) -> Result<PublicKey, AllocError>
+        ensures { IfOk result (λ key. (key.kind ≡ KeyType.Ed25519) × (key.body ≡ bytes.now)) }
+    {
+        let body = Vec::from_slice(alloc, bytes)?;
+        Ok(PublicKey {
+            kind: KeyType::Ed25519,
+            body,
+        })
+    }
+
     /// Reads a key message.
     pub fn read(alloc: Global, bytes: &[u8]) -> Result<PublicKey, KeyFault>
         ensures found { IfOk result (SpellsKey bytes.now) }
         ensures fault { IfErr result (RefusesKey bytes.now) }
 
         // The key that they spell, unless memory runs out, and no other, and the fault that they have.
-        ensures only_key { (key : Key) → SpellsKey bytes.now key → (result ≡ Ok key) ⊎ (result ≡ Err KeyFault.OutOfMemory) }
-        ensures only_fault { (fault : KeyFault) → fault ≢ KeyFault.OutOfMemory → RefusesKey bytes.now fault → result ≡ Err fault }
+        ensures only_key { (key : Key) → SpellsKey bytes.now key
+            → (result ≡ Ok key) ⊎ (result ≡ Err KeyFault.OutOfMemory) }
+        ensures only_fault { (fault : KeyFault) → fault ≢ KeyFault.OutOfMemory
+            → RefusesKey bytes.now fault → result ≡ Err fault }
     {
         key_in(alloc, bytes)
     }

@@ -1,6 +1,7 @@
 //! Laws of keys, ids and texts. Each is a function with an empty body, whose contract is the law.
 
 ghost use Rattle.peer_ids.specs.Laws.{OneKey, SomeKey, CanonicalIsRead, IdsAreMultihashes, OneText};
+ghost use Rattle.peer_ids.specs.Rows.{Base32Rows, CountRows, IdRows, KeyRows, MultihashRows, TextRows, TypeRows};
 
 /// Bytes spell at most one key, and are refused by at most one fault.
 pub fn one_key()
@@ -25,4 +26,15 @@ pub fn ids_are_multihashes()
 /// An id has one text, and two different ids have different texts.
 pub fn one_text()
     ensures { OneText }
+{}
+
+/// The definitions say of worked keys, ids and texts what the standards say.
+pub fn worked_rows()
+    ensures types { TypeRows }
+    ensures keys { KeyRows }
+    ensures ids { IdRows }
+    ensures multihashes { MultihashRows }
+    ensures base32 { Base32Rows }
+    ensures counts { CountRows }
+    ensures texts { TextRows }
 {}

@@ -2,6 +2,7 @@
 
 ghost use Rattle.std.specs.Prelude.{◌≡◌, ◌≤◌, ◌++◌, ◌↔◌, length, IsOk, IfOk, IfErr, string_bytes};
 ghost use Rattle.peer_ids.specs.Base32.{IsIdText, id_text};
+ghost use Rattle.peer_ids.specs.declared.kind.KeyType.TheVariants.{Ed25519};
 ghost use Rattle.peer_ids.specs.PeerId.{id_of, canonical_of, multihash_of, IsMultihash};
 
 use crate::base32::{are_letters, decode, encode};
@@ -131,6 +132,16 @@ impl PeerId {
         let header = header_of(key);
         PeerId {
             multihash: multihash(header.as_slice(), key.body()),
+        }
+    }
+
+    /// The id of the Ed25519 key of these 32 bytes: they stand in it. It takes no memory.
+    pub fn of_ed25519(key: &[u8; 32]) -> PeerId
+        ensures id { result ≡ id_of (record { kind = Ed25519; body = key.now }) }
+        ensures bytes { result ≡ 0 ∷ 36 ∷ 8 ∷ 1 ∷ 18 ∷ 32 ∷ key.now }
+    {
+        PeerId {
+            multihash: multihash(&[0x08, 0x01, 0x12, 0x20], key),
         }
     }
 

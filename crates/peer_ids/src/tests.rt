@@ -73,9 +73,12 @@ fn keys_of_at_most_42_canonical_bytes_are_their_id(rt: HostRuntime) -> Result<()
     let digest = PeerId::of_key(&key_of(&rt, &[0x08, 0x00, 0x12, 0x27], 0, 39)?);
     assert_eq!(rt; digest.as_bytes().len(), 34);
     assert_eq!(rt; &digest.as_bytes()[..2], [0x12, 0x20].as_slice());
+    // The digest of the 43 bytes, as coreutils' sha256sum has it.
     let text = digest.to_text(rt.alloc())?;
-    assert_eq!(rt; text.len(), 59);
-    assert!(rt; text.starts_with("bafzbei"));
+    assert_eq!(rt;
+        text.as_str(),
+        "bafzbeibk5grzhwgyw4alg4l6bv7uulvdmn6osbjyi6olydnwtsxzdm6kxu"
+    );
     assert!(rt; identity < digest);
     assert!(rt; identity != digest);
     Ok(())
@@ -157,6 +160,21 @@ fn keys_made_of_parts(rt: HostRuntime) -> Result<(), Fail> {
     assert!(rt; PublicKey::new(KeyType::Rsa, Vec::new(rt.alloc())).is_none());
     assert!(rt; PublicKey::new(KeyType::Rsa, vec![in rt.alloc(); 0; 4096]?).is_some());
     assert!(rt; PublicKey::new(KeyType::Rsa, vec![in rt.alloc(); 0; 4097]?).is_none());
+    Ok(())
+}
+
+#[test]
+fn keys_and_ids_of_32_bytes(rt: HostRuntime) -> Result<(), Fail> {
+    for (byte, text) in [(0, ZEROS), (0xff, ONES)] {
+        let key = PublicKey::ed25519(rt.alloc(), &[byte; 32])?;
+        assert_eq!(rt; key.kind(), KeyType::Ed25519);
+        assert_eq!(rt; key.body(), [byte; 32].as_slice());
+        assert_eq!(rt; PeerId::of_key(&key), PeerId::of_ed25519(&[byte; 32]));
+        assert_eq!(rt;
+            PeerId::from_text(text),
+            Ok(PeerId::of_ed25519(&[byte; 32]))
+        );
+    }
     Ok(())
 }
 
