@@ -4,7 +4,7 @@ use Rattle.std.proofs.lemmas.Bool.{lt-ltb}
 use Rattle.yamux_frames.specs.declared.header.FrameFault.{FrameFault}
 use Rattle.yamux_frames.specs.Place.{Place, is_within, is_within_at}
 use Rattle.yamux_frames.specs.Spelling.{payload_length}
-use Rattle.yamux_frames.specs.Frames.{Arrival, bytes_left, IsRest, IsSound, Reads, StandsAt, IsMidFrame, EndsWithin}
+use Rattle.yamux_frames.specs.Frames.{Arrival, bytes_left, IsRest, IsSound, Reads, Stands, IsMidFrame, EndsWithin}
 use Rattle.yamux_frames.specs.Frames.Arrival.{Head, Byte, Tail, Garbled}
 use Rattle.yamux_frames.proofs.Readings.{one_reading}
 
@@ -32,7 +32,7 @@ other_reading bytes rest frames reads end =
     let same = one_reading bytes end.frames frames end.rest rest end.reads reads in
     subst (λ (t : List ℕ). IsMidFrame frames t) same.1 (subst (λ (f : List Arrival). IsMidFrame f end.rest) same.0 end.mid_frame)
 
-pub ends_within : (bytes : List ℕ) (frames : List Arrival) (place : Place) → StandsAt bytes frames place → IsTrue (is_within place) ↔ EndsWithin bytes
+pub ends_within : (bytes : List ℕ) (frames : List Arrival) (place : Place) → Stands bytes frames place → IsTrue (is_within place) ↔ EndsWithin bytes
 ends_within bytes frames place at =
     let known = mid_frame frames place.part at.sound at.reads.rest_is in
     let same : is_within place ≡ (nat_lt 0 (bytes_left frames) || nat_lt 0 (length place.part)) =

@@ -10,7 +10,7 @@ use Rattle.yamux_frames.specs.declared.cutter.Cut.TheVariants as cut
 use Rattle.yamux_frames.specs.Spelling.{header_bytes, payload_length, IsHeader}
 use Rattle.yamux_frames.specs.Place.{Place}
 use Rattle.yamux_frames.specs.Cuts.{CutsAt, Answers, NeedsMore, HasHead, HasPart, IsRefused}
-use Rattle.yamux_frames.specs.Frames.{Arrival, spelled, bytes_left, last_stream, IsBetween, IsWithin, AreFrames, IsRest, IsSound, StandsAt, StopsIn, Uses, IsLongest, EndsExactly, IsOfLast, with_bytes, with_cut}
+use Rattle.yamux_frames.specs.Frames.{Arrival, spelled, bytes_left, last_stream, IsBetween, IsWithin, AreFrames, IsRest, IsSound, Stands, StopsIn, Uses, IsLongest, EndsExactly, IsOfLast, with_bytes, with_cut}
 use Rattle.yamux_frames.specs.Frames.Arrival.{Head, Byte, Tail, Garbled}
 
 pub take_whole : (xs : List ℕ) → take (length xs) xs ≡ xs
@@ -89,10 +89,10 @@ within_rest (Garbled bytes ∷ past) w some = absurd w
 
 -- ---- the answers
 
-needs_more : (bytes piece : List ℕ) (past : List Arrival) (old new : Place) (used : ℕ) → StandsAt bytes past old → NeedsMore old piece used new → StandsAt (bytes ++ take used piece) past new
+needs_more : (bytes piece : List ℕ) (past : List Arrival) (old new : Place) (used : ℕ) → Stands bytes past old → NeedsMore old piece used new → Stands (bytes ++ take used piece) past new
 needs_more bytes piece past old new used at more =
     let left_is = at.left in
-    subst (StandsAt (bytes ++ take used piece) past) (sym more.new_is) (record {
+    subst (Stands (bytes ++ take used piece) past) (sym more.new_is) (record {
       going = refl;
       reads = record {
         whole = ap (λ k. bytes ++ take k piece) more.used_is ∙ ap (λ (t : List ℕ). bytes ++ t) (take_whole piece) ∙ ap (λ (t : List ℕ). t ++ piece) at.reads.whole ∙ append_assoc (spelled past) old.part piece;
@@ -104,9 +104,9 @@ needs_more bytes piece past old new used at more =
       stream = at.stream;
     })
 
-head_at : (bytes piece : List ℕ) (past : List Arrival) (old : Place) (used : ℕ) (h : Header) (b : Bool) → nat_lt 0 (payload_length h) ≡ b → StandsAt bytes past old
+head_at : (bytes piece : List ℕ) (past : List Arrival) (old : Place) (used : ℕ) (h : Header) (b : Bool) → nat_lt 0 (payload_length h) ≡ b → Stands bytes past old
     → old.left ≡ 0 → old.part ++ take used piece ≡ header_bytes h → IsHeader h
-    → StandsAt (bytes ++ take used piece) (cond b (Head h ∷ past) (Tail ∷ Head h ∷ past)) (record { part = []; stream = h.stream; left = payload_length h; fault = None })
+    → Stands (bytes ++ take used piece) (cond b (Head h ∷ past) (Tail ∷ Head h ∷ past)) (record { part = []; stream = h.stream; left = payload_length h; fault = None })
 head_at bytes piece past old used h true some at none head fits =
     record {
       going = refl;
@@ -134,10 +134,10 @@ head_at bytes piece past old used h false some at none head fits =
       stream = λ some_left. absurd (omega arith);
     }
 
-has_head : (bytes piece : List ℕ) (past : List Arrival) (old new : Place) (used : ℕ) (h : Header) → StandsAt bytes past old → HasHead old piece used h new
-    → StandsAt (bytes ++ take used piece) (with_cut (take used piece) (cut.Head h) past) new
+has_head : (bytes piece : List ℕ) (past : List Arrival) (old new : Place) (used : ℕ) (h : Header) → Stands bytes past old → HasHead old piece used h new
+    → Stands (bytes ++ take used piece) (with_cut (take used piece) (cut.Head h) past) new
 has_head bytes piece past old new used h at head =
-    subst (StandsAt (bytes ++ take used piece) (with_cut (take used piece) (cut.Head h) past)) (sym head.new_is)
+    subst (Stands (bytes ++ take used piece) (with_cut (take used piece) (cut.Head h) past)) (sym head.new_is)
     (head_at bytes piece past old used h (nat_lt 0 (payload_length h)) refl at head.between head.bytes head.fits)
 
 -- the payload so far
@@ -146,8 +146,8 @@ part_whole bytes xs part past whole none =
     ap (λ (t : List ℕ). t ++ xs) whole ∙ ap (λ (t : List ℕ). (spelled past ++ t) ++ xs) none ∙ ap (λ (t : List ℕ). t ++ xs) (append-nil (spelled past))
     ∙ sym (bytes_spelled xs past) ∙ sym (append-nil (spelled (with_bytes xs past))) ∙ ap (λ (t : List ℕ). spelled (with_bytes xs past) ++ t) (sym none)
 
-has_part : (bytes piece : List ℕ) (past : List Arrival) (old new : Place) (used stream from to : ℕ) (last : Bool) → StandsAt bytes past old → HasPart old piece used stream from to new
-    → (IsTrue last ↔ (used ≡ old.left)) → StandsAt (bytes ++ take used piece) (with_cut (take used piece) (Part stream from to last) past) new
+has_part : (bytes piece : List ℕ) (past : List Arrival) (old new : Place) (used stream from to : ℕ) (last : Bool) → Stands bytes past old → HasPart old piece used stream from to new
+    → (IsTrue last ↔ (used ≡ old.left)) → Stands (bytes ++ take used piece) (with_cut (take used piece) (Part stream from to last) past) new
 has_part bytes piece past old new used stream from to true at part ends =
     let left_is = at.left in
     let some = part.some in
@@ -156,7 +156,7 @@ has_part bytes piece past old new used stream from to true at part ends =
     let xs : List ℕ = take used piece in
     let count : length xs ≡ used = (let fits = part.within in omega (arith, length-take used piece)) in
     let open_frame = within past old.part at.reads.rest_is (omega arith) in
-    subst (StandsAt (bytes ++ xs) (Tail ∷ with_bytes xs past)) (sym part.new_is) (record {
+    subst (Stands (bytes ++ xs) (Tail ∷ with_bytes xs past)) (sym part.new_is) (record {
       going = refl;
       reads = record {
         whole = part_whole bytes xs old.part past at.reads.whole open_frame.1 ∙ ap (λ (t : List ℕ). t ++ old.part) (sym (append-nil (spelled (with_bytes xs past))));
@@ -176,7 +176,7 @@ has_part bytes piece past old new used stream from to false at part ends =
     let open_frame = within past old.part at.reads.rest_is (omega arith) in
     let not_all : used ≡ old.left → ⊥ = λ e. absurd (let bad = ends.1 e in cc) in
     let more : old.left - used ≡ bytes_left (with_bytes xs past) = (let e = bytes_after xs past in omega arith) in
-    subst (StandsAt (bytes ++ xs) (with_bytes xs past)) (sym part.new_is) (record {
+    subst (Stands (bytes ++ xs) (with_bytes xs past)) (sym part.new_is) (record {
       going = refl;
       reads = record {
         whole = part_whole bytes xs old.part past at.reads.whole open_frame.1;
@@ -188,15 +188,15 @@ has_part bytes piece past old new used stream from to false at part ends =
       stream = λ some_left. at.stream (omega arith) ∙ sym (bytes_stream xs past);
     })
 
-pub stands : (bytes piece : List ℕ) (past : List Arrival) (old new : Place) (used : ℕ) (answer : Cut) → StandsAt bytes past old → Answers old piece used answer new
-    → StandsAt (bytes ++ take used piece) (with_cut (take used piece) answer past) new
+pub stands : (bytes piece : List ℕ) (past : List Arrival) (old new : Place) (used : ℕ) (answer : Cut) → Stands bytes past old → Answers old piece used answer new
+    → Stands (bytes ++ take used piece) (with_cut (take used piece) answer past) new
 stands bytes piece past old new used More at a = needs_more bytes piece past old new used at a
 stands bytes piece past old new used (cut.Head h) at a = has_head bytes piece past old new used h at a
 stands bytes piece past old new used (Part stream from to last) at a = has_part bytes piece past old new used stream from to last at a.0 a.1
 
 pub frames : (fault : Option FrameFault) (old new : Place) (piece : List ℕ) (result : Result (ℕ × Cut) FrameFault) → CutsAt fault old piece result new
-    → IfOk result (λ answer. (bytes : List ℕ) (past : List Arrival) → StandsAt bytes past old
-    → StandsAt (bytes ++ take answer.0 piece) (with_cut (take answer.0 piece) answer.1 past) new)
+    → IfOk result (λ answer. (bytes : List ℕ) (past : List Arrival) → Stands bytes past old
+    → Stands (bytes ++ take answer.0 piece) (with_cut (take answer.0 piece) answer.1 past) new)
 frames (Some known) old new piece (Ok answer) cuts = absurd (let e = cuts.0 in cc)
 frames (Some known) old new piece (Err fault) cuts = tt
 frames None old new piece (Ok answer) cuts = λ bytes past at. stands bytes piece past old new answer.0 answer.1 at cuts
@@ -242,14 +242,14 @@ exact (Some known) old new piece (Err fault) cuts = tt
 exact None old new piece (Ok answer) cuts = ends_exactly old new piece answer.0 answer.1 cuts
 exact None old new piece (Err fault) cuts = tt
 
-of_last : (old new : Place) (bytes piece : List ℕ) (past : List Arrival) (used : ℕ) (answer : Cut) → StandsAt bytes past old → Answers old piece used answer new → IsOfLast past answer
+of_last : (old new : Place) (bytes piece : List ℕ) (past : List Arrival) (used : ℕ) (answer : Cut) → Stands bytes past old → Answers old piece used answer new → IsOfLast past answer
 of_last old new bytes piece past used More at a = tt
 of_last old new bytes piece past used (cut.Head h) at a = tt
 of_last old new bytes piece past used (Part stream from to last) at a =
     a.0.stream_is ∙ at.stream (let some = a.0.some in let expected = a.0.expected in omega arith)
 
 pub streams : (fault : Option FrameFault) (old new : Place) (piece : List ℕ) (result : Result (ℕ × Cut) FrameFault) → CutsAt fault old piece result new
-    → IfOk result (λ answer. (bytes : List ℕ) (past : List Arrival) → StandsAt bytes past old → IsOfLast past answer.1)
+    → IfOk result (λ answer. (bytes : List ℕ) (past : List Arrival) → Stands bytes past old → IsOfLast past answer.1)
 streams (Some known) old new piece (Ok answer) cuts = absurd (let e = cuts.0 in cc)
 streams (Some known) old new piece (Err fault) cuts = tt
 streams None old new piece (Ok answer) cuts = λ bytes past at. of_last old new bytes piece past answer.0 answer.1 at cuts
@@ -257,7 +257,7 @@ streams None old new piece (Err fault) cuts = tt
 
 -- ---- the faults
 
-stops_in : (bytes piece : List ℕ) (past : List Arrival) (old new : Place) (fault : FrameFault) → StandsAt bytes past old → IsRefused old piece fault new → StopsIn bytes past piece fault
+stops_in : (bytes piece : List ℕ) (past : List Arrival) (old new : Place) (fault : FrameFault) → Stands bytes past old → IsRefused old piece fault new → StopsIn bytes past piece fault
 stops_in bytes piece past old new fault at refused =
     let used : ℕ = refused.bytes.0 in
     let garbled : List ℕ = old.part ++ take used piece in
@@ -274,7 +274,7 @@ stops_in bytes piece past old new fault at refused =
     }
 
 pub stops : (fault : Option FrameFault) (old new : Place) (piece : List ℕ) (result : Result (ℕ × Cut) FrameFault) → old.fault ≡ fault → CutsAt fault old piece result new
-    → IfErr result (λ f. (bytes : List ℕ) (past : List Arrival) → StandsAt bytes past old → StopsIn bytes past piece f)
+    → IfErr result (λ f. (bytes : List ℕ) (past : List Arrival) → Stands bytes past old → StopsIn bytes past piece f)
 stops (Some known) old new piece (Ok answer) e cuts = tt
 stops (Some known) old new piece (Err fault) e cuts = λ bytes past at. absurd (let going = at.going in let bad : Some known ≡ None = sym e ∙ going in cc)
 stops None old new piece (Ok answer) e cuts = tt

@@ -1,4 +1,4 @@
--- A front of the bytes of whole frames is read as a front of these frames.
+-- A prefix of the bytes of whole frames is read as a prefix of these frames.
 use Rattle.std.proofs.Common.{◌≡◌, ℕ, ◌<◌, ◌≤◌, ◌⊎◌, inl, inr, cond, ◌==◌, List, [], ◌∷◌, ◌++◌, length, get_or, take, drop, refl, sym, ap, ◌∙◌, subst, append_assoc, arith}
 use Rattle.std.proofs.lemmas.List.{append-nil, append_cancel_left}
 use Rattle.std.specs.Int.{w16, w32, from_be_bytes}
@@ -164,11 +164,11 @@ no_end (Byte b) past xs are good between e = cc
 no_end Tail past xs are good between e = not_both past between are.0
 no_end (Garbled bytes) past xs are good between e = good
 
-pub front : (frames some : List Arrival) (rest : List ℕ) → AreFrames frames → IsBetween frames → AreFrames some → IsSound some → spelled frames ≡ spelled some ++ rest
+pub prefix : (frames some : List Arrival) (rest : List ℕ) → AreFrames frames → IsBetween frames → AreFrames some → IsSound some → spelled frames ≡ spelled some ++ rest
     → (way : List Arrival) × (frames ≡ way ++ some)
-front frames [] rest are whole some good e = (frames, sym (append-nil frames))
-front frames (x ∷ past) rest are whole some good e =
-    let before = front frames past (spelling x ++ rest) are whole (past_frames x past some) (good_past x past some) (e ∙ append_assoc (spelled past) (spelling x) rest) in
+prefix frames [] rest are whole some good e = (frames, sym (append-nil frames))
+prefix frames (x ∷ past) rest are whole some good e =
+    let before = prefix frames past (spelling x ++ rest) are whole (past_frames x past some) (good_past x past some) (e ∙ append_assoc (spelled past) (spelling x) rest) in
     elim (oldest_of before.0) [
       | inl none ↦
           let same : frames ≡ past = before.1 ∙ ap (λ (t : List Arrival). t ++ past) none in

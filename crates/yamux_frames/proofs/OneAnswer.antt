@@ -10,7 +10,7 @@ use Rattle.yamux_frames.specs.declared.cutter.Cut.TheVariants.{More, Part}
 use Rattle.yamux_frames.specs.declared.cutter.Cut.TheVariants as cut
 use Rattle.yamux_frames.specs.Spelling.{header_bytes, payload_length, HasFault}
 use Rattle.yamux_frames.specs.Place.{Place}
-use Rattle.yamux_frames.specs.Frames.{Arrival, spelled, bytes_left, IsWithin, AreFrames, IsRest, IsSound, StandsAt, StopsIn, with_bytes}
+use Rattle.yamux_frames.specs.Frames.{Arrival, spelled, bytes_left, IsWithin, AreFrames, IsRest, IsSound, Stands, StopsIn, with_bytes}
 use Rattle.yamux_frames.specs.Frames.Arrival.{Head, Tail, Garbled}
 use Rattle.yamux_frames.specs.OneAnswer.{IsAllowed, AreAllowed, OneAnswer, AnswerOrFault, OneFault}
 use Rattle.yamux_frames.proofs.Front.{one_header, no_header, twelve, between_none, not_both, same_front}
@@ -59,7 +59,7 @@ on bytes piece ys used part e none =
     ∙ ap (λ (t : List ℕ). t ++ drop used piece) (e ∙ ap (λ (t : List ℕ). ys ++ t) none ∙ append-nil ys)
 
 head_at : (bytes : List ℕ) (past : List Arrival) (piece : List ℕ) (used : ℕ) (h : Header) (new : Place) (b : Bool) → nat_lt 0 (payload_length h) ≡ b → used ≤ length piece → new.part ≡ []
-    → StandsAt (bytes ++ take used piece) (cond b (Head h ∷ past) (Tail ∷ Head h ∷ past)) new → IsHead bytes past piece used h new
+    → Stands (bytes ++ take used piece) (cond b (Head h ∷ past) (Tail ∷ Head h ∷ past)) new → IsHead bytes past piece used h new
 head_at bytes past piece used h new true is fits none at = record {
   fits = fits;
   whole = on bytes piece (spelled past ++ header_bytes h) used new.part at.reads.whole none ∙ append_assoc (spelled past) (header_bytes h) (drop used piece);
@@ -83,8 +83,8 @@ nothing : (xs : List ℕ) → length xs ≡ 0 → xs ≡ []
 nothing [] e = refl
 nothing (x ∷ xs) e = absurd (omega arith)
 
-part_at : (bytes : List ℕ) (past : List Arrival) (piece : List ℕ) (old : Place) (used : ℕ) (new : Place) (last : Bool) → StandsAt bytes past old → 0 < used → used ≤ length piece
-    → StandsAt (bytes ++ take used piece) (cond last (Tail ∷ with_bytes (take used piece) past) (with_bytes (take used piece) past)) new → IsPart bytes past piece used last new
+part_at : (bytes : List ℕ) (past : List Arrival) (piece : List ℕ) (old : Place) (used : ℕ) (new : Place) (last : Bool) → Stands bytes past old → 0 < used → used ≤ length piece
+    → Stands (bytes ++ take used piece) (cond last (Tail ∷ with_bytes (take used piece) past) (with_bytes (take used piece) past)) new → IsPart bytes past piece used last new
 part_at bytes past piece old used new true was some fits at =
     let xs : List ℕ = take used piece in
     let n : length xs ≡ used = length-take-le used piece fits in
@@ -131,7 +131,7 @@ part_at bytes past piece old used new false was some fits at =
     more_left : (f : List Arrival) (rest : List ℕ) → IsSound f → IsRest f rest → IsWithin f → 0 < bytes_left f
     more_left f rest sound r w = more_by f rest (nat_lt 0 (bytes_left f)) refl sound r w
 
-is_part : (bytes : List ℕ) (past : List Arrival) (piece : List ℕ) (old : Place) (used s f t : ℕ) (last : Bool) (new : Place) → StandsAt bytes past old → IsAllowed bytes past piece used (Part s f t last) new → IsPart bytes past piece used last new
+is_part : (bytes : List ℕ) (past : List Arrival) (piece : List ℕ) (old : Place) (used s f t : ℕ) (last : Bool) (new : Place) → Stands bytes past old → IsAllowed bytes past piece used (Part s f t last) new → IsPart bytes past piece used last new
 is_part bytes past piece old used s f t last new was ok = part_at bytes past piece old used new last was ok.uses.0 ok.uses.1 ok.frames
 
 -- ---- two that can't both be
@@ -140,7 +140,7 @@ more_head : (bytes : List ℕ) (past : List Arrival) (piece : List ℕ) (used n 
 more_head bytes past piece used n h new place m k =
     no_more past (Head h) new.part (drop n piece) m.rest k.are (append_cancel_left (spelled past) new.part (header_bytes h ++ drop n piece) (sym m.whole ∙ k.whole))
 
-more_part : (bytes : List ℕ) (past : List Arrival) (piece : List ℕ) (old : Place) (used n : ℕ) (last : Bool) (new place : Place) → StandsAt bytes past old → IsMore bytes past piece used new → IsPart bytes past piece n last place → ⊥
+more_part : (bytes : List ℕ) (past : List Arrival) (piece : List ℕ) (old : Place) (used n : ℕ) (last : Bool) (new place : Place) → Stands bytes past old → IsMore bytes past piece used new → IsPart bytes past piece n last place → ⊥
 more_part bytes past piece old used n last new place was m p =
     let none : new.part ≡ [] = (within past new.part m.rest p.there).1 in
     let whole : length (bytes ++ piece) ≡ length (spelled past ++ []) = ap length (m.whole ∙ ap (λ (t : List ℕ). spelled past ++ t) none) in
@@ -166,7 +166,7 @@ parts used n left len true false s f t u g v fu fn su fz gz tu vn la lb ea eb ga
 parts used n left len false true s f t u g v fu fn su fz gz tu vn la lb ea eb ga gb = absurd (let x = eb refl in let y = ga refl in let z = la refl in omega arith)
 
 by_cuts : (bytes : List ℕ) (past : List Arrival) (piece : List ℕ) (old : Place) (used n : ℕ) (c d : Cut) (new place : Place)
-    → StandsAt bytes past old → IsAllowed bytes past piece used c new → IsAllowed bytes past piece n d place
+    → Stands bytes past old → IsAllowed bytes past piece used c new → IsAllowed bytes past piece n d place
     → (used ≡ n) × (c ≡ d) × (new.part ≡ place.part) × (new.left ≡ place.left)
 by_cuts bytes past piece old used n More More new place was a b =
     let x = is_more bytes past piece used new a in

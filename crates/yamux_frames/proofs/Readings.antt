@@ -12,7 +12,7 @@ use Rattle.yamux_frames.specs.declared.cutter.Cut.TheVariants.{More, Part}
 use Rattle.yamux_frames.specs.declared.cutter.Cut.TheVariants as cut
 use Rattle.yamux_frames.specs.Spelling.{header_bytes, type_number, payload_length, IsHeader, HasFault}
 use Rattle.yamux_frames.specs.Place.{Place}
-use Rattle.yamux_frames.specs.Frames.{Arrival, spelling, spelled, bytes_left, last_stream, IsBetween, IsWithin, AreFrames, IsRest, IsSound, Reads, StandsAt, with_cut, OneReading, SomeReading}
+use Rattle.yamux_frames.specs.Frames.{Arrival, spelling, spelled, bytes_left, last_stream, IsBetween, IsWithin, AreFrames, IsRest, IsSound, Reads, Stands, with_cut, OneReading, SomeReading}
 use Rattle.yamux_frames.specs.Frames.Arrival.{Head, Byte, Tail, Garbled}
 use Rattle.yamux_frames.proofs.Bytes as bytes
 use Rattle.yamux_frames.proofs.Frames.{within, between, stands}
@@ -159,7 +159,7 @@ HasReading xs = (frames : List Arrival) × (rest : List ℕ) × Reads xs frames 
 abbrev place_of : List Arrival → List ℕ → Place
 place_of frames rest = record { part = rest; stream = last_stream frames; left = bytes_left frames; fault = None }
 
-led : (xs : List ℕ) (frames : List Arrival) (place : Place) → StandsAt xs frames place → HasReading xs
+led : (xs : List ℕ) (frames : List Arrival) (place : Place) → Stands xs frames place → HasReading xs
 led xs frames place at = (frames, place.part, at.reads)
 
 true_iff : (b : Bool) (m n : ℕ) → (m == n) ≡ b → (IsTrue b ↔ (m ≡ n))

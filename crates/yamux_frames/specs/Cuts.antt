@@ -1,4 +1,5 @@
--- What a cutter may answer to a piece of bytes, from where it is, and where it then is. No history of bytes is spoken of.
+-- What a cutter may answer to a piece of bytes, from where it is, and where it then is. No history of bytes is spoken
+-- of.
 -- Inside: said of where a cutter stands; the frames themselves are in `Frames` (hashicorp yamux, "Framing").
 use Rattle.std.specs.Prelude.{◌≡◌, ℕ, ◌-◌, ◌<◌, ◌≤◌, ◌↔◌, IsTrue, List, [], ◌++◌, length, take, Option, Some, None, Result, Ok, Err}
 use Rattle.yamux_frames.specs.declared.header.Header.{Header}
@@ -24,7 +25,7 @@ pub record HasHead (old : Place) (piece : List ℕ) (used : ℕ) (header : Heade
   pub fits : IsHeader header
   pub new_is : new ≡ record { part = []; stream = header.stream; left = payload_length header; fault = None }
 
--- payload from the front of the piece
+-- payload from the prefix of the piece
 pub record HasPart (old : Place) (piece : List ℕ) (used stream from to : ℕ) (new : Place) : Type 0 where
   pub within : used ≤ length piece
   pub some : 0 < used
@@ -38,7 +39,8 @@ pub record HasPart (old : Place) (piece : List ℕ) (used stream from to : ℕ) 
 abbrev pub Answers : Place → List ℕ → ℕ → Cut → Place → Type 0
 Answers old piece used More new = NeedsMore old piece used new
 Answers old piece used (Head header) new = HasHead old piece used header new
-Answers old piece used (Part stream from to last) new = HasPart old piece used stream from to new × (IsTrue last ↔ (used ≡ old.left))
+Answers old piece used (Part stream from to last) new = HasPart old piece used stream from to new
+    × (IsTrue last ↔ (used ≡ old.left))
 
 -- twelve bytes are no header
 pub record IsRefused (old : Place) (piece : List ℕ) (fault : FrameFault) (new : Place) : Type 0 where

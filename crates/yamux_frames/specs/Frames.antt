@@ -1,5 +1,6 @@
--- The frames of a whole input (hashicorp yamux specification, "Framing"): each a header, and of Data the payload that it announces, one
--- frame after another, up to the first twelve bytes that are no header. Lists of arrivals have the newest first.
+-- The frames of a whole input (hashicorp yamux specification, "Framing"): each a header, and of Data the payload that
+-- it announces, one frame after another, up to the first twelve bytes that are no header. Lists of arrivals have the
+-- newest first.
 use Rattle.std.specs.Prelude.{◌≡◌, ◌≢◌, ℕ, ◌-◌, ◌<◌, ◌≤◌, false, nat_lt, if◌then◌else◌, List, [], ◌∷◌, ◌++◌, length, take, None}
 use Rattle.std.specs.List.{AllByRecursion}
 use Rattle.yamux_frames.specs.declared.header.Header.{Header}
@@ -10,8 +11,8 @@ use Rattle.yamux_frames.specs.declared.cutter.Cut.TheVariants as cut
 use Rattle.yamux_frames.specs.Spelling.{header_bytes, payload_length, IsHeader, HasFault}
 use Rattle.yamux_frames.specs.Place.{Place}
 
--- What arrives: of each frame its head, the bytes of its payload one by one, and its tail, which is its end. Garbled: twelve
--- bytes that are no header
+-- What arrives: of each frame its head, the bytes of its payload one by one, and its tail, which is its end. Garbled:
+-- twelve bytes that are no header
 pub data Arrival : Type 0 where
   Head : Header → Arrival
   Byte : ℕ → Arrival
@@ -68,7 +69,8 @@ AreFrames (Byte b ∷ past) = (0 < bytes_left past) × AreFrames past
 AreFrames (Tail ∷ past) = IsWithin past × (bytes_left past ≡ 0) × AreFrames past
 AreFrames (Garbled bytes ∷ past) = IsBetween past × ((fault : FrameFault) × HasFault bytes fault) × AreFrames past
 
--- too little for what comes next: less than a header, or nothing of an unfinished payload. Behind what is no header anything may stand
+-- too little for what comes next: less than a header, or nothing of an unfinished payload. Behind what is no header
+-- anything may stand
 abbrev pub IsRest : List Arrival → List ℕ → Type 0
 IsRest [] rest = length rest < 12
 IsRest (Tail ∷ past) rest = length rest < 12
@@ -88,7 +90,7 @@ IsSound (Garbled bytes ∷ past) = ⊥
 IsSound past = Unit {0}
 
 -- a cutter that has used these bytes stands behind these frames, and has met no fault
-pub record StandsAt (bytes : List ℕ) (frames : List Arrival) (place : Place) : Type 0 where
+pub record Stands (bytes : List ℕ) (frames : List Arrival) (place : Place) : Type 0 where
   pub going : place.fault ≡ None
   pub reads : Reads bytes frames place.part
   pub sound : IsSound frames
@@ -152,9 +154,11 @@ pub record EndsWithin (bytes : List ℕ) : Type 0 where
 
 -- bytes are read in one way
 abbrev pub OneReading : Type 0
-OneReading = (bytes : List ℕ) (frames others : List Arrival) (rest more : List ℕ) → Reads bytes frames rest → Reads bytes others more
+OneReading = (bytes : List ℕ) (frames others : List Arrival) (rest more : List ℕ) → Reads bytes frames rest
+    → Reads bytes others more
     → (frames ≡ others) × (rest ≡ more)
 
 -- all bytes are read
 abbrev pub SomeReading : Type 0
-SomeReading = (bytes : List ℕ) → AllByRecursion (λ b. b < 256) bytes → (frames : List Arrival) × (rest : List ℕ) × Reads bytes frames rest
+SomeReading = (bytes : List ℕ) → AllByRecursion (λ b. b < 256) bytes
+    → (frames : List Arrival) × (rest : List ℕ) × Reads bytes frames rest

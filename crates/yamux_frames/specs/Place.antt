@@ -3,8 +3,8 @@
 use Rattle.std.specs.Prelude.{ℕ, Bool, false, ◌||◌, nat_lt, List, length, Option, Some, None}
 use Rattle.yamux_frames.specs.declared.header.FrameFault.{FrameFault}
 
--- The bytes of an unfinished header; of an unfinished payload, its stream and how many bytes are still to come; the fault, once
--- there is one
+-- The bytes of an unfinished header; of an unfinished payload, its stream and how many bytes are still to come; the
+-- fault, once there is one
 pub record Place : Type 0 where
   pub part : List ℕ
   pub stream : ℕ

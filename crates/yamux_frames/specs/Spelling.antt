@@ -16,7 +16,8 @@ type_number GoAway = 3
 
 -- version 0 (1 byte), type (1), flags (2), stream (4), length (4)
 abbrev pub header_bytes : Header → List ℕ
-header_bytes h = 0 ∷ type_number h.kind ∷ (to_be_bytes w16 h.flags ++ to_be_bytes w32 h.stream ++ to_be_bytes w32 h.length)
+header_bytes h = 0 ∷ type_number h.kind ∷ (to_be_bytes w16 h.flags ++ to_be_bytes w32 h.stream
+    ++ to_be_bytes w32 h.length)
 
 -- the numbers fit their bytes
 pub record IsHeader (h : Header) : Type 0 where

@@ -3,12 +3,12 @@
 ghost use Rattle.std.specs.Prelude.{◌≡◌, ◌+◌, ◌≤◌, ◌<◌, ◌++◌, ◌↔◌, [], length, take, false, IsTrue, IsSome, None, Some, Err, IfOk, IfErr, List, ℕ};
 ghost use Rattle.yamux_frames.specs.Cuts.{Cuts, Answers};
 ghost use Rattle.yamux_frames.specs.Place.{is_within};
-ghost use Rattle.yamux_frames.specs.Frames.{Arrival, StandsAt, StopsIn, Uses, IsLongest, EndsExactly, IsOfLast, EndsWithin, with_cut};
+ghost use Rattle.yamux_frames.specs.Frames.{Arrival, Stands, StopsIn, Uses, IsLongest, EndsExactly, IsOfLast, EndsWithin, with_cut};
 
 use crate::header::{FrameFault, Header};
 use std::marker::Model;
 
-/// What a cutter finds at the front of a piece.
+/// What a cutter finds at the prefix of a piece.
 #[derive(Clone, Copy, Debug, PartialEq, Eq)]
 pub enum Cut {
     /// The whole piece is used, and more bytes are needed.
@@ -31,7 +31,7 @@ pub enum Cut {
 /// Cuts a stream of bytes into headers and parts of payloads, however the bytes come. It takes no memory.
 #[derive(Debug, Drop)]
 pub struct Cutter {
-    /// The bytes of a header that isn't whole yet stand at the front.
+    /// The bytes of a header that isn't whole yet stand at the prefix.
     buffer: [u8; 12],
     filled: usize,
     stream: u32,
@@ -51,7 +51,8 @@ impl Model for Cutter {
     ghost invariant = { λ c. (c.filled < 12) × (0 < c.left → c.filled ≡ 0) };
 }
 
-/// Puts bytes from the front of the piece behind the `filled` first bytes of the buffer, as many as fit, and tells how many.
+/// Puts bytes from the prefix of the piece behind the `filled` first bytes of the buffer, as many as fit, and tells how
+/// many.
 fn fill(buffer: &mut [u8; 12], filled: usize, piece: &[u8]) -> usize
     requires { filled < 12 }
     ensures room { filled + result ≤ 12 }
@@ -67,7 +68,7 @@ fn fill(buffer: &mut [u8; 12], filled: usize, piece: &[u8]) -> usize
 impl Cutter {
     /// A cutter before the first byte.
     pub fn new() -> Cutter
-        ensures frames { StandsAt [] [] result }
+        ensures frames { Stands [] [] result }
     {
         Cutter {
             buffer: [0; 12],
@@ -78,31 +79,35 @@ impl Cutter {
         }
     }
 
-    /// Takes bytes from the front of the piece: how many, and what they are. Call it again with the rest of the piece.
+    /// Takes bytes from the prefix of the piece: how many, and what they are. Call it again with the rest of the piece.
     ///
     /// A fault is the last answer: every later call gives it again.
     pub fn feed(&mut self, piece: &[u8]) -> Result<(usize, Cut), FrameFault>
         ensures uses { IfOk result (λ answer. Uses piece.now answer.0 answer.1) }
 
         // However the bytes were cut into pieces, the answers are the frames of all of them.
-        ensures frames { IfOk result (λ answer. (bytes : List ℕ) (past : List Arrival) → StandsAt bytes past self.old
-            → StandsAt (bytes ++ take answer.0 piece.now) (with_cut (take answer.0 piece.now) answer.1 past) self.new) }
+        ensures frames { IfOk result (λ answer. (bytes : List ℕ) (past : List Arrival) → Stands bytes past self.old
+            → Stands (bytes ++ take answer.0 piece.now) (with_cut (take answer.0 piece.now) answer.1 past) self.new) }
         ensures longest { IfOk result (λ answer. IsLongest piece.now answer.1) }
         ensures exact { IfOk result (λ answer. EndsExactly answer.1 self.new) }
-        ensures stream { IfOk result (λ answer. (bytes : List ℕ) (past : List Arrival) → StandsAt bytes past self.old
+        ensures stream { IfOk result (λ answer. (bytes : List ℕ) (past : List Arrival) → Stands bytes past self.old
             → IsOfLast past answer.1) }
 
-        ensures garbled { IfErr result (λ fault. (bytes : List ℕ) (past : List Arrival) → StandsAt bytes past self.old
+        ensures garbled { IfErr result (λ fault. (bytes : List ℕ) (past : List Arrival)
+            → Stands bytes past self.old
             → StopsIn bytes past piece.now fault) }
         ensures fault { IfErr result (λ fault. self.new.fault ≡ Some fault) }
-        ensures again { (fault : FrameFault) → self.old.fault ≡ Some fault → (result ≡ Err fault) × (self.new ≡ self.old) }
+        ensures again { (fault : FrameFault) → self.old.fault ≡ Some fault
+            → (result ≡ Err fault) × (self.new ≡ self.old) }
     {
         self.cut(piece)
     }
 
-    /// Whether the bytes so far end within a frame: after a part of a header, or with an unfinished payload. After a fault they don't.
+    /// Whether the bytes so far end within a frame: after a part of a header, or with an unfinished payload. After a
+    /// fault they don't.
     pub fn is_mid_frame(&self) -> bool
-        ensures within { (bytes : List ℕ) (past : List Arrival) → StandsAt bytes past self.now → IsTrue result ↔ EndsWithin bytes }
+        ensures within { (bytes : List ℕ) (past : List Arrival) → Stands bytes past self.now
+            → IsTrue result ↔ EndsWithin bytes }
         ensures failed { IsSome self.now.fault → result ≡ false }
     {
         self.is_within()

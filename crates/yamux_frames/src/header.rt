@@ -37,7 +37,8 @@ pub struct Header {
     pub flags: u16,
     /// The number of the stream; 0 is the connection itself.
     pub stream: u32,
-    /// Of Data how many bytes follow, of WindowUpdate the credit that is added, of Ping a value to be sent back, of GoAway a code.
+    /// Of Data how many bytes follow, of WindowUpdate the credit that is added, of Ping a value to be sent back, of
+    /// GoAway a code.
     pub length: u32,
 }
 

@@ -16,8 +16,8 @@ pub fn some_reading()
     ensures { SomeReading }
 {}
 
-/// The clauses of `Cutter::feed` determine its answer: from where a cutter stands, no two answers to a piece are allowed, no two faults,
-/// and not both an answer and a fault.
+/// The clauses of `Cutter::feed` determine its answer: from where a cutter stands, no two answers to a piece are
+/// allowed, no two faults, and not both an answer and a fault.
 pub fn one_answer()
     ensures allowed { AreAllowed }
     ensures answer { OneAnswer }

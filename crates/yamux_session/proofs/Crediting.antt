@@ -8,14 +8,14 @@ use Rattle.yamux_frames.specs.Frames.{Arrival}
 use Rattle.yamux_frames.specs.Frames.Arrival.{Head, Byte, Tail, Garbled}
 use Rattle.yamux_session.specs.declared.event.Role.{Role}
 use Rattle.yamux_session.specs.declared.event.Fault.{Fault}
-use Rattle.yamux_session.specs.Items.{Item, Act, syn, ack, is_of_stream, is_own, is_go_away, is_update, is_data}
-use Rattle.yamux_session.specs.Items.Item.{Came, Did}
-use Rattle.yamux_session.specs.Items.Act.{Start, Write, Take, Close, Reset, Leave}
-use Rattle.yamux_session.specs.Openings.{live, contains, opens, finished, reading, is_let_in, is_for_stream, has_left, head_belongs, byte_belongs}
+use Rattle.yamux_session.specs.History.{Item, Act, syn, ack, is_of_stream, is_own, is_go_away, is_update, is_data}
+use Rattle.yamux_session.specs.History.Item.{Came, Did}
+use Rattle.yamux_session.specs.History.Act.{Start, Write, Taken, Close, Reset}
+use Rattle.yamux_session.specs.Openings.{live, contains, opens, finished, reading, is_let_in, is_for_stream, local_go_away, head_belongs}
 use Rattle.yamux_session.specs.Windows.{credit, untaken, since_opening, update_length, written_length, arrived_length, taken_length, accepted}
-use Rattle.yamux_session.specs.Meaning.{Told, HasNoFault, when, head_events, taker, byte_told, events_at, events_unless, fault_at}
-use Rattle.yamux_session.specs.Meaning.Told.{Opened, Accepted, Data, Credit, Left}
-use Rattle.yamux_session.specs.Seen.{Windows, windows, IsQuiet, TellsFrom, CreditIsTold, moves, ActsMove}
+use Rattle.yamux_session.specs.Faults.{HasNoFault, fault_at}
+use Rattle.yamux_session.specs.Events.{Told, when, head_events, taker, byte_told, events_at, events_unless}
+use Rattle.yamux_session.specs.Seen.{Windows, windows, IsQuiet, CreditIsTold, ActsMove}
 use Rattle.yamux_session.proofs.Hearing.{told_by, told_is, takes, belongs_to}
 
 all_split : (n : ℕ) (xs ys : List Told) → AllByRecursion (IsQuiet n) (xs ++ ys) → AllByRecursion (IsQuiet n) xs × AllByRecursion (IsQuiet n) ys
@@ -24,29 +24,29 @@ all_split n (x ∷ xs) ys h = let r = all_split n xs ys h.1 in ((h.0, r.0), r.1)
 
 -- ---- a head
 
-not_opened : (n m : ℕ) (lets : Bool) → AllByRecursion (IsQuiet n) (when (contains (cond lets (m ∷ []) []) m) (Opened m))
+not_opened : (n m : ℕ) (lets : Bool) → AllByRecursion (IsQuiet n) (when (contains (cond lets (m ∷ []) []) m) (Told.Opened m))
     → contains (cond lets (m ∷ []) []) n ≡ false
 not_opened n m false q = refl
 not_opened n m true q =
     let there : (m == m) || false ≡ true = ap (λ b. b || false) (eq-eqb m m refl) in
-    let told = subst (λ (b : Bool). AllByRecursion (IsQuiet n) (when b (Opened m))) there q in
+    let told = subst (λ (b : Bool). AllByRecursion (IsQuiet n) (when b (Told.Opened m))) there q in
     ap (λ b. b || false) told.0
 
 -- a head that is told no credit has none to give
-no_length : (len n : ℕ) (updates more : Bool) → nat_lt 0 len ≡ more → AllByRecursion (IsQuiet n) (when (updates && more) (Credit n)) → cond updates len 0 ≡ 0
+no_length : (len n : ℕ) (updates more : Bool) → nat_lt 0 len ≡ more → AllByRecursion (IsQuiet n) (when (updates && more) (Told.Credit n)) → cond updates len 0 ≡ 0
 no_length len n false more is q = refl
 no_length len n true true is q = absurd (let same : true ≡ false = sym (eq-eqb n n refl) ∙ q.0 in cc same)
 no_length len n true false is q = let h = ltb-false 0 len is in omega arith
 
 update_none : (role : Role) (past : List Item) (h : Header) (n : ℕ) (same : Bool) → (h.stream == n) ≡ same
-    → AllByRecursion (IsQuiet n) (when ((head_belongs role past h h.stream && is_update h.kind) && nat_lt 0 h.length) (Credit h.stream))
+    → AllByRecursion (IsQuiet n) (when ((head_belongs role past h h.stream && is_update h.kind) && nat_lt 0 h.length) (Told.Credit h.stream))
     → update_length role n past (Came (Head h)) ≡ 0
 update_none role past h n false is q =
     let apart : Bool = not ((is_data h.kind && not (syn h)) && finished role past n) in
-    ap (λ b. cond (((b && is_for_stream role (live role past) (has_left past) h) && apart) && is_update h.kind) h.length 0) is
+    ap (λ b. cond (((b && is_for_stream role (live role past) (local_go_away past) h) && apart) && is_update h.kind) h.length 0) is
 update_none role past h n true is q =
     let e : h.stream ≡ n = eqb-true h.stream n is in
-    let quiet = subst (λ (k : ℕ). AllByRecursion (IsQuiet n) (when ((head_belongs role past h k && is_update h.kind) && nat_lt 0 h.length) (Credit k))) e q in
+    let quiet = subst (λ (k : ℕ). AllByRecursion (IsQuiet n) (when ((head_belongs role past h k && is_update h.kind) && nat_lt 0 h.length) (Told.Credit k))) e q in
     no_length h.length n (head_belongs role past h n && is_update h.kind) (nat_lt 0 h.length) refl quiet
 
 -- ---- a byte
@@ -94,16 +94,16 @@ nothing_moved role past x n o u w r t =
 step : (role : Role) (past : List Item) (a : Arrival) (n : ℕ) → fault_at role past (Came a) ≡ None
     → AllByRecursion (IsQuiet n) (events_at role past (Came a)) → windows role (Came a ∷ past) n ≡ windows role past n
 step role past (Head h) n good q =
-    let left : List Told = when (is_go_away h.kind) (Left h.length) in
-    let opened : List Told = when (opens role past (Came (Head h)) h.stream) (Opened h.stream) in
+    let left : List Told = when (is_go_away h.kind) (Told.GoAway h.length) in
+    let opened : List Told = when (opens role past (Came (Head h)) h.stream) (Told.Opened h.stream) in
     let accepts : Bool = head_belongs role past h h.stream && ack h && is_own role h.stream && not (accepted role past h.stream) in
     let credits : Bool = head_belongs role past h h.stream && is_update h.kind && nat_lt 0 h.length in
     let all = subst (λ (f : Option Fault). AllByRecursion (IsQuiet n) (events_unless f (head_events role past h))) good q in
-    let last = all_split n ((left ++ opened) ++ when accepts (Accepted h.stream)) (when credits (Credit h.stream)) all in
-    let mid = all_split n (left ++ opened) (when accepts (Accepted h.stream)) last.0 in
+    let last = all_split n ((left ++ opened) ++ when accepts (Told.Accepted h.stream)) (when credits (Told.Credit h.stream)) all in
+    let mid = all_split n (left ++ opened) (when accepts (Told.Accepted h.stream)) last.0 in
     let first = all_split n left opened mid.0 in
     nothing_moved role past (Came (Head h)) n
-    (not_opened n h.stream (is_of_stream h && syn h && is_let_in role (live role past) (has_left past) h) first.1)
+    (not_opened n h.stream (is_of_stream h && syn h && is_let_in role (live role past) (local_go_away past) h) first.1)
     (update_none role past h n (h.stream == n) refl last.1) refl refl refl
 step role past (Byte b) n good q = nothing_moved role past (Came (Byte b)) n refl refl refl (arrived_none role past b n q) refl
 step role past Tail n good q = nothing_moved role past (Came Tail) n refl refl refl refl refl
@@ -144,18 +144,18 @@ writes role past m pieces n false is =
     nothing_moved role past (Did (Write m pieces)) n refl refl (ap (λ b. cond b (sum_by length pieces) 0) is) refl refl
 
 takes_of : (role : Role) (past : List Item) (m count n : ℕ) (same : Bool) → (m == n) ≡ same
-    → windows role (Did (Take m count) ∷ past) n
+    → windows role (Did (Taken m count) ∷ past) n
     ≡ cond same (record (windows role past n) { untaken = untaken role past n - count }) (windows role past n)
 takes_of role past m count n true is =
-    without role past (Did (Take m count)) n 0 0 0 count refl refl refl refl (ap (λ b. cond b count 0) is)
+    without role past (Did (Taken m count)) n 0 0 0 count refl refl refl refl (ap (λ b. cond b count 0) is)
     ∙ same_windows _ (record (windows role past n) { untaken = untaken role past n - count }) (omega arith) (omega arith)
 takes_of role past m count n false is =
-    nothing_moved role past (Did (Take m count)) n refl refl refl refl (ap (λ b. cond b count 0) is)
+    nothing_moved role past (Did (Taken m count)) n refl refl refl refl (ap (λ b. cond b count 0) is)
 
 pub acts_move : ActsMove
 acts_move role past (Start m) n = starts role past m n (m == n) refl
 acts_move role past (Write m pieces) n = writes role past m pieces n (m == n) refl
-acts_move role past (Take m count) n = takes_of role past m count n (m == n) refl
+acts_move role past (Taken m count) n = takes_of role past m count n (m == n) refl
 acts_move role past (Close m) n = nothing_moved role past (Did (Close m)) n refl refl refl refl refl
 acts_move role past (Reset m) n = nothing_moved role past (Did (Reset m)) n refl refl refl refl refl
-acts_move role past (Leave code) n = nothing_moved role past (Did (Leave code)) n refl refl refl refl refl
+acts_move role past (Act.GoAway code) n = nothing_moved role past (Did (Act.GoAway code)) n refl refl refl refl refl

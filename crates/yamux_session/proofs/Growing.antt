@@ -6,7 +6,8 @@ use Rattle.yamux_frames.specs.declared.header.Header.{Header}
 use Rattle.yamux_frames.specs.declared.header.FrameFault.{FrameFault}
 use Rattle.yamux_frames.specs.Place.{Place}
 use Rattle.yamux_frames.specs.Spelling.{payload_length}
-use Rattle.yamux_frames.specs.Frames.{Arrival, Reads, StandsAt, StopsIn, Uses, with_bytes}
+use Rattle.yamux_frames.specs.Frames as wire
+use Rattle.yamux_frames.specs.Frames.{Arrival, Reads, StopsIn, Uses, with_bytes}
 use Rattle.yamux_frames.specs.declared.cutter.Cut.{Cut}
 use Rattle.yamux_frames.specs.declared.cutter.Cut.TheVariants.{More, Part}
 use Rattle.yamux_frames.specs.declared.cutter.Cut.TheVariants as cut
@@ -15,11 +16,12 @@ use Rattle.yamux_session.specs.declared.event.Role.{Role}
 use Rattle.yamux_session.specs.declared.event.Fault.{Fault}
 use Rattle.yamux_session.specs.declared.event.Fault.TheVariants.{BadFrame}
 use Rattle.yamux_session.specs.declared.event.Event.{Event}
-use Rattle.yamux_session.specs.Items.{Item, arrivals, came_bytes}
-use Rattle.yamux_session.specs.Items.Item.{Came}
+use Rattle.yamux_session.specs.History.{Item, arrivals, came_bytes}
+use Rattle.yamux_session.specs.History.Item.{Came}
 use Rattle.yamux_session.specs.Openings.{reading}
-use Rattle.yamux_session.specs.Meaning.{Told, events, events_at, events_unless, item_events, taker, fault_at, output, output_at, TellsMore, SendsMore}
-use Rattle.yamux_session.specs.Meaning.Told.{Data, Failed}
+use Rattle.yamux_session.specs.Faults.{fault_at}
+use Rattle.yamux_session.specs.Events.{Told, events, events_at, events_unless, item_events, taker, TellsMore}
+use Rattle.yamux_session.specs.Output.{output, output_at, SendsMore}
 use Rattle.yamux_session.specs.Table.{Table}
 use Rattle.yamux_session.specs.Arrives.{Arrives, began}
 use Rattle.yamux_session.specs.State.{State, Led, Brings}
@@ -56,7 +58,7 @@ output_still role (x ∷ came) past =
 
 faulty_tells : (role : Role) (past : List Item) (x : Item) (fault : Fault) → fault_at role past x ≡ Some fault → TellsMore role past (x ∷ past)
 faulty_tells role past x fault faulty =
-    tells_by role past x (Failed fault ∷ []) (ap (λ f. events_unless f (item_events role past x)) faulty) (omega arith)
+    tells_by role past x (Told.Fault fault ∷ []) (ap (λ f. events_unless f (item_events role past x)) faulty) (omega arith)
 
 began_tells : (role : Role) (past : List Item) (h : Header) (b : Bool) → TellsMore role past (Came (Head h) ∷ past)
     → TellsMore role past (cond b (Came (Head h) ∷ past) (Came Tail ∷ Came (Head h) ∷ past))
@@ -77,7 +79,7 @@ pub payload_tells : (role : Role) (past : List Item) (bytes : List ℕ) (n : ℕ
 payload_tells role past bytes n takes some =
     let all : length (events role (came_bytes bytes past)) ≡ length (events role past ++ bytes_told (Some n) bytes) =
     ap length (bytes_events role bytes past) ∙ ap (λ (t : Option ℕ). length (events role past ++ bytes_told t bytes)) takes in
-    omega (arith, length-append (events role past) (bytes_told (Some n) bytes), length-map bytes (Data n))
+    omega (arith, length-append (events role past) (bytes_told (Some n) bytes), length-map bytes (Told.Payload n))
 
 -- ---- the answers of the cutter
 
@@ -106,7 +108,7 @@ answer_sends role past now new before after out answered arrives some =
     omega (arith, length-append out answered, length-append out more, length-append (output role past) more)
 
 pub frame_brings : (role : Role) (past : List Item) (fed bytes : List ℕ) (used : ℕ) (h : Header) (b : Bool) (place : Place) → nat_lt 0 (payload_length h) ≡ b
-    → StandsAt (fed ++ take used bytes) (cond b (Head h ∷ arrivals past) (Tail ∷ Head h ∷ arrivals past)) place → used ≤ length bytes
+    → wire.Stands (fed ++ take used bytes) (cond b (Head h ∷ arrivals past) (Tail ∷ Head h ∷ arrivals past)) place → used ≤ length bytes
     → TellsMore role past (cond b (Came (Head h) ∷ past) (Came Tail ∷ Came (Head h) ∷ past)) ⊎ SendsMore role past (cond b (Came (Head h) ∷ past) (Came Tail ∷ Came (Head h) ∷ past))
     → Brings role past fed bytes
 frame_brings role past fed bytes used h true place is at within more =
@@ -115,7 +117,7 @@ frame_brings role past fed bytes used h false place is at within more =
     record { used = used; within = within; now = Came Tail ∷ Came (Head h) ∷ past; came = (Tail ∷ Head h ∷ [], refl); read = (place.part, at.reads); more = more }
 
 pub fault_brings : (role : Role) (past : List Item) (fed bytes : List ℕ) (used : ℕ) (h : Header) (fault : Fault) (place : Place)
-    → StandsAt (fed ++ take used bytes) (cond (nat_lt 0 (payload_length h)) (Head h ∷ arrivals past) (Tail ∷ Head h ∷ arrivals past)) place → used ≤ length bytes
+    → wire.Stands (fed ++ take used bytes) (cond (nat_lt 0 (payload_length h)) (Head h ∷ arrivals past) (Tail ∷ Head h ∷ arrivals past)) place → used ≤ length bytes
     → fault_at role past (Came (Head h)) ≡ Some fault → Brings role past fed bytes
 fault_brings role past fed bytes used h fault place at within faulty =
     frame_brings role past fed bytes used h (nat_lt 0 (payload_length h)) place refl at within
@@ -134,7 +136,7 @@ garbled_brings role past fed bytes why stops =
 
 -- a part of a payload, or its tail, tells something
 pub part_brings : (role : Role) (past : List Item) (fed bytes : List ℕ) (used : ℕ) (last : Bool) (place : Place)
-    → StandsAt (fed ++ take used bytes) (cond last (Tail ∷ with_bytes (take used bytes) (arrivals past)) (with_bytes (take used bytes) (arrivals past))) place → used ≤ length bytes
+    → wire.Stands (fed ++ take used bytes) (cond last (Tail ∷ with_bytes (take used bytes) (arrivals past)) (with_bytes (take used bytes) (arrivals past))) place → used ≤ length bytes
     → TellsMore role past (cond last (Came Tail ∷ came_bytes (take used bytes) past) (came_bytes (take used bytes) past)) → Brings role past fed bytes
 part_brings role past fed bytes used true place at within more =
     let part : List ℕ = take used bytes in
@@ -170,7 +172,7 @@ last_tells role past part last is more =
     subst (λ b. TellsMore role past (cond b (Came Tail ∷ came_bytes part past) (came_bytes part past))) (sym is)
     (let still = events_still role (with_bytes part []) past in omega arith)
 
--- ---- behind a front of the piece
+-- ---- behind a prefix of the piece
 
 pub brings_later : (role : Role) (past mid : List Item) (fed bytes sent : List ℕ) (at : ℕ) (told : List Told) (s : State) → at ≤ length bytes
     → Led role past mid fed (take at bytes) sent told s → Brings role mid (fed ++ take at bytes) (drop at bytes) → Brings role past fed bytes

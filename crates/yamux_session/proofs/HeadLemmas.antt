@@ -10,13 +10,13 @@ use Rattle.yamux_frames.specs.Frames.Arrival.{Head}
 use Rattle.yamux_session.specs.declared.event.Role.{Role}
 use Rattle.yamux_session.specs.declared.event.Fault.{Fault}
 use Rattle.yamux_session.specs.declared.event.Fault.TheVariants.{WrongParity, DuplicateStream, WindowExceeded, WindowTooLarge}
-use Rattle.yamux_session.specs.declared.streams.Stream.{Stream}
+use Rattle.yamux_session.specs.declared.streams.Row.{Row}
 use Rattle.yamux_session.specs.Table.{Table, row_at, opened}
-use Rattle.yamux_session.specs.Items.{Item, syn, ack, is_data, is_update, is_go_away, is_of_stream, is_own, is_remote}
-use Rattle.yamux_session.specs.Items.Item.{Came}
-use Rattle.yamux_session.specs.Openings.{live, is_live, is_reading, contains, opens, finished, closed, head_belongs, byte_belongs, is_let_in, is_for_stream, has_left}
+use Rattle.yamux_session.specs.History.{Item, syn, ack, is_data, is_update, is_go_away, is_of_stream, is_own, is_remote}
+use Rattle.yamux_session.specs.History.Item.{Came}
+use Rattle.yamux_session.specs.Openings.{live, is_live, is_reading, contains, opens, finished, closed, head_belongs, byte_belongs, is_let_in, is_for_stream, local_go_away}
 use Rattle.yamux_session.specs.Windows.{initial_window, written_length, update_length, data_length, given_back, taken_length, arrived_length, owed, accepted, acks, credit, receiving_window, coming}
-use Rattle.yamux_session.specs.Meaning.{fault_at, syn_fault, window_fault, window_at, credit_at, or_else}
+use Rattle.yamux_session.specs.Faults.{fault_at, syn_fault, window_fault, window_at, credit_at, or_else}
 use Rattle.yamux_session.specs.Keeps.{Keeps, IsRow, IsRowAt}
 use Rattle.yamux_session.specs.Heads.{charged, row_fault, HeadDone}
 use Rattle.yamux_session.proofs.Lists.{and_parts, filter_true, one_if, count_then}
@@ -74,10 +74,10 @@ stays_there h e = by h.kind e
 
 module _ (role : Role) (past : List Item) (h : Header) where
   abbrev lets : Bool
-  lets = is_of_stream h && syn h && is_let_in role (live role past) (has_left past) h
+  lets = is_of_stream h && syn h && is_let_in role (live role past) (local_go_away past) h
 
   abbrev for_it : Bool
-  for_it = is_for_stream role (live role past) (has_left past) h
+  for_it = is_for_stream role (live role past) (local_go_away past) h
 
   pub opens_not : lets ≡ false → (n : ℕ) → opens role past (Came (Head h)) n ≡ false
   opens_not e n = ap (λ b. contains (cond b (h.stream ∷ []) []) n) e
@@ -130,7 +130,7 @@ module _ (role : Role) (past : List Item) (h : Header) where
 
   -- ---- the rows
 
-  unmoved : (n : ℕ) (s : Stream) → opens role past (Came (Head h)) n ≡ false → head_belongs role past h n ≡ false → byte_belongs role (Came (Head h) ∷ past) n ≡ false
+  unmoved : (n : ℕ) (s : Row) → opens role past (Came (Head h)) n ≡ false → head_belongs role past h n ≡ false → byte_belongs role (Came (Head h) ∷ past) n ≡ false
       → Moves role past (Came (Head h)) n s s
   unmoved n s shut off unread = record {
     not_opened = shut;
@@ -144,7 +144,7 @@ module _ (role : Role) (past : List Item) (h : Header) where
     bound = let none : coming role (Came (Head h) ∷ past) n ≡ 0 = none_if (byte_belongs role (Came (Head h) ∷ past) n) (payload_length h) unread in omega arith;
   }
 
-  moved : (s : Stream) → opens role past (Came (Head h)) h.stream ≡ false → head_belongs role past h h.stream ≡ true → (is_data h.kind ≡ true → h.length ≤ s.window)
+  moved : (s : Row) → opens role past (Came (Head h)) h.stream ≡ false → head_belongs role past h h.stream ≡ true → (is_data h.kind ≡ true → h.length ≤ s.window)
       → Moves role past (Came (Head h)) h.stream s (record (charged s h) { accepted = ack h || s.accepted })
   moved s shut its fits =
       let used : ℕ = cond (is_data h.kind) h.length 0 in
@@ -181,12 +181,12 @@ module _ (role : Role) (past : List Item) (h : Header) where
         bound = let less = coming_small n in omega arith;
       }
 
-  apart : (n : ℕ) (row : Option Stream) → (h.stream == n) ≡ false → IsRowAt role past n row → IsRowAt role (Came (Head h) ∷ past) n row
+  apart : (n : ℕ) (row : Option Row) → (h.stream == n) ≡ false → IsRowAt role past n row → IsRowAt role (Came (Head h) ∷ past) n row
   apart n None other at = live_other n other ∙ at
   apart n (Some s) other at = (live_other n other ∙ at.0, after role past (Came (Head h)) n s s (unmoved n s (opens_other n other) (belongs_other n other) (unread_other n other)) at.1)
 
   -- the head changes no row
-  pub still : (row : Option Stream) → lets ≡ false → head_belongs role past h h.stream ≡ false → IsRowAt role past h.stream row → IsRowAt role (Came (Head h) ∷ past) h.stream row
+  pub still : (row : Option Row) → lets ≡ false → head_belongs role past h h.stream ≡ false → IsRowAt role past h.stream row → IsRowAt role (Came (Head h) ∷ past) h.stream row
   still None none off at = ap (λ ns. contains ns h.stream) (live_not none) ∙ at
   still (Some s) none off at = (
     ap (λ ns. contains ns h.stream) (live_not none) ∙ at.0,
@@ -195,25 +195,25 @@ module _ (role : Role) (past : List Item) (h : Header) where
 
   -- ---- the table
 
-  row_by : (n : ℕ) (w : Option Stream) (old new : Option Stream) (b : Bool) → (h.stream == n) ≡ b → new ≡ cond (h.stream == n) w old
+  row_by : (n : ℕ) (w : Option Row) (old new : Option Row) (b : Bool) → (h.stream == n) ≡ b → new ≡ cond (h.stream == n) w old
       → IsRowAt role past n old → IsRowAt role (Came (Head h) ∷ past) h.stream w → IsRowAt role (Came (Head h) ∷ past) n new
   row_by n w old new true is e before here =
       subst (IsRowAt role (Came (Head h) ∷ past) n) (sym (e ∙ ap (λ b. cond b w old) is)) (subst (λ k. IsRowAt role (Came (Head h) ∷ past) k w) (eqb-true h.stream n is) here)
   row_by n w old new false is e before here = subst (IsRowAt role (Came (Head h) ∷ past) n) (sym (e ∙ ap (λ b. cond b w old) is)) (apart n old is before)
 
-  pub keeps_by : (w : Option Stream) (remote : ℕ) (gone : Bool) (read : Option Header) (old new : Table) → Keeps role past old
+  pub keeps_by : (w : Option Row) (remote : ℕ) (gone : Bool) (read : Option Header) (old new : Table) → Keeps role past old
       → ((n : ℕ) → row_at new.rows n ≡ cond (h.stream == n) w (row_at old.rows n)) → IsRowAt role (Came (Head h) ∷ past) h.stream w
-      → new ≡ record old { rows = new.rows; remote = remote; reading = read; gone = gone } → read ≡ cond for_it (Some h) None → gone ≡ is_go_away h.kind || old.gone
+      → new ≡ record old { rows = new.rows; remote = remote; reading = read; remote_go_away = gone } → read ≡ cond for_it (Some h) None → gone ≡ is_go_away h.kind || old.remote_go_away
       → old.own ≡ length (filter (is_own role) (live role (Came (Head h) ∷ past))) → remote ≡ length (filter (is_remote role) (live role (Came (Head h) ∷ past)))
       → Keeps role (Came (Head h) ∷ past) new
-  keeps_by w remote gone read old new keeps writes here rest read_is gone_is own_is remote_is = record {
+  keeps_by w remote gone read old new keeps writes here rest read_is remote_go_away_is own_is remote_is = record {
     role_is = ap (λ (q : Table). q.role) rest ∙ keeps.role_is;
     rows = λ n. row_by n w (row_at old.rows n) (row_at new.rows n) (h.stream == n) refl (writes n) (keeps.rows n) here;
     own_is = ap (λ (q : Table). q.own) rest ∙ own_is;
     remote_is = ap (λ (q : Table). q.remote) rest ∙ remote_is;
     reading_is = ap (λ (q : Table). q.reading) rest ∙ read_is;
-    left_is = ap (λ (q : Table). q.left) rest ∙ keeps.left_is;
-    gone_is = ap (λ (q : Table). q.gone) rest ∙ gone_is ∙ ap (λ b. is_go_away h.kind || b) keeps.gone_is;
+    local_go_away_is = ap (λ (q : Table). q.local_go_away) rest ∙ keeps.local_go_away_is;
+    remote_go_away_is = ap (λ (q : Table). q.remote_go_away) rest ∙ remote_go_away_is ∙ ap (λ b. is_go_away h.kind || b) keeps.remote_go_away_is;
     next_is = ap (λ (q : Table). q.next) rest ∙ keeps.next_is;
   }
 
@@ -223,25 +223,25 @@ module _ (role : Role) (past : List Item) (h : Header) where
 
   -- a head that belongs to no stream
   pub passes : (gone : Bool) (read : Option Header) (old : Table) → Keeps role past old → lets ≡ false → head_belongs role past h h.stream ≡ false
-      → read ≡ cond for_it (Some h) None → gone ≡ is_go_away h.kind || old.gone → Keeps role (Came (Head h) ∷ past) (record old { reading = read; gone = gone })
-  passes gone read old keeps none off read_is gone_is =
+      → read ≡ cond for_it (Some h) None → gone ≡ is_go_away h.kind || old.remote_go_away → Keeps role (Came (Head h) ∷ past) (record old { reading = read; remote_go_away = gone })
+  passes gone read old keeps none off read_is remote_go_away_is =
       let same = live_not none in
-      keeps_by (row_at old.rows h.stream) old.remote gone read old (record old { reading = read; gone = gone }) keeps (λ n. same_row n old (h.stream == n) refl)
-      (still (row_at old.rows h.stream) none off (keeps.rows h.stream)) refl read_is gone_is
+      keeps_by (row_at old.rows h.stream) old.remote gone read old (record old { reading = read; remote_go_away = gone }) keeps (λ n. same_row n old (h.stream == n) refl)
+      (still (row_at old.rows h.stream) none off (keeps.rows h.stream)) refl read_is remote_go_away_is
       (keeps.own_is ∙ sym (ap (λ ns. length (filter (is_own role) ns)) same)) (keeps.remote_is ∙ sym (ap (λ ns. length (filter (is_remote role) ns)) same))
 
   -- a head that belongs to a stream which was live before
-  pub charges : (s : Stream) (old new : Table) → Keeps role past old → lets ≡ false → head_belongs role past h h.stream ≡ true → for_it ≡ true → is_go_away h.kind ≡ false
+  pub charges : (s : Row) (old new : Table) → Keeps role past old → lets ≡ false → head_belongs role past h h.stream ≡ true → for_it ≡ true → is_go_away h.kind ≡ false
       → row_at old.rows h.stream ≡ Some s → (is_data h.kind ≡ true → h.length ≤ s.window)
       → ((n : ℕ) → row_at new.rows n ≡ cond (h.stream == n) (Some (record (charged s h) { accepted = ack h || s.accepted })) (row_at old.rows n))
       → new ≡ record old { rows = new.rows; reading = Some h } → Keeps role (Came (Head h) ∷ past) new
   charges s old new keeps none its is_for stays found fits writes rest =
       let same = live_not none in
       let at = row_of role past old h.stream (Some s) keeps found in
-      keeps_by (Some (record (charged s h) { accepted = ack h || s.accepted })) old.remote old.gone (Some h) old new keeps writes (
+      keeps_by (Some (record (charged s h) { accepted = ack h || s.accepted })) old.remote old.remote_go_away (Some h) old new keeps writes (
         ap (λ ns. contains ns h.stream) same ∙ at.0,
         after role past (Came (Head h)) h.stream s (record (charged s h) { accepted = ack h || s.accepted }) (moved s (opens_not none h.stream) its fits) at.1,
-      ) rest (sym (ap (λ b. cond b (Some h) None) is_for)) (sym (ap (λ b. b || old.gone) stays))
+      ) rest (sym (ap (λ b. cond b (Some h) None) is_for)) (sym (ap (λ b. b || old.remote_go_away) stays))
       (keeps.own_is ∙ sym (ap (λ ns. length (filter (is_own role) ns)) same)) (keeps.remote_is ∙ sym (ap (λ ns. length (filter (is_remote role) ns)) same))
 
   own_none : (b : Bool) → is_own role h.stream ≡ b → is_remote role h.stream ≡ true → one_if (is_own role h.stream) ≡ 0
@@ -255,9 +255,9 @@ module _ (role : Role) (past : List Item) (h : Header) where
       → new ≡ record old { rows = new.rows; remote = old.remote + 1; reading = Some h } → Keeps role (Came (Head h) ∷ past) new
   lets_in old new keeps lets_it its is_for stays remote fits writes rest =
       let same = live_opened lets_it in
-      keeps_by (Some (charged opened h)) (old.remote + 1) old.gone (Some h) old new keeps writes
+      keeps_by (Some (charged opened h)) (old.remote + 1) old.remote_go_away (Some h) old new keeps writes
       (ap (λ ns. contains ns h.stream) same ∙ here_after h.stream (live role past), first (opens_here lets_it) its fits)
-      rest (sym (ap (λ b. cond b (Some h) None) is_for)) (sym (ap (λ b. b || old.gone) stays))
+      rest (sym (ap (λ b. cond b (Some h) None) is_for)) (sym (ap (λ b. b || old.remote_go_away) stays))
       ((let was = keeps.own_is in let more = count_then (is_own role) (live role past) h.stream in let none = own_none (is_own role h.stream) refl remote in
       let e : old.own ≡ length (filter (is_own role) (live role past ++ h.stream ∷ [])) = omega arith in e)
       ∙ sym (ap (λ ns. length (filter (is_own role) ns)) same))
@@ -277,10 +277,10 @@ module _ (role : Role) (past : List Item) (h : Header) where
       ap (λ k. cond (is_data h.kind && nat_lt k h.length) (Some WindowExceeded) (cond (is_update h.kind && nat_lt 4294967295 (credit_at role past h + h.length)) (Some WindowTooLarge) None)) we
       ∙ ap (λ k. cond (is_data h.kind && nat_lt w h.length) (Some WindowExceeded) (cond (is_update h.kind && nat_lt 4294967295 (k + h.length)) (Some WindowTooLarge) None)) ce
 
-  window_is : (s : Stream) → IsRow role past h.stream s → s.window ≡ receiving_window role past h.stream
+  window_is : (s : Row) → IsRow role past h.stream s → s.window ≡ receiving_window role past h.stream
   window_is s row = let sum = row.window in omega arith
 
-  plain_fault : (s : Stream) → syn h ≡ false → IsRow role past h.stream s → window_fault role past h ≡ row_fault s h
+  plain_fault : (s : Row) → syn h ≡ false → IsRow role past h.stream s → window_fault role past h ≡ row_fault s h
   plain_fault s plain row =
       windows_fault s.window s.credit
       (ap (λ b. cond b initial_window (receiving_window role past h.stream)) plain ∙ sym (window_is s row))
@@ -295,12 +295,12 @@ module _ (role : Role) (past : List Item) (h : Header) where
   -- ---- a head without SYN, for a stream or none
 
   pub plain_lets : syn h ≡ false → lets ≡ false
-  plain_lets plain = ap (λ b. (is_of_stream h && b) && is_let_in role (live role past) (has_left past) h) plain ∙ ap (λ b. b && is_let_in role (live role past) (has_left past) h) (and_false (is_of_stream h))
+  plain_lets plain = ap (λ b. (is_of_stream h && b) && is_let_in role (live role past) (local_go_away past) h) plain ∙ ap (λ b. b && is_let_in role (live role past) (local_go_away past) h) (and_false (is_of_stream h))
 
   pub plain_for : is_of_stream h ≡ true → syn h ≡ false → (b : Bool) → is_live role past h.stream ≡ b → for_it ≡ b
   plain_for kind plain b is =
-      ap (λ k. k && cond (syn h) (is_let_in role (live role past) (has_left past) h) (contains (live role past) h.stream)) kind
-      ∙ ap (λ t. cond t (is_let_in role (live role past) (has_left past) h) (contains (live role past) h.stream)) plain ∙ is
+      ap (λ k. k && cond (syn h) (is_let_in role (live role past) (local_go_away past) h) (contains (live role past) h.stream)) kind
+      ∙ ap (λ t. cond t (is_let_in role (live role past) (local_go_away past) h) (contains (live role past) h.stream)) plain ∙ is
 
   pub belongs_if : (b d f : Bool) → for_it ≡ b → (is_data h.kind && not (syn h)) ≡ d → finished role past h.stream ≡ f → head_belongs role past h h.stream ≡ b && not (d && f)
   belongs_if b d f eb ed ef =
@@ -310,11 +310,11 @@ module _ (role : Role) (past : List Item) (h : Header) where
       ∙ ap (λ t. b && not (d && t)) ef
 
   pub done_passing : (gone : Bool) (read : Option Header) (old : Table) → Keeps role past old → lets ≡ false → head_belongs role past h h.stream ≡ false
-      → fault_at role past (Came (Head h)) ≡ None → read ≡ cond for_it (Some h) None → gone ≡ is_go_away h.kind || old.gone
-      → HeadDone role past h (record { opened = false; accepted = false; credited = false }) (record old { reading = read; gone = gone })
-  done_passing gone read old keeps none off good read_is gone_is = record {
+      → fault_at role past (Came (Head h)) ≡ None → read ≡ cond for_it (Some h) None → gone ≡ is_go_away h.kind || old.remote_go_away
+      → HeadDone role past h (record { opened = false; accepted = false; credited = false }) (record old { reading = read; remote_go_away = gone })
+  done_passing gone read old keeps none off good read_is remote_go_away_is = record {
     no_fault = good;
-    keeps = passes gone read old keeps none off read_is gone_is;
+    keeps = passes gone read old keeps none off read_is remote_go_away_is;
     opened = sym (opens_not none h.stream);
     accepted = sym (ap (λ b. ((b && ack h) && is_own role h.stream) && not (accepted role past h.stream)) off);
     credited = sym (ap (λ b. (b && is_update h.kind) && nat_lt 0 h.length) off);
@@ -329,18 +329,18 @@ module _ (role : Role) (past : List Item) (h : Header) where
   plain_absent old kind plain stays keeps found =
       let is_for = plain_for kind plain false (row_of role past old h.stream None keeps found) in
       let off = belongs_if false (is_data h.kind && not (syn h)) (finished role past h.stream) is_for refl refl in
-      done_passing old.gone None old keeps (plain_lets plain) off (plain_off_fault plain off) (sym (ap (λ b. cond b (Some h) None) is_for)) (sym (ap (λ b. b || old.gone) stays))
+      done_passing old.remote_go_away None old keeps (plain_lets plain) off (plain_off_fault plain off) (sym (ap (λ b. cond b (Some h) None) is_for)) (sym (ap (λ b. b || old.remote_go_away) stays))
 
   -- Data behind the other end's FIN
-  pub plain_finished : (s : Stream) (old : Table) → is_data h.kind ≡ true → syn h ≡ false → is_go_away h.kind ≡ false → Keeps role past old → row_at old.rows h.stream ≡ Some s → s.finished ≡ true
+  pub plain_finished : (s : Row) (old : Table) → is_data h.kind ≡ true → syn h ≡ false → is_go_away h.kind ≡ false → Keeps role past old → row_at old.rows h.stream ≡ Some s → s.finished ≡ true
       → HeadDone role past h (record { opened = false; accepted = false; credited = false }) (record old { reading = Some h })
   plain_finished s old kind plain stays keeps found done =
       let at = row_of role past old h.stream (Some s) keeps found in
       let is_for = plain_for (ap (λ b. b || is_update h.kind) kind) plain true at.0 in
       let off = belongs_if true true true is_for (ap (λ b. b && not (syn h)) kind ∙ ap not plain) (sym at.1.finished_is ∙ done) in
-      done_passing old.gone (Some h) old keeps (plain_lets plain) off (plain_off_fault plain off) (sym (ap (λ b. cond b (Some h) None) is_for)) (sym (ap (λ b. b || old.gone) stays))
+      done_passing old.remote_go_away (Some h) old keeps (plain_lets plain) off (plain_off_fault plain off) (sym (ap (λ b. cond b (Some h) None) is_for)) (sym (ap (λ b. b || old.remote_go_away) stays))
 
-  plain_its : (s : Stream) (old : Table) → is_of_stream h ≡ true → syn h ≡ false → Keeps role past old → row_at old.rows h.stream ≡ Some s → (is_data h.kind && s.finished) ≡ false
+  plain_its : (s : Row) (old : Table) → is_of_stream h ≡ true → syn h ≡ false → Keeps role past old → row_at old.rows h.stream ≡ Some s → (is_data h.kind && s.finished) ≡ false
       → head_belongs role past h h.stream ≡ true
   plain_its s old kind plain keeps found unfinished =
       let at = row_of role past old h.stream (Some s) keeps found in
@@ -349,13 +349,13 @@ module _ (role : Role) (past : List Item) (h : Header) where
       ∙ ap not unfinished
 
   -- a fault of the windows
-  pub plain_faults : (s : Stream) (fault : Fault) (old : Table) → is_of_stream h ≡ true → syn h ≡ false → Keeps role past old → row_at old.rows h.stream ≡ Some s → (is_data h.kind && s.finished) ≡ false
+  pub plain_faults : (s : Row) (fault : Fault) (old : Table) → is_of_stream h ≡ true → syn h ≡ false → Keeps role past old → row_at old.rows h.stream ≡ Some s → (is_data h.kind && s.finished) ≡ false
       → row_fault s h ≡ Some fault → fault_at role past (Came (Head h)) ≡ Some fault
   plain_faults s fault old kind plain keeps found unfinished faulty =
       let at = row_of role past old h.stream (Some s) keeps found in
       no_syn_fault plain ∙ ap (λ b. cond b (window_fault role past h) None) (plain_its s old kind plain keeps found unfinished) ∙ plain_fault s plain at.1 ∙ faulty
 
-  data_fits : (s : Stream) → row_fault s h ≡ None → is_data h.kind ≡ true → h.length ≤ s.window
+  data_fits : (s : Row) → row_fault s h ≡ None → is_data h.kind ≡ true → h.length ≤ s.window
   data_fits s good kind = ltb-false s.window h.length (lt_none (is_data h.kind) (nat_lt s.window h.length) (cond (is_update h.kind && nat_lt 4294967295 (s.credit + h.length)) (Some WindowTooLarge) None) kind good)
     where
       lt_none : (d l : Bool) (rest : Option Fault) → d ≡ true → cond (d && l) (Some WindowExceeded) rest ≡ None → l ≡ false
@@ -364,7 +364,7 @@ module _ (role : Role) (past : List Item) (h : Header) where
       lt_none false l rest e bad = absurd cc
 
   -- a head that belongs to its stream
-  pub plain_done : (s : Stream) (old new : Table) (was_accepted : Bool) → is_of_stream h ≡ true → syn h ≡ false → is_go_away h.kind ≡ false → Keeps role past old → row_at old.rows h.stream ≡ Some s
+  pub plain_done : (s : Row) (old new : Table) (was_accepted : Bool) → is_of_stream h ≡ true → syn h ≡ false → is_go_away h.kind ≡ false → Keeps role past old → row_at old.rows h.stream ≡ Some s
       → (is_data h.kind && s.finished) ≡ false → row_fault s h ≡ None → s.accepted ≡ was_accepted
       → ((n : ℕ) → row_at new.rows n ≡ cond (h.stream == n) (Some (record (charged s h) { accepted = ack h || s.accepted })) (row_at old.rows n))
       → new ≡ record old { rows = new.rows; reading = Some h }
@@ -396,7 +396,7 @@ module _ (role : Role) (past : List Item) (h : Header) where
   wrong_parity kind opening own =
       syn_first (Some WrongParity) kind opening (ap (λ b. cond (not b) (Some WrongParity) (cond (is_live role past h.stream) (Some DuplicateStream) None)) own)
 
-  pub duplicate : (s : Stream) (old : Table) → is_of_stream h ≡ true → syn h ≡ true → is_remote role h.stream ≡ true → Keeps role past old → row_at old.rows h.stream ≡ Some s
+  pub duplicate : (s : Row) (old : Table) → is_of_stream h ≡ true → syn h ≡ true → is_remote role h.stream ≡ true → Keeps role past old → row_at old.rows h.stream ≡ Some s
       → fault_at role past (Came (Head h)) ≡ Some DuplicateStream
   duplicate s old kind opening remote keeps found =
       syn_first (Some DuplicateStream) kind opening
@@ -410,58 +410,58 @@ module _ (role : Role) (past : List Item) (h : Header) where
       (ap (λ b. cond (not b) (Some WrongParity) (cond (is_live role past h.stream) (Some DuplicateStream) None)) remote
       ∙ ap (λ b. cond b (Some DuplicateStream) None) off)
 
-  let_in_is : (room left : Bool) → is_remote role h.stream ≡ true → is_live role past h.stream ≡ false → nat_lt (length (filter (is_remote role) (live role past))) 256 ≡ room → has_left past ≡ left
-      → is_let_in role (live role past) (has_left past) h ≡ room && not left
-  let_in_is room left remote off room_is left_is =
-      ap (λ b. ((b && not (contains (live role past) h.stream)) && nat_lt (length (filter (is_remote role) (live role past))) 256) && not (has_left past)) remote
-      ∙ ap (λ b. (not b && nat_lt (length (filter (is_remote role) (live role past))) 256) && not (has_left past)) off
-      ∙ ap (λ b. b && not (has_left past)) room_is ∙ ap (λ b. room && not b) left_is
+  let_in_is : (room left : Bool) → is_remote role h.stream ≡ true → is_live role past h.stream ≡ false → nat_lt (length (filter (is_remote role) (live role past))) 256 ≡ room → local_go_away past ≡ left
+      → is_let_in role (live role past) (local_go_away past) h ≡ room && not left
+  let_in_is room left remote off room_is local_go_away_is =
+      ap (λ b. ((b && not (contains (live role past) h.stream)) && nat_lt (length (filter (is_remote role) (live role past))) 256) && not (local_go_away past)) remote
+      ∙ ap (λ b. (not b && nat_lt (length (filter (is_remote role) (live role past))) 256) && not (local_go_away past)) off
+      ∙ ap (λ b. b && not (local_go_away past)) room_is ∙ ap (λ b. room && not b) local_go_away_is
 
-  lets_is : (b : Bool) → is_of_stream h ≡ true → syn h ≡ true → is_let_in role (live role past) (has_left past) h ≡ b → lets ≡ b
-  lets_is b kind opening e = ap (λ t. t && is_let_in role (live role past) (has_left past) h) (opening_of kind opening) ∙ e
+  lets_is : (b : Bool) → is_of_stream h ≡ true → syn h ≡ true → is_let_in role (live role past) (local_go_away past) h ≡ b → lets ≡ b
+  lets_is b kind opening e = ap (λ t. t && is_let_in role (live role past) (local_go_away past) h) (opening_of kind opening) ∙ e
 
-  opening_for : (b : Bool) → is_of_stream h ≡ true → syn h ≡ true → is_let_in role (live role past) (has_left past) h ≡ b → for_it ≡ b
+  opening_for : (b : Bool) → is_of_stream h ≡ true → syn h ≡ true → is_let_in role (live role past) (local_go_away past) h ≡ b → for_it ≡ b
   opening_for b kind opening e =
-      ap (λ k. k && cond (syn h) (is_let_in role (live role past) (has_left past) h) (contains (live role past) h.stream)) kind
-      ∙ ap (λ t. cond t (is_let_in role (live role past) (has_left past) h) (contains (live role past) h.stream)) opening ∙ e
+      ap (λ k. k && cond (syn h) (is_let_in role (live role past) (local_go_away past) h) (contains (live role past) h.stream)) kind
+      ∙ ap (λ t. cond t (is_let_in role (live role past) (local_go_away past) h) (contains (live role past) h.stream)) opening ∙ e
 
   opening_data : syn h ≡ true → (is_data h.kind && not (syn h)) ≡ false
   opening_data opening = ap (λ b. is_data h.kind && not b) opening ∙ and_false (is_data h.kind)
 
   -- there is no room, or this end has left
   pub opening_refused : (old : Table) → is_of_stream h ≡ true → syn h ≡ true → is_go_away h.kind ≡ false → is_remote role h.stream ≡ true → Keeps role past old → row_at old.rows h.stream ≡ None
-      → nat_lt old.remote 256 && not old.left ≡ false
+      → nat_lt old.remote 256 && not old.local_go_away ≡ false
       → HeadDone role past h (record { opened = false; accepted = false; credited = false }) (record old { reading = None })
   opening_refused old kind opening stays remote keeps found shut =
       let absent = row_of role past old h.stream None keeps found in
-      let no_entry = let_in_is (nat_lt old.remote 256) old.left remote absent (ap (λ n. nat_lt n 256) (sym keeps.remote_is)) (sym keeps.left_is) ∙ shut in
+      let no_entry = let_in_is (nat_lt old.remote 256) old.local_go_away remote absent (ap (λ n. nat_lt n 256) (sym keeps.remote_is)) (sym keeps.local_go_away_is) ∙ shut in
       let is_for = opening_for false kind opening no_entry in
       let off = belongs_if false false (finished role past h.stream) is_for (opening_data opening) refl in
-      done_passing old.gone None old keeps (lets_is false kind opening no_entry) off
+      done_passing old.remote_go_away None old keeps (lets_is false kind opening no_entry) off
       (syn_good kind opening remote absent ∙ ap (λ b. cond b (window_fault role past h) None) off)
-      (sym (ap (λ b. cond b (Some h) None) is_for)) (sym (ap (λ b. b || old.gone) stays))
+      (sym (ap (λ b. cond b (Some h) None) is_for)) (sym (ap (λ b. b || old.remote_go_away) stays))
 
   opening_its : (old : Table) → is_of_stream h ≡ true → syn h ≡ true → is_remote role h.stream ≡ true → Keeps role past old → row_at old.rows h.stream ≡ None
-      → nat_lt old.remote 256 && not old.left ≡ true → (lets ≡ true) × (for_it ≡ true) × (head_belongs role past h h.stream ≡ true)
+      → nat_lt old.remote 256 && not old.local_go_away ≡ true → (lets ≡ true) × (for_it ≡ true) × (head_belongs role past h h.stream ≡ true)
   opening_its old kind opening remote keeps found room =
       let absent = row_of role past old h.stream None keeps found in
-      let entry = let_in_is (nat_lt old.remote 256) old.left remote absent (ap (λ n. nat_lt n 256) (sym keeps.remote_is)) (sym keeps.left_is) ∙ room in
+      let entry = let_in_is (nat_lt old.remote 256) old.local_go_away remote absent (ap (λ n. nat_lt n 256) (sym keeps.remote_is)) (sym keeps.local_go_away_is) ∙ room in
       let is_for = opening_for true kind opening entry in
       (lets_is true kind opening entry, is_for, belongs_if true false (finished role past h.stream) is_for (opening_data opening) refl)
 
   pub opening_faults : (fault : Option Fault) (old : Table) → is_of_stream h ≡ true → syn h ≡ true → is_remote role h.stream ≡ true → Keeps role past old → row_at old.rows h.stream ≡ None
-      → nat_lt old.remote 256 && not old.left ≡ true → row_fault opened h ≡ fault → fault_at role past (Came (Head h)) ≡ fault
+      → nat_lt old.remote 256 && not old.local_go_away ≡ true → row_fault opened h ≡ fault → fault_at role past (Came (Head h)) ≡ fault
   opening_faults fault old kind opening remote keeps found room faulty =
       let its = opening_its old kind opening remote keeps found room in
       syn_good kind opening remote (row_of role past old h.stream None keeps found)
       ∙ ap (λ b. cond b (window_fault role past h) None) its.2 ∙ opening_fault opening ∙ faulty
 
   pub opening_opens : (old : Table) → is_of_stream h ≡ true → syn h ≡ true → is_remote role h.stream ≡ true → Keeps role past old → row_at old.rows h.stream ≡ None
-      → nat_lt old.remote 256 && not old.left ≡ true → opens role past (Came (Head h)) h.stream ≡ true
+      → nat_lt old.remote 256 && not old.local_go_away ≡ true → opens role past (Came (Head h)) h.stream ≡ true
   opening_opens old kind opening remote keeps found room = opens_here (opening_its old kind opening remote keeps found room).0
 
   pub opening_done : (old new : Table) → is_of_stream h ≡ true → syn h ≡ true → is_go_away h.kind ≡ false → is_remote role h.stream ≡ true → Keeps role past old → row_at old.rows h.stream ≡ None
-      → nat_lt old.remote 256 && not old.left ≡ true → row_fault opened h ≡ None
+      → nat_lt old.remote 256 && not old.local_go_away ≡ true → row_fault opened h ≡ None
       → ((n : ℕ) → row_at new.rows n ≡ cond (h.stream == n) (Some (charged opened h)) (row_at old.rows n))
       → new ≡ record old { rows = new.rows; remote = old.remote + 1; reading = Some h }
       → HeadDone role past h (record { opened = true; accepted = false; credited = is_update h.kind && nat_lt 0 h.length }) new
@@ -487,15 +487,15 @@ module _ (role : Role) (past : List Item) (h : Header) where
   belongs_for : head_belongs role past h h.stream ≡ true → for_it ≡ true
   belongs_for its = (and_parts (h.stream == h.stream) for_it (and_parts ((h.stream == h.stream) && for_it) (not ((is_data h.kind && not (syn h)) && finished role past h.stream)) its).0).1
 
-  for_kind : for_it ≡ true → (is_of_stream h ≡ true) × (cond (syn h) (is_let_in role (live role past) (has_left past) h) (contains (live role past) h.stream) ≡ true)
-  for_kind e = and_parts (is_of_stream h) (cond (syn h) (is_let_in role (live role past) (has_left past) h) (contains (live role past) h.stream)) e
+  for_kind : for_it ≡ true → (is_of_stream h ≡ true) × (cond (syn h) (is_let_in role (live role past) (local_go_away past) h) (contains (live role past) h.stream) ≡ true)
+  for_kind e = and_parts (is_of_stream h) (cond (syn h) (is_let_in role (live role past) (local_go_away past) h) (contains (live role past) h.stream)) e
 
   -- a head for a stream that it doesn't open has no SYN
   plain_unless : (b : Bool) → syn h ≡ b → lets ≡ false → for_it ≡ true → syn h ≡ false
   plain_unless false e none is_for = e
   plain_unless true e none is_for =
       let parts = for_kind is_for in
-      let entry : is_let_in role (live role past) (has_left past) h ≡ true = sym (ap (λ t. cond t (is_let_in role (live role past) (has_left past) h) (contains (live role past) h.stream)) e) ∙ parts.1 in
+      let entry : is_let_in role (live role past) (local_go_away past) h ≡ true = sym (ap (λ t. cond t (is_let_in role (live role past) (local_go_away past) h) (contains (live role past) h.stream)) e) ∙ parts.1 in
       absurd (let both : true ≡ false = sym (lets_is true parts.0 e entry) ∙ none in cc)
 
   good_windows : fault_at role past (Came (Head h)) ≡ None → head_belongs role past h h.stream ≡ true → window_fault role past h ≡ None
@@ -509,15 +509,15 @@ module _ (role : Role) (past : List Item) (h : Header) where
 
   opened_row : fault_at role past (Came (Head h)) ≡ None → lets ≡ true → IsRowAt role (Came (Head h) ∷ past) h.stream (Some (charged opened h))
   opened_row good lets_it =
-      let parts = and_parts (is_of_stream h && syn h) (is_let_in role (live role past) (has_left past) h) lets_it in
+      let parts = and_parts (is_of_stream h && syn h) (is_let_in role (live role past) (local_go_away past) h) lets_it in
       let both = and_parts (is_of_stream h) (syn h) parts.0 in
       let its = belongs_if true false (finished role past h.stream) (opening_for true both.0 both.1 parts.1) (opening_data both.1) refl in (
         ap (λ ns. contains ns h.stream) (live_opened lets_it) ∙ here_after h.stream (live role past),
         first (opens_here lets_it) its (data_fits opened (sym (opening_fault both.1) ∙ good_windows good its)),
       )
 
-  belonging_row : (row : Option Stream) → fault_at role past (Came (Head h)) ≡ None → lets ≡ false → head_belongs role past h h.stream ≡ true
-      → IsRowAt role past h.stream row → (new : Option Stream) × IsRowAt role (Came (Head h) ∷ past) h.stream new
+  belonging_row : (row : Option Row) → fault_at role past (Came (Head h)) ≡ None → lets ≡ false → head_belongs role past h h.stream ≡ true
+      → IsRowAt role past h.stream row → (new : Option Row) × IsRowAt role (Came (Head h) ∷ past) h.stream new
   belonging_row None good none its off =
       let is_for = belongs_for its in
       let plain = plain_unless (syn h) refl none is_for in
@@ -532,28 +532,28 @@ module _ (role : Role) (past : List Item) (h : Header) where
         ),
       )
 
-  row_here : (row : Option Stream) (b c : Bool) → lets ≡ b → head_belongs role past h h.stream ≡ c → fault_at role past (Came (Head h)) ≡ None
-      → IsRowAt role past h.stream row → (new : Option Stream) × IsRowAt role (Came (Head h) ∷ past) h.stream new
+  row_here : (row : Option Row) (b c : Bool) → lets ≡ b → head_belongs role past h h.stream ≡ c → fault_at role past (Came (Head h)) ≡ None
+      → IsRowAt role past h.stream row → (new : Option Row) × IsRowAt role (Came (Head h) ∷ past) h.stream new
   row_here row true c lets_it its good at = (Some (charged opened h), opened_row good lets_it)
   row_here row false true none its good at = belonging_row row good none its at
   row_here row false false none off good at = (row, still row none off at)
 
-  pub head_row : (n : ℕ) (row : Option Stream) (b : Bool) → (h.stream == n) ≡ b → fault_at role past (Came (Head h)) ≡ None
-      → IsRowAt role past n row → (new : Option Stream) × IsRowAt role (Came (Head h) ∷ past) n new
+  pub head_row : (n : ℕ) (row : Option Row) (b : Bool) → (h.stream == n) ≡ b → fault_at role past (Came (Head h)) ≡ None
+      → IsRowAt role past n row → (new : Option Row) × IsRowAt role (Came (Head h) ∷ past) n new
   head_row n row false other good at = (row, apart n row other at)
   head_row n row true same good at =
-      subst (λ k. IsRowAt role past k row → (new : Option Stream) × IsRowAt role (Came (Head h) ∷ past) k new) (eqb-true h.stream n same)
+      subst (λ k. IsRowAt role past k row → (new : Option Row) × IsRowAt role (Came (Head h) ∷ past) k new) (eqb-true h.stream n same)
       (row_here row lets (head_belongs role past h h.stream) refl refl good) at
 
   -- ---- Ping and GoAway
 
-  pub session_head : (old : Table) (gone : Bool) → Keeps role past old → is_of_stream h ≡ false → gone ≡ is_go_away h.kind || old.gone
-      → HeadDone role past h (record { opened = false; accepted = false; credited = false }) (record old { reading = None; gone = gone })
-  session_head old gone keeps kind gone_is =
-      let none : lets ≡ false = ap (λ b. (b && syn h) && is_let_in role (live role past) (has_left past) h) kind in
-      let is_for : for_it ≡ false = ap (λ b. b && cond (syn h) (is_let_in role (live role past) (has_left past) h) (contains (live role past) h.stream)) kind in
+  pub session_head : (old : Table) (gone : Bool) → Keeps role past old → is_of_stream h ≡ false → gone ≡ is_go_away h.kind || old.remote_go_away
+      → HeadDone role past h (record { opened = false; accepted = false; credited = false }) (record old { reading = None; remote_go_away = gone })
+  session_head old gone keeps kind remote_go_away_is =
+      let none : lets ≡ false = ap (λ b. (b && syn h) && is_let_in role (live role past) (local_go_away past) h) kind in
+      let is_for : for_it ≡ false = ap (λ b. b && cond (syn h) (is_let_in role (live role past) (local_go_away past) h) (contains (live role past) h.stream)) kind in
       let off = belongs_if false (is_data h.kind && not (syn h)) (finished role past h.stream) is_for refl refl in
       done_passing gone None old keeps none off
       (ap (λ b. or_else (cond (b && syn h) (syn_fault role past h) None) (cond (head_belongs role past h h.stream) (window_fault role past h) None)) kind
       ∙ ap (λ b. cond b (window_fault role past h) None) off)
-      (sym (ap (λ b. cond b (Some h) None) is_for)) gone_is
+      (sym (ap (λ b. cond b (Some h) None) is_for)) remote_go_away_is

@@ -9,14 +9,15 @@ use Rattle.yamux_frames.specs.Frames.{Arrival}
 use Rattle.yamux_frames.specs.Frames.Arrival.{Head, Byte, Tail, Garbled}
 use Rattle.yamux_session.specs.declared.event.Role.{Role}
 use Rattle.yamux_session.specs.declared.event.Fault.{Fault}
-use Rattle.yamux_session.specs.Items.{Item, Act, syn, ack, rst, fin, is_of_stream, is_own, is_go_away, is_update}
-use Rattle.yamux_session.specs.Items.Item.{Came, Did}
-use Rattle.yamux_session.specs.Items.Act.{Start, Write, Take, Close, Reset, Leave}
-use Rattle.yamux_session.specs.Openings.{live, is_live, contains, opens, finished, closed, reading, is_let_in, has_left, head_belongs, byte_belongs, is_reading, tail_ends, tail_finishes, ends, opened_by, finishes, closes}
+use Rattle.yamux_session.specs.History.{Item, Act, syn, ack, rst, fin, is_of_stream, is_own, is_go_away, is_update}
+use Rattle.yamux_session.specs.History.Item.{Came, Did}
+use Rattle.yamux_session.specs.History.Act.{Start, Write, Taken, Close, Reset}
+use Rattle.yamux_session.specs.Openings.{live, is_live, contains, opens, finished, closed, reading, is_let_in, local_go_away, head_belongs, byte_belongs, is_reading, tail_ends, tail_finishes, ends, opened_by, finishes, closes}
 use Rattle.yamux_session.specs.Windows.{accepted}
-use Rattle.yamux_session.specs.Meaning.{Told, HasNoFault, when, fault_at, head_events, tail_events, tail_told, taker, byte_told, events, events_at, events_unless, inbound, byte_at, written, written_by}
-use Rattle.yamux_session.specs.Meaning.Told.{Opened, Accepted, Data, Ended, WasReset, Credit, Left}
-use Rattle.yamux_session.specs.Seen.{Seen, seen, just_opened, hears, all_heard, AgreesOn, TellsFrom, EventsTell, does, ActsDo}
+use Rattle.yamux_session.specs.Faults.{HasNoFault, fault_at}
+use Rattle.yamux_session.specs.Events.{Told, when, head_events, tail_events, taker, byte_told, events, events_at, events_unless}
+use Rattle.yamux_session.specs.Data.{inbound, written}
+use Rattle.yamux_session.specs.Seen.{Seen, seen, just_opened, hears, all_heard, AgreesOn, TellsFrom, EventsTell, ActsDo}
 use Rattle.yamux_session.proofs.Lists.{contains_append, contains_filter}
 
 pub all_both : (n : ℕ) (s : Seen) (xs ys : List Told) → all_heard n s (xs ++ ys) ≡ all_heard n (all_heard n s xs) ys
@@ -36,7 +37,7 @@ pub live_after : (role : Role) (past : List Item) (x : Item) (n : ℕ) → is_li
     ≡ (not (ends (reading role past) (finished role past n) (closed role past n) x n) && is_live role past n) || opens role past x n
 live_after role past x n =
     let stays : ℕ → Bool = λ k. not (ends (reading role past) (finished role past k) (closed role past k) x k) in
-    contains_append (filter stays (live role past)) (opened_by role (live role past) (has_left past) x) n
+    contains_append (filter stays (live role past)) (opened_by role (live role past) (local_go_away past) x) n
     ∙ ap (λ b. b || opens role past x n) (contains_filter stays (live role past) n)
 
 -- of FIN and this end's close the second ends the stream
@@ -69,8 +70,8 @@ both_after role past (Did (Close m)) n e before = close_case (m == n) (finished 
 both_after role past (Did (Reset m)) n e before = before
 both_after role past (Did (Start m)) n e before = before
 both_after role past (Did (Write m ps)) n e before = before
-both_after role past (Did (Take m k)) n e before = before
-both_after role past (Did (Leave code)) n e before = before
+both_after role past (Did (Taken m k)) n e before = before
+both_after role past (Did (Act.GoAway code)) n e before = before
 
 pub not_both : (role : Role) (past : List Item) (n : ℕ) → is_live role past n ≡ true → finished role past n && closed role past n ≡ false
 not_both role [] n on = refl
@@ -104,39 +105,39 @@ and_false false = refl
 same_fields : (a b : Seen) → a.live ≡ b.live → a.closed ≡ b.closed → a.ended ≡ b.ended → a.came ≡ b.came → a.sent ≡ b.sent → AgreesOn a b
 same_fields a b l c f g w = record { live = l; closed = c; came = g; sent = w; ended = λ h. f ∙ h; live_ended = λ h. f }
 
-heard_left : (n : ℕ) (s : Seen) (b : Bool) (code : ℕ) → all_heard n s (when b (Left code)) ≡ s
+heard_left : (n : ℕ) (s : Seen) (b : Bool) (code : ℕ) → all_heard n s (when b (Told.GoAway code)) ≡ s
 heard_left n s true code = refl
 heard_left n s false code = refl
 
-heard_accepted : (n : ℕ) (s : Seen) (b : Bool) (m : ℕ) → all_heard n s (when b (Accepted m)) ≡ s
+heard_accepted : (n : ℕ) (s : Seen) (b : Bool) (m : ℕ) → all_heard n s (when b (Told.Accepted m)) ≡ s
 heard_accepted n s true m = refl
 heard_accepted n s false m = refl
 
-heard_credit : (n : ℕ) (s : Seen) (b : Bool) (m : ℕ) → all_heard n s (when b (Credit m)) ≡ s
+heard_credit : (n : ℕ) (s : Seen) (b : Bool) (m : ℕ) → all_heard n s (when b (Told.Credit m)) ≡ s
 heard_credit n s true m = refl
 heard_credit n s false m = refl
 
 heard_opened : (n m : ℕ) (s : Seen) (lets : Bool)
-    → all_heard n s (when (contains (cond lets (m ∷ []) []) m) (Opened m)) ≡ cond (contains (cond lets (m ∷ []) []) n) just_opened s
+    → all_heard n s (when (contains (cond lets (m ∷ []) []) m) (Told.Opened m)) ≡ cond (contains (cond lets (m ∷ []) []) n) just_opened s
 heard_opened n m s false = refl
 heard_opened n m s true =
-    ap (λ b. all_heard n s (when (b || false) (Opened m))) (eq-eqb m m refl) ∙ ap (λ b. cond b just_opened s) (sym (or_none (m == n)))
+    ap (λ b. all_heard n s (when (b || false) (Told.Opened m))) (eq-eqb m m refl) ∙ ap (λ b. cond b just_opened s) (sym (or_none (m == n)))
 
 heard_head : (role : Role) (past : List Item) (h : Header) (n : ℕ) (s : Seen)
     → all_heard n s (head_events role past h) ≡ cond (opens role past (Came (Head h)) n) just_opened s
 heard_head role past h n s =
     let accepts : Bool = head_belongs role past h h.stream && ack h && is_own role h.stream && not (accepted role past h.stream) in
     let credits : Bool = head_belongs role past h h.stream && is_update h.kind && nat_lt 0 h.length in
-    let left : List Told = when (is_go_away h.kind) (Left h.length) in
-    let opened : List Told = when (opens role past (Came (Head h)) h.stream) (Opened h.stream) in
-    let accepted : List Told = when accepts (Accepted h.stream) in
-    all_both n s ((left ++ opened) ++ accepted) (when credits (Credit h.stream))
+    let left : List Told = when (is_go_away h.kind) (Told.GoAway h.length) in
+    let opened : List Told = when (opens role past (Came (Head h)) h.stream) (Told.Opened h.stream) in
+    let accepted : List Told = when accepts (Told.Accepted h.stream) in
+    all_both n s ((left ++ opened) ++ accepted) (when credits (Told.Credit h.stream))
     ∙ heard_credit n (all_heard n s ((left ++ opened) ++ accepted)) credits h.stream
     ∙ all_both n s (left ++ opened) accepted
     ∙ heard_accepted n (all_heard n s (left ++ opened)) accepts h.stream
     ∙ all_both n s left opened
     ∙ ap (λ (t : Seen). all_heard n t opened) (heard_left n s (is_go_away h.kind) h.length)
-    ∙ heard_opened n h.stream s (is_of_stream h && syn h && is_let_in role (live role past) (has_left past) h)
+    ∙ heard_opened n h.stream s (is_of_stream h && syn h && is_let_in role (live role past) (local_go_away past) h)
 
 head_as : (s : Seen) (o l : Bool) → l ≡ s.live || o
     → AgreesOn (record { live = l; closed = not o && s.closed; ended = not o && s.ended; came = cond o [] s.came ++ []; sent = cond o [] s.sent ++ [] })
@@ -211,7 +212,7 @@ abbrev tail_says : Bool → Bool → Bool → Seen → Seen
 tail_says same reset ended s = cond reset (cond same (was_reset s) s) (cond ended (cond same (has_ended s) s) s)
 
 heard_tail : (n m : ℕ) (s : Seen) (on ended reset : Bool)
-    → all_heard n s (cond on (cond reset (WasReset m ∷ []) (when ended (Ended m))) []) ≡ cond on (tail_says (m == n) reset ended s) s
+    → all_heard n s (cond on (cond reset (Told.Reset m ∷ []) (when ended (Told.Ended m))) []) ≡ cond on (tail_says (m == n) reset ended s) s
 heard_tail n m s false ended reset = refl
 heard_tail n m s true ended true = refl
 heard_tail n m s true true false = refl
@@ -265,7 +266,7 @@ tail_here false false true c f g w once = same_fields _ _ refl refl refl (append
 
 tail_by : (n m : ℕ) (s : Seen) (reset fin on ended same : Bool) → (m == n) ≡ same → (same ≡ true → on ≡ s.live) → (same ≡ true → ended ≡ s.ended)
     → (s.live ≡ true → s.ended && s.closed ≡ false)
-    → AgreesOn (after_tail same reset fin s) (all_heard n s (cond on (cond reset (WasReset m ∷ []) (when (fin && not ended) (Ended m))) []))
+    → AgreesOn (after_tail same reset fin s) (all_heard n s (cond on (cond reset (Told.Reset m ∷ []) (when (fin && not ended) (Told.Ended m))) []))
 tail_by n m s reset fin on ended false is l f once =
     subst (λ (t : Seen). AgreesOn (after_tail false reset fin s) t)
     (sym (heard_tail n m s on (fin && not ended) reset ∙ ap (λ b. cond on (tail_says b reset (fin && not ended) s) s) is
@@ -306,12 +307,12 @@ tail_step role past n =
 -- ---- all arrivals
 
 heard_on : (n : ℕ) (is heard : Seen) (t : Told) → AgreesOn is heard → AgreesOn (hears n is t) (hears n heard t)
-heard_on n is heard (Opened m) a = by (m == n)
+heard_on n is heard (Told.Opened m) a = by (m == n)
   where
     by : (b : Bool) → AgreesOn (cond b just_opened is) (cond b just_opened heard)
     by true = same_fields just_opened just_opened refl refl refl refl refl
     by false = a
-heard_on n is heard (Data m b) a = by (m == n)
+heard_on n is heard (Told.Payload m b) a = by (m == n)
   where
     by : (c : Bool) → AgreesOn (cond c (record is { came = is.came ++ b ∷ [] }) is) (cond c (record heard { came = heard.came ++ b ∷ [] }) heard)
     by true = record {
@@ -323,7 +324,7 @@ heard_on n is heard (Data m b) a = by (m == n)
       live_ended = a.live_ended;
     }
     by false = a
-heard_on n is heard (Ended m) a = by (m == n)
+heard_on n is heard (Told.Ended m) a = by (m == n)
   where
     by : (c : Bool) → AgreesOn (cond c (has_ended is) is) (cond c (has_ended heard) heard)
     by true = record {
@@ -335,15 +336,15 @@ heard_on n is heard (Ended m) a = by (m == n)
       live_ended = λ on. refl;
     }
     by false = a
-heard_on n is heard (WasReset m) a = by (m == n)
+heard_on n is heard (Told.Reset m) a = by (m == n)
   where
     by : (c : Bool) → AgreesOn (cond c (was_reset is) is) (cond c (was_reset heard) heard)
     by true = record { live = refl; closed = a.closed; came = a.came; sent = a.sent; ended = a.ended; live_ended = λ on. absurd (cc on) }
     by false = a
-heard_on n is heard (Accepted m) a = a
-heard_on n is heard (Credit m) a = a
-heard_on n is heard (Left code) a = a
-heard_on n is heard (Told.Failed fault) a = a
+heard_on n is heard (Told.Accepted m) a = a
+heard_on n is heard (Told.Credit m) a = a
+heard_on n is heard (Told.GoAway code) a = a
+heard_on n is heard (Told.Fault fault) a = a
 
 all_on : (n : ℕ) (is heard : Seen) (told : List Told) → AgreesOn is heard → AgreesOn (all_heard n is told) (all_heard n heard told)
 all_on n is heard [] a = a
@@ -480,7 +481,7 @@ quiet role past act n g w l c e =
 pub acts_do : ActsDo
 acts_do role past (Start m) n = starts role past m n (m == n) refl
 acts_do role past (Write m pieces) n = writes role past m pieces n (m == n) refl
-acts_do role past (Take m count) n = quiet role past (Take m count) n refl refl (sym (stays role past (Take m count) n refl refl)) refl refl
+acts_do role past (Taken m count) n = quiet role past (Taken m count) n refl refl (sym (stays role past (Taken m count) n refl refl)) refl refl
 acts_do role past (Close m) n = closing role past m n (m == n) refl
 acts_do role past (Reset m) n = resets role past m n (m == n) refl
-acts_do role past (Leave code) n = quiet role past (Leave code) n refl refl (sym (stays role past (Leave code) n refl refl)) refl refl
+acts_do role past (Act.GoAway code) n = quiet role past (Act.GoAway code) n refl refl (sym (stays role past (Act.GoAway code) n refl refl)) refl refl

@@ -6,23 +6,23 @@ use Rattle.std.proofs.lemmas.Bool.{eqb-true, eq-eqb, lt-ltb, le-ltb}
 use Rattle.yamux_frames.specs.declared.header.FrameKind.TheVariants.{Window}
 use Rattle.yamux_frames.specs.Frames.{bytes_left}
 use Rattle.yamux_session.specs.declared.event.Role.{Role}
-use Rattle.yamux_session.specs.declared.streams.Stream.{Stream}
+use Rattle.yamux_session.specs.declared.streams.Row.{Row}
 use Rattle.yamux_session.specs.Table.{Table, row_at, Rewrites, Opens, opened}
-use Rattle.yamux_session.specs.Items.{Item, Act, arrivals, is_own, is_remote}
-use Rattle.yamux_session.specs.Items.Item.{Came, Did}
-use Rattle.yamux_session.specs.Items.Act.{Start, Write, Take, Close, Reset, Leave}
-use Rattle.yamux_session.specs.Openings.{live, is_live, reading, finished, closed, contains, opens, finishes, closes, has_left, is_reading}
+use Rattle.yamux_session.specs.History.{Item, Act, arrivals, is_own, is_remote}
+use Rattle.yamux_session.specs.History.Item.{Came, Did}
+use Rattle.yamux_session.specs.History.Act.{Start, Write, Taken, Close, Reset}
+use Rattle.yamux_session.specs.Openings.{live, is_live, reading, finished, closed, contains, opens, finishes, closes, local_go_away, is_reading}
 use Rattle.yamux_session.specs.Windows.{since_opening, data_length, update_length, written_length, arrived_length, taken_length, given_back, given_of, is_take_of, owed, accepted, acks, coming}
 use Rattle.yamux_session.specs.Acts.{AreAnswered, IsAnswered, next_own}
 use Rattle.yamux_session.specs.Keeps.{Keeps, IsRow, IsRowAt}
-use Rattle.yamux_session.specs.Meaning.{item_output, frame}
+use Rattle.yamux_session.specs.Output.{item_output, frame}
 use Rattle.yamux_session.specs.State.{State, Stands}
 use Rattle.yamux_session.proofs.Lists.{contains_append, contains_filter, filter_true, filter_same, without, one_if, count_then, count_without}
 use Rattle.yamux_session.proofs.Live.{distinct, unread, own_next, not_both}
 use Rattle.yamux_session.proofs.Refusals.{row_of}
 
 -- the row s of a stream, moved by an item that doesn't open it, is new
-pub record Moves (role : Role) (past : List Item) (x : Item) (n : ℕ) (s new : Stream) : Type 0 where
+pub record Moves (role : Role) (past : List Item) (x : Item) (n : ℕ) (s new : Row) : Type 0 where
   pub not_opened : opens role past x n ≡ false
   pub credit : new.credit + written_length n past x ≡ s.credit + update_length role n past x
   pub window : new.window + data_length role n past x ≡ s.window + given_back role n past x
@@ -38,7 +38,7 @@ since_more : (amount : List Item → Item → ℕ) (role : Role) (past : List It
 since_more amount role past x n e = ap (λ b. amount past x + cond b 0 (since_opening amount role past n)) e
 
 -- the row after the item
-pub after : (role : Role) (past : List Item) (x : Item) (n : ℕ) (s new : Stream) → Moves role past x n s new → IsRow role past n s → IsRow role (x ∷ past) n new
+pub after : (role : Role) (past : List Item) (x : Item) (n : ℕ) (s new : Row) → Moves role past x n s new → IsRow role past n s → IsRow role (x ∷ past) n new
 after role past x n s new m row =
     let more = λ (amount : List Item → Item → ℕ). since_more amount role past x n m.not_opened in
     let t : ℕ = taken_length n past x in
@@ -66,12 +66,12 @@ coming_same role past act n off same =
 abbrev pub acts_on : Act → ℕ → Bool
 acts_on (Start n) m = n == m
 acts_on (Write n pieces) m = n == m
-acts_on (Take n count) m = n == m
+acts_on (Taken n count) m = n == m
 acts_on (Close n) m = n == m
 acts_on (Reset n) m = n == m
-acts_on (Leave code) m = false
+acts_on (Act.GoAway code) m = false
 
-pub stays : (role : Role) (past : List Item) (act : Act) (m : ℕ) (s : Stream) → acts_on act m ≡ false → is_live role (Did act ∷ past) m ≡ is_live role past m → Moves role past (Did act) m s s
+pub stays : (role : Role) (past : List Item) (act : Act) (m : ℕ) (s : Row) → acts_on act m ≡ false → is_live role (Did act ∷ past) m ≡ is_live role past m → Moves role past (Did act) m s s
 stays role past (Start k) m s h same = record {
   not_opened = ap (λ t. t || false) h;
   credit = refl;
@@ -94,7 +94,7 @@ stays role past (Write k ps) m s h same = record {
   accepted_is = refl;
   bound = let e = coming_same role past (Write k ps) m (refl) same in omega arith;
 }
-stays role past (Take k c) m s h same = record {
+stays role past (Taken k c) m s h same = record {
   not_opened = refl;
   credit = refl;
   window = sym (ap (λ b. s.window + cond b (given_of (finished role past m) (owed role past m + c)) 0) h);
@@ -103,7 +103,7 @@ stays role past (Take k c) m s h same = record {
   finished_is = refl;
   closed_is = refl;
   accepted_is = refl;
-  bound = let e = coming_same role past (Take k c) m (refl) same in omega arith;
+  bound = let e = coming_same role past (Taken k c) m (refl) same in omega arith;
 }
 stays role past (Close k) m s h same = record {
   not_opened = refl;
@@ -127,7 +127,7 @@ stays role past (Reset k) m s h same = record {
   accepted_is = refl;
   bound = let e = coming_same role past (Reset k) m (refl) same in omega arith;
 }
-stays role past (Leave code) m s h same = record {
+stays role past (Act.GoAway code) m s h same = record {
   not_opened = refl;
   credit = refl;
   window = refl;
@@ -136,15 +136,15 @@ stays role past (Leave code) m s h same = record {
   finished_is = refl;
   closed_is = refl;
   accepted_is = refl;
-  bound = let e = coming_same role past (Leave code) m (refl) same in omega arith;
+  bound = let e = coming_same role past (Act.GoAway code) m (refl) same in omega arith;
 }
 
 -- a stream that the act isn't about
-pub apart : (role : Role) (past : List Item) (act : Act) (m : ℕ) (row : Option Stream) → acts_on act m ≡ false → is_live role (Did act ∷ past) m ≡ is_live role past m → IsRowAt role past m row → IsRowAt role (Did act ∷ past) m row
+pub apart : (role : Role) (past : List Item) (act : Act) (m : ℕ) (row : Option Row) → acts_on act m ≡ false → is_live role (Did act ∷ past) m ≡ is_live role past m → IsRowAt role past m row → IsRowAt role (Did act ∷ past) m row
 apart role past act m None h same at = same ∙ at
 apart role past act m (Some s) h same at = (same ∙ at.0, after role past (Did act) m s s (stays role past act m s h same) at.1)
 
-rows_at : (role : Role) (past : List Item) (act : Act) (n m : ℕ) (w : Option Stream) (old new : List (ℕ × Stream)) (b : Bool) → (n == m) ≡ b
+rows_at : (role : Role) (past : List Item) (act : Act) (n m : ℕ) (w : Option Row) (old new : List (ℕ × Row)) (b : Bool) → (n == m) ≡ b
     → row_at new m ≡ cond (n == m) w (row_at old m) → ((k : ℕ) → acts_on act k ≡ (n == k))
     → ((n == m) ≡ false → is_live role (Did act ∷ past) m ≡ is_live role past m)
     → IsRowAt role past m (row_at old m) → IsRowAt role (Did act ∷ past) n w → IsRowAt role (Did act ∷ past) m (row_at new m)
@@ -154,9 +154,9 @@ rows_at role past act n m w old new false is e on same before now =
     subst (IsRowAt role (Did act ∷ past) m) (sym (e ∙ ap (λ b. cond b w (row_at old m)) is)) (apart role past act m (row_at old m) (on m ∙ is) (same is) before)
 
 -- an act that changes the row of a live stream
-pub replaced : (role : Role) (past : List Item) (act : Act) (n : ℕ) (s t : Stream) (old new : Table) → Keeps role past old → row_at old.rows n ≡ Some s
+pub replaced : (role : Role) (past : List Item) (act : Act) (n : ℕ) (s t : Row) (old new : Table) → Keeps role past old → row_at old.rows n ≡ Some s
     → Rewrites old n (Some t) old.own old.remote new → Moves role past (Did act) n s t → ((k : ℕ) → acts_on act k ≡ (n == k))
-    → live role (Did act ∷ past) ≡ live role past → has_left (Did act ∷ past) ≡ has_left past → next_own role (Did act ∷ past) ≡ next_own role past → Keeps role (Did act ∷ past) new
+    → live role (Did act ∷ past) ≡ live role past → local_go_away (Did act ∷ past) ≡ local_go_away past → next_own role (Did act ∷ past) ≡ next_own role past → Keeps role (Did act ∷ past) new
 replaced role past act n s t old new keeps found writes moves on same left next =
     let before = row_of role past old n (Some s) keeps found in
     record {
@@ -166,8 +166,8 @@ replaced role past act n s t old new keeps found writes moves on same left next 
       own_is = ap (λ (q : Table). q.own) writes.rest ∙ keeps.own_is ∙ sym (ap (λ ns. length (filter (is_own role) ns)) same);
       remote_is = ap (λ (q : Table). q.remote) writes.rest ∙ keeps.remote_is ∙ sym (ap (λ ns. length (filter (is_remote role) ns)) same);
       reading_is = ap (λ (q : Table). q.reading) writes.rest ∙ keeps.reading_is;
-      left_is = ap (λ (q : Table). q.left) writes.rest ∙ keeps.left_is ∙ sym left;
-      gone_is = ap (λ (q : Table). q.gone) writes.rest ∙ keeps.gone_is;
+      local_go_away_is = ap (λ (q : Table). q.local_go_away) writes.rest ∙ keeps.local_go_away_is ∙ sym left;
+      remote_go_away_is = ap (λ (q : Table). q.remote_go_away) writes.rest ∙ keeps.remote_go_away_is;
       next_is = ap (λ (q : Table). q.next) writes.rest ∙ keeps.next_is ∙ sym next;
     }
 
@@ -178,9 +178,9 @@ pub still_there : (n m : ℕ) (ns : List ℕ) → (n == m) ≡ false → contain
 still_there n m ns h = contains_filter (λ k. not (n == k)) ns m ∙ ap (λ b. not b && contains ns m) h
 
 -- an act that ends a live stream
-pub forgotten : (role : Role) (past : List Item) (act : Act) (n : ℕ) (s : Stream) (old new : Table) → AreAnswered role past → Keeps role past old → row_at old.rows n ≡ Some s
+pub forgotten : (role : Role) (past : List Item) (act : Act) (n : ℕ) (s : Row) (old new : Table) → AreAnswered role past → Keeps role past old → row_at old.rows n ≡ Some s
     → Rewrites old n None (old.own - cond (is_own old.role n) 1 0) (old.remote - cond (is_remote old.role n) 1 0) new → ((k : ℕ) → acts_on act k ≡ (n == k))
-    → live role (Did act ∷ past) ≡ without n (live role past) → has_left (Did act ∷ past) ≡ has_left past → next_own role (Did act ∷ past) ≡ next_own role past → Keeps role (Did act ∷ past) new
+    → live role (Did act ∷ past) ≡ without n (live role past) → local_go_away (Did act ∷ past) ≡ local_go_away past → next_own role (Did act ∷ past) ≡ next_own role past → Keeps role (Did act ∷ past) new
 forgotten role past act n s old new answered keeps found writes on gone left next =
     let before = row_of role past old n (Some s) keeps found in
     let d = distinct role past answered in
@@ -195,8 +195,8 @@ forgotten role past act n s old new answered keeps found writes on gone left nex
           ∙ (let count = count_without (is_remote role) n (live role past) d before.0 in let was = keeps.remote_is in let e : old.remote - one_if (is_remote role n) ≡ length (filter (is_remote role) (without n (live role past))) = omega arith in e)
           ∙ sym (ap (λ ns. length (filter (is_remote role) ns)) gone);
       reading_is = ap (λ (q : Table). q.reading) writes.rest ∙ keeps.reading_is;
-      left_is = ap (λ (q : Table). q.left) writes.rest ∙ keeps.left_is ∙ sym left;
-      gone_is = ap (λ (q : Table). q.gone) writes.rest ∙ keeps.gone_is;
+      local_go_away_is = ap (λ (q : Table). q.local_go_away) writes.rest ∙ keeps.local_go_away_is ∙ sym left;
+      remote_go_away_is = ap (λ (q : Table). q.remote_go_away) writes.rest ∙ keeps.remote_go_away_is;
       next_is = ap (λ (q : Table). q.next) writes.rest ∙ keeps.next_is ∙ sym next;
     }
 
@@ -244,7 +244,7 @@ did role past fed sent act old new at answered keeps place going pending =
       going = going;
       no_fault = (refl, at.no_fault);
       answered = (answered, at.answered);
-      frames = subst (λ p. Rattle.yamux_frames.specs.Frames.StandsAt fed (Rattle.yamux_session.specs.Items.arrivals past) p) (sym place) at.frames;
+      frames = subst (λ p. Rattle.yamux_frames.specs.Frames.Stands fed (Rattle.yamux_session.specs.History.arrivals past) p) (sym place) at.frames;
       table = keeps;
       output = ap (λ (t : List ℕ). sent ++ t) pending ∙ sym (append_assoc sent old.pending (item_output role past (Did act))) ∙ ap (λ (t : List ℕ). t ++ item_output role past (Did act)) at.output;
     }
@@ -308,30 +308,30 @@ started role past old new answered keeps writes =
           ∙ (let was = keeps.remote_is in let more = count_then (is_remote role) (live role past) n in let none : one_if (is_remote role n) ≡ 0 = ap one_if (not_remote role n (is_remote role n) refl own) in let e : old.remote ≡ length (filter (is_remote role) (live role past ++ n ∷ [])) = omega arith in e)
           ∙ sym (ap (λ ns. length (filter (is_remote role) ns)) same);
       reading_is = ap (λ (q : Table). q.reading) writes.rest ∙ keeps.reading_is;
-      left_is = ap (λ (q : Table). q.left) writes.rest ∙ keeps.left_is;
-      gone_is = ap (λ (q : Table). q.gone) writes.rest ∙ keeps.gone_is;
+      local_go_away_is = ap (λ (q : Table). q.local_go_away) writes.rest ∙ keeps.local_go_away_is;
+      remote_go_away_is = ap (λ (q : Table). q.remote_go_away) writes.rest ∙ keeps.remote_go_away_is;
       next_is = ap (λ (q : Table). q.next) writes.rest;
     }
 
 -- ---- this end goes away
 
-pub left : (role : Role) (past : List Item) (code : ℕ) (old new : Table) → Keeps role past old → new ≡ record old { left = true } → Keeps role (Did (Leave code) ∷ past) new
-left role past code old new keeps e =
+pub gone_away : (role : Role) (past : List Item) (code : ℕ) (old new : Table) → Keeps role past old → new ≡ record old { local_go_away = true } → Keeps role (Did (Act.GoAway code) ∷ past) new
+gone_away role past code old new keeps e =
     let same = quiet (live role past) in
-    subst (Keeps role (Did (Leave code) ∷ past)) (sym e) (record {
+    subst (Keeps role (Did (Act.GoAway code) ∷ past)) (sym e) (record {
       role_is = keeps.role_is;
-      rows = λ m. apart role past (Leave code) m (row_at old.rows m) refl (ap (λ ns. contains ns m) same) (keeps.rows m);
+      rows = λ m. apart role past (Act.GoAway code) m (row_at old.rows m) refl (ap (λ ns. contains ns m) same) (keeps.rows m);
       own_is = keeps.own_is ∙ sym (ap (λ ns. length (filter (is_own role) ns)) same);
       remote_is = keeps.remote_is ∙ sym (ap (λ ns. length (filter (is_remote role) ns)) same);
       reading_is = keeps.reading_is;
-      left_is = refl;
-      gone_is = keeps.gone_is;
+      local_go_away_is = refl;
+      remote_go_away_is = keeps.remote_go_away_is;
       next_is = keeps.next_is;
     })
 
 -- ---- the row that an act changes
 
-pub closing : (role : Role) (past : List Item) (n : ℕ) (s : Stream) → live role (Did (Close n) ∷ past) ≡ live role past → Moves role past (Did (Close n)) n s (record s { closed = true })
+pub closing : (role : Role) (past : List Item) (n : ℕ) (s : Row) → live role (Did (Close n) ∷ past) ≡ live role past → Moves role past (Did (Close n)) n s (record s { closed = true })
 closing role past n s same = record {
   bound = let e = coming_same role past (Close n) n refl (ap (λ ns. contains ns n) same) in omega arith;
   not_opened = refl;
@@ -344,7 +344,7 @@ closing role past n s same = record {
   accepted_is = refl;
 }
 
-pub writing : (role : Role) (past : List Item) (n k : ℕ) (pieces : List (List ℕ)) (s : Stream) → k ≤ s.credit → sum_by length pieces ≡ k → Moves role past (Did (Write n pieces)) n s (record s { credit = s.credit - k })
+pub writing : (role : Role) (past : List Item) (n k : ℕ) (pieces : List (List ℕ)) (s : Row) → k ≤ s.credit → sum_by length pieces ≡ k → Moves role past (Did (Write n pieces)) n s (record s { credit = s.credit - k })
 writing role past n k pieces s fits sum = record {
   bound = let e = coming_same role past (Write n pieces) n refl (ap (λ ns. contains ns n) (quiet (live role past))) in omega arith;
   not_opened = refl;
@@ -358,17 +358,17 @@ writing role past n k pieces s fits sum = record {
 }
 
 -- the output of a Take
-pub giving : (role : Role) (past : List Item) (n k g : ℕ) (s : Stream) → IsRow role past n s → given_of s.finished (s.owed + k) ≡ g → given_back role n past (Did (Take n k)) ≡ g
+pub giving : (role : Role) (past : List Item) (n k g : ℕ) (s : Row) → IsRow role past n s → given_of s.finished (s.owed + k) ≡ g → given_back role n past (Did (Taken n k)) ≡ g
 giving role past n k g s row e =
     ap (λ b. cond b (given_of (finished role past n) (owed role past n + k)) 0) (eq-eqb n n refl)
     ∙ ap (λ f. given_of f (owed role past n + k)) (sym row.finished_is) ∙ ap (λ o. given_of s.finished (o + k)) (sym row.owed_is) ∙ e
 
-pub taking : (role : Role) (past : List Item) (n k g : ℕ) (s new : Stream) → IsRow role past n s → given_of s.finished (s.owed + k) ≡ g → g ≤ s.owed + k → k ≤ s.untaken
+pub taking : (role : Role) (past : List Item) (n k g : ℕ) (s new : Row) → IsRow role past n s → given_of s.finished (s.owed + k) ≡ g → g ≤ s.owed + k → k ≤ s.untaken
     → new.window ≡ s.window + g → new.owed + g ≡ s.owed + k → new.untaken + k ≡ s.untaken
     → new.credit ≡ s.credit → new.finished ≡ s.finished → new.closed ≡ s.closed → new.accepted ≡ s.accepted
-    → Moves role past (Did (Take n k)) n s new
+    → Moves role past (Did (Taken n k)) n s new
 taking role past n k g s new row g_is small fits window owed_is untaken credit finished_is closed_is accepted_is =
-    let its : taken_length n past (Did (Take n k)) ≡ k = ap (λ b. cond b k 0) (eq-eqb n n refl) in
+    let its : taken_length n past (Did (Taken n k)) ≡ k = ap (λ b. cond b k 0) (eq-eqb n n refl) in
     record {
       not_opened = refl;
       credit = ap (λ c. c + 0) credit;
@@ -379,7 +379,7 @@ taking role past n k g s new row g_is small fits window owed_is untaken credit f
       finished_is = finished_is;
       closed_is = closed_is;
       accepted_is = accepted_is;
-      bound = let e = coming_same role past (Take n k) n refl (ap (λ ns. contains ns n) (quiet (live role past))) in omega arith;
+      bound = let e = coming_same role past (Taken n k) n refl (ap (λ ns. contains ns n) (quiet (live role past))) in omega arith;
     }
 
 pub none_finished : (f : Bool) (a : ℕ) → f ≡ true → given_of f a ≡ 0
@@ -391,11 +391,11 @@ none_few f a h = ap (λ b. cond (not f && b) a 0) (le-ltb 131071 a (omega arith)
 pub all_given : (f : Bool) (a : ℕ) → f ≡ false → 131072 ≤ a → given_of f a ≡ a
 all_given f a e h = ap (λ b. given_of b a) e ∙ ap (λ b. cond b a 0) (lt-ltb 131071 a (omega arith))
 
-pub nothing_sent : (role : Role) (past : List Item) (n k : ℕ) (xs : List ℕ) → given_back role n past (Did (Take n k)) ≡ 0 → xs ≡ xs ++ item_output role past (Did (Take n k))
+pub nothing_sent : (role : Role) (past : List Item) (n k : ℕ) (xs : List ℕ) → given_back role n past (Did (Taken n k)) ≡ 0 → xs ≡ xs ++ item_output role past (Did (Taken n k))
 nothing_sent role past n k xs e = sym (ap (λ g. xs ++ cond (nat_lt 0 g) (frame Window 0 n g) []) e ∙ append-nil xs)
 
-pub given_sent : (role : Role) (past : List Item) (n k g : ℕ) → given_back role n past (Did (Take n k)) ≡ g → 131072 ≤ g → frame Window 0 n g ≡ item_output role past (Did (Take n k))
+pub given_sent : (role : Role) (past : List Item) (n k g : ℕ) → given_back role n past (Did (Taken n k)) ≡ g → 131072 ≤ g → frame Window 0 n g ≡ item_output role past (Did (Taken n k))
 given_sent role past n k g e h = sym (ap (λ a. cond (nat_lt 0 a) (frame Window 0 n a) []) e ∙ ap (λ b. cond b (frame Window 0 n g) []) (lt-ltb 0 g (omega arith)))
 
-pub as_counted : (role : Role) (past : List Item) (fed sent : List ℕ) (n k m : ℕ) (new : State) → k ≡ m → Stands role (Did (Take n k) ∷ past) fed sent new → Stands role (Did (Take n m) ∷ past) fed sent new
-as_counted role past fed sent n k m new e at = subst (λ j. Stands role (Did (Take n j) ∷ past) fed sent new) e at
+pub as_counted : (role : Role) (past : List Item) (fed sent : List ℕ) (n k m : ℕ) (new : State) → k ≡ m → Stands role (Did (Taken n k) ∷ past) fed sent new → Stands role (Did (Taken n m) ∷ past) fed sent new
+as_counted role past fed sent n k m new e at = subst (λ j. Stands role (Did (Taken n j) ∷ past) fed sent new) e at

@@ -3,9 +3,9 @@ use Rattle.std.proofs.Common.{◌≡◌, ℕ, ◌+◌, ◌≤◌, true, false, L
 use Rattle.std.proofs.lemmas.List.{append-nil, length-append, map-append, length-take-le, take-take}
 use Rattle.std.proofs.Math.Seq.{drop-append_seam}
 use Rattle.yamux_session.specs.declared.event.Role.{Role}
-use Rattle.yamux_session.specs.Items.{Item, arrivals}
-use Rattle.yamux_session.specs.Items.Item.{Came}
-use Rattle.yamux_session.specs.Meaning.{Told, events}
+use Rattle.yamux_session.specs.History.{Item, arrivals}
+use Rattle.yamux_session.specs.History.Item.{Came}
+use Rattle.yamux_session.specs.Events.{Told, events}
 use Rattle.yamux_session.specs.declared.event.Event.{Event}
 use Rattle.yamux_session.specs.State.{State, Stands, EndsWith, Led, Steps, Feeds, HasCome}
 use Rattle.yamux_session.specs.Arrives.{telling, tellings, HasData, added}
@@ -116,7 +116,7 @@ failed_led role past now fed bytes sent at told s within failed led =
       goes_on = λ going. absurd (let h : true ≡ false = sym failed ∙ going in cc);
       fails = λ _.
           let end = led.fails failed in
-          let front : length (take at bytes) ≡ at = length-take-le at bytes within in
+          let prefix : length (take at bytes) ≡ at = length-take-le at bytes within in
           let fits = end.2.1 in
           (end.0, end.1, (end.2.0, omega arith, subst (λ (xs : List ℕ). EndsWith (fed ++ xs) (arrivals now)) (take_less bytes end.2.0 at (omega arith)) end.2.2));
     }

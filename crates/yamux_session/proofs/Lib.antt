@@ -19,20 +19,9 @@ pub mod Received
 pub mod Crediting
 pub mod Growing
 pub mod Untaken
-pub mod Sent
-pub mod Totals
-pub mod Once
-pub mod WholeFrames
-pub mod Joining
-pub mod InTurn
-pub mod Coming
-pub mod Delivered
 pub mod OneOutcome
-pub mod Ties
-pub mod Going
-pub mod Example
-pub mod Ending
-pub mod Flowing
 pub mod OneRefusal
 pub mod RunLegal
 pub mod OneCall
+-- what serves the laws of two joined sessions alone
+pub mod joined

@@ -10,12 +10,12 @@ use Rattle.yamux_session.specs.declared.event.Role.{Role}
 use Rattle.yamux_session.specs.declared.event.Fault.{Fault}
 use Rattle.yamux_session.specs.declared.event.Event.{Event}
 use Rattle.yamux_session.specs.declared.event.Event.TheVariants as event
-use Rattle.yamux_session.specs.Items.{Item, came_bytes, ack, fin, rst, is_go_away, is_update, is_own}
-use Rattle.yamux_session.specs.Items.Item.{Came}
-use Rattle.yamux_session.specs.Openings.{is_live, opens, finished, reading, head_belongs, is_for_stream, byte_belongs, live, has_left}
+use Rattle.yamux_session.specs.History.{Item, came_bytes, ack, fin, rst, is_go_away, is_update, is_own}
+use Rattle.yamux_session.specs.History.Item.{Came}
+use Rattle.yamux_session.specs.Openings.{is_live, opens, finished, reading, head_belongs, is_for_stream, byte_belongs, live, local_go_away}
 use Rattle.yamux_session.specs.Windows.{accepted}
-use Rattle.yamux_session.specs.Meaning.{Told, when, fault_at, events, events_unless, head_events, tail_told, tail_events, taker}
-use Rattle.yamux_session.specs.Meaning.Told.{Opened, Accepted, Data, Ended, WasReset, Credit, Left, Failed}
+use Rattle.yamux_session.specs.Faults.{fault_at}
+use Rattle.yamux_session.specs.Events.{Told, when, events, events_unless, head_events, tail_told, tail_events, taker}
 use Rattle.yamux_session.specs.Arrives.{telling, tellings, HasData, Tells}
 use Rattle.yamux_session.specs.Naming.{IsAbout, IsNoOpening, NamesOne}
 use Rattle.yamux_session.proofs.Telling.{bytes_told, bytes_events}
@@ -23,17 +23,17 @@ use Rattle.yamux_session.proofs.Telling.{bytes_told, bytes_events}
 -- ---- the same of what is told, data byte by byte
 
 abbrev IsOf : ℕ → Told → Type 0
-IsOf n (Opened m) = m ≡ n
-IsOf n (Accepted m) = m ≡ n
-IsOf n (Data m b) = m ≡ n
-IsOf n (Ended m) = m ≡ n
-IsOf n (WasReset m) = m ≡ n
-IsOf n (Credit m) = m ≡ n
-IsOf n (Left code) = Unit {0}
-IsOf n (Failed fault) = Unit {0}
+IsOf n (Told.Opened m) = m ≡ n
+IsOf n (Told.Accepted m) = m ≡ n
+IsOf n (Told.Payload m b) = m ≡ n
+IsOf n (Told.Ended m) = m ≡ n
+IsOf n (Told.Reset m) = m ≡ n
+IsOf n (Told.Credit m) = m ≡ n
+IsOf n (Told.GoAway code) = Unit {0}
+IsOf n (Told.Fault fault) = Unit {0}
 
 abbrev OpensNone : Told → Type 0
-OpensNone (Opened n) = ⊥
+OpensNone (Told.Opened n) = ⊥
 OpensNone other = Unit {0}
 
 -- behind the first nothing is opened
@@ -49,9 +49,9 @@ both : (P : Told → Type 0) (xs ys : List Told) → AllByRecursion P xs → All
 both P [] ys a b = b
 both P (x ∷ xs) ys a b = (a.0, both P xs ys a.1 b)
 
-front : (P : Told → Type 0) (xs ys : List Told) → AllByRecursion P (xs ++ ys) → AllByRecursion P xs
-front P [] ys a = tt
-front P (x ∷ xs) ys a = (a.0, front P xs ys a.1)
+prefix : (P : Told → Type 0) (xs ys : List Told) → AllByRecursion P (xs ++ ys) → AllByRecursion P xs
+prefix P [] ys a = tt
+prefix P (x ∷ xs) ys a = (a.0, prefix P xs ys a.1)
 
 back : (P : Told → Type 0) (xs ys : List Told) → AllByRecursion P (xs ++ ys) → AllByRecursion P ys
 back P [] ys a = a
@@ -81,7 +81,7 @@ event_named n (event.Fault fault) some all = tt
 events_named : (n : ℕ) (es : List Event) → AllByRecursion HasData es → AllByRecursion (IsOf n) (tellings es) → AllByRecursion (IsAbout n) es
 events_named n [] filled all = tt
 events_named n (e ∷ es) filled all =
-    (event_named n e filled.0 (front (IsOf n) (telling e) (tellings es) all), events_named n es filled.1 (back (IsOf n) (telling e) (tellings es) all))
+    (event_named n e filled.0 (prefix (IsOf n) (telling e) (tellings es) all), events_named n es filled.1 (back (IsOf n) (telling e) (tellings es) all))
 
 opens_none : (e : Event) → AllByRecursion OpensNone (telling e) → IsNoOpening e
 opens_none (event.Opened m) all = all.0
@@ -95,7 +95,7 @@ opens_none (event.Fault fault) all = tt
 
 none_opens : (es : List Event) → AllByRecursion OpensNone (tellings es) → AllByRecursion IsNoOpening es
 none_opens [] all = tt
-none_opens (e ∷ es) all = (opens_none e (front OpensNone (telling e) (tellings es) all), none_opens es (back OpensNone (telling e) (tellings es) all))
+none_opens (e ∷ es) all = (opens_none e (prefix OpensNone (telling e) (tellings es) all), none_opens es (back OpensNone (telling e) (tellings es) all))
 
 -- behind the first event nothing is told that isn't behind the first that is told
 opened_first : (es : List Event) → AllByRecursion HasData es → OpensFirst (tellings es) → AllByRecursion IsNoOpening (drop 1 es)
@@ -103,7 +103,7 @@ opened_first [] filled all = tt
 opened_first (event.Opened m ∷ es) filled all = none_opens es all
 opened_first (event.Accepted m ∷ es) filled all = none_opens es all
 opened_first (event.Payload m [] ∷ es) filled all = absurd (filled.0 refl)
-opened_first (event.Payload m (b ∷ bytes) ∷ es) filled all = none_opens es (back OpensNone (map (Data m) bytes) (tellings es) all)
+opened_first (event.Payload m (b ∷ bytes) ∷ es) filled all = none_opens es (back OpensNone (map (Told.Payload m) bytes) (tellings es) all)
 opened_first (event.Ended m ∷ es) filled all = none_opens es all
 opened_first (event.Reset m ∷ es) filled all = none_opens es all
 opened_first (event.Credit m ∷ es) filled all = none_opens es all
@@ -122,29 +122,29 @@ names_one before after told tells one = record {
 pub tells_none : TellsOne []
 tells_none = record { stream = 0; named = tt; opened_first = tt }
 
-pub tells_fault : (fault : Fault) → TellsOne (Failed fault ∷ [])
+pub tells_fault : (fault : Fault) → TellsOne (Told.Fault fault ∷ [])
 tells_fault fault = record { stream = 0; named = (tt, tt); opened_first = tt }
 
 -- the events of a head and those behind it
 head_named : (n code : ℕ) (l o a c : Bool) (rest : List Told) → AllByRecursion (IsOf n) rest
-    → AllByRecursion (IsOf n) ((((when l (Left code) ++ when o (Opened n)) ++ when a (Accepted n)) ++ when c (Credit n)) ++ rest)
+    → AllByRecursion (IsOf n) ((((when l (Told.GoAway code) ++ when o (Told.Opened n)) ++ when a (Told.Accepted n)) ++ when c (Told.Credit n)) ++ rest)
 head_named n code l o a c rest all =
-    both (IsOf n) (((when l (Left code) ++ when o (Opened n)) ++ when a (Accepted n)) ++ when c (Credit n)) rest
-    (both (IsOf n) ((when l (Left code) ++ when o (Opened n)) ++ when a (Accepted n)) (when c (Credit n))
-    (both (IsOf n) (when l (Left code) ++ when o (Opened n)) (when a (Accepted n))
-    (both (IsOf n) (when l (Left code)) (when o (Opened n)) (if_told (IsOf n) l (Left code) tt) (if_told (IsOf n) o (Opened n) refl))
-    (if_told (IsOf n) a (Accepted n) refl)) (if_told (IsOf n) c (Credit n) refl)) all
+    both (IsOf n) (((when l (Told.GoAway code) ++ when o (Told.Opened n)) ++ when a (Told.Accepted n)) ++ when c (Told.Credit n)) rest
+    (both (IsOf n) ((when l (Told.GoAway code) ++ when o (Told.Opened n)) ++ when a (Told.Accepted n)) (when c (Told.Credit n))
+    (both (IsOf n) (when l (Told.GoAway code) ++ when o (Told.Opened n)) (when a (Told.Accepted n))
+    (both (IsOf n) (when l (Told.GoAway code)) (when o (Told.Opened n)) (if_told (IsOf n) l (Told.GoAway code) tt) (if_told (IsOf n) o (Told.Opened n) refl))
+    (if_told (IsOf n) a (Told.Accepted n) refl)) (if_told (IsOf n) c (Told.Credit n) refl)) all
 
 head_opens : (n code : ℕ) (l o a c : Bool) (rest : List Told) → l && o ≡ false → AllByRecursion OpensNone rest
-    → OpensFirst ((((when l (Left code) ++ when o (Opened n)) ++ when a (Accepted n)) ++ when c (Credit n)) ++ rest)
+    → OpensFirst ((((when l (Told.GoAway code) ++ when o (Told.Opened n)) ++ when a (Told.Accepted n)) ++ when c (Told.Credit n)) ++ rest)
 head_opens n code true true a c rest h all = absurd cc
 head_opens n code true false a c rest h all =
-    both OpensNone (when a (Accepted n) ++ when c (Credit n)) rest (both OpensNone (when a (Accepted n)) (when c (Credit n)) (if_told OpensNone a (Accepted n) tt) (if_told OpensNone c (Credit n) tt)) all
+    both OpensNone (when a (Told.Accepted n) ++ when c (Told.Credit n)) rest (both OpensNone (when a (Told.Accepted n)) (when c (Told.Credit n)) (if_told OpensNone a (Told.Accepted n) tt) (if_told OpensNone c (Told.Credit n) tt)) all
 head_opens n code false true a c rest h all =
-    both OpensNone (when a (Accepted n) ++ when c (Credit n)) rest (both OpensNone (when a (Accepted n)) (when c (Credit n)) (if_told OpensNone a (Accepted n) tt) (if_told OpensNone c (Credit n) tt)) all
+    both OpensNone (when a (Told.Accepted n) ++ when c (Told.Credit n)) rest (both OpensNone (when a (Told.Accepted n)) (when c (Told.Credit n)) (if_told OpensNone a (Told.Accepted n) tt) (if_told OpensNone c (Told.Credit n) tt)) all
 head_opens n code false false a c rest h all =
-    behind ((when a (Accepted n) ++ when c (Credit n)) ++ rest)
-    (both OpensNone (when a (Accepted n) ++ when c (Credit n)) rest (both OpensNone (when a (Accepted n)) (when c (Credit n)) (if_told OpensNone a (Accepted n) tt) (if_told OpensNone c (Credit n) tt)) all)
+    behind ((when a (Told.Accepted n) ++ when c (Told.Credit n)) ++ rest)
+    (both OpensNone (when a (Told.Accepted n) ++ when c (Told.Credit n)) rest (both OpensNone (when a (Told.Accepted n)) (when c (Told.Credit n)) (if_told OpensNone a (Told.Accepted n) tt) (if_told OpensNone c (Told.Credit n) tt)) all)
 
 -- a GoAway opens no stream
 leaving_opens_none : (role : Role) (past : List Item) (h : Header) (k : FrameKind) → h.kind ≡ k → is_go_away k && opens role past (Came (Head (record h { kind = k }))) h.stream ≡ false
@@ -167,21 +167,21 @@ head_tells role past h None rest named none =
     }
 
 -- a tail
-tail_all : (P : Told → Type 0) (h : Header) (r e : Bool) → P (WasReset h.stream) → P (Ended h.stream)
-    → AllByRecursion P (cond r (WasReset h.stream ∷ []) (when e (Ended h.stream)))
+tail_all : (P : Told → Type 0) (h : Header) (r e : Bool) → P (Told.Reset h.stream) → P (Told.Ended h.stream)
+    → AllByRecursion P (cond r (Told.Reset h.stream ∷ []) (when e (Told.Ended h.stream)))
 tail_all P h true e reset ended = (reset, tt)
-tail_all P h false e reset ended = if_told P e (Ended h.stream) ended
+tail_all P h false e reset ended = if_told P e (Told.Ended h.stream) ended
 
 live_all : (P : Told → Type 0) (b : Bool) (told : List Told) → AllByRecursion P told → AllByRecursion P (cond b told [])
 live_all P true told all = all
 live_all P false told all = tt
 
-tail_of : (P : Told → Type 0) (role : Role) (past : List Item) (h : Header) → P (WasReset h.stream) → P (Ended h.stream) → AllByRecursion P (tail_events role past (Some h))
+tail_of : (P : Told → Type 0) (role : Role) (past : List Item) (h : Header) → P (Told.Reset h.stream) → P (Told.Ended h.stream) → AllByRecursion P (tail_events role past (Some h))
 tail_of P role past h reset ended =
     live_all P (is_live role past h.stream) (tail_told h (finished role past h.stream))
     (tail_all P h (rst h) (fin h && not (finished role past h.stream)) reset ended)
 
-tail_if : (P : Told → Type 0) (role : Role) (past : List Item) (h : Header) (b : Bool) → P (WasReset h.stream) → P (Ended h.stream)
+tail_if : (P : Told → Type 0) (role : Role) (past : List Item) (h : Header) (b : Bool) → P (Told.Reset h.stream) → P (Told.Ended h.stream)
     → AllByRecursion P (tail_events role past (cond b (Some h) None))
 tail_if P role past h true reset ended = tail_of P role past h reset ended
 tail_if P role past h false reset ended = tt
@@ -196,7 +196,7 @@ pub frame_tells_one : (role : Role) (past : List Item) (h : Header) (told : List
 frame_tells_one role past h told is =
     let f : Option Fault = fault_at role past (Came (Head h)) in
     let mid : List Item = Came (Head h) ∷ past in
-    let b : Bool = is_for_stream role (live role past) (has_left past) h in
+    let b : Bool = is_for_stream role (live role past) (local_go_away past) h in
     let head : List Told = events_unless f (head_events role past h) in
     let tail : List Told = tail_events role mid (reading role mid) in
     subst TellsOne (append_cancel_left (events role past) (head ++ tail) told (sym (append_assoc (events role past) head tail) ∙ is))
@@ -204,17 +204,17 @@ frame_tells_one role past h told is =
 
 -- ---- a part of a payload, with its tail
 
-data_all : (P : Told → Type 0) (n : ℕ) (bytes : List ℕ) → ((b : ℕ) → P (Data n b)) → AllByRecursion P (map (Data n) bytes)
+data_all : (P : Told → Type 0) (n : ℕ) (bytes : List ℕ) → ((b : ℕ) → P (Told.Payload n b)) → AllByRecursion P (map (Told.Payload n) bytes)
 data_all P n [] h = tt
 data_all P n (b ∷ bytes) h = (h b, data_all P n bytes h)
 
-taken_all : (P : Told → Type 0) (b : Bool) (n : ℕ) (bytes : List ℕ) → ((x : ℕ) → P (Data n x)) → AllByRecursion P (bytes_told (cond b (Some n) None) bytes)
+taken_all : (P : Told → Type 0) (b : Bool) (n : ℕ) (bytes : List ℕ) → ((x : ℕ) → P (Told.Payload n x)) → AllByRecursion P (bytes_told (cond b (Some n) None) bytes)
 taken_all P true n bytes h = data_all P n bytes h
 taken_all P false n bytes h = tt
 
 -- the bytes, and what is told behind them
 part_tells : (role : Role) (past : List Item) (bytes : List ℕ) (r : Option Header) (rest : List Told)
-    → ((P : Told → Type 0) → ((h : Header) → r ≡ Some h → P (WasReset h.stream) × P (Ended h.stream)) → AllByRecursion P rest)
+    → ((P : Told → Type 0) → ((h : Header) → r ≡ Some h → P (Told.Reset h.stream) × P (Told.Ended h.stream)) → AllByRecursion P rest)
     → TellsOne (bytes_told (taker role past r) bytes ++ rest)
 part_tells role past bytes None rest tail = record {
   stream = 0;
@@ -241,7 +241,7 @@ part_tells_one role past bytes told is =
     subst TellsOne (append-nil data_told ∙ append_cancel_left (events role past) data_told told (sym (bytes_events role bytes past) ∙ is))
     (part_tells role past bytes (reading role past) [] (λ P h. tt))
 
-tail_at : (P : Told → Type 0) (role : Role) (past : List Item) (r : Option Header) → ((h : Header) → r ≡ Some h → P (WasReset h.stream) × P (Ended h.stream)) → AllByRecursion P (tail_events role past r)
+tail_at : (P : Told → Type 0) (role : Role) (past : List Item) (r : Option Header) → ((h : Header) → r ≡ Some h → P (Told.Reset h.stream) × P (Told.Ended h.stream)) → AllByRecursion P (tail_events role past r)
 tail_at P role past None h = tt
 tail_at P role past (Some g) h = let t = h g refl in tail_of P role past g t.0 t.1
 

@@ -9,9 +9,9 @@ use Rattle.yamux_session.specs.declared.calls.Act.{Act}
 use Rattle.yamux_session.specs.declared.calls.Act.TheVariants as act
 use Rattle.yamux_session.specs.declared.calls.ActAnswer.{ActAnswer}
 use Rattle.yamux_session.specs.declared.calls.ActAnswer.TheVariants.{Events, Stream, Count, Done, Refused}
-use Rattle.yamux_session.specs.Items.{Item}
+use Rattle.yamux_session.specs.History.{Item}
 use Rattle.yamux_session.specs.Windows.{credit}
-use Rattle.yamux_session.specs.Meaning.{events}
+use Rattle.yamux_session.specs.Events.{events}
 use Rattle.yamux_session.specs.Acts.{next_own, start_refusal, stream_refusal, direction_refusal, IsRefusedFor}
 use Rattle.yamux_session.specs.Arrives.{tellings}
 use Rattle.yamux_session.specs.Runs.{Point, FedOn, GoesOn, Ends, AnswersAt, AreSame, OneCall}

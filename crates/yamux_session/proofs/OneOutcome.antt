@@ -4,9 +4,10 @@ use Rattle.std.proofs.lemmas.List.{map-append, append_cancel_left, append_cancel
 use Rattle.yamux_frames.specs.Frames.{Arrival, spelled, AreFrames, IsRest}
 use Rattle.yamux_frames.proofs.Readings.{both, ends}
 use Rattle.yamux_session.specs.declared.event.Role.{Role}
-use Rattle.yamux_session.specs.Items.{Item, arrivals}
-use Rattle.yamux_session.specs.Items.Item.{Came}
-use Rattle.yamux_session.specs.Meaning.{Told, HasNoFault, events}
+use Rattle.yamux_session.specs.History.{Item, arrivals}
+use Rattle.yamux_session.specs.History.Item.{Came}
+use Rattle.yamux_session.specs.Faults.{HasNoFault}
+use Rattle.yamux_session.specs.Events.{Told, events}
 use Rattle.yamux_session.specs.State.{State, FirstFaults, Led}
 use Rattle.yamux_session.specs.OneOutcome.{OneOutcome}
 use Rattle.yamux_session.proofs.Stepping.{arrivals_on}

@@ -1,18 +1,17 @@
 -- The data that events hand out for a stream, joined, is what arrived for it.
-use Rattle.std.proofs.Common.{◌≡◌, ◌≢◌, ◌⊎◌, inl, inr, append_assoc, ℕ, ◌≤◌, Bool, true, false, ◌&&◌, ◌||◌, not, ◌==◌, cond, nat_lt, List, [], ◌∷◌, ◌++◌, Option, Some, None, refl, sym, ap, ◌∙◌, subst, arith}
+use Rattle.std.proofs.Common.{◌≡◌, ◌≢◌, ◌⊎◌, inl, inr, append_assoc, ℕ, ◌≤◌, Bool, true, false, ◌&&◌, ◌||◌, not, ◌==◌, cond, List, [], ◌∷◌, ◌++◌, refl, sym, ap, ◌∙◌, subst, arith}
 use Rattle.std.proofs.lemmas.List.{append-nil}
 use Rattle.std.specs.List.{AllByRecursion, flat_map}
 use Rattle.std.proofs.lemmas.Bool.{eqb-true, eq-eqb}
-use Rattle.yamux_frames.specs.declared.header.Header.{Header}
 use Rattle.yamux_frames.specs.Frames.Arrival.{Head, Byte, Tail, Garbled}
 use Rattle.yamux_session.specs.declared.event.Role.{Role}
-use Rattle.yamux_session.specs.Items.{Item, Act, syn, ack, rst, fin, is_of_stream, is_own, is_go_away, is_update}
-use Rattle.yamux_session.specs.Items.Item.{Came, Did}
-use Rattle.yamux_session.specs.Items.Act.{Start, Write, Take, Close, Reset, Leave}
-use Rattle.yamux_session.specs.Openings.{live, is_live, contains, opens, finished, reading, is_let_in, has_left, head_belongs, byte_belongs, is_reading}
-use Rattle.yamux_session.specs.Windows.{accepted}
-use Rattle.yamux_session.specs.Meaning.{Told, HasNoFault, when, head_events, tail_events, tail_told, taker, byte_told, events, events_at, events_unless, inbound, byte_at}
-use Rattle.yamux_session.specs.Meaning.Told.{Opened, Accepted, Data, Ended, WasReset, Credit, Left}
+use Rattle.yamux_session.specs.History.{Item, Act, is_own}
+use Rattle.yamux_session.specs.History.Item.{Came, Did}
+use Rattle.yamux_session.specs.History.Act.{Start, Write, Taken, Close, Reset}
+use Rattle.yamux_session.specs.Openings.{is_live, opens, finished, reading, is_reading}
+use Rattle.yamux_session.specs.Faults.{HasNoFault}
+use Rattle.yamux_session.specs.Events.{Told, when, events, events_at}
+use Rattle.yamux_session.specs.Data.{inbound, byte_at}
 use Rattle.yamux_session.specs.Acts.{AreAnswered, next_own}
 use Rattle.yamux_session.specs.Received.{data_in, AreSinceOpening, ReceivedData, SomeSince}
 use Rattle.yamux_session.specs.Seen.{Seen, seen, just_opened, hears, all_heard}
@@ -42,15 +41,15 @@ came_alone n s t (x ∷ told) e = came_alone n (hears n s x) (hears n t x) told 
     as_it_was u v false f g = e
 
     one : (x : Told) → (hears n s x).came ≡ (hears n t x).came
-    one (Opened m) = opened (m == n)
-    one (Data m b) = more b (m == n)
-    one (Ended m) =
+    one (Told.Opened m) = opened (m == n)
+    one (Told.Payload m b) = more b (m == n)
+    one (Told.Ended m) =
         as_it_was (record s { ended = true; live = s.live && not s.closed }) (record t { ended = true; live = t.live && not t.closed }) (m == n) refl refl
-    one (WasReset m) = as_it_was (record s { live = false }) (record t { live = false }) (m == n) refl refl
-    one (Accepted m) = e
-    one (Credit m) = e
-    one (Left code) = e
-    one (Told.Failed fault) = e
+    one (Told.Reset m) = as_it_was (record s { live = false }) (record t { live = false }) (m == n) refl refl
+    one (Told.Accepted m) = e
+    one (Told.Credit m) = e
+    one (Told.GoAway code) = e
+    one (Told.Fault fault) = e
 
 -- ---- an own stream that isn't open yet
 
@@ -74,10 +73,10 @@ nothing_yet role [] n a own later = refl
 nothing_yet role (Did (Start k) ∷ past) n a own later =
     none_or (opens role past (Did (Start k)) n) (inbound role past n) [] (nothing_yet role past n a.1 own (let e = a.0.1 in omega arith)) refl
 nothing_yet role (Did (Write k ps) ∷ past) n a own later = none_or false (inbound role past n) [] (nothing_yet role past n a.1 own later) refl
-nothing_yet role (Did (Take k c) ∷ past) n a own later = none_or false (inbound role past n) [] (nothing_yet role past n a.1 own later) refl
+nothing_yet role (Did (Taken k c) ∷ past) n a own later = none_or false (inbound role past n) [] (nothing_yet role past n a.1 own later) refl
 nothing_yet role (Did (Close k) ∷ past) n a own later = none_or false (inbound role past n) [] (nothing_yet role past n a.1 own later) refl
 nothing_yet role (Did (Reset k) ∷ past) n a own later = none_or false (inbound role past n) [] (nothing_yet role past n a.1 own later) refl
-nothing_yet role (Did (Leave code) ∷ past) n a own later = none_or false (inbound role past n) [] (nothing_yet role past n a.1 own later) refl
+nothing_yet role (Did (Act.GoAway code) ∷ past) n a own later = none_or false (inbound role past n) [] (nothing_yet role past n a.1 own later) refl
 nothing_yet role (Came (Head h) ∷ past) n a own later = none_or (opens role past (Came (Head h)) n) (inbound role past n) [] (nothing_yet role past n a own later) refl
 nothing_yet role (Came (Byte b) ∷ past) n a own later =
     none_or false (inbound role past n) (byte_at role past (Came (Byte b)) n) (nothing_yet role past n a own later) (no_byte role past n b (not_yet role past n (is_live role past n) refl a own later))
@@ -108,18 +107,18 @@ all_received role (Did act ∷ past) n a good =
     kept : (act : Act) → AreAnswered role (Did act ∷ past) → inbound role past n ≡ inbound role (Did act ∷ past) n
     kept (Start k) a = start_kept role past k n (k == n) refl a
     kept (Write k ps) a = sym (append-nil (inbound role past n))
-    kept (Take k c) a = sym (append-nil (inbound role past n))
+    kept (Taken k c) a = sym (append-nil (inbound role past n))
     kept (Close k) a = sym (append-nil (inbound role past n))
     kept (Reset k) a = sym (append-nil (inbound role past n))
-    kept (Leave code) a = sym (append-nil (inbound role past n))
+    kept (Act.GoAway code) a = sym (append-nil (inbound role past n))
 
 -- ---- since the opening
 
-other_opened : (n m : ℕ) (same : Bool) → (m == n) ≡ same → Opened m ≢ Opened n → (m == n) ≡ false
-other_opened n m true e other = absurd (other (ap Opened (eqb-true m n e)))
+other_opened : (n m : ℕ) (same : Bool) → (m == n) ≡ same → Told.Opened m ≢ Told.Opened n → (m == n) ≡ false
+other_opened n m true e other = absurd (other (ap Told.Opened (eqb-true m n e)))
 other_opened n m false e other = e
 
-since_came : (n : ℕ) (s : Seen) (since : List Told) → AllByRecursion (λ t. t ≢ Opened n) since
+since_came : (n : ℕ) (s : Seen) (since : List Told) → AllByRecursion (λ t. t ≢ Told.Opened n) since
     → (all_heard n s since).came ≡ s.came ++ flat_map (data_in n) since
 since_came n s [] none = sym (append-nil s.came)
 since_came n s (x ∷ since) none =
@@ -134,22 +133,22 @@ since_came n s (x ∷ since) none =
     more b true = refl
     more b false = sym (append-nil s.came)
 
-    one : (x : Told) → x ≢ Opened n → (hears n s x).came ≡ s.came ++ data_in n x
-    one (Opened m) other = ap (λ c. (cond c just_opened s).came) (other_opened n m (m == n) refl other) ∙ sym (append-nil s.came)
-    one (Data m b) other = more b (m == n)
-    one (Ended m) other = as_it_was (record s { ended = true; live = s.live && not s.closed }) (m == n) refl
-    one (WasReset m) other = as_it_was (record s { live = false }) (m == n) refl
-    one (Accepted m) other = sym (append-nil s.came)
-    one (Credit m) other = sym (append-nil s.came)
-    one (Left code) other = sym (append-nil s.came)
-    one (Told.Failed fault) other = sym (append-nil s.came)
+    one : (x : Told) → x ≢ Told.Opened n → (hears n s x).came ≡ s.came ++ data_in n x
+    one (Told.Opened m) other = ap (λ c. (cond c just_opened s).came) (other_opened n m (m == n) refl other) ∙ sym (append-nil s.came)
+    one (Told.Payload m b) other = more b (m == n)
+    one (Told.Ended m) other = as_it_was (record s { ended = true; live = s.live && not s.closed }) (m == n) refl
+    one (Told.Reset m) other = as_it_was (record s { live = false }) (m == n) refl
+    one (Told.Accepted m) other = sym (append-nil s.came)
+    one (Told.Credit m) other = sym (append-nil s.came)
+    one (Told.GoAway code) other = sym (append-nil s.came)
+    one (Told.Fault fault) other = sym (append-nil s.came)
 
 since_opening_came : (n : ℕ) (told since : List Told) → AreSinceOpening n told since → (all_heard n nothing told).came ≡ flat_map (data_in n) since
 since_opening_came n told since at = by at.parts
   where
-    by : (told ≡ at.before ++ Opened n ∷ since) ⊎ (told ≡ since) → (all_heard n nothing told).came ≡ flat_map (data_in n) since
+    by : (told ≡ at.before ++ Told.Opened n ∷ since) ⊎ (told ≡ since) → (all_heard n nothing told).came ≡ flat_map (data_in n) since
     by (inl e) =
-        ap (λ t. (all_heard n nothing t).came) e ∙ ap (λ (s : Seen). s.came) (all_both n nothing at.before (Opened n ∷ since))
+        ap (λ t. (all_heard n nothing t).came) e ∙ ap (λ (s : Seen). s.came) (all_both n nothing at.before (Told.Opened n ∷ since))
         ∙ ap (λ c. (all_heard n (cond c just_opened (all_heard n nothing at.before)) since).came) (eq-eqb n n refl)
         ∙ since_came n just_opened since at.opens_none
     by (inr e) = ap (λ t. (all_heard n nothing t).came) e ∙ since_came n nothing since at.opens_none
@@ -158,33 +157,33 @@ pub received : ReceivedData
 received role past n since a good at = sym (since_opening_came n (events role past) since at) ∙ all_received role past n a good
 
 -- there are always events since the opening
-since_none : (n : ℕ) (x : Told) (told : List Told) → x ≢ Opened n → (since : List Told) × AreSinceOpening n told since → (since : List Told) × AreSinceOpening n (x ∷ told) since
+since_none : (n : ℕ) (x : Told) (told : List Told) → x ≢ Told.Opened n → (since : List Told) × AreSinceOpening n told since → (since : List Told) × AreSinceOpening n (x ∷ told) since
 since_none n x told other before = elim before.1.parts [
   | inl e ↦ (before.0, record { before = x ∷ before.1.before; parts = inl (ap (λ (t : List Told). x ∷ t) e); opens_none = before.1.opens_none })
-  | inr e ↦ (x ∷ told, record { before = []; parts = inr refl; opens_none = (other, subst (AllByRecursion (λ t. t ≢ Opened n)) (sym e) before.1.opens_none) })
+  | inr e ↦ (x ∷ told, record { before = []; parts = inr refl; opens_none = (other, subst (AllByRecursion (λ t. t ≢ Told.Opened n)) (sym e) before.1.opens_none) })
 ]
 
-since_one : (n m : ℕ) (told : List Told) (same : Bool) → (m == n) ≡ same → (since : List Told) × AreSinceOpening n told since → (since : List Told) × AreSinceOpening n (Opened m ∷ told) since
-since_one n m told false other before = since_none n (Opened m) told (λ e. let same : m ≡ n = cc e in let is : (m == n) ≡ true = eq-eqb m n same in (let f : true ≡ false = sym is ∙ other in cc)) before
+since_one : (n m : ℕ) (told : List Told) (same : Bool) → (m == n) ≡ same → (since : List Told) × AreSinceOpening n told since → (since : List Told) × AreSinceOpening n (Told.Opened m ∷ told) since
+since_one n m told false other before = since_none n (Told.Opened m) told (λ e. let same : m ≡ n = cc e in let is : (m == n) ≡ true = eq-eqb m n same in (let f : true ≡ false = sym is ∙ other in cc)) before
 since_one n m told true is before = elim before.1.parts [
-  | inl e ↦ (before.0, record { before = Opened m ∷ before.1.before; parts = inl (ap (λ (t : List Told). Opened m ∷ t) e); opens_none = before.1.opens_none })
+  | inl e ↦ (before.0, record { before = Told.Opened m ∷ before.1.before; parts = inl (ap (λ (t : List Told). Told.Opened m ∷ t) e); opens_none = before.1.opens_none })
   | inr e ↦ (
     told,
     record {
       before = [];
-      parts = inl (ap (λ k. Opened k ∷ told) (eqb-true m n is));
-      opens_none = subst (AllByRecursion (λ t. t ≢ Opened n)) (sym e) before.1.opens_none;
+      parts = inl (ap (λ k. Told.Opened k ∷ told) (eqb-true m n is));
+      opens_none = subst (AllByRecursion (λ t. t ≢ Told.Opened n)) (sym e) before.1.opens_none;
     },
   )
 ]
 
 pub some_since : SomeSince
 some_since n [] = ([], record { before = []; parts = inr refl; opens_none = tt })
-some_since n (Opened m ∷ told) = since_one n m told (m == n) refl (some_since n told)
-some_since n (Data m b ∷ told) = since_none n (Data m b) told (λ e. cc) (some_since n told)
-some_since n (Accepted m ∷ told) = since_none n (Accepted m) told (λ e. cc) (some_since n told)
-some_since n (Ended m ∷ told) = since_none n (Ended m) told (λ e. cc) (some_since n told)
-some_since n (WasReset m ∷ told) = since_none n (WasReset m) told (λ e. cc) (some_since n told)
-some_since n (Credit m ∷ told) = since_none n (Credit m) told (λ e. cc) (some_since n told)
-some_since n (Left code ∷ told) = since_none n (Left code) told (λ e. cc) (some_since n told)
-some_since n (Told.Failed fault ∷ told) = since_none n (Told.Failed fault) told (λ e. cc) (some_since n told)
+some_since n (Told.Opened m ∷ told) = since_one n m told (m == n) refl (some_since n told)
+some_since n (Told.Payload m b ∷ told) = since_none n (Told.Payload m b) told (λ e. cc) (some_since n told)
+some_since n (Told.Accepted m ∷ told) = since_none n (Told.Accepted m) told (λ e. cc) (some_since n told)
+some_since n (Told.Ended m ∷ told) = since_none n (Told.Ended m) told (λ e. cc) (some_since n told)
+some_since n (Told.Reset m ∷ told) = since_none n (Told.Reset m) told (λ e. cc) (some_since n told)
+some_since n (Told.Credit m ∷ told) = since_none n (Told.Credit m) told (λ e. cc) (some_since n told)
+some_since n (Told.GoAway code ∷ told) = since_none n (Told.GoAway code) told (λ e. cc) (some_since n told)
+some_since n (Told.Fault fault ∷ told) = since_none n (Told.Fault fault) told (λ e. cc) (some_since n told)

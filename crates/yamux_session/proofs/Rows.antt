@@ -1,6 +1,6 @@
 -- Worked rows of sessions, computed by the definitions.
 use Rattle.std.proofs.Common.{refl, arith}
-use Rattle.yamux_session.specs.Rows.{OpeningRows, EndingRows, WindowRows, AnswerRows}
+use Rattle.yamux_session.specs.Rows.{OpeningRows, EndingRows, WindowRows, AnswerRows, FlagRows}
 
 pub opening_rows : OpeningRows
 opening_rows = record {
@@ -137,4 +137,37 @@ answer_rows = record {
   quiet = (tt, (tt, (tt, (tt, (refl, (refl, (refl, tt)))))));
   no_second_opening = λ one. one.opened_first.0;
   no_header_goes_away = refl;
+}
+
+pub flag_rows : FlagRows
+flag_rows = record {
+  refused_with_much_data = refl;
+  refused_with_much_credit = refl;
+  refusal_of_much_data = refl;
+  ended_and_opened = refl;
+  closed_and_opened = refl;
+  data_of_stream_0 = refl;
+  credit_of_stream_0 = refl;
+  data_of_stream_0_at_a_client = refl;
+  credit_of_stream_0_at_a_client = refl;
+  data_behind_the_end_accepts_nothing = refl;
+  accepted_behind_the_end = refl;
+  accepted_and_ended = refl;
+  accepted_and_reset = refl;
+  ended_with_credit = refl;
+  credit_of_the_end = refl;
+  reset_with_data_behind_the_end = refl;
+  reset_of_a_window_behind_the_end = refl;
+  gone_away_on_a_stream = refl;
+  gone_away_on_a_stream_counts = refl;
+  gone_away_with_flags = refl;
+  gone_away_with_flags_counts = refl;
+  gone_away_twice = refl;
+  ping_on_a_stream = refl;
+  ping_with_every_flag = refl;
+  ping_behind_leaving = refl;
+  unknown_flags = refl;
+  unknown_flags_accepted = refl;
+  opened_and_reset_accepted = refl;
+  opened_and_reset_refused = refl;
 }

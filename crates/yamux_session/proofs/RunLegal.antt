@@ -6,11 +6,11 @@ use Rattle.yamux_session.specs.declared.calls.Act.{Act}
 use Rattle.yamux_session.specs.declared.calls.Act.TheVariants as act
 use Rattle.yamux_session.specs.declared.calls.ActAnswer.{ActAnswer}
 use Rattle.yamux_session.specs.declared.calls.ActAnswer.TheVariants.{Events, Stream, Count, Done, Refused}
-use Rattle.yamux_session.specs.Items.{Item, arrivals}
-use Rattle.yamux_session.specs.Items as items
-use Rattle.yamux_session.specs.Items.Item.{Did}
+use Rattle.yamux_session.specs.History.{Item, arrivals}
+use Rattle.yamux_session.specs.History as history
+use Rattle.yamux_session.specs.History.Item.{Did}
 use Rattle.yamux_session.specs.Acts.{AreAnswered}
-use Rattle.yamux_session.specs.Meaning.{HasNoFault}
+use Rattle.yamux_session.specs.Faults.{HasNoFault}
 use Rattle.yamux_session.specs.Runs.{Point, IsAdded, AnswersAt, Answers, AnswersAll, RunIsLegal}
 use Rattle.yamux_session.specs.Runs.Point.{At, Over}
 use Rattle.yamux_session.proofs.Stepping.{still_answered}
@@ -25,7 +25,7 @@ IsLegalAt role (Over out) = Unit {0}
 as_before : (role : Role) (past : List Item) (fed : List ℕ) (next : Point) → IsLegal role past fed → next ≡ At past fed → IsLegalAt role next
 as_before role past fed next legal e = subst (IsLegalAt role) (sym e) legal
 
-added : (role : Role) (past : List Item) (fed : List ℕ) (did : items.Act) (next : Point) → IsLegal role past fed → IsAdded role past fed did next → IsLegalAt role next
+added : (role : Role) (past : List Item) (fed : List ℕ) (did : history.Act) (next : Point) → IsLegal role past fed → IsAdded role past fed did next → IsLegalAt role next
 added role past fed did next legal is = subst (IsLegalAt role) (sym is.1) ((is.0, legal.0), (refl, legal.1), legal.2)
 
 one_call : (role : Role) (past : List Item) (fed : List ℕ) (call : Act) (answer : ActAnswer) (next : Point) → IsLegal role past fed → AnswersAt role past fed call answer next → IsLegalAt role next
@@ -37,12 +37,12 @@ one_call role past fed (act.Feed bytes) (Refused why) next legal is = subst (IsL
 one_call role past fed (act.Feed bytes) (Stream n) next legal is = absurd is
 one_call role past fed (act.Feed bytes) (Count n) next legal is = absurd is
 one_call role past fed (act.Feed bytes) Done next legal is = absurd is
-one_call role past fed act.Start (Stream n) next legal is = added role past fed (items.Act.Start n) next legal is
+one_call role past fed act.Start (Stream n) next legal is = added role past fed (history.Act.Start n) next legal is
 one_call role past fed act.Start (Refused why) next legal is = as_before role past fed next legal is.1
 one_call role past fed act.Start (Events told) next legal is = absurd is
 one_call role past fed act.Start (Count n) next legal is = absurd is
 one_call role past fed act.Start Done next legal is = absurd is
-one_call role past fed (act.Write n bytes) (Count count) next legal is = added role past fed (items.Act.Write n is.pieces) next legal is.added
+one_call role past fed (act.Write n bytes) (Count count) next legal is = added role past fed (history.Act.Write n is.pieces) next legal is.added
 one_call role past fed (act.Write n bytes) (Refused why) next legal is = as_before role past fed next legal is.2
 one_call role past fed (act.Write n bytes) (Events told) next legal is = absurd is
 one_call role past fed (act.Write n bytes) (Stream m) next legal is = absurd is
@@ -52,17 +52,17 @@ one_call role past fed (act.Taken n count) (Refused why) next legal is = as_befo
 one_call role past fed (act.Taken n count) (Events told) next legal is = absurd is
 one_call role past fed (act.Taken n count) (Stream m) next legal is = absurd is
 one_call role past fed (act.Taken n count) (Count m) next legal is = absurd is
-one_call role past fed (act.Close n) Done next legal is = added role past fed (items.Act.Close n) next legal is
+one_call role past fed (act.Close n) Done next legal is = added role past fed (history.Act.Close n) next legal is
 one_call role past fed (act.Close n) (Refused why) next legal is = as_before role past fed next legal is.1
 one_call role past fed (act.Close n) (Events told) next legal is = absurd is
 one_call role past fed (act.Close n) (Stream m) next legal is = absurd is
 one_call role past fed (act.Close n) (Count m) next legal is = absurd is
-one_call role past fed (act.Reset n) Done next legal is = added role past fed (items.Act.Reset n) next legal is
+one_call role past fed (act.Reset n) Done next legal is = added role past fed (history.Act.Reset n) next legal is
 one_call role past fed (act.Reset n) (Refused why) next legal is = as_before role past fed next legal is.1
 one_call role past fed (act.Reset n) (Events told) next legal is = absurd is
 one_call role past fed (act.Reset n) (Stream m) next legal is = absurd is
 one_call role past fed (act.Reset n) (Count m) next legal is = absurd is
-one_call role past fed (act.GoAway code) Done next legal is = added role past fed (items.Act.Leave code) next legal is
+one_call role past fed (act.GoAway code) Done next legal is = added role past fed (history.Act.GoAway code) next legal is
 one_call role past fed (act.GoAway code) (Refused why) next legal is = as_before role past fed next legal is.1
 one_call role past fed (act.GoAway code) (Events told) next legal is = absurd is
 one_call role past fed (act.GoAway code) (Stream m) next legal is = absurd is

@@ -7,17 +7,19 @@ use Rattle.yamux_frames.specs.declared.header.FrameFault.{FrameFault}
 use Rattle.yamux_frames.specs.Place.{Place}
 use Rattle.yamux_frames.specs.Spelling.{header_bytes, payload_length}
 use Rattle.yamux_frames.specs.declared.cutter.Cut.{Cut}
-use Rattle.yamux_frames.specs.Frames.{Arrival, spelled, bytes_left, with_bytes, with_cut, StandsAt, StopsIn}
+use Rattle.yamux_frames.specs.Frames as wire
+use Rattle.yamux_frames.specs.Frames.{Arrival, spelled, bytes_left, with_bytes, with_cut, StopsIn}
 use Rattle.yamux_frames.specs.Frames.Arrival.{Head, Byte, Tail, Garbled}
 use Rattle.yamux_frames.proofs.Frames.{bytes_fit}
 use Rattle.yamux_session.specs.declared.event.Role.{Role}
 use Rattle.yamux_session.specs.declared.event.Fault.{Fault}
 use Rattle.yamux_session.specs.declared.event.Fault.TheVariants.{BadFrame}
 use Rattle.yamux_session.specs.declared.event.Event.{Event}
-use Rattle.yamux_session.specs.Items.{Item, arrivals, came_bytes}
-use Rattle.yamux_session.specs.Items.Item.{Came}
-use Rattle.yamux_session.specs.Meaning.{Told, events, events_unless, item_events, output, output_unless, item_output, fault_at, frame}
-use Rattle.yamux_session.specs.Meaning.Told.{Failed}
+use Rattle.yamux_session.specs.History.{Item, arrivals, came_bytes}
+use Rattle.yamux_session.specs.History.Item.{Came}
+use Rattle.yamux_session.specs.Faults.{fault_at}
+use Rattle.yamux_session.specs.Events.{Told, events, events_unless, item_events}
+use Rattle.yamux_session.specs.Output.{output, output_unless, item_output, frame}
 use Rattle.yamux_session.specs.Table.{Table}
 use Rattle.yamux_session.specs.Acts.{AreAnswered}
 use Rattle.yamux_session.specs.Keeps.{Keeps}
@@ -62,7 +64,7 @@ rest_of xs piece at same = take_rest xs at ∙ ap (drop at) same
 -- ---- the session goes on
 
 pub went : (role : Role) (past now : List Item) (fed bytes sent : List ℕ) (before after : List Event) (old new : State) (came : List Arrival)
-    → Stands role past fed sent old → now ≡ map Came came ++ past → StandsAt (fed ++ bytes) (arrivals now) new.place
+    → Stands role past fed sent old → now ≡ map Came came ++ past → wire.Stands (fed ++ bytes) (arrivals now) new.place
     → Arrives role past now new.table before after old.pending new.pending → new.failed ≡ false
     → ((told : List Told) → events role now ≡ events role past ++ told → TellsOne told) → Steps role past fed bytes sent before after new
 went role past now fed bytes sent before after old new came stands came_is frames arrives going one = record {
@@ -90,12 +92,12 @@ went role past now fed bytes sent before after old new came stands came_is frame
 
 pub fell : (role : Role) (past : List Item) (fed bytes sent : List ℕ) (before after : List Event) (old new : State) (x : Arrival) (fault : Fault) (used : ℕ)
     → Stands role past fed sent old → fault_at role past (Came x) ≡ Some fault → used ≤ length bytes → EndsWith (fed ++ take used bytes) (x ∷ arrivals past)
-    → Tells before after (Failed fault ∷ []) → new.failed ≡ true → new.pending ≡ old.pending ++ frame GoAway 0 0 1 → Steps role past fed bytes sent before after new
+    → Tells before after (Told.Fault fault ∷ []) → new.failed ≡ true → new.pending ≡ old.pending ++ frame GoAway 0 0 1 → Steps role past fed bytes sent before after new
 fell role past fed bytes sent before after old new x fault used stands faulty within ends tells failed pending = record {
   now = Came x ∷ past;
-  told = Failed fault ∷ [];
+  told = Told.Fault fault ∷ [];
   tells = tells;
-  names_one = names_one before after (Failed fault ∷ []) tells (tells_fault fault);
+  names_one = names_one before after (Told.Fault fault ∷ []) tells (tells_fault fault);
   led = record {
     came = (x ∷ [], refl);
     told_is = ap (λ f. events role past ++ events_unless f (item_events role past (Came x))) faulty;
@@ -110,7 +112,7 @@ fell role past fed bytes sent before after old new x fault used stands faulty wi
 }
 
 -- the bytes up to a head
-head_ends : (bytes : List ℕ) (past : List Arrival) (h : Header) (b : Bool) (place : Place) → StandsAt bytes (cond b (Head h ∷ past) (Tail ∷ Head h ∷ past)) place → place.part ≡ [] → EndsWith bytes (Head h ∷ past)
+head_ends : (bytes : List ℕ) (past : List Arrival) (h : Header) (b : Bool) (place : Place) → wire.Stands bytes (cond b (Head h ∷ past) (Tail ∷ Head h ∷ past)) place → place.part ≡ [] → EndsWith bytes (Head h ∷ past)
 head_ends bytes past h true place at none = record {
   whole = at.reads.whole ∙ ap (λ (t : List ℕ). (spelled past ++ header_bytes h) ++ t) none ∙ append-nil (spelled past ++ header_bytes h);
   frames_are = at.reads.frames_are;
@@ -127,8 +129,8 @@ all_of (x ∷ xs) = ap (λ (t : List ℕ). x ∷ t) (all_of xs)
 
 pub fell_at_head : (role : Role) (past : List Item) (fed bytes sent : List ℕ) (before after : List Event) (old new : State) (h : Header) (fault : Fault) (place : Place)
     → Stands role past fed sent old → fault_at role past (Came (Head h)) ≡ Some fault
-    → StandsAt (fed ++ bytes) (cond (nat_lt 0 (payload_length h)) (Head h ∷ arrivals past) (Tail ∷ Head h ∷ arrivals past)) place → place.part ≡ []
-    → Tells before after (Failed fault ∷ []) → new.failed ≡ true → new.pending ≡ old.pending ++ frame GoAway 0 0 1 → Steps role past fed bytes sent before after new
+    → wire.Stands (fed ++ bytes) (cond (nat_lt 0 (payload_length h)) (Head h ∷ arrivals past) (Tail ∷ Head h ∷ arrivals past)) place → place.part ≡ []
+    → Tells before after (Told.Fault fault ∷ []) → new.failed ≡ true → new.pending ≡ old.pending ++ frame GoAway 0 0 1 → Steps role past fed bytes sent before after new
 fell_at_head role past fed bytes sent before after old new h fault place stands faulty at none tells failed pending =
     fell role past fed bytes sent before after old new (Head h) fault (length bytes) stands faulty (omega arith)
     (subst (λ (t : List ℕ). EndsWith (fed ++ t) (Head h ∷ arrivals past)) (sym (all_of bytes)) (head_ends (fed ++ bytes) (arrivals past) h (nat_lt 0 (payload_length h)) place at none))
@@ -136,7 +138,7 @@ fell_at_head role past fed bytes sent before after old new h fault place stands 
 
 pub fell_at_garbled : (role : Role) (past : List Item) (fed rest sent : List ℕ) (before after : List Event) (old new : State) (why : FrameFault)
     → Stands role past fed sent old → StopsIn fed (arrivals past) rest why
-    → Tells before after (Failed BadFrame ∷ []) → new.failed ≡ true → new.pending ≡ old.pending ++ frame GoAway 0 0 1 → Steps role past fed rest sent before after new
+    → Tells before after (Told.Fault BadFrame ∷ []) → new.failed ≡ true → new.pending ≡ old.pending ++ frame GoAway 0 0 1 → Steps role past fed rest sent before after new
 fell_at_garbled role past fed rest sent before after old new why stands stops tells failed pending =
     fell role past fed rest sent before after old new (Garbled stops.garbled) BadFrame stops.used stands refl stops.within
     (record { whole = stops.reads.whole ∙ append-nil (spelled (arrivals past) ++ stops.garbled); frames_are = stops.reads.frames_are })
@@ -145,14 +147,14 @@ fell_at_garbled role past fed rest sent before after old new why stands stops te
 -- ---- the answers of the cutter
 
 pub framed : (fed some rest : List ℕ) (used : ℕ) (answer shape : Cut) (past : List Arrival) (place : Place) → answer ≡ shape → some ≡ rest
-    → StandsAt (fed ++ take used some) (with_cut (take used some) answer past) place → StandsAt (fed ++ take used rest) (with_cut (take used rest) shape past) place
+    → wire.Stands (fed ++ take used some) (with_cut (take used some) answer past) place → wire.Stands (fed ++ take used rest) (with_cut (take used rest) shape past) place
 framed fed some rest used answer shape past place shape_is rest_is at =
-    subst (λ (a : Cut). StandsAt (fed ++ take used rest) (with_cut (take used rest) a past) place) shape_is
-    (subst (λ (t : List ℕ). StandsAt (fed ++ take used t) (with_cut (take used t) answer past) place) rest_is at)
+    subst (λ (a : Cut). wire.Stands (fed ++ take used rest) (with_cut (take used rest) a past) place) shape_is
+    (subst (λ (t : List ℕ). wire.Stands (fed ++ take used t) (with_cut (take used t) answer past) place) rest_is at)
 
 -- a head, with its tail where it has no payload
 pub frame_went : (role : Role) (past : List Item) (fed bytes sent : List ℕ) (before after : List Event) (old new : State) (h : Header) (answer : List ℕ) (b : Bool) → nat_lt 0 (payload_length h) ≡ b
-    → Stands role past fed sent old → StandsAt (fed ++ bytes) (cond b (Head h ∷ arrivals past) (Tail ∷ Head h ∷ arrivals past)) new.place
+    → Stands role past fed sent old → wire.Stands (fed ++ bytes) (cond b (Head h ∷ arrivals past) (Tail ∷ Head h ∷ arrivals past)) new.place
     → Arrives role past (cond b (Came (Head h) ∷ past) (Came Tail ∷ Came (Head h) ∷ past)) new.table before after old.pending (old.pending ++ answer)
     → new.pending ≡ old.pending ++ answer → new.failed ≡ false → Steps role past fed bytes sent before after new
 frame_went role past fed bytes sent before after old new h answer true is stands frames arrives pending going =
@@ -164,26 +166,26 @@ frame_went role past fed bytes sent before after old new h answer false is stand
     (frame_tells_one role past h)
 
 -- a part of a payload
-pub part_fits : (bytes : List ℕ) (past : List Arrival) (last : Bool) (all : List ℕ) (place : Place) → StandsAt all (cond last (Tail ∷ with_bytes bytes past) (with_bytes bytes past)) place → length bytes ≤ bytes_left past
+pub part_fits : (bytes : List ℕ) (past : List Arrival) (last : Bool) (all : List ℕ) (place : Place) → wire.Stands all (cond last (Tail ∷ with_bytes bytes past) (with_bytes bytes past)) place → length bytes ≤ bytes_left past
 part_fits bytes past true all place at = bytes_fit bytes past at.reads.frames_are.2
 part_fits bytes past false all place at = bytes_fit bytes past at.reads.frames_are
 
 pub part_went : (role : Role) (past : List Item) (fed bytes sent : List ℕ) (before after : List Event) (old new : State) (last : Bool)
-    → Stands role past fed sent old → StandsAt (fed ++ bytes) (cond last (Tail ∷ with_bytes bytes (arrivals past)) (with_bytes bytes (arrivals past))) new.place
+    → Stands role past fed sent old → wire.Stands (fed ++ bytes) (cond last (Tail ∷ with_bytes bytes (arrivals past)) (with_bytes bytes (arrivals past))) new.place
     → last ≡ false → Arrives role past (came_bytes bytes past) new.table before after old.pending new.pending → new.failed ≡ false → Steps role past fed bytes sent before after new
 part_went role past fed bytes sent before after old new last stands frames more arrives going =
     went role past (came_bytes bytes past) fed bytes sent before after old new (with_bytes bytes []) stands (came_are bytes past)
-    (subst (λ (xs : List Arrival). StandsAt (fed ++ bytes) xs new.place) (ap (λ b. cond b (Tail ∷ with_bytes bytes (arrivals past)) (with_bytes bytes (arrivals past))) more ∙ sym (arrivals_of_bytes bytes past)) frames)
+    (subst (λ (xs : List Arrival). wire.Stands (fed ++ bytes) xs new.place) (ap (λ b. cond b (Tail ∷ with_bytes bytes (arrivals past)) (with_bytes bytes (arrivals past))) more ∙ sym (arrivals_of_bytes bytes past)) frames)
     arrives going (part_tells_one role past bytes)
 
 pub last_went : (role : Role) (past : List Item) (fed bytes sent : List ℕ) (before mid after : List Event) (old new : State) (table : Table) (last : Bool)
-    → Stands role past fed sent old → StandsAt (fed ++ bytes) (cond last (Tail ∷ with_bytes bytes (arrivals past)) (with_bytes bytes (arrivals past))) new.place
+    → Stands role past fed sent old → wire.Stands (fed ++ bytes) (cond last (Tail ∷ with_bytes bytes (arrivals past)) (with_bytes bytes (arrivals past))) new.place
     → last ≡ true → Arrives role past (came_bytes bytes past) table before mid old.pending old.pending
     → (AreAnswered role (came_bytes bytes past) → Keeps role (came_bytes bytes past) table → Arrives role (came_bytes bytes past) (Came Tail ∷ came_bytes bytes past) new.table mid after old.pending old.pending)
     → new.pending ≡ old.pending → new.failed ≡ false → Steps role past fed bytes sent before after new
 last_went role past fed bytes sent before mid after old new table last stands frames ends arrives tail pending going =
     went role past (Came Tail ∷ came_bytes bytes past) fed bytes sent before after old new (Tail ∷ with_bytes bytes []) stands (ap (λ (xs : List Item). Came Tail ∷ xs) (came_are bytes past))
-    (subst (λ (xs : List Arrival). StandsAt (fed ++ bytes) xs new.place)
+    (subst (λ (xs : List Arrival). wire.Stands (fed ++ bytes) xs new.place)
     (ap (λ b. cond b (Tail ∷ with_bytes bytes (arrivals past)) (with_bytes bytes (arrivals past))) ends ∙ ap (λ (xs : List Arrival). Tail ∷ xs) (sym (arrivals_of_bytes bytes past))) frames)
     (subst (λ (t : List ℕ). Arrives role past (Came Tail ∷ came_bytes bytes past) new.table before after old.pending t) (sym pending)
     (arrives_then role past (came_bytes bytes past) (Came Tail ∷ came_bytes bytes past) table new.table before mid after old.pending old.pending old.pending arrives
@@ -198,7 +200,7 @@ part_within xs piece at used same within = let size : length (take (length xs - 
 
 -- what a part of a payload leaves
 pub part_arrives : (role : Role) (past : List Item) (fed piece : List ℕ) (at used : ℕ) (before after : List Event) (last : Bool) (table : Table) (out : List ℕ) (place : Place)
-    → StandsAt (fed ++ take used (drop at piece)) (cond last (Tail ∷ with_bytes (take used (drop at piece)) (arrivals past)) (with_bytes (take used (drop at piece)) (arrivals past))) place
+    → wire.Stands (fed ++ take used (drop at piece)) (cond last (Tail ∷ with_bytes (take used (drop at piece)) (arrivals past)) (with_bytes (take used (drop at piece)) (arrivals past))) place
     → (at + used - at ≤ bytes_left (arrivals past) → Arrives role past (came_bytes (take (at + used - at) (drop at piece)) past) table before after out out)
     → used ≤ length piece - at → Arrives role past (came_bytes (take used (drop at piece)) past) table before after out out
 part_arrives role past fed piece at used before after last table out place frames arrives within =

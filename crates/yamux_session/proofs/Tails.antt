@@ -6,13 +6,13 @@ use Rattle.std.proofs.lemmas.Bool.{eqb-true, eq-eqb}
 use Rattle.yamux_frames.specs.declared.header.Header.{Header}
 use Rattle.yamux_frames.specs.Frames.Arrival.{Tail}
 use Rattle.yamux_session.specs.declared.event.Role.{Role}
-use Rattle.yamux_session.specs.declared.streams.Stream.{Stream}
+use Rattle.yamux_session.specs.declared.streams.Row.{Row}
 use Rattle.yamux_session.specs.Table.{Table, row_at}
-use Rattle.yamux_session.specs.Items.{Item, fin, rst, is_own, is_remote}
-use Rattle.yamux_session.specs.Items.Item.{Came}
+use Rattle.yamux_session.specs.History.{Item, fin, rst, is_own, is_remote}
+use Rattle.yamux_session.specs.History.Item.{Came}
 use Rattle.yamux_session.specs.Openings.{live, is_live, reading, contains, finished, closed, tail_ends, tail_finishes}
-use Rattle.yamux_session.specs.Meaning.{when, tail_told, tail_events}
-use Rattle.yamux_session.specs.Meaning.Told.{Ended, WasReset}
+use Rattle.yamux_session.specs.Events.{when, tail_told, tail_events}
+use Rattle.yamux_session.specs.Events.{Told}
 use Rattle.yamux_session.specs.Windows.{coming}
 use Rattle.yamux_session.specs.Acts.{AreAnswered}
 use Rattle.yamux_session.specs.Keeps.{Keeps, IsRowAt}
@@ -42,7 +42,7 @@ tail_live role past h b e is =
 
 -- ---- the rows
 
-pub tail_moves : (role : Role) (past : List Item) (n : ℕ) (s : Stream) (f : Bool) → tail_finishes (reading role past) n ≡ f → Moves role past (Came Tail) n s (record s { finished = f || s.finished })
+pub tail_moves : (role : Role) (past : List Item) (n : ℕ) (s : Row) (f : Bool) → tail_finishes (reading role past) n ≡ f → Moves role past (Came Tail) n s (record s { finished = f || s.finished })
 tail_moves role past n s f e = record {
   not_opened = refl;
   credit = refl;
@@ -55,11 +55,11 @@ tail_moves role past n s f e = record {
   bound = let none : coming role (Came Tail ∷ past) n ≡ 0 = refl in omega arith;
 }
 
-tail_apart : (role : Role) (past : List Item) (n : ℕ) (row : Option Stream) → tail_finishes (reading role past) n ≡ false → is_live role (Came Tail ∷ past) n ≡ is_live role past n → IsRowAt role past n row → IsRowAt role (Came Tail ∷ past) n row
+tail_apart : (role : Role) (past : List Item) (n : ℕ) (row : Option Row) → tail_finishes (reading role past) n ≡ false → is_live role (Came Tail ∷ past) n ≡ is_live role past n → IsRowAt role past n row → IsRowAt role (Came Tail ∷ past) n row
 tail_apart role past n None off same at = same ∙ at
 tail_apart role past n (Some s) off same at = (same ∙ at.0, after role past (Came Tail) n s s (tail_moves role past n s false off) at.1)
 
-rows_by : (role : Role) (past : List Item) (x : Item) (n m : ℕ) (w : Option Stream) (old new : Option Stream) (b : Bool) → (n == m) ≡ b → new ≡ cond (n == m) w old
+rows_by : (role : Role) (past : List Item) (x : Item) (n m : ℕ) (w : Option Row) (old new : Option Row) (b : Bool) → (n == m) ≡ b → new ≡ cond (n == m) w old
     → ((n == m) ≡ false → IsRowAt role (x ∷ past) m old) → IsRowAt role (x ∷ past) n w → IsRowAt role (x ∷ past) m new
 rows_by role past x n m w old new true is e other here = subst (IsRowAt role (x ∷ past) m) (sym (e ∙ ap (λ b. cond b w old) is)) (subst (λ k. IsRowAt role (x ∷ past) k w) (eqb-true n m is) here)
 rows_by role past x n m w old new false is e other here = subst (IsRowAt role (x ∷ past) m) (sym (e ∙ ap (λ b. cond b w old) is)) (other is)
@@ -79,8 +79,8 @@ tail_still role past old new keeps same off rest =
       own_is = keeps.own_is ∙ sym (ap (λ ns. length (filter (is_own role) ns)) same);
       remote_is = keeps.remote_is ∙ sym (ap (λ ns. length (filter (is_remote role) ns)) same);
       reading_is = refl;
-      left_is = keeps.left_is;
-      gone_is = keeps.gone_is;
+      local_go_away_is = keeps.local_go_away_is;
+      remote_go_away_is = keeps.remote_go_away_is;
       next_is = keeps.next_is;
     })
 
@@ -101,7 +101,7 @@ tail_plain role past h old new keeps some no_rst no_fin rest =
     (λ m. ap (λ r. tail_finishes r m) read ∙ ap (λ f. h.stream == m && f) no_fin ∙ and_false (h.stream == m)) rest
 
 -- of a frame for a stream that isn't live any more, or whose flags end nothing, or which ends the other end's direction
-pub tail_stays : (role : Role) (past : List Item) (h : Header) (w : Option Stream) (old new : Table) → Keeps role past old → old.reading ≡ Some h
+pub tail_stays : (role : Role) (past : List Item) (h : Header) (w : Option Row) (old new : Table) → Keeps role past old → old.reading ≡ Some h
     → live role (Came Tail ∷ past) ≡ live role past → ((m : ℕ) → row_at new.rows m ≡ cond (h.stream == m) w (row_at old.rows m))
     → IsRowAt role (Came Tail ∷ past) h.stream w → new ≡ record old { rows = new.rows; reading = None } → Keeps role (Came Tail ∷ past) new
 tail_stays role past h w old new keeps some same writes here rest =
@@ -113,13 +113,13 @@ tail_stays role past h w old new keeps some same writes here rest =
       own_is = ap (λ (q : Table). q.own) rest ∙ keeps.own_is ∙ sym (ap (λ ns. length (filter (is_own role) ns)) same);
       remote_is = ap (λ (q : Table). q.remote) rest ∙ keeps.remote_is ∙ sym (ap (λ ns. length (filter (is_remote role) ns)) same);
       reading_is = ap (λ (q : Table). q.reading) rest;
-      left_is = ap (λ (q : Table). q.left) rest ∙ keeps.left_is;
-      gone_is = ap (λ (q : Table). q.gone) rest ∙ keeps.gone_is;
+      local_go_away_is = ap (λ (q : Table). q.local_go_away) rest ∙ keeps.local_go_away_is;
+      remote_go_away_is = ap (λ (q : Table). q.remote_go_away) rest ∙ keeps.remote_go_away_is;
       next_is = ap (λ (q : Table). q.next) rest ∙ keeps.next_is;
     }
 
 -- of a frame that ends a live stream
-pub tail_forgets : (role : Role) (past : List Item) (h : Header) (s : Stream) (old new : Table) → AreAnswered role past → Keeps role past old → old.reading ≡ Some h → row_at old.rows h.stream ≡ Some s
+pub tail_forgets : (role : Role) (past : List Item) (h : Header) (s : Row) (old new : Table) → AreAnswered role past → Keeps role past old → old.reading ≡ Some h → row_at old.rows h.stream ≡ Some s
     → (rst h || fin h && s.closed) ≡ true → ((m : ℕ) → row_at new.rows m ≡ cond (h.stream == m) None (row_at old.rows m))
     → new ≡ record old { rows = new.rows; own = old.own - cond (is_own old.role h.stream) 1 0; remote = old.remote - cond (is_remote old.role h.stream) 1 0; reading = None } → Keeps role (Came Tail ∷ past) new
 tail_forgets role past h s old new answered keeps some found ended writes rest =
@@ -140,8 +140,8 @@ tail_forgets role past h s old new answered keeps some found ended writes rest =
           ∙ (let count = count_without (is_remote role) n (live role past) d before.0 in let was = keeps.remote_is in let e : old.remote - one_if (is_remote role n) ≡ length (filter (is_remote role) (without n (live role past))) = omega arith in e)
           ∙ sym (ap (λ ns. length (filter (is_remote role) ns)) gone);
       reading_is = ap (λ (q : Table). q.reading) rest;
-      left_is = ap (λ (q : Table). q.left) rest ∙ keeps.left_is;
-      gone_is = ap (λ (q : Table). q.gone) rest ∙ keeps.gone_is;
+      local_go_away_is = ap (λ (q : Table). q.local_go_away) rest ∙ keeps.local_go_away_is;
+      remote_go_away_is = ap (λ (q : Table). q.remote_go_away) rest ∙ keeps.remote_go_away_is;
       next_is = ap (λ (q : Table). q.next) rest ∙ keeps.next_is;
     }
 
@@ -163,7 +163,7 @@ tail_absent role past h old new keeps some found rest =
     gone m false is = sym (ap (λ b. cond b None (row_at old.rows m)) is)
 
 -- the row of the stream whose frame it was, which goes on
-finished_row : (role : Role) (past : List Item) (h : Header) (s : Stream) → reading role past ≡ Some h → live role (Came Tail ∷ past) ≡ live role past
+finished_row : (role : Role) (past : List Item) (h : Header) (s : Row) → reading role past ≡ Some h → live role (Came Tail ∷ past) ≡ live role past
     → IsRowAt role past h.stream (Some s) → IsRowAt role (Came Tail ∷ past) h.stream (Some (record s { finished = fin h || s.finished }))
 finished_row role past h s read same at =
     let n : ℕ = h.stream in (
@@ -172,7 +172,7 @@ finished_row role past h s read same at =
     )
 
 -- FIN: the other end's direction has ended
-pub tail_finished : (role : Role) (past : List Item) (h : Header) (s : Stream) (old new : Table) → Keeps role past old → old.reading ≡ Some h → row_at old.rows h.stream ≡ Some s
+pub tail_finished : (role : Role) (past : List Item) (h : Header) (s : Row) (old new : Table) → Keeps role past old → old.reading ≡ Some h → row_at old.rows h.stream ≡ Some s
     → (rst h || fin h && s.closed) ≡ false → ((m : ℕ) → row_at new.rows m ≡ cond (h.stream == m) (Some (record s { finished = fin h || s.finished })) (row_at old.rows m))
     → new ≡ record old { rows = new.rows; reading = None } → Keeps role (Came Tail ∷ past) new
 tail_finished role past h s old new keeps some found open_still writes rest =
@@ -184,28 +184,28 @@ tail_finished role past h s old new keeps some found open_still writes rest =
 
 -- ---- the row of a stream after it
 
-ended_row : (role : Role) (past : List Item) (h : Header) (row : Option Stream) (b : Bool) → reading role past ≡ Some h → (rst h || fin h && closed role past h.stream) ≡ b
-    → IsRowAt role past h.stream row → (new : Option Stream) × IsRowAt role (Came Tail ∷ past) h.stream new
+ended_row : (role : Role) (past : List Item) (h : Header) (row : Option Row) (b : Bool) → reading role past ≡ Some h → (rst h || fin h && closed role past h.stream) ≡ b
+    → IsRowAt role past h.stream row → (new : Option Row) × IsRowAt role (Came Tail ∷ past) h.stream new
 ended_row role past h row true read is at = (None, ap (λ ns. contains ns h.stream) (tail_live role past h true read is) ∙ not_here h.stream (live role past))
 ended_row role past h None false read is at = (None, ap (λ ns. contains ns h.stream) (tail_live role past h false read is) ∙ at)
 ended_row role past h (Some s) false read is at = (Some (record s { finished = fin h || s.finished }), finished_row role past h s read (tail_live role past h false read is) at)
 
-other_row : (role : Role) (past : List Item) (h : Header) (n : ℕ) (row : Option Stream) (b : Bool) → reading role past ≡ Some h → (rst h || fin h && closed role past h.stream) ≡ b
+other_row : (role : Role) (past : List Item) (h : Header) (n : ℕ) (row : Option Row) (b : Bool) → reading role past ≡ Some h → (rst h || fin h && closed role past h.stream) ≡ b
     → (h.stream == n) ≡ false → IsRowAt role past n row → IsRowAt role (Came Tail ∷ past) n row
 other_row role past h n row true read is other at =
     tail_apart role past n row (finishes_apart role past h n read other) (ap (λ ns. contains ns n) (tail_live role past h true read is) ∙ still_there h.stream n (live role past) other) at
 other_row role past h n row false read is other at =
     tail_apart role past n row (finishes_apart role past h n read other) (ap (λ ns. contains ns n) (tail_live role past h false read is)) at
 
-row_of_frame : (role : Role) (past : List Item) (h : Header) (n : ℕ) (row : Option Stream) (b : Bool) → reading role past ≡ Some h → (h.stream == n) ≡ b
-    → IsRowAt role past n row → (new : Option Stream) × IsRowAt role (Came Tail ∷ past) n new
+row_of_frame : (role : Role) (past : List Item) (h : Header) (n : ℕ) (row : Option Row) (b : Bool) → reading role past ≡ Some h → (h.stream == n) ≡ b
+    → IsRowAt role past n row → (new : Option Row) × IsRowAt role (Came Tail ∷ past) n new
 row_of_frame role past h n row false read other at = (row, other_row role past h n row (rst h || fin h && closed role past h.stream) read refl other at)
 row_of_frame role past h n row true read same at =
-    subst (λ k. IsRowAt role past k row → (new : Option Stream) × IsRowAt role (Came Tail ∷ past) k new) (eqb-true h.stream n same)
+    subst (λ k. IsRowAt role past k row → (new : Option Row) × IsRowAt role (Came Tail ∷ past) k new) (eqb-true h.stream n same)
     (ended_row role past h row (rst h || fin h && closed role past h.stream) read refl) at
 
-pub tail_row : (role : Role) (past : List Item) (n : ℕ) (row : Option Stream) (r : Option Header) → reading role past ≡ r
-    → IsRowAt role past n row → (new : Option Stream) × IsRowAt role (Came Tail ∷ past) n new
+pub tail_row : (role : Role) (past : List Item) (n : ℕ) (row : Option Row) (r : Option Header) → reading role past ≡ r
+    → IsRowAt role past n row → (new : Option Row) × IsRowAt role (Came Tail ∷ past) n new
 tail_row role past n row None read at = (row, tail_apart role past n row (ap (λ t. tail_finishes t n) read) (ap (λ ns. contains ns n) (none_live role past read)) at)
 tail_row role past n row (Some h) read at = row_of_frame role past h n row (h.stream == n) read refl at
 
@@ -225,11 +225,11 @@ module _ (role : Role) (past : List Item) (old : Table) (keeps : Keeps role past
   tells_plain h e no_rst no_fin =
       let ended : Bool = finished role past h.stream in
       sym (tells_at h (is_live role past h.stream) e refl
-      ∙ ap (λ r. cond (is_live role past h.stream) (cond r (WasReset h.stream ∷ []) (when (fin h && not ended) (Ended h.stream))) []) no_rst
-      ∙ ap (λ f. cond (is_live role past h.stream) (when (f && not ended) (Ended h.stream)) []) no_fin
+      ∙ ap (λ r. cond (is_live role past h.stream) (cond r (Told.Reset h.stream ∷ []) (when (fin h && not ended) (Told.Ended h.stream))) []) no_rst
+      ∙ ap (λ f. cond (is_live role past h.stream) (when (f && not ended) (Told.Ended h.stream)) []) no_fin
       ∙ either_way (is_live role past h.stream) [])
 
-  pub tells_row : (h : Header) (s : Stream) → old.reading ≡ Some h → row_at old.rows h.stream ≡ Some s → tail_told h s.finished ≡ tail_events role past (reading role past)
+  pub tells_row : (h : Header) (s : Row) → old.reading ≡ Some h → row_at old.rows h.stream ≡ Some s → tail_told h s.finished ≡ tail_events role past (reading role past)
   tells_row h s e found =
       let at = row_of role past old h.stream (Some s) keeps found in
       ap (tail_told h) at.1.finished_is ∙ sym (tells_at h true e at.0)

@@ -11,12 +11,13 @@ use Rattle.yamux_session.specs.declared.event.Role.{Role}
 use Rattle.yamux_session.specs.declared.event.Event.{Event}
 use Rattle.yamux_session.specs.declared.event.Event.TheVariants as event
 use Rattle.yamux_session.specs.declared.heads.Effect.{Effect}
-use Rattle.yamux_session.specs.Items.{Item, came_bytes, ack, is_go_away, is_update, is_own}
-use Rattle.yamux_session.specs.Items.Item.{Came}
+use Rattle.yamux_session.specs.History.{Item, came_bytes, ack, is_go_away, is_update, is_own}
+use Rattle.yamux_session.specs.History.Item.{Came}
 use Rattle.yamux_session.specs.Openings.{reading, opens, head_belongs}
 use Rattle.yamux_session.specs.Windows.{accepted}
-use Rattle.yamux_session.specs.Meaning.{Told, when, HasNoFault, head_events, tail_events, taker, byte_told, events, events_unless, output, output_unless, answer_to}
-use Rattle.yamux_session.specs.Meaning.Told.{Opened, Accepted, Data, Credit, Left}
+use Rattle.yamux_session.specs.Faults.{HasNoFault}
+use Rattle.yamux_session.specs.Events.{Told, when, head_events, tail_events, taker, byte_told, events, events_unless}
+use Rattle.yamux_session.specs.Output.{output, output_unless, answer_to}
 use Rattle.yamux_session.specs.Table.{Table}
 use Rattle.yamux_session.specs.Keeps.{Keeps}
 use Rattle.yamux_session.specs.Heads.{HeadDone, told_of}
@@ -50,14 +51,14 @@ when_is : (b : Bool) (t : Told) → cond b (t ∷ []) [] ≡ when b t
 when_is true t = refl
 when_is false t = refl
 
-pub tells_head : (a b c d e : List Event) (h : Header) (effect : Effect) → Tells a b (cond (is_go_away h.kind) (Left h.length ∷ []) []) → Tells b c (cond effect.opened (Opened h.stream ∷ []) [])
-    → Tells c d (cond effect.accepted (Accepted h.stream ∷ []) []) → Tells d e (cond effect.credited (Credit h.stream ∷ []) []) → Tells a e (told_of h effect)
+pub tells_head : (a b c d e : List Event) (h : Header) (effect : Effect) → Tells a b (cond (is_go_away h.kind) (Told.GoAway h.length ∷ []) []) → Tells b c (cond effect.opened (Told.Opened h.stream ∷ []) [])
+    → Tells c d (cond effect.accepted (Told.Accepted h.stream ∷ []) []) → Tells d e (cond effect.credited (Told.Credit h.stream ∷ []) []) → Tells a e (told_of h effect)
 tells_head a b c d e h effect one two three four =
     tells_then a d e _ _
     (tells_then a c d _ _
-    (tells_then a b c _ _ (tells_as a b _ _ (when_is (is_go_away h.kind) (Left h.length)) one) (tells_as b c _ _ (when_is effect.opened (Opened h.stream)) two))
-    (tells_as c d _ _ (when_is effect.accepted (Accepted h.stream)) three))
-    (tells_as d e _ _ (when_is effect.credited (Credit h.stream)) four)
+    (tells_then a b c _ _ (tells_as a b _ _ (when_is (is_go_away h.kind) (Told.GoAway h.length)) one) (tells_as b c _ _ (when_is effect.opened (Told.Opened h.stream)) two))
+    (tells_as c d _ _ (when_is effect.accepted (Told.Accepted h.stream)) three))
+    (tells_as d e _ _ (when_is effect.credited (Told.Credit h.stream)) four)
 
 -- ---- a head
 
@@ -66,9 +67,9 @@ head_told role past h effect new done =
     let o : Bool = opens role past (Came (Head h)) h.stream in
     let a : Bool = head_belongs role past h h.stream && ack h && is_own role h.stream && not (accepted role past h.stream) in
     let c : Bool = head_belongs role past h h.stream && is_update h.kind && nat_lt 0 h.length in
-    ap (λ b. ((when (is_go_away h.kind) (Left h.length) ++ when b (Opened h.stream)) ++ when a (Accepted h.stream)) ++ when c (Credit h.stream)) (sym done.opened)
-    ∙ ap (λ b. ((when (is_go_away h.kind) (Left h.length) ++ when effect.opened (Opened h.stream)) ++ when b (Accepted h.stream)) ++ when c (Credit h.stream)) (sym done.accepted)
-    ∙ ap (λ b. ((when (is_go_away h.kind) (Left h.length) ++ when effect.opened (Opened h.stream)) ++ when effect.accepted (Accepted h.stream)) ++ when b (Credit h.stream)) (sym done.credited)
+    ap (λ b. ((when (is_go_away h.kind) (Told.GoAway h.length) ++ when b (Told.Opened h.stream)) ++ when a (Told.Accepted h.stream)) ++ when c (Told.Credit h.stream)) (sym done.opened)
+    ∙ ap (λ b. ((when (is_go_away h.kind) (Told.GoAway h.length) ++ when effect.opened (Told.Opened h.stream)) ++ when b (Told.Accepted h.stream)) ++ when c (Told.Credit h.stream)) (sym done.accepted)
+    ∙ ap (λ b. ((when (is_go_away h.kind) (Told.GoAway h.length) ++ when effect.opened (Told.Opened h.stream)) ++ when effect.accepted (Told.Accepted h.stream)) ++ when b (Told.Credit h.stream)) (sym done.credited)
 
 pub head_arrives : (role : Role) (past : List Item) (h : Header) (effect : Effect) (new : Table) (old_told new_told : List Event) (old_output new_output answered : List ℕ)
     → HeadDone role past h effect new → Tells old_told new_told (told_of h effect) → answered ≡ answer_to h effect.opened → new_output ≡ old_output ++ answered
@@ -93,7 +94,7 @@ head_arrives role past h effect new old_told new_told old_output new_output answ
 
 abbrev pub bytes_told : Option ℕ → List ℕ → List Told
 bytes_told None bytes = []
-bytes_told (Some n) bytes = map (Data n) bytes
+bytes_told (Some n) bytes = map (Told.Payload n) bytes
 
 taker_on : (role : Role) (past : List Item) (b : ℕ) (r : Option Header) → taker role (Came (Byte b) ∷ past) r ≡ taker role past r
 taker_on role past b None = refl
@@ -166,7 +167,7 @@ arrives_then role past mid now table last a b c x y z one two = record {
 
 pub tells_payload : (xs new : List Event) (n : ℕ) (bytes slice : List ℕ) → slice ≡ bytes → 0 < length bytes → new ≡ xs ++ event.Payload n slice ∷ [] → Tells xs new (bytes_told (Some n) bytes)
 tells_payload xs new n bytes slice same some added =
-    tells_as xs new (map (Data n) slice) (map (Data n) bytes) (ap (map (Data n)) same)
+    tells_as xs new (map (Told.Payload n) slice) (map (Told.Payload n) bytes) (ap (map (Told.Payload n)) same)
     (tells_one xs new (event.Payload n slice) (λ none. absurd (let size : length bytes ≡ 0 = ap length (sym same ∙ none) in omega arith)) added)
 
 -- ---- a head, with its tail where there is no payload

@@ -12,23 +12,24 @@ use Rattle.yamux_session.specs.declared.arrivals.TailEffect.{TailEffect}
 use Rattle.yamux_session.specs.declared.arrivals.TailEffect.TheVariants as tail
 use Rattle.yamux_session.specs.declared.heads.HeadRefused.{HeadRefused}
 use Rattle.yamux_session.specs.declared.heads.HeadRefused.TheVariants as refused
-use Rattle.yamux_session.specs.Items.{Item}
-use Rattle.yamux_session.specs.Items.Item.{Came}
-use Rattle.yamux_session.specs.Meaning.{Told, HasNoFault, events, output}
-use Rattle.yamux_session.specs.Meaning.Told.{Opened, Accepted, Data, Ended, WasReset, Credit, Left, Failed}
+use Rattle.yamux_session.specs.History.{Item}
+use Rattle.yamux_session.specs.History.Item.{Came}
+use Rattle.yamux_session.specs.Faults.{HasNoFault}
+use Rattle.yamux_session.specs.Events.{Told, events}
+use Rattle.yamux_session.specs.Output.{output}
 use Rattle.yamux_session.specs.Table.{Table}
 use Rattle.yamux_session.specs.Keeps.{Keeps}
 
 -- what an event tells, its data byte by byte
 abbrev pub telling : Event → List Told
-telling (event.Opened n) = Opened n ∷ []
-telling (event.Accepted n) = Accepted n ∷ []
-telling (event.Payload n bytes) = map (Data n) bytes
-telling (event.Ended n) = Ended n ∷ []
-telling (event.Reset n) = WasReset n ∷ []
-telling (event.Credit n) = Credit n ∷ []
-telling (event.GoAway code) = Left code ∷ []
-telling (event.Fault fault) = Failed fault ∷ []
+telling (event.Opened n) = Told.Opened n ∷ []
+telling (event.Accepted n) = Told.Accepted n ∷ []
+telling (event.Payload n bytes) = map (Told.Payload n) bytes
+telling (event.Ended n) = Told.Ended n ∷ []
+telling (event.Reset n) = Told.Reset n ∷ []
+telling (event.Credit n) = Told.Credit n ∷ []
+telling (event.GoAway code) = Told.GoAway code ∷ []
+telling (event.Fault fault) = Told.Fault fault ∷ []
 
 abbrev pub tellings : List Event → List Told
 tellings told = flat_map telling told
@@ -55,8 +56,8 @@ pub record Tells (old new : List Event) (told : List Told) : Type 0 where
 
 abbrev pub told_of_tail : TailEffect → List Told
 told_of_tail tail.Nothing = []
-told_of_tail (tail.Ended n) = Ended n ∷ []
-told_of_tail (tail.Reset n) = WasReset n ∷ []
+told_of_tail (tail.Ended n) = Told.Ended n ∷ []
+told_of_tail (tail.Reset n) = Told.Reset n ∷ []
 
 abbrev pub written_header : Option Header → List ℕ
 written_header None = []
@@ -71,11 +72,12 @@ abbrev pub IsFaultOnly : HeadRefused → Type 0 → Type 0
 IsFaultOnly (refused.Fault fault) fact = fact
 IsFaultOnly refused.OutOfMemory fact = Unit {0}
 
--- from the list past to the list now nothing has a fault; the table is that of now, and events and output have grown by those of
--- the new items
+-- from the list past to the list now nothing has a fault; the table is that of now, and events and output have grown by
+-- those of the new items
 pub record Arrives (role : Role) (past now : List Item) (new : Table)
     (old_told new_told : List Event) (old_output new_output : List ℕ) : Type 0 where
   pub no_fault : HasNoFault role past → HasNoFault role now
   pub keeps : Keeps role now new
   pub told : (more : List Told) × Tells old_told new_told more × (events role now ≡ events role past ++ more)
-  pub output : (more : List ℕ) × (new_output ≡ old_output ++ more) × (output role now ≡ output role past ++ more)
+  pub output : (more : List ℕ) × (new_output ≡ old_output ++ more)
+      × (output role now ≡ output role past ++ more)

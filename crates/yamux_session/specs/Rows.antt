@@ -8,14 +8,16 @@ use Rattle.yamux_frames.specs.Frames.Arrival.{Head, Byte, Tail, Garbled}
 use Rattle.yamux_session.specs.declared.event.Role.TheVariants.{Client, Server}
 use Rattle.yamux_session.specs.declared.event.Fault.TheVariants.{BadFrame, WrongParity, DuplicateStream, WindowExceeded, WindowTooLarge}
 use Rattle.yamux_session.specs.declared.event.ActRefused.TheVariants as refused
-use Rattle.yamux_session.specs.Items.{Item}
-use Rattle.yamux_session.specs.Items.Item.{Came, Did}
-use Rattle.yamux_session.specs.Items.Act.{Start, Write, Take, Close, Reset, Leave}
+use Rattle.yamux_session.specs.History.{Item, Act}
+use Rattle.yamux_session.specs.History.Item.{Came, Did}
+use Rattle.yamux_session.specs.History.Act.{Start, Write, Taken, Close, Reset}
 use Rattle.yamux_session.specs.Openings.{live, is_live}
 use Rattle.yamux_session.specs.Windows.{credit, receiving_window, untaken}
 use Rattle.yamux_session.specs.Acts.{IsPiece, frames_length, open_credit, next_own, start_refusal, stream_refusal, direction_refusal}
-use Rattle.yamux_session.specs.Meaning.{events, output, inbound}
-use Rattle.yamux_session.specs.Meaning.Told.{Opened, Accepted, Data, Ended, WasReset, Credit, Left, Failed}
+use Rattle.yamux_session.specs.Events.{events}
+use Rattle.yamux_session.specs.Data.{inbound}
+use Rattle.yamux_session.specs.Output.{output}
+use Rattle.yamux_session.specs.Events.{Told}
 use Rattle.std.specs.List.{AllByRecursion}
 use Rattle.yamux_session.specs.declared.event.Event.TheVariants as event
 use Rattle.yamux_session.specs.Seen.{IsQuiet}
@@ -48,161 +50,281 @@ opening (suc count) n = opening count (n + 2) ++ bare Window 1 n 0
 
 -- a stream that was read and written, closed and ended, and is opened again
 abbrev pub reopened : List Item
-reopened = in_order (bare Window 1 1 0 ∷ (Came Tail ∷ Came (Byte 7) ∷ Came (header Payload 0 1 1) ∷ []) ∷ (Did (Write 1 ((7 ∷ 8 ∷ []) ∷ [])) ∷ []) ∷ (Did (Close 1) ∷ []) ∷ bare Window 4 1 0 ∷ bare Window 1 1 0 ∷ [])
+reopened = in_order (bare Window 1 1 0 ∷ (Came Tail ∷ Came (Byte 7) ∷ Came (header Payload 0 1 1) ∷ []) ∷
+    (Did (Write 1 ((7 ∷ 8 ∷ []) ∷ [])) ∷ []) ∷ (Did (Close 1) ∷ []) ∷ bare Window 4 1 0 ∷ bare Window 1
+    1 0 ∷ [])
 
 -- a stream with two bytes that came in one frame
 abbrev pub two_bytes : List Item
-two_bytes = in_order (bare Window 1 1 0 ∷ (Came Tail ∷ Came (Byte 99) ∷ Came (Byte 98) ∷ Came (header Payload 0 1 2) ∷ []) ∷ [])
+two_bytes = in_order (bare Window 1 1 0 ∷ (Came Tail ∷ Came (Byte 99) ∷ Came (Byte 98) ∷ Came
+    (header Payload 0 1 2) ∷ []) ∷ [])
 
 -- How streams are opened
 pub record OpeningRows : Type 0 where
-  pub opened : events Server (bare Window 1 1 0) ≡ Opened 1 ∷ []
-  pub accepted : output Server (bare Window 1 1 0) ≡ 0 ∷ 1 ∷ 0 ∷ 2 ∷ 0 ∷ 0 ∷ 0 ∷ 1 ∷ 0 ∷ 0 ∷ 0 ∷ 0 ∷ []
-  pub opened_twice : events Server (in_order (bare Window 1 1 0 ∷ bare Window 1 1 0 ∷ [])) ≡ Opened 1 ∷ Failed DuplicateStream ∷ []
-  pub wrong_parity : events Client (Came (header Window 1 1 0) ∷ []) ≡ Failed WrongParity ∷ []
-  pub failed_goes_away : output Client (Came (header Window 1 1 0) ∷ []) ≡ 0 ∷ 3 ∷ 0 ∷ 0 ∷ 0 ∷ 0 ∷ 0 ∷ 0 ∷ 0 ∷ 0 ∷ 0 ∷ 1 ∷ []
-  pub stream_0_of_no_client : events Server (Came (header Window 1 0 0) ∷ []) ≡ Failed WrongParity ∷ []
-  pub stream_0_of_no_server : events Client (Came (header Window 1 0 0) ∷ []) ≡ Failed WrongParity ∷ []
-  pub opened_with_data : events Server (Came Tail ∷ Came (Byte 7) ∷ Came (header Payload 1 1 1) ∷ []) ≡ Opened 1 ∷ Data 1 7 ∷ []
-  pub opened_with_credit : events Server (bare Window 1 1 5) ≡ Opened 1 ∷ Credit 1 ∷ []
-  pub opened_and_ended : events Server (bare Window 5 1 0) ≡ Opened 1 ∷ Ended 1 ∷ []
-  pub opened_and_reset : events Server (bare Window 9 1 0) ≡ Opened 1 ∷ WasReset 1 ∷ []
-  pub opened_again : events Server (in_order (bare Window 1 1 0 ∷ (Did (Close 1) ∷ []) ∷ bare Window 4 1 0 ∷ bare Window 1 1 0 ∷ [])) ≡ Opened 1 ∷ Ended 1 ∷ Opened 1 ∷ []
-  pub untold_behind_leaving : events Server (in_order ((Did (Leave 0) ∷ []) ∷ bare Window 1 1 0 ∷ [])) ≡ []
-  pub refused_behind_leaving : output Server (in_order ((Did (Leave 2) ∷ []) ∷ bare Window 1 1 0 ∷ []))
-      ≡ 0 ∷ 3 ∷ 0 ∷ 0 ∷ 0 ∷ 0 ∷ 0 ∷ 0 ∷ 0 ∷ 0 ∷ 0 ∷ 2 ∷ 0 ∷ 1 ∷ 0 ∷ 8 ∷ 0 ∷ 0 ∷ 0 ∷ 1 ∷ 0 ∷ 0 ∷ 0 ∷ 0 ∷ []
-  pub twelve_live : live Server (opening 12 1) ≡ 1 ∷ 3 ∷ 5 ∷ 7 ∷ 9 ∷ 11 ∷ 13 ∷ 15 ∷ 17 ∷ 19 ∷ 21 ∷ 23 ∷ []
+  pub opened : events Server (bare Window 1 1 0) ≡ Told.Opened 1 ∷ []
+  pub accepted : output Server (bare Window 1 1 0)
+      ≡ 0 ∷ 1 ∷ 0 ∷ 2 ∷ 0 ∷ 0 ∷ 0 ∷ 1 ∷ 0 ∷ 0 ∷ 0 ∷ 0 ∷ []
+  pub opened_twice : events Server (in_order (bare Window 1 1 0 ∷ bare Window 1 1 0 ∷ []))
+      ≡ Told.Opened 1 ∷ Told.Fault DuplicateStream ∷ []
+  pub wrong_parity : events Client (Came (header Window 1 1 0) ∷ []) ≡ Told.Fault WrongParity ∷ []
+  pub failed_goes_away : output Client (Came (header Window 1 1 0) ∷ [])
+      ≡ 0 ∷ 3 ∷ 0 ∷ 0 ∷ 0 ∷ 0 ∷ 0 ∷ 0 ∷ 0 ∷ 0 ∷ 0 ∷ 1 ∷ []
+  pub stream_0_of_no_client : events Server (Came (header Window 1 0 0) ∷ []) ≡ Told.Fault WrongParity ∷ []
+  pub stream_0_of_no_server : events Client (Came (header Window 1 0 0) ∷ []) ≡ Told.Fault WrongParity ∷ []
+  pub opened_with_data : events Server (Came Tail ∷ Came (Byte 7) ∷ Came (header Payload 1 1 1) ∷ [])
+      ≡ Told.Opened 1 ∷ Told.Payload 1 7 ∷ []
+  pub opened_with_credit : events Server (bare Window 1 1 5) ≡ Told.Opened 1 ∷ Told.Credit 1 ∷ []
+  pub opened_and_ended : events Server (bare Window 5 1 0) ≡ Told.Opened 1 ∷ Told.Ended 1 ∷ []
+  pub opened_and_reset : events Server (bare Window 9 1 0) ≡ Told.Opened 1 ∷ Told.Reset 1 ∷ []
+  pub opened_again : events Server (in_order (bare Window 1 1 0 ∷ (Did (Close 1) ∷ []) ∷ bare Window 4 1 0 ∷
+      bare Window 1 1 0 ∷ [])) ≡ Told.Opened 1 ∷ Told.Ended 1 ∷ Told.Opened 1 ∷ []
+  pub untold_behind_leaving : events Server (in_order ((Did (Act.GoAway 0) ∷ []) ∷ bare Window 1 1 0 ∷ [])) ≡ []
+  pub refused_behind_leaving : output Server (in_order ((Did (Act.GoAway 2) ∷ []) ∷ bare Window 1 1 0 ∷ []))
+      ≡ 0 ∷ 3 ∷ 0 ∷ 0 ∷ 0 ∷ 0 ∷ 0 ∷ 0 ∷ 0 ∷ 0 ∷ 0 ∷ 2 ∷ 0 ∷ 1 ∷ 0 ∷ 8 ∷ 0 ∷ 0 ∷ 0
+      ∷ 1 ∷ 0 ∷ 0 ∷ 0 ∷ 0 ∷ []
+  pub twelve_live : live Server (opening 12 1)
+      ≡ 1 ∷ 3 ∷ 5 ∷ 7 ∷ 9 ∷ 11 ∷ 13 ∷ 15 ∷ 17 ∷ 19 ∷ 21 ∷ 23 ∷ []
   pub first_of_a_client : next_own Client [] ≡ 1
   pub first_of_a_server : next_own Server [] ≡ 2
   pub next_of_a_server : next_own Server (Did (Start 2) ∷ []) ≡ 4
   pub a_number_left : start_refusal Client (Did (Start 4294967293) ∷ []) ≡ None
   pub no_number_left : start_refusal Client (Did (Start 4294967295) ∷ []) ≡ Some refused.StreamsExhausted
-  pub gone_away_first : start_refusal Client (in_order ((Did (Start 4294967295) ∷ []) ∷ bare GoAway 0 0 0 ∷ [])) ≡ Some refused.GoneAway
+  pub gone_away_first : start_refusal Client (in_order ((Did (Start 4294967295) ∷ []) ∷ bare GoAway 0 0 0 ∷ []))
+      ≡ Some refused.GoneAway
   pub gone_away_with_a_code : start_refusal Client (bare GoAway 0 0 2) ≡ Some refused.GoneAway
-  pub data_accepted : output Server (Came Tail ∷ Came (Byte 7) ∷ Came (header Payload 1 1 1) ∷ []) ≡ 0 ∷ 1 ∷ 0 ∷ 2 ∷ 0 ∷ 0 ∷ 0 ∷ 1 ∷ 0 ∷ 0 ∷ 0 ∷ 0 ∷ []
-  pub payload_behind_leaving : events Server (in_order ((Did (Leave 0) ∷ []) ∷ (Came Tail ∷ Came (Byte 7) ∷ Came (header Payload 1 1 1) ∷ []) ∷ [])) ≡ []
-  pub started_by_a_client : output Client (Did (Start 1) ∷ []) ≡ 0 ∷ 1 ∷ 0 ∷ 1 ∷ 0 ∷ 0 ∷ 0 ∷ 1 ∷ 0 ∷ 0 ∷ 0 ∷ 0 ∷ []
-  pub started_by_a_server : output Server (Did (Start 2) ∷ []) ≡ 0 ∷ 1 ∷ 0 ∷ 1 ∷ 0 ∷ 0 ∷ 0 ∷ 2 ∷ 0 ∷ 0 ∷ 0 ∷ 0 ∷ []
+  pub data_accepted : output Server (Came Tail ∷ Came (Byte 7) ∷ Came (header Payload 1 1 1) ∷ [])
+      ≡ 0 ∷ 1 ∷ 0 ∷ 2 ∷ 0 ∷ 0 ∷ 0 ∷ 1 ∷ 0 ∷ 0 ∷ 0 ∷ 0 ∷ []
+  pub payload_behind_leaving : events Server (in_order ((Did (Act.GoAway 0) ∷ []) ∷
+      (Came Tail ∷ Came (Byte 7) ∷ Came (header Payload 1 1 1) ∷ []) ∷ [])) ≡ []
+  pub started_by_a_client : output Client (Did (Start 1) ∷ [])
+      ≡ 0 ∷ 1 ∷ 0 ∷ 1 ∷ 0 ∷ 0 ∷ 0 ∷ 1 ∷ 0 ∷ 0 ∷ 0 ∷ 0 ∷ []
+  pub started_by_a_server : output Server (Did (Start 2) ∷ [])
+      ≡ 0 ∷ 1 ∷ 0 ∷ 1 ∷ 0 ∷ 0 ∷ 0 ∷ 2 ∷ 0 ∷ 0 ∷ 0 ∷ 0 ∷ []
   pub live_at_a_server : live Server (Did (Start 4) ∷ Did (Start 2) ∷ []) ≡ 2 ∷ 4 ∷ []
-  pub own_number : events Client (in_order ((Did (Start 1) ∷ []) ∷ (Came (header Window 1 1 0) ∷ []) ∷ [])) ≡ Failed WrongParity ∷ []
-  pub twice_with_much_data : events Server (in_order (bare Window 1 1 0 ∷ (Came (header Payload 1 1 262145) ∷ []) ∷ [])) ≡ Opened 1 ∷ Failed DuplicateStream ∷ []
-  pub answered_before_the_fault : output Server (in_order (bare Window 1 1 0 ∷ bare Window 1 1 0 ∷ [])) ≡ 0 ∷ 1 ∷ 0 ∷ 2 ∷ 0 ∷ 0 ∷ 0 ∷ 1 ∷ 0 ∷ 0 ∷ 0 ∷ 0 ∷ 0 ∷ 3 ∷ 0 ∷ 0 ∷ 0 ∷ 0 ∷ 0 ∷ 0 ∷ 0 ∷ 0 ∷ 0 ∷ 1 ∷ []
+  pub own_number : events Client (in_order ((Did (Start 1) ∷ []) ∷ (Came (header Window 1 1 0) ∷ []) ∷ []))
+      ≡ Told.Fault WrongParity ∷ []
+  pub twice_with_much_data : events Server (in_order (bare Window 1 1 0 ∷ (Came (header Payload 1 1 262145) ∷ [])
+      ∷ [])) ≡ Told.Opened 1 ∷ Told.Fault DuplicateStream ∷ []
+  pub answered_before_the_fault : output Server (in_order (bare Window 1 1 0 ∷ bare Window 1 1 0 ∷ []))
+      ≡ 0 ∷ 1 ∷ 0 ∷ 2 ∷ 0 ∷ 0 ∷ 0 ∷ 1 ∷ 0 ∷ 0 ∷ 0 ∷ 0 ∷ 0 ∷ 3 ∷ 0 ∷ 0 ∷ 0 ∷ 0 ∷ 0
+      ∷ 0 ∷ 0 ∷ 0 ∷ 0 ∷ 1 ∷ []
   pub reopened_is_live : is_live Server reopened 1 ≡ true
   pub reopened_is_open : direction_refusal Server reopened 1 ≡ None
   pub reopened_credit : credit Server reopened 1 ≡ 262144
   pub reopened_window : receiving_window Server reopened 1 ≡ 262144
   pub reopened_untaken : untaken Server reopened 1 ≡ 0
   pub reopened_inbound : inbound Server reopened 1 ≡ []
-  pub reopened_goes_on : events Server ((Came Tail ∷ Came (Byte 9) ∷ Came (header Payload 0 1 1) ∷ []) ++ reopened)
-      ≡ Opened 1 ∷ Data 1 7 ∷ Ended 1 ∷ Opened 1 ∷ Data 1 9 ∷ []
+  pub reopened_goes_on : events Server ((Came Tail ∷ Came (Byte 9) ∷ Came (header Payload 0 1 1) ∷ [])
+      ++ reopened)
+      ≡ Told.Opened 1 ∷ Told.Payload 1 7 ∷ Told.Ended 1 ∷ Told.Opened 1 ∷ Told.Payload 1 9 ∷ []
 
 -- How streams end
 pub record EndingRows : Type 0 where
-  pub closed_and_finished : is_live Server (in_order (bare Window 1 1 0 ∷ (Did (Close 1) ∷ []) ∷ bare Window 4 1 0 ∷ [])) 1 ≡ false
-  pub finished_and_closed : is_live Server (in_order (bare Window 1 1 0 ∷ bare Window 4 1 0 ∷ (Did (Close 1) ∷ []) ∷ [])) 1 ≡ false
-  pub closed_and_going_on : events Server (in_order (bare Window 1 1 0 ∷ (Did (Close 1) ∷ []) ∷ (Came Tail ∷ Came (Byte 7) ∷ Came (header Payload 0 1 1) ∷ []) ∷ [])) ≡ Opened 1 ∷ Data 1 7 ∷ []
+  pub closed_and_finished : is_live Server (in_order (bare Window 1 1 0 ∷ (Did (Close 1) ∷ []) ∷ bare Window 4 1 0
+      ∷ [])) 1 ≡ false
+  pub finished_and_closed : is_live Server (in_order (bare Window 1 1 0 ∷ bare Window 4 1 0 ∷ (Did (Close 1) ∷ [])
+      ∷ [])) 1 ≡ false
+  pub closed_and_going_on : events Server (in_order (bare Window 1 1 0 ∷ (Did (Close 1) ∷ []) ∷
+      (Came Tail ∷ Came (Byte 7) ∷ Came (header Payload 0 1 1) ∷ []) ∷ []))
+      ≡ Told.Opened 1 ∷ Told.Payload 1 7 ∷ []
   pub closed_refuses : direction_refusal Server (Did (Close 1) ∷ bare Window 1 1 0) 1 ≡ Some refused.Ended
-  pub ended_once : events Server (in_order (bare Window 1 1 0 ∷ bare Window 4 1 0 ∷ bare Window 4 1 0 ∷ [])) ≡ Opened 1 ∷ Ended 1 ∷ []
-  pub ended_behind_its_data : events Server (in_order (bare Window 1 1 0 ∷ (Came Tail ∷ Came (Byte 7) ∷ Came (header Payload 4 1 1) ∷ []) ∷ [])) ≡ Opened 1 ∷ Data 1 7 ∷ Ended 1 ∷ []
-  pub reset_and_no_end : events Server (in_order (bare Window 1 1 0 ∷ bare Window 12 1 0 ∷ [])) ≡ Opened 1 ∷ WasReset 1 ∷ []
-  pub reset_behind_the_end : events Server (in_order (bare Window 1 1 0 ∷ bare Window 4 1 0 ∷ bare Payload 8 1 0 ∷ [])) ≡ Opened 1 ∷ Ended 1 ∷ WasReset 1 ∷ []
-  pub nothing_behind_a_reset : events Server (in_order (bare Window 1 1 0 ∷ bare Window 8 1 0 ∷ bare Window 4 1 0 ∷ bare Window 8 1 0 ∷ [])) ≡ Opened 1 ∷ WasReset 1 ∷ []
+  pub ended_once : events Server (in_order (bare Window 1 1 0 ∷ bare Window 4 1 0 ∷ bare Window 4 1 0 ∷ []))
+      ≡ Told.Opened 1 ∷ Told.Ended 1 ∷ []
+  pub ended_behind_its_data : events Server (in_order (bare Window 1 1 0 ∷
+      (Came Tail ∷ Came (Byte 7) ∷ Came (header Payload 4 1 1) ∷ []) ∷ []))
+      ≡ Told.Opened 1 ∷ Told.Payload 1 7 ∷ Told.Ended 1 ∷ []
+  pub reset_and_no_end : events Server (in_order (bare Window 1 1 0 ∷ bare Window 12 1 0 ∷ []))
+      ≡ Told.Opened 1 ∷ Told.Reset 1 ∷ []
+  pub reset_behind_the_end : events Server (in_order (bare Window 1 1 0 ∷ bare Window 4 1 0 ∷ bare Payload 8 1 0 ∷
+      [])) ≡ Told.Opened 1 ∷ Told.Ended 1 ∷ Told.Reset 1 ∷ []
+  pub nothing_behind_a_reset : events Server (in_order (bare Window 1 1 0 ∷ bare Window 8 1 0 ∷ bare Window 4 1 0
+      ∷ bare Window 8 1 0 ∷ [])) ≡ Told.Opened 1 ∷ Told.Reset 1 ∷ []
   pub reset_here : is_live Client (Did (Reset 1) ∷ all_written) 1 ≡ false
   pub reset_here_refuses : stream_refusal Client (Did (Reset 1) ∷ all_written) 1 ≡ Some refused.NoStream
-  pub reset_within_a_frame : events Server (in_order (bare Window 1 1 0 ∷ (Came (Byte 7) ∷ Came (header Payload 4 1 2) ∷ []) ∷ (Did (Reset 1) ∷ []) ∷ (Came Tail ∷ Came (Byte 8) ∷ []) ∷ []))
-      ≡ Opened 1 ∷ Data 1 7 ∷ []
+  pub reset_within_a_frame : events Server (in_order (bare Window 1 1 0 ∷
+      (Came (Byte 7) ∷ Came (header Payload 4 1 2) ∷ []) ∷ (Did (Reset 1) ∷ []) ∷
+      (Came Tail ∷ Came (Byte 8) ∷ []) ∷ []))
+      ≡ Told.Opened 1 ∷ Told.Payload 1 7 ∷ []
   pub finished_is_live : is_live Server (in_order (bare Window 1 1 0 ∷ bare Window 4 1 0 ∷ [])) 1 ≡ true
-  pub finished_can_write : direction_refusal Server (in_order (bare Window 1 1 0 ∷ bare Window 4 1 0 ∷ [])) 1 ≡ None
+  pub finished_can_write : direction_refusal Server (in_order (bare Window 1 1 0 ∷ bare Window 4 1 0 ∷ [])) 1
+      ≡ None
   pub closed_is_live : is_live Server (Did (Close 1) ∷ bare Window 1 1 0) 1 ≡ true
   pub closed_can_be_reset : stream_refusal Server (Did (Close 1) ∷ bare Window 1 1 0) 1 ≡ None
-  pub finished_can_be_reset : stream_refusal Server (in_order (bare Window 1 1 0 ∷ bare Window 4 1 0 ∷ [])) 1 ≡ None
+  pub finished_can_be_reset : stream_refusal Server (in_order (bare Window 1 1 0 ∷ bare Window 4 1 0 ∷ [])) 1
+      ≡ None
   pub reset_is_dead : is_live Server (in_order (bare Window 1 1 0 ∷ bare Window 8 1 0 ∷ [])) 1 ≡ false
-  pub reset_of_one : live Server (in_order (bare Window 1 1 0 ∷ bare Window 1 3 0 ∷ bare Window 8 1 0 ∷ [])) ≡ 3 ∷ []
+  pub reset_of_one : live Server (in_order (bare Window 1 1 0 ∷ bare Window 1 3 0 ∷ bare Window 8 1 0 ∷ []))
+      ≡ 3 ∷ []
   pub unknown_refuses : direction_refusal Server [] 1 ≡ Some refused.NoStream
   pub unknown_untaken : stream_refusal Server [] 1 ≡ Some refused.NoStream
-  pub close_sent : output Server (Did (Close 3) ∷ []) ≡ 0 ∷ 1 ∷ 0 ∷ 4 ∷ 0 ∷ 0 ∷ 0 ∷ 3 ∷ 0 ∷ 0 ∷ 0 ∷ 0 ∷ []
-  pub reset_sent : output Server (Did (Reset 3) ∷ []) ≡ 0 ∷ 1 ∷ 0 ∷ 8 ∷ 0 ∷ 0 ∷ 0 ∷ 3 ∷ 0 ∷ 0 ∷ 0 ∷ 0 ∷ []
+  pub close_sent : output Server (Did (Close 3) ∷ [])
+      ≡ 0 ∷ 1 ∷ 0 ∷ 4 ∷ 0 ∷ 0 ∷ 0 ∷ 3 ∷ 0 ∷ 0 ∷ 0 ∷ 0 ∷ []
+  pub reset_sent : output Server (Did (Reset 3) ∷ [])
+      ≡ 0 ∷ 1 ∷ 0 ∷ 8 ∷ 0 ∷ 0 ∷ 0 ∷ 3 ∷ 0 ∷ 0 ∷ 0 ∷ 0 ∷ []
 
 -- What the windows let through
 pub record WindowRows : Type 0 where
-  pub handed_out : events Server (in_order (bare Window 1 1 0 ∷ (Came Tail ∷ Came (Byte 99) ∷ Came (Byte 98) ∷ Came (header Payload 0 1 2) ∷ []) ∷ []))
-      ≡ Opened 1 ∷ Data 1 98 ∷ Data 1 99 ∷ []
-  pub unknown_stream_skipped : events Server (in_order (bare Window 1 1 0 ∷ (Came Tail ∷ Came (Byte 99) ∷ Came (Byte 98) ∷ Came (Byte 97) ∷ Came (header Payload 0 9 3) ∷ []) ∷ bare Window 0 1 5 ∷ []))
-      ≡ Opened 1 ∷ Credit 1 ∷ []
+  pub handed_out : events Server (in_order (bare Window 1 1 0 ∷
+      (Came Tail ∷ Came (Byte 99) ∷ Came (Byte 98) ∷ Came (header Payload 0 1 2) ∷ []) ∷ []))
+      ≡ Told.Opened 1 ∷ Told.Payload 1 98 ∷ Told.Payload 1 99 ∷ []
+  pub unknown_stream_skipped : events Server (in_order (bare Window 1 1 0 ∷
+      (Came Tail ∷ Came (Byte 99) ∷ Came (Byte 98) ∷ Came (Byte 97) ∷ Came (header Payload 0 9 3) ∷ []) ∷
+      bare Window 0 1 5 ∷ []))
+      ≡ Told.Opened 1 ∷ Told.Credit 1 ∷ []
   pub first_credit : credit Server (bare Window 1 1 5) 1 ≡ 262149
-  pub no_credit_untold : events Server (in_order (bare Window 1 1 0 ∷ bare Window 0 1 0 ∷ [])) ≡ Opened 1 ∷ []
+  pub no_credit_untold : events Server (in_order (bare Window 1 1 0 ∷ bare Window 0 1 0 ∷ []))
+      ≡ Told.Opened 1 ∷ []
   pub used_up : receiving_window Server full_window 1 ≡ 0
-  pub exceeded : events Server (in_order (full_window ∷ (Came Tail ∷ []) ∷ (Came (header Payload 0 1 1) ∷ []) ∷ [])) ≡ Opened 1 ∷ Failed WindowExceeded ∷ []
-  pub exceeded_at_once : events Server (Came (header Payload 1 1 262145) ∷ []) ≡ Failed WindowExceeded ∷ []
-  pub not_given_back_yet : output Server (Did (Take 1 131071) ∷ full_window) ≡ output Server full_window
-  pub given_back_from_half : output Server (Did (Take 1 1) ∷ Did (Take 1 131071) ∷ full_window)
+  pub exceeded : events Server (in_order (full_window ∷ (Came Tail ∷ []) ∷ (Came (header Payload 0 1 1) ∷ [])
+      ∷ [])) ≡ Told.Opened 1 ∷ Told.Fault WindowExceeded ∷ []
+  pub exceeded_at_once : events Server (Came (header Payload 1 1 262145) ∷ []) ≡ Told.Fault WindowExceeded ∷ []
+  pub not_given_back_yet : output Server (Did (Taken 1 131071) ∷ full_window) ≡ output Server full_window
+  pub given_back_from_half : output Server (Did (Taken 1 1) ∷ Did (Taken 1 131071) ∷ full_window)
       ≡ output Server full_window ++ (0 ∷ 1 ∷ 0 ∷ 0 ∷ 0 ∷ 0 ∷ 0 ∷ 1 ∷ 0 ∷ 2 ∷ 0 ∷ 0 ∷ [])
-  pub not_given_back_behind_the_end : output Server (Did (Take 1 262144) ∷ bare Window 4 1 0 ++ Came Tail ∷ full_window) ≡ output Server full_window
-  pub data_behind_the_end : credit Server (in_order (bare Window 1 1 0 ∷ bare Window 4 1 0 ∷ bare Window 4 1 0 ∷ (Came Tail ∷ Came (Byte 1) ∷ Came (header Payload 0 1 1) ∷ []) ∷ [])) 1
+  pub not_given_back_behind_the_end : output Server (Did (Taken 1 262144) ∷ bare Window 4 1 0
+      ++ Came Tail ∷ full_window) ≡ output Server full_window
+  pub data_behind_the_end : credit Server (in_order (bare Window 1 1 0 ∷ bare Window 4 1 0 ∷ bare Window 4 1 0 ∷
+      (Came Tail ∷ Came (Byte 1) ∷ Came (header Payload 0 1 1) ∷ []) ∷ [])) 1
       ≡ 262144
-  pub credit_too_large : events Server (in_order (bare Window 1 1 0 ∷ bare Window 1 3 1 ∷ bare Window 0 1 4294705151 ∷ (Came (header Window 0 1 1) ∷ []) ∷ []))
-      ≡ Opened 1 ∷ Opened 3 ∷ Credit 3 ∷ Credit 1 ∷ Failed WindowTooLarge ∷ []
+  pub credit_too_large : events Server (in_order (bare Window 1 1 0 ∷ bare Window 1 3 1 ∷ bare Window 0 1 4294705151
+      ∷ (Came (header Window 0 1 1) ∷ []) ∷ []))
+      ≡ Told.Opened 1 ∷ Told.Opened 3 ∷ Told.Credit 3 ∷ Told.Credit 1 ∷ Told.Fault WindowTooLarge ∷ []
   pub no_credit_left : credit Client all_written 1 ≡ 0
   pub written : output Client (Did (Write 1 ((7 ∷ []) ∷ (8 ∷ 9 ∷ []) ∷ [])) ∷ [])
-      ≡ 0 ∷ 0 ∷ 0 ∷ 0 ∷ 0 ∷ 0 ∷ 0 ∷ 1 ∷ 0 ∷ 0 ∷ 0 ∷ 1 ∷ 7 ∷ 0 ∷ 0 ∷ 0 ∷ 0 ∷ 0 ∷ 0 ∷ 0 ∷ 1 ∷ 0 ∷ 0 ∷ 0 ∷ 2 ∷ 8 ∷ 9 ∷ []
-  pub credit_left : credit Client (Did (Write 1 ((7 ∷ []) ∷ (8 ∷ 9 ∷ []) ∷ [])) ∷ Did (Start 1) ∷ []) 1 ≡ 262141
-  pub credit_of_another : credit Client (Did (Write 3 ((7 ∷ []) ∷ [])) ∷ Did (Start 3) ∷ Did (Start 1) ∷ []) 1 ≡ 262144
+      ≡ 0 ∷ 0 ∷ 0 ∷ 0 ∷ 0 ∷ 0 ∷ 0 ∷ 1 ∷ 0 ∷ 0 ∷ 0 ∷ 1 ∷ 7 ∷ 0 ∷ 0 ∷ 0 ∷ 0 ∷ 0 ∷ 0
+      ∷ 0 ∷ 1 ∷ 0 ∷ 0 ∷ 0 ∷ 2 ∷ 8 ∷ 9 ∷ []
+  pub credit_left : credit Client (Did (Write 1 ((7 ∷ []) ∷ (8 ∷ 9 ∷ []) ∷ [])) ∷ Did (Start 1) ∷ []) 1
+      ≡ 262141
+  pub credit_of_another : credit Client (Did (Write 3 ((7 ∷ []) ∷ [])) ∷ Did (Start 3) ∷ Did (Start 1) ∷ []) 1
+      ≡ 262144
   pub longest_piece : IsPiece (replicate 16384 0)
   pub too_long_a_piece : IsPiece (replicate 16385 0) → ⊥
   pub empty_piece : IsPiece [] → ⊥
   pub credit_shown : open_credit Server (bare Window 1 1 5) 1 ≡ Some 262149
   pub credit_of_the_closed : open_credit Server (Did (Close 1) ∷ bare Window 1 1 5) 1 ≡ None
   pub credit_of_the_unknown : open_credit Server [] 1 ≡ None
-  pub most_credit : events Server (bare Window 1 1 4294705151) ≡ Opened 1 ∷ Credit 1 ∷ []
-  pub too_large_at_once : events Server (Came (header Window 1 1 4294705152) ∷ []) ≡ Failed WindowTooLarge ∷ []
-  pub credit_behind_the_end : events Server (in_order (bare Window 1 1 0 ∷ bare Window 4 1 0 ∷ bare Window 0 1 5 ∷ [])) ≡ Opened 1 ∷ Ended 1 ∷ Credit 1 ∷ []
+  pub most_credit : events Server (bare Window 1 1 4294705151) ≡ Told.Opened 1 ∷ Told.Credit 1 ∷ []
+  pub too_large_at_once : events Server (Came (header Window 1 1 4294705152) ∷ [])
+      ≡ Told.Fault WindowTooLarge ∷ []
+  pub credit_behind_the_end : events Server (in_order (bare Window 1 1 0 ∷ bare Window 4 1 0 ∷ bare Window 0 1 5 ∷
+      [])) ≡ Told.Opened 1 ∷ Told.Ended 1 ∷ Told.Credit 1 ∷ []
   pub much_data_of_the_unknown : events Server (Came (header Payload 0 9 262145) ∷ []) ≡ []
   pub much_credit_of_the_unknown : events Server (Came (header Window 0 9 4294967295) ∷ []) ≡ []
-  pub much_data_behind_the_end : events Server (in_order (bare Window 1 1 0 ∷ bare Window 4 1 0 ∷ (Came (header Payload 0 1 262145) ∷ []) ∷ [])) ≡ Opened 1 ∷ Ended 1 ∷ []
-  pub window_behind_the_end : receiving_window Server (in_order (bare Window 1 1 0 ∷ bare Window 4 1 0 ∷ (Came (header Payload 0 1 5) ∷ []) ∷ [])) 1 ≡ 262144
+  pub much_data_behind_the_end : events Server (in_order (bare Window 1 1 0 ∷ bare Window 4 1 0 ∷
+      (Came (header Payload 0 1 262145) ∷ []) ∷ [])) ≡ Told.Opened 1 ∷ Told.Ended 1 ∷ []
+  pub window_behind_the_end : receiving_window Server (in_order
+      (bare Window 1 1 0 ∷ bare Window 4 1 0 ∷ (Came (header Payload 0 1 5) ∷ []) ∷ [])) 1 ≡ 262144
   pub window_of_the_first_data : receiving_window Server (Came (header Payload 1 1 2) ∷ []) 1 ≡ 262142
-  pub window_given_back : receiving_window Server (Did (Take 1 131072) ∷ full_window) 1 ≡ 131072
-  pub window_not_given_back : receiving_window Server (Did (Take 1 131071) ∷ full_window) 1 ≡ 0
-  pub given_back_above_half : output Server (Did (Take 1 131073) ∷ full_window)
+  pub window_given_back : receiving_window Server (Did (Taken 1 131072) ∷ full_window) 1 ≡ 131072
+  pub window_not_given_back : receiving_window Server (Did (Taken 1 131071) ∷ full_window) 1 ≡ 0
+  pub given_back_above_half : output Server (Did (Taken 1 131073) ∷ full_window)
       ≡ output Server full_window ++ (0 ∷ 1 ∷ 0 ∷ 0 ∷ 0 ∷ 0 ∷ 0 ∷ 1 ∷ 0 ∷ 2 ∷ 0 ∷ 1 ∷ [])
   pub no_frame : frames_length 0 ≡ 0
   pub one_frame : frames_length 16384 ≡ 16396
   pub two_frames : frames_length 16385 ≡ 16409
-  pub not_taken_yet : untaken Server (Did (Take 1 1) ∷ two_bytes) 1 ≡ 1
-  pub taken_of_another : untaken Server (Did (Take 3 1) ∷ two_bytes) 1 ≡ 2
+  pub not_taken_yet : untaken Server (Did (Taken 1 1) ∷ two_bytes) 1 ≡ 1
+  pub taken_of_another : untaken Server (Did (Taken 3 1) ∷ two_bytes) 1 ≡ 2
   pub data_arrived : inbound Server two_bytes 1 ≡ 98 ∷ 99 ∷ []
 
 -- What is about no stream, and what is accepted
 pub record AnswerRows : Type 0 where
-  pub ping_answered : output Server (bare Ping 1 0 7) ≡ 0 ∷ 2 ∷ 0 ∷ 2 ∷ 0 ∷ 0 ∷ 0 ∷ 0 ∷ 0 ∷ 0 ∷ 0 ∷ 7 ∷ []
+  pub ping_answered : output Server (bare Ping 1 0 7)
+      ≡ 0 ∷ 2 ∷ 0 ∷ 2 ∷ 0 ∷ 0 ∷ 0 ∷ 0 ∷ 0 ∷ 0 ∷ 0 ∷ 7 ∷ []
   pub answer_of_a_ping_ignored : output Server (bare Ping 2 0 7) ≡ []
   pub ping_untold : events Server (bare Ping 1 0 7) ≡ []
-  pub gone_away_told : events Server (bare GoAway 0 0 2) ≡ Left 2 ∷ []
+  pub gone_away_told : events Server (bare GoAway 0 0 2) ≡ Told.GoAway 2 ∷ []
   pub gone_away_goes_on : is_live Client (bare GoAway 0 0 0 ++ Did (Start 1) ∷ []) 1 ≡ true
-  pub accepted_once : events Client (in_order ((Did (Start 1) ∷ []) ∷ bare Window 2 1 0 ∷ bare Window 2 1 0 ∷ [])) ≡ Accepted 1 ∷ []
-  pub its_own_not_accepted : events Server (in_order (bare Window 1 1 0 ∷ bare Window 2 1 0 ∷ [])) ≡ Opened 1 ∷ []
-  pub no_header : events Server (Came (Garbled (1 ∷ [])) ∷ []) ≡ Failed BadFrame ∷ []
-  pub accepted_with_credit : events Client (in_order ((Did (Start 1) ∷ []) ∷ bare Window 2 1 5 ∷ [])) ≡ Accepted 1 ∷ Credit 1 ∷ []
-  pub accepted_with_data : events Client (in_order ((Did (Start 1) ∷ []) ∷ (Came Tail ∷ Came (Byte 7) ∷ Came (header Payload 2 1 1) ∷ []) ∷ [])) ≡ Accepted 1 ∷ Data 1 7 ∷ []
+  pub accepted_once : events Client (in_order ((Did (Start 1) ∷ []) ∷ bare Window 2 1 0 ∷ bare Window 2 1 0 ∷
+      [])) ≡ Told.Accepted 1 ∷ []
+  pub its_own_not_accepted : events Server (in_order (bare Window 1 1 0 ∷ bare Window 2 1 0 ∷ []))
+      ≡ Told.Opened 1 ∷ []
+  pub no_header : events Server (Came (Garbled (1 ∷ [])) ∷ []) ≡ Told.Fault BadFrame ∷ []
+  pub accepted_with_credit : events Client (in_order ((Did (Start 1) ∷ []) ∷ bare Window 2 1 5 ∷ []))
+      ≡ Told.Accepted 1 ∷ Told.Credit 1 ∷ []
+  pub accepted_with_data : events Client (in_order ((Did (Start 1) ∷ []) ∷
+      (Came Tail ∷ Came (Byte 7) ∷ Came (header Payload 2 1 1) ∷ []) ∷ []))
+      ≡ Told.Accepted 1 ∷ Told.Payload 1 7 ∷ []
   pub large_ping_answered : output Server (bare Ping 1 0 4294967295)
       ≡ 0 ∷ 2 ∷ 0 ∷ 2 ∷ 0 ∷ 0 ∷ 0 ∷ 0 ∷ 255 ∷ 255 ∷ 255 ∷ 255 ∷ []
-  pub gone_away_with_a_large_code : events Server (bare GoAway 0 0 4294967295) ≡ Left 4294967295 ∷ []
+  pub gone_away_with_a_large_code : events Server (bare GoAway 0 0 4294967295) ≡ Told.GoAway 4294967295 ∷ []
   pub quiet : AllByRecursion (IsQuiet 1)
-      (Accepted 1 ∷ Ended 1 ∷ WasReset 1 ∷ Left 0 ∷ Opened 3 ∷ Data 3 7 ∷ Credit 3 ∷ [])
+      (Told.Accepted 1 ∷ Told.Ended 1 ∷ Told.Reset 1 ∷ Told.GoAway 0 ∷ Told.Opened 3 ∷ Told.Payload 3 7 ∷
+      Told.Credit 3 ∷ [])
   pub no_second_opening : NamesOne (event.Accepted 1 ∷ event.Opened 1 ∷ []) → ⊥
   pub wrong_parity_behind_leaving :
-      events Client (in_order ((Did (Leave 0) ∷ []) ∷ (Came (header Window 1 1 0) ∷ []) ∷ []))
-      ≡ Failed WrongParity ∷ []
+      events Client (in_order ((Did (Act.GoAway 0) ∷ []) ∷ (Came (header Window 1 1 0) ∷ []) ∷ []))
+      ≡ Told.Fault WrongParity ∷ []
   pub twice_behind_leaving :
-      events Server (in_order (bare Window 1 1 0 ∷ (Did (Leave 0) ∷ []) ∷ (Came (header Window 1 1 0) ∷ []) ∷ []))
-      ≡ Opened 1 ∷ Failed DuplicateStream ∷ []
+      events Server (in_order (bare Window 1 1 0 ∷ (Did (Act.GoAway 0) ∷ []) ∷ (Came (header Window 1 1 0) ∷ [])
+      ∷ [])) ≡ Told.Opened 1 ∷ Told.Fault DuplicateStream ∷ []
   pub reset_with_data :
-      events Server (in_order (bare Window 1 1 0 ∷ (Came Tail ∷ Came (Byte 7) ∷ Came (header Payload 8 1 1) ∷ []) ∷ []))
-      ≡ Opened 1 ∷ Data 1 7 ∷ WasReset 1 ∷ []
+      events Server (in_order (bare Window 1 1 0 ∷ (Came Tail ∷ Came (Byte 7) ∷ Came (header Payload 8 1 1) ∷
+      []) ∷ []))
+      ≡ Told.Opened 1 ∷ Told.Payload 1 7 ∷ Told.Reset 1 ∷ []
   pub accepted_behind_the_close :
       events Client (in_order ((Did (Start 1) ∷ []) ∷ (Did (Close 1) ∷ []) ∷ bare Window 2 1 0 ∷ []))
-      ≡ Accepted 1 ∷ []
-  pub ping_with_ack_answered : output Server (bare Ping 3 0 7) ≡ 0 ∷ 2 ∷ 0 ∷ 2 ∷ 0 ∷ 0 ∷ 0 ∷ 0 ∷ 0 ∷ 0 ∷ 0 ∷ 7 ∷ []
+      ≡ Told.Accepted 1 ∷ []
+  pub ping_with_ack_answered : output Server (bare Ping 3 0 7)
+      ≡ 0 ∷ 2 ∷ 0 ∷ 2 ∷ 0 ∷ 0 ∷ 0 ∷ 0 ∷ 0 ∷ 0 ∷ 0 ∷ 7 ∷ []
   pub gone_away_unanswered : output Server (bare GoAway 1 0 0) ≡ []
-  pub leaving_sent : output Server (Did (Leave 258) ∷ []) ≡ 0 ∷ 3 ∷ 0 ∷ 0 ∷ 0 ∷ 0 ∷ 0 ∷ 0 ∷ 0 ∷ 0 ∷ 1 ∷ 2 ∷ []
-  pub no_header_goes_away : output Server (Came (Garbled (1 ∷ [])) ∷ []) ≡ 0 ∷ 3 ∷ 0 ∷ 0 ∷ 0 ∷ 0 ∷ 0 ∷ 0 ∷ 0 ∷ 0 ∷ 0 ∷ 1 ∷ []
+  pub leaving_sent : output Server (Did (Act.GoAway 258) ∷ [])
+      ≡ 0 ∷ 3 ∷ 0 ∷ 0 ∷ 0 ∷ 0 ∷ 0 ∷ 0 ∷ 0 ∷ 0 ∷ 1 ∷ 2 ∷ []
+  pub no_header_goes_away : output Server (Came (Garbled (1 ∷ [])) ∷ [])
+      ≡ 0 ∷ 3 ∷ 0 ∷ 0 ∷ 0 ∷ 0 ∷ 0 ∷ 0 ∷ 0 ∷ 0 ∷ 0 ∷ 1 ∷ []
+
+-- What a flag means beside others, on Data and on WindowUpdate, and of no stream; and what goes on behind GoAway
+pub record FlagRows : Type 0 where
+  -- a SYN that is refused is measured against no window
+  pub refused_with_much_data : events Server (in_order ((Did (Act.GoAway 0) ∷ []) ∷
+      (Came (header Payload 1 1 262145) ∷ []) ∷ [])) ≡ []
+  pub refused_with_much_credit : events Server (in_order ((Did (Act.GoAway 0) ∷ []) ∷
+      (Came (header Window 1 1 4294967295) ∷ []) ∷ [])) ≡ []
+  pub refusal_of_much_data : output Server (in_order ((Did (Act.GoAway 2) ∷ []) ∷
+      (Came (header Payload 1 1 262145) ∷ []) ∷ []))
+      ≡ 0 ∷ 3 ∷ 0 ∷ 0 ∷ 0 ∷ 0 ∷ 0 ∷ 0 ∷ 0 ∷ 0 ∷ 0 ∷ 2 ∷ 0 ∷ 1 ∷ 0 ∷ 8 ∷ 0 ∷ 0 ∷ 0
+      ∷ 1 ∷ 0 ∷ 0 ∷ 0 ∷ 0 ∷ []
+  pub ended_and_opened : events Server (in_order (bare Window 1 1 0 ∷ bare Window 4 1 0 ∷
+      (Came (header Window 1 1 0) ∷ []) ∷ [])) ≡ Told.Opened 1 ∷ Told.Ended 1 ∷ Told.Fault DuplicateStream ∷ []
+  pub closed_and_opened : events Server (in_order (bare Window 1 1 0 ∷ (Did (Close 1) ∷ []) ∷
+      (Came (header Window 1 1 0) ∷ []) ∷ [])) ≡ Told.Opened 1 ∷ Told.Fault DuplicateStream ∷ []
+  pub data_of_stream_0 : events Server (Came (header Payload 0 0 5) ∷ []) ≡ []
+  pub credit_of_stream_0 : events Server (Came (header Window 0 0 5) ∷ []) ≡ []
+  pub data_of_stream_0_at_a_client : events Client (Came (header Payload 0 0 5) ∷ []) ≡ []
+  pub credit_of_stream_0_at_a_client : events Client (Came (header Window 0 0 5) ∷ []) ≡ []
+  pub data_behind_the_end_accepts_nothing : events Client (in_order ((Did (Start 1) ∷ []) ∷ bare Window 4 1 0 ∷
+      bare Payload 2 1 0 ∷ [])) ≡ Told.Ended 1 ∷ []
+  pub accepted_behind_the_end : events Client (in_order ((Did (Start 1) ∷ []) ∷ bare Window 4 1 0 ∷
+      bare Window 2 1 0 ∷ [])) ≡ Told.Ended 1 ∷ Told.Accepted 1 ∷ []
+  pub accepted_and_ended : events Client (in_order ((Did (Start 1) ∷ []) ∷ bare Window 6 1 0 ∷ []))
+      ≡ Told.Accepted 1 ∷ Told.Ended 1 ∷ []
+  pub accepted_and_reset : events Client (in_order ((Did (Start 1) ∷ []) ∷ bare Window 10 1 0 ∷ []))
+      ≡ Told.Accepted 1 ∷ Told.Reset 1 ∷ []
+  pub ended_with_credit : events Server (in_order (bare Window 1 1 0 ∷ bare Window 4 1 5 ∷ []))
+      ≡ Told.Opened 1 ∷ Told.Credit 1 ∷ Told.Ended 1 ∷ []
+  pub credit_of_the_end : credit Server (in_order (bare Window 1 1 0 ∷ bare Window 4 1 5 ∷ [])) 1 ≡ 262149
+  pub reset_with_data_behind_the_end : events Server (in_order (bare Window 1 1 0 ∷ bare Window 4 1 0 ∷
+      (Came Tail ∷ Came (Byte 7) ∷ Came (header Payload 8 1 1) ∷ []) ∷ []))
+      ≡ Told.Opened 1 ∷ Told.Ended 1 ∷ Told.Reset 1 ∷ []
+  pub reset_of_a_window_behind_the_end : events Server (in_order (bare Window 1 1 0 ∷ bare Window 4 1 0 ∷
+      bare Window 8 1 0 ∷ [])) ≡ Told.Opened 1 ∷ Told.Ended 1 ∷ Told.Reset 1 ∷ []
+  pub gone_away_on_a_stream : events Server (bare GoAway 0 5 2) ≡ Told.GoAway 2 ∷ []
+  pub gone_away_on_a_stream_counts : start_refusal Client (bare GoAway 0 5 0) ≡ Some refused.GoneAway
+  pub gone_away_with_flags : events Server (bare GoAway 15 0 2) ≡ Told.GoAway 2 ∷ []
+  pub gone_away_with_flags_counts : start_refusal Client (bare GoAway 15 0 0) ≡ Some refused.GoneAway
+  pub gone_away_twice : events Server (in_order (bare GoAway 0 0 0 ∷ bare GoAway 0 0 2 ∷ []))
+      ≡ Told.GoAway 0 ∷ Told.GoAway 2 ∷ []
+  pub ping_on_a_stream : output Server (bare Ping 1 5 7)
+      ≡ 0 ∷ 2 ∷ 0 ∷ 2 ∷ 0 ∷ 0 ∷ 0 ∷ 0 ∷ 0 ∷ 0 ∷ 0 ∷ 7 ∷ []
+  pub ping_with_every_flag : output Server (bare Ping 15 0 7)
+      ≡ 0 ∷ 2 ∷ 0 ∷ 2 ∷ 0 ∷ 0 ∷ 0 ∷ 0 ∷ 0 ∷ 0 ∷ 0 ∷ 7 ∷ []
+  pub ping_behind_leaving : output Server (in_order ((Did (Act.GoAway 0) ∷ []) ∷ bare Ping 1 0 7 ∷ []))
+      ≡ 0 ∷ 3 ∷ 0 ∷ 0 ∷ 0 ∷ 0 ∷ 0 ∷ 0 ∷ 0 ∷ 0 ∷ 0 ∷ 0 ∷ 0 ∷ 2 ∷ 0 ∷ 2 ∷ 0 ∷ 0 ∷ 0
+      ∷ 0 ∷ 0 ∷ 0 ∷ 0 ∷ 7 ∷ []
+  pub unknown_flags : events Server (bare Window 65521 1 0) ≡ Told.Opened 1 ∷ []
+  pub unknown_flags_accepted : output Server (bare Window 17 1 0)
+      ≡ 0 ∷ 1 ∷ 0 ∷ 2 ∷ 0 ∷ 0 ∷ 0 ∷ 1 ∷ 0 ∷ 0 ∷ 0 ∷ 0 ∷ []
+  pub opened_and_reset_accepted : output Server (bare Window 9 1 0)
+      ≡ 0 ∷ 1 ∷ 0 ∷ 2 ∷ 0 ∷ 0 ∷ 0 ∷ 1 ∷ 0 ∷ 0 ∷ 0 ∷ 0 ∷ []
+  pub opened_and_reset_refused : output Server (in_order ((Did (Act.GoAway 2) ∷ []) ∷ bare Window 9 1 0 ∷ []))
+      ≡ 0 ∷ 3 ∷ 0 ∷ 0 ∷ 0 ∷ 0 ∷ 0 ∷ 0 ∷ 0 ∷ 0 ∷ 0 ∷ 2 ∷ 0 ∷ 1 ∷ 0 ∷ 8 ∷ 0 ∷ 0 ∷ 0
+      ∷ 1 ∷ 0 ∷ 0 ∷ 0 ∷ 0 ∷ []

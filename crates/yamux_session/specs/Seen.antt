@@ -1,16 +1,17 @@
--- What the owner of an end knows of a stream: from the events that it was told, and from what it did itself (hashicorp yamux,
--- "Flag Field": SYN opens a stream, FIN closes one direction, RST ends both; "Flow Control").
+-- What the owner of an end knows of a stream: from the events that it was told, and from what it did itself (hashicorp
+-- yamux, "Flag Field": SYN opens a stream, FIN closes one direction, RST ends both; "Flow Control").
 use Rattle.std.specs.Prelude.{◌≡◌, ℕ, ◌==◌, ◌&&◌, ◌-◌, not, Bool, true, false, if◌then◌else◌, List, [], ◌∷◌, ◌++◌, map, length, sum_by}
 use Rattle.std.specs.List.{concat, AllByRecursion}
 use Rattle.yamux_frames.specs.Frames.{Arrival}
 use Rattle.yamux_session.specs.declared.event.Role.{Role}
-use Rattle.yamux_session.specs.Items.{Item, Act}
-use Rattle.yamux_session.specs.Items.Item.{Came, Did}
-use Rattle.yamux_session.specs.Items.Act.{Start, Write, Take, Close, Reset, Leave}
+use Rattle.yamux_session.specs.History.{Item, Act}
+use Rattle.yamux_session.specs.History.Item.{Came, Did}
+use Rattle.yamux_session.specs.History.Act.{Start, Write, Taken, Close, Reset}
 use Rattle.yamux_session.specs.Openings.{is_live, finished, closed}
 use Rattle.yamux_session.specs.Windows.{initial_window, credit, untaken}
-use Rattle.yamux_session.specs.Meaning.{Told, HasNoFault, events, inbound, written}
-use Rattle.yamux_session.specs.Meaning.Told.{Opened, Accepted, Data, Ended, WasReset, Credit, Left, Failed}
+use Rattle.yamux_session.specs.Faults.{HasNoFault}
+use Rattle.yamux_session.specs.Events.{Told, events}
+use Rattle.yamux_session.specs.Data.{inbound, written}
 
 -- a stream: whether it is live, whether this end's direction is closed and the other's has ended, and since its
 -- opening what came and what was let through
@@ -35,14 +36,14 @@ just_opened = record { live = true; closed = false; ended = false; came = []; se
 
 -- what an event says of the stream
 abbrev pub hears : ℕ → Seen → Told → Seen
-hears n s (Opened m) = if m == n then just_opened else s
-hears n s (Data m b) = if m == n then record s { came = s.came ++ b ∷ [] } else s
-hears n s (Ended m) = if m == n then record s { ended = true; live = s.live && not s.closed } else s
-hears n s (WasReset m) = if m == n then record s { live = false } else s
-hears n s (Accepted m) = s
-hears n s (Credit m) = s
-hears n s (Left code) = s
-hears n s (Failed fault) = s
+hears n s (Told.Opened m) = if m == n then just_opened else s
+hears n s (Told.Payload m b) = if m == n then record s { came = s.came ++ b ∷ [] } else s
+hears n s (Told.Ended m) = if m == n then record s { ended = true; live = s.live && not s.closed } else s
+hears n s (Told.Reset m) = if m == n then record s { live = false } else s
+hears n s (Told.Accepted m) = s
+hears n s (Told.Credit m) = s
+hears n s (Told.GoAway code) = s
+hears n s (Told.Fault fault) = s
 
 -- what events say in turn
 abbrev pub all_heard : ℕ → Seen → List Told → Seen
@@ -73,10 +74,10 @@ EventsTell = (role : Role) (past : List Item) (came : List Arrival) (told : List
 abbrev pub does : ℕ → Seen → Act → Seen
 does n s (Start m) = if m == n then just_opened else s
 does n s (Write m pieces) = if m == n then record s { sent = s.sent ++ concat pieces } else s
-does n s (Take m count) = s
+does n s (Taken m count) = s
 does n s (Close m) = if m == n then record s { closed = true; live = s.live && not s.ended } else s
 does n s (Reset m) = if m == n then record s { live = false } else s
-does n s (Leave code) = s
+does n s (Act.GoAway code) = s
 
 abbrev pub ActsDo : Type 0
 ActsDo = (role : Role) (past : List Item) (act : Act) (n : ℕ)
@@ -94,9 +95,9 @@ windows role past n = record { credit = credit role past n; untaken = untaken ro
 
 -- an event that says nothing of the stream's windows
 abbrev pub IsQuiet : ℕ → Told → Type 0
-IsQuiet n (Opened m) = (m == n) ≡ false
-IsQuiet n (Credit m) = (m == n) ≡ false
-IsQuiet n (Data m b) = (m == n) ≡ false
+IsQuiet n (Told.Opened m) = (m == n) ≡ false
+IsQuiet n (Told.Credit m) = (m == n) ≡ false
+IsQuiet n (Told.Payload m b) = (m == n) ≡ false
 IsQuiet n other = Unit {0}
 
 -- credit, and what wasn't taken, change only where an event tells it
@@ -109,10 +110,10 @@ CreditIsTold = (role : Role) (past : List Item) (came : List Arrival) (told : Li
 abbrev pub moves : ℕ → Windows → Act → Windows
 moves n w (Start m) = if m == n then record { credit = initial_window; untaken = 0 } else w
 moves n w (Write m pieces) = if m == n then record w { credit = w.credit - sum_by length pieces } else w
-moves n w (Take m count) = if m == n then record w { untaken = w.untaken - count } else w
+moves n w (Taken m count) = if m == n then record w { untaken = w.untaken - count } else w
 moves n w (Close m) = w
 moves n w (Reset m) = w
-moves n w (Leave code) = w
+moves n w (Act.GoAway code) = w
 
 abbrev pub ActsMove : Type 0
 ActsMove = (role : Role) (past : List Item) (act : Act) (n : ℕ)

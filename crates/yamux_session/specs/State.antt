@@ -4,15 +4,18 @@ use Rattle.std.specs.Prelude.{◌≡◌, ℕ, ◌≤◌, ◌-◌, ◌⊎◌, Boo
 use Rattle.std.specs.Global.{Vec}
 use Rattle.std.specs.Vec.{vec_capacity}
 use Rattle.std.specs.List.{concat}
-use Rattle.yamux_frames.specs.Frames.{Arrival, spelled, AreFrames, StandsAt, Reads}
+use Rattle.yamux_frames.specs.Frames as wire
+use Rattle.yamux_frames.specs.Frames.{Arrival, spelled, AreFrames, Reads}
 use Rattle.yamux_frames.specs.Place.{Place}
 use Rattle.yamux_session.specs.declared.event.Role.{Role}
 use Rattle.yamux_session.specs.declared.event.Fault.{Fault}
 use Rattle.yamux_session.specs.declared.event.Event.{Event}
-use Rattle.yamux_session.specs.Items.{Item, Act, arrivals}
-use Rattle.yamux_session.specs.Items.Item.{Came, Did}
-use Rattle.yamux_session.specs.Items.Act.{Write}
-use Rattle.yamux_session.specs.Meaning.{Told, HasNoFault, events, output, fault_at, TellsMore, SendsMore}
+use Rattle.yamux_session.specs.History.{Item, Act, arrivals}
+use Rattle.yamux_session.specs.History.Item.{Came, Did}
+use Rattle.yamux_session.specs.History.Act.{Write}
+use Rattle.yamux_session.specs.Faults.{HasNoFault, fault_at}
+use Rattle.yamux_session.specs.Events.{Told, events, TellsMore}
+use Rattle.yamux_session.specs.Output.{output, SendsMore}
 use Rattle.yamux_session.specs.Arrives.{Tells, tellings}
 use Rattle.yamux_session.specs.Naming.{NamesOne}
 use Rattle.yamux_session.specs.Table.{Table}
@@ -36,13 +39,14 @@ pub record Stands (role : Role) (past : List Item) (fed sent : List ℕ) (s : St
   pub going : s.failed ≡ false
   pub no_fault : HasNoFault role past
   pub answered : AreAnswered role past
-  pub frames : StandsAt fed (arrivals past) s.place
+  pub frames : wire.Stands fed (arrivals past) s.place
   pub table : Keeps role past s.table
   pub output : sent ++ s.pending ≡ output role past
 
 -- a fact of every history at which the session stands
 abbrev pub Whenever : State → (Role → List Item → Type 0) → Type 0
-Whenever s fact = (role : Role) (past : List Item) (fed sent : List ℕ) → Stands role past fed sent s → fact role past
+Whenever s fact = (role : Role) (past : List Item) (fed sent : List ℕ) → Stands role past fed sent s
+    → fact role past
 
 -- the act is added to every history at which the session stands
 abbrev pub Adds : State → State → (Role → List Item → Act) → Type 0
@@ -53,7 +57,8 @@ Adds old new act = (role : Role) (past : List Item) (fed sent : List ℕ) → St
 abbrev pub AddsWrite : State → State → ℕ → List ℕ → Type 0
 AddsWrite old new n bytes =
     (role : Role) (past : List Item) (fed sent : List ℕ) → Stands role past fed sent old
-    → (pieces : List (List ℕ)) × (concat pieces ≡ bytes) × Stands role (Did (Write n pieces) ∷ past) fed sent new
+    → (pieces : List (List ℕ)) × (concat pieces ≡ bytes)
+    × Stands role (Did (Write n pieces) ∷ past) fed sent new
 
 -- the newest item has the first fault
 abbrev pub FirstFaults : Role → List Item → Type 0
@@ -65,14 +70,15 @@ pub record EndsWith (bytes : List ℕ) (frames : List Arrival) : Type 0 where
   pub whole : bytes ≡ spelled frames
   pub frames_are : AreFrames frames
 
--- These bytes led from the list past to the list now: its events were told, its output waits, and the session goes on behind all the bytes,
--- or has failed at the first fault
-pub record Led (role : Role) (past now : List Item) (fed bytes sent : List ℕ) (told : List Told) (s : State) : Type 0 where
-  pub came : (more : List Arrival) × (now ≡ map Came more ++ past)
-  pub told_is : events role now ≡ events role past ++ told
-  pub goes_on : s.failed ≡ false → Stands role now (fed ++ bytes) sent s
-  pub fails : s.failed ≡ true → FirstFaults role now × (sent ++ s.pending ≡ output role now)
-      × ((used : ℕ) × (used ≤ length bytes) × EndsWith (fed ++ take used bytes) (arrivals now))
+-- These bytes led from the list past to the list now: its events were told, its output waits, and the session goes on
+-- behind all the bytes, or has failed at the first fault
+pub record Led (role : Role) (past now : List Item) (fed bytes sent : List ℕ) (told : List Told) (s : State) : Type 0
+  where
+    pub came : (more : List Arrival) × (now ≡ map Came more ++ past)
+    pub told_is : events role now ≡ events role past ++ told
+    pub goes_on : s.failed ≡ false → Stands role now (fed ++ bytes) sent s
+    pub fails : s.failed ≡ true → FirstFaults role now × (sent ++ s.pending ≡ output role now)
+        × ((used : ℕ) × (used ≤ length bytes) × EndsWith (fed ++ take used bytes) (arrivals now))
 
 -- what one answer of the cutter does: it leads on, and its events name one stream at most
 pub record Steps (role : Role) (past : List Item) (fed bytes sent : List ℕ) (before after : List Event) (new : State)
@@ -90,19 +96,21 @@ Feeds old bytes told new =
     → (now : List Item) × Led role past now fed bytes sent (tellings told) new
 
 -- a list that the bytes led to, and the output that it makes
-pub record HasCome (role : Role) (past : List Item) (fed bytes sent : List ℕ) (now : List Item) (pending : List ℕ) : Type 0 where
+pub record HasCome (role : Role) (past : List Item) (fed bytes sent : List ℕ) (now : List Item) (pending : List ℕ) :
+    Type 0 where
   pub came : (more : List Arrival) × (now ≡ map Came more ++ past)
   pub no_fault : HasNoFault role now
   pub read : (rest : List ℕ) × Reads (fed ++ bytes) (arrivals now) rest
   pub output : sent ++ pending ≡ output role now
 
--- what a call of feed does that runs out of memory: the output is that of the frames of a front of the bytes
+-- what a call of feed does that runs out of memory: the output is that of the frames of a prefix of the bytes
 abbrev pub RunsOut : State → List ℕ → State → Type 0
 RunsOut old bytes new =
     (role : Role) (past : List Item) (fed sent : List ℕ) → Stands role past fed sent old
-    → (used : ℕ) × (used ≤ length bytes) × (now : List Item) × HasCome role past fed (take used bytes) sent now new.pending
+    → (used : ℕ) × (used ≤ length bytes) × (now : List Item)
+    × HasCome role past fed (take used bytes) sent now new.pending
 
--- a front of the bytes makes a list with more events, or with more output
+-- a prefix of the bytes makes a list with more events, or with more output
 pub record Brings (role : Role) (past : List Item) (fed bytes : List ℕ) : Type 0 where
   pub used : ℕ
   pub within : used ≤ length bytes
@@ -113,4 +121,5 @@ pub record Brings (role : Role) (past : List Item) (fed bytes : List ℕ) : Type
 
 -- the same of every history at which the session stands
 abbrev pub BringsMore : State → List ℕ → Type 0
-BringsMore old bytes = (role : Role) (past : List Item) (fed sent : List ℕ) → Stands role past fed sent old → Brings role past fed bytes
+BringsMore old bytes = (role : Role) (past : List Item) (fed sent : List ℕ) → Stands role past fed sent old
+    → Brings role past fed bytes

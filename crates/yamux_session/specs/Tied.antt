@@ -6,9 +6,9 @@ use mathlib.Core.List.{IsPrefix}
 use Rattle.yamux_session.specs.declared.event.Role.{Role}
 use Rattle.yamux_session.specs.declared.event.Role.TheVariants.{Client, Server}
 use Rattle.yamux_session.specs.declared.event.Event.{Event}
-use Rattle.yamux_session.specs.Items.{Item, Act}
-use Rattle.yamux_session.specs.Items.Item.{Did}
-use Rattle.yamux_session.specs.Meaning.{output}
+use Rattle.yamux_session.specs.History.{Act}
+use Rattle.yamux_session.specs.History.Item.{Did}
+use Rattle.yamux_session.specs.Output.{output}
 use Rattle.yamux_session.specs.State.{State, Stands, Feeds, RunsOut}
 use Rattle.yamux_session.specs.Joined.{End, Joined}
 

@@ -4,10 +4,12 @@ ghost use Rattle.std.specs.Prelude.{◌≡◌, ℕ, ◌<◌, ◌≤◌, ◌-◌,
 ghost use Rattle.yamux_frames.specs.Frames.{bytes_left};
 ghost use Rattle.yamux_frames.specs.Frames.Arrival.{Head, Tail};
 ghost use Rattle.yamux_session.specs.declared.event.Role.{Role};
-ghost use Rattle.yamux_session.specs.Items.{Item, arrivals, came_bytes, is_go_away, fin, rst};
-ghost use Rattle.yamux_session.specs.Items.Item.{Came};
+ghost use Rattle.yamux_session.specs.History.{Item, arrivals, came_bytes, is_go_away, fin, rst};
+ghost use Rattle.yamux_session.specs.History.Item.{Came};
 ghost use Rattle.yamux_session.specs.Openings.{reading};
-ghost use Rattle.yamux_session.specs.Meaning.{answer_to, taker, tail_told, tail_events, HasNoFault, TellsMore};
+ghost use Rattle.yamux_session.specs.Faults.{HasNoFault};
+ghost use Rattle.yamux_session.specs.Events.{taker, tail_told, tail_events, TellsMore};
+ghost use Rattle.yamux_session.specs.Output.{answer_to};
 ghost use Rattle.yamux_session.specs.Acts.{AreAnswered};
 ghost use Rattle.yamux_session.specs.Keeps.{Keeps};
 ghost use Rattle.yamux_session.specs.Table.{table_of};
@@ -16,7 +18,7 @@ ghost use Rattle.yamux_session.specs.Arrives.{Arrives, Tells, Extends, HasData, 
 
 use crate::event::Event;
 use crate::heads::{Effect, HeadRefused};
-use crate::streams::{INITIAL_WINDOW, Stream, Streams};
+use crate::streams::{INITIAL_WINDOW, Row, Streams};
 use bytes::Bytes;
 use std::alloc::AllocError;
 use yamux_frames::{FrameKind, Header};
@@ -39,24 +41,24 @@ fn ends_nothing(header: Header) -> bool
 }
 
 /// Whether the tail of a frame ends its stream.
-fn ends_stream(row: Stream, header: Header) -> bool
+fn ends_stream(row: Row, header: Header) -> bool
     ensures { result ≡ (rst header || fin header && row.closed) }
 {
     header.flags & Header::RST != 0 || header.flags & Header::FIN != 0 && row.closed
 }
 
 /// The row after the tail of a frame that doesn't end its stream.
-fn finished(row: Stream, header: Header) -> Stream
+fn finished(row: Row, header: Header) -> Row
     ensures { result ≡ record row { finished = fin header || row.finished } }
 {
-    Stream {
+    Row {
         finished: header.flags & Header::FIN != 0 || row.finished,
         ..row
     }
 }
 
 /// What the tail of a frame does to a live stream.
-fn tail_effect(row: Stream, header: Header) -> TailEffect
+fn tail_effect(row: Row, header: Header) -> TailEffect
     ensures { told_of_tail result ≡ tail_told header row.finished }
 {
     if header.flags & Header::RST != 0 {
@@ -71,7 +73,8 @@ fn tail_effect(row: Stream, header: Header) -> TailEffect
 impl Streams {
     /// Bytes of a payload arrive: answers the stream that they belong to.
     pub fn arrive(&mut self, count: usize) -> Option<u32>
-        ensures keeps { (role : Role) (past : List Item) (bytes : List ℕ) → Keeps role past (table_of self.old) → length bytes ≡ count
+        ensures keeps { (role : Role) (past : List Item) (bytes : List ℕ) → Keeps role past (table_of self.old)
+            → length bytes ≡ count
             → count ≤ bytes_left (arrivals past)
             → Keeps role (came_bytes bytes past) (table_of self.new) }
         ensures taker { (role : Role) (past : List Item) → Keeps role past (table_of self.old)
@@ -95,7 +98,8 @@ impl Streams {
 
     /// The frame that is being read is whole.
     pub fn tail(&mut self) -> TailEffect
-        ensures keeps { (role : Role) (past : List Item) → AreAnswered role past → Keeps role past (table_of self.old)
+        ensures keeps { (role : Role) (past : List Item) → AreAnswered role past
+            → Keeps role past (table_of self.old)
             → Keeps role (Came Tail ∷ past) (table_of self.new) }
         ensures told { (role : Role) (past : List Item) → Keeps role past (table_of self.old)
             → told_of_tail result ≡ tail_events role past (reading role past) }
@@ -195,12 +199,14 @@ fn take_head(
     told: &mut Vec<Event>,
     header: Header,
 ) -> Result<Option<Header>, HeadRefused>
-    ensures done { IfOk result (λ answer. (role : Role) (past : List Item) (output : List ℕ) → AreAnswered role past
+    ensures done { IfOk result (λ answer. (role : Role) (past : List Item) (output : List ℕ)
+        → AreAnswered role past
         → Keeps role past (table_of streams.old)
         → Arrives role past (Came (Head header) ∷ past) (table_of streams.new)
         told.old.items told.new.items output (output ++ written_header answer)) }
     ensures refused { IfErr result (λ refused. (role : Role) (past : List Item) → AreAnswered role past
-        → Keeps role past (table_of streams.old) → IsNotTaken role past header (Came (Head header) ∷ past) refused) }
+        → Keeps role past (table_of streams.old)
+        → IsNotTaken role past header (Came (Head header) ∷ past) refused) }
     ensures told { IfErr result (λ refused. IsFaultOnly refused (told.new.items ≡ told.old.items)) }
     ensures extends { Extends told.old.items told.new.items }
 {
@@ -224,7 +230,8 @@ pub fn take_payload(
 ) -> Result<(), AllocError>
     requires some { from < to }
     requires within { to ≤ length piece.now }
-    ensures ok { OnOk result ((role : Role) (past : List Item) (output : List ℕ) → Keeps role past (table_of streams.old)
+    ensures ok { OnOk result ((role : Role) (past : List Item) (output : List ℕ)
+        → Keeps role past (table_of streams.old)
         → to - from ≤ bytes_left (arrivals past)
         → Arrives role past (came_bytes (take (to - from) (drop from piece.now)) past) (table_of streams.new)
         told.old.items told.new.items output output) }
@@ -262,11 +269,13 @@ pub fn take_frame(
     told: &mut Vec<Event>,
     header: Header,
 ) -> Result<Option<Header>, HeadRefused>
-    ensures done { IfOk result (λ answer. (role : Role) (past : List Item) (output : List ℕ) → AreAnswered role past
+    ensures done { IfOk result (λ answer. (role : Role) (past : List Item) (output : List ℕ)
+        → AreAnswered role past
         → Keeps role past (table_of streams.old)
         → Arrives role past (began header past) (table_of streams.new)
         told.old.items told.new.items output (output ++ written_header answer)) }
-    ensures refused { IfErr result (λ refused. (role : Role) (past : List Item) → HasNoFault role past → AreAnswered role past
+    ensures refused { IfErr result (λ refused. (role : Role) (past : List Item) → HasNoFault role past
+        → AreAnswered role past
         → Keeps role past (table_of streams.old) → IsNotTaken role past header (began header past) refused) }
     ensures told { IfErr result (λ refused. IsFaultOnly refused (told.new.items ≡ told.old.items)) }
     ensures extends { Extends told.old.items told.new.items }

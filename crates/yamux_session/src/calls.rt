@@ -2,7 +2,7 @@
 
 ghost use Rattle.std.specs.Prelude.{◌≡◌, ◌<◌, ℕ, List, IfOk, OnErr, Ok, Err, length};
 ghost use Rattle.yamux_session.specs.declared.event.Role.{Role};
-ghost use Rattle.yamux_session.specs.Runs.{Point, IsAt, Answers, Runs, done_or};
+ghost use Rattle.yamux_session.specs.Runs.{Point, Stands, Answers, Runs, done_or};
 
 use crate::event::{ActRefused, Event, Role};
 use crate::session::Session;
@@ -63,8 +63,8 @@ fn done(outcome: Result<(), ActRefused>) -> ActAnswer
 
 /// Makes one call.
 fn perform(session: &mut Session, act: &Act) -> ActAnswer
-    ensures { (role : Role) (point : Point) → IsAt role point session.old
-        → (next : Point) × Answers role point act.now result next × IsAt role next session.new }
+    ensures { (role : Role) (point : Point) → Stands role point session.old
+        → (next : Point) × Answers role point act.now result next × Stands role next session.new }
 {
     match act {
         Act::Feed(bytes) => match session.feed(bytes) {
@@ -86,7 +86,8 @@ fn perform(session: &mut Session, act: &Act) -> ActAnswer
     }
 }
 
-/// Makes these calls of a new session, in order. [`AllocError`] is answered only where the list of answers couldn't grow.
+/// Makes these calls of a new session, in order. [`AllocError`] is answered only where the list of answers couldn't
+/// grow.
 pub fn run(alloc: Global, role: Role, acts: &[Act]) -> Result<Ran, AllocError>
     ensures ran { IfOk result (λ ran. Runs role acts.now ran.answers.items ran.output.items) }
     ensures memory { OnErr result (0 < length acts.now) }

@@ -2,14 +2,14 @@
 
 ghost use Rattle.std.specs.Prelude.{◌≡◌, ℕ, List, Some, None, IfOk, IfErr, true, false, not, nat_lt, ◌&&◌, ◌||◌};
 ghost use Rattle.yamux_session.specs.declared.event.Role.{Role};
-ghost use Rattle.yamux_session.specs.Items.{Item, syn, ack, is_of_stream, is_data, is_update, is_own};
+ghost use Rattle.yamux_session.specs.History.{Item, syn, ack, is_of_stream, is_data, is_update, is_own};
 ghost use Rattle.yamux_session.specs.Acts.{AreAnswered};
 ghost use Rattle.yamux_session.specs.Keeps.{Keeps};
 ghost use Rattle.yamux_session.specs.Table.{table_of};
 ghost use Rattle.yamux_session.specs.Heads.{charged, row_fault, HeadDone, IsHeadRefused};
 
 use crate::event::{Fault, Role};
-use crate::streams::{OPENED, Stream, Streams, is_own_number, is_remote_number};
+use crate::streams::{OPENED, Row, Streams, is_own_number, is_remote_number};
 use yamux_frames::{FrameKind, Header};
 
 /// What the head of a frame did to its stream.
@@ -40,7 +40,7 @@ pub enum HeadRefused {
 }
 
 /// The windows after a head that belongs to their stream.
-fn charge(row: Stream, header: Header) -> Result<Stream, Fault>
+fn charge(row: Row, header: Header) -> Result<Row, Fault>
     ensures good { IfOk result (λ new. row_fault row header ≡ None) }
     ensures windows { IfOk result (λ new. new ≡ charged row header) }
     ensures fault { IfErr result (λ fault. row_fault row header ≡ Some fault) }
@@ -51,38 +51,38 @@ fn charge(row: Stream, header: Header) -> Result<Stream, Fault>
                 return Err(Fault::WindowExceeded);
             }
             let window = row.window - header.length;
-            Ok(Stream { window, ..row })
+            Ok(Row { window, ..row })
         }
         FrameKind::Window => {
             if header.length > u32::MAX - row.credit {
                 return Err(Fault::WindowTooLarge);
             }
             let credit = row.credit + header.length;
-            Ok(Stream { credit, ..row })
+            Ok(Row { credit, ..row })
         }
         FrameKind::Ping | FrameKind::GoAway => Ok(row),
     }
 }
 
 /// Whether a head without SYN is skipped with its payload: Data behind the end of the other end's direction.
-fn is_skipped(row: Stream, header: Header) -> bool
+fn is_skipped(row: Row, header: Header) -> bool
     ensures { result ≡ (is_data header.kind && row.finished) }
 {
     header.kind == FrameKind::Payload && row.finished
 }
 
 /// The row with the first ACK.
-fn acknowledged(row: Stream, header: Header) -> Stream
+fn acknowledged(row: Row, header: Header) -> Row
     ensures { result ≡ record row { accepted = ack header || row.accepted } }
 {
-    Stream {
+    Row {
         accepted: header.flags & Header::ACK != 0 || row.accepted,
         ..row
     }
 }
 
 /// Whether a head accepts a stream of this end.
-fn is_accepting(role: Role, row: Stream, header: Header) -> bool
+fn is_accepting(role: Role, row: Row, header: Header) -> bool
     ensures { result ≡ (ack header && is_own role header.stream && not row.accepted) }
 {
     header.flags & Header::ACK != 0 && is_own_number(role, header.stream) && !row.accepted
@@ -110,7 +110,7 @@ impl Streams {
             }
             FrameKind::GoAway => {
                 self.reading = None;
-                self.gone = true;
+                self.remote_go_away = true;
                 Ok(NO_EFFECT)
             }
             FrameKind::Payload | FrameKind::Window => {
@@ -129,7 +129,8 @@ impl Streams {
         requires plain { syn header ≡ false }
         ensures done { IfOk result (λ effect. (role : Role) (past : List Item) → Keeps role past (table_of self.old)
             → HeadDone role past header effect (table_of self.new)) }
-        ensures refused { IfErr result (λ refused. (role : Role) (past : List Item) → Keeps role past (table_of self.old)
+        ensures refused { IfErr result (λ refused. (role : Role) (past : List Item)
+            → Keeps role past (table_of self.old)
             → IsHeadRefused role past header refused) }
     {
         let Some(row) = self.rows.get_mut(&header.stream) else {

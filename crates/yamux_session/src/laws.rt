@@ -1,6 +1,7 @@
 //! What holds of every history of a session.
 
-ghost use Rattle.yamux_session.specs.Limits.{ExhaustedFirst, LiveLimit, RoomForOwn, RoomForTheOther, UntakenLimit};
+ghost use Rattle.yamux_session.specs.Limits.{RoomForOwn, RoomForTheOther};
+ghost use Rattle.yamux_session.specs.Limits.{ExhaustedFirst, LiveLimit, NoSecondOpening, UntakenLimit};
 ghost use Rattle.yamux_session.specs.Acts.{OneRefusal};
 ghost use Rattle.yamux_session.specs.Received.{ReceivedData, SomeSince};
 ghost use Rattle.yamux_session.specs.Seen.{ActsDo, ActsMove, CreditIsTold, EventsTell};
@@ -8,7 +9,7 @@ ghost use Rattle.yamux_session.specs.Joined.{AllBeforeTheEnd, Balance, BothGoOn,
 ghost use Rattle.yamux_session.specs.OneOutcome.{OneOutcome};
 ghost use Rattle.yamux_session.specs.Runs.{OneCall, RunIsLegal};
 ghost use Rattle.yamux_session.specs.Tied.{ActGoesOn, FeedGoesOn, WantOfMemoryStops};
-ghost use Rattle.yamux_session.specs.Rows.{AnswerRows, EndingRows, OpeningRows, WindowRows};
+ghost use Rattle.yamux_session.specs.Rows.{AnswerRows, EndingRows, FlagRows, OpeningRows, WindowRows};
 
 /// The definitions say of worked histories what the specification says.
 pub fn worked_rows()
@@ -16,6 +17,7 @@ pub fn worked_rows()
     ensures endings { EndingRows }
     ensures windows { WindowRows }
     ensures answers { AnswerRows }
+    ensures flags { FlagRows }
 {}
 
 /// At most 256 streams of each end are live.
@@ -23,11 +25,13 @@ pub fn live_limit()
     ensures { LiveLimit }
 {}
 
-/// And so many may be: while fewer are, a SYN of the other end opens a stream, and this end may open one.
+/// And so many may be: while fewer are, a SYN of the other end opens a stream, and this end may open one. A SYN for a
+/// live stream opens none, however many are live.
 pub fn room_for_more()
     ensures the_other { RoomForTheOther }
     ensures own { RoomForOwn }
     ensures exhausted { ExhaustedFirst }
+    ensures opened_once { NoSecondOpening }
 {}
 
 /// Of no stream more than a window has arrived and wasn't taken.
@@ -35,7 +39,8 @@ pub fn untaken_limit()
     ensures { UntakenLimit }
 {}
 
-/// While a session has no fault, the Payload events of a stream since its opening, joined, are the data that arrived for it.
+/// While a session has no fault, the Payload events of a stream since its opening, joined, are the data that arrived
+/// for it.
 pub fn received_data()
     ensures data { ReceivedData }
     ensures since { SomeSince }
@@ -58,33 +63,33 @@ pub fn acts_tell()
     ensures windows { ActsMove }
 {}
 
-/// Two sessions, one of each role, each fed what the other has sent, under any schedule: while a stream is live at both ends, the
-/// reader's receiving window is the writer's credit and what is on its way.
+/// Two sessions, one of each role, each fed what the other has sent, under any schedule: while a stream is live at both
+/// ends, the reader's receiving window is the writer's credit and what is on its way.
 pub fn balance()
     ensures { Balance }
 {}
 
-/// Two such sessions never meet a fault, and the data that arrived for a stream at one end is a front of what was let through for
-/// it at the other.
+/// Two such sessions never meet a fault, and the data that arrived for a stream at one end is a prefix of what was let
+/// through for it at the other.
 pub fn no_fault()
     ensures { NoFault }
 {}
 
-/// Nothing is lost between them: a stream has all that was let through while it is live and nothing is on its way, and once its end was
-/// told.
+/// Nothing is lost between them: a stream has all that was let through while it is live and nothing is on its way, and
+/// once its end was told.
 pub fn nothing_is_lost()
     ensures live { NothingIsLost }
     ensures ended { AllBeforeTheEnd }
 {}
 
-/// No stream stands still between them: while nothing is on its way, a stream that is live at both ends, of which all that came was taken
-/// and whose end hasn't come, has more than half a window of credit.
+/// No stream stands still between them: while nothing is on its way, a stream that is live at both ends, of which all
+/// that came was taken and whose end hasn't come, has more than half a window of credit.
 pub fn nothing_stands_still()
     ensures { NothingStandsStill }
 {}
 
-/// Such sessions are: whatever was done and fed so far, what was sent can be fed and what isn't refused can be done. One of them, with
-/// a byte on its way, is worked out.
+/// Such sessions are: whatever was done and fed so far, what was sent can be fed and what isn't refused can be done.
+/// One of them, with a byte on its way, is worked out.
 pub fn they_go_on()
     ensures both_go_on { BothGoOn }
     ensures some_joined { SomeJoined }
@@ -100,7 +105,8 @@ pub fn sessions_stay_joined()
     ensures memory { WantOfMemoryStops }
 {}
 
-/// The clause of a `feed` determines what it tells, but for how data is cut, whether the session has failed, and the output.
+/// The clause of a `feed` determines what it tells, but for how data is cut, whether the session has failed, and the
+/// output.
 pub fn one_outcome()
     ensures { OneOutcome }
 {}

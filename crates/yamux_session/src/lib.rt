@@ -3,14 +3,14 @@
 //! in both directions.
 //!
 //! What a session may answer is said over its history: the frames of all bytes that it was fed, and between them the
-//! acts of this end (`specs/Items.antt`). [`run`] says it of a whole session at once.
+//! acts of this end (`specs/History.antt`). [`run`] says it of a whole session at once.
 #![tactic(auto)]
 
 mod arrivals;
 mod calls;
 mod event;
 mod heads;
-mod laws;
+pub mod laws;
 mod sending;
 mod session;
 mod streams;
@@ -19,9 +19,4 @@ mod tests;
 
 pub use calls::{Act, ActAnswer, Ran, run};
 pub use event::{ActRefused, Event, Fault, Role};
-pub use laws::{
-    balance, live_limit, no_fault, nothing_is_lost, nothing_stands_still, one_call, one_outcome,
-    one_refusal, received_data, room_for_more, run_is_legal, they_go_on, untaken_limit,
-    worked_rows,
-};
 pub use session::Session;

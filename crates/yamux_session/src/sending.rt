@@ -3,7 +3,7 @@
 ghost use Rattle.std.specs.Prelude.{◌≡◌, ℕ, ◌++◌, List, IfOk, OnErr, OnOk, length, vec_len, ◌<◌, ◌≤◌, ◌+◌, ◌^◌};
 ghost use Rattle.std.specs.Vec.{vec_capacity};
 ghost use Rattle.yamux_session.specs.Acts.{Carries, frames_length};
-ghost use Rattle.yamux_session.specs.Meaning.{frame};
+ghost use Rattle.yamux_session.specs.Output.{frame};
 ghost use Rattle.yamux_session.specs.State.{room_of};
 
 use std::alloc::AllocError;

@@ -2,23 +2,23 @@
 
 ghost use Rattle.std.specs.Prelude.{◌≡◌, ◌≢◌, ℕ, ◌++◌, ◌∷◌, [], List, Some, None, Ok, Err, IfOk, IfErr, OnErr, OnOk, true, false, length, take, ◌<◌, ◌≤◌, ◌-◌, ◌↔◌, drop, min, IsTrue};
 ghost use Rattle.std.specs.List.{AllByRecursion};
-ghost use Rattle.yamux_session.specs.Items.{Item, Act};
-ghost use Rattle.yamux_session.specs.Items.Item.{Came, Did};
-ghost use Rattle.yamux_session.specs.Items.Act.{Start, Write, Take, Close, Reset, Leave};
+ghost use Rattle.yamux_session.specs.History.{Item, Act};
+ghost use Rattle.yamux_session.specs.History.Item.{Came, Did};
+ghost use Rattle.yamux_session.specs.History.Act.{Start, Write, Taken, Close, Reset};
 ghost use Rattle.yamux_session.specs.Acts.{open_credit, start_refusal, stream_refusal, direction_refusal, IsRefusedFor, frames_length};
 ghost use Rattle.yamux_session.specs.Windows.{credit, given_back, untaken};
-ghost use Rattle.yamux_session.specs.Meaning.{frame};
+ghost use Rattle.yamux_session.specs.Output.{frame};
 ghost use Rattle.yamux_frames.specs.Frames.{EndsWithin};
 ghost use Rattle.yamux_session.specs.Arrives.{Tells, HasData, Extends, added};
 ghost use Rattle.yamux_session.specs.Naming.{NamesOne};
-ghost use Rattle.yamux_session.specs.Meaning.Told.{Failed};
+ghost use Rattle.yamux_session.specs.Events.{Told};
 ghost use Rattle.yamux_session.specs.State.{Stands, Whenever, Adds, AddsWrite, Steps, Feeds, RunsOut, BringsMore, room_of};
 
 use crate::arrivals::{append_header, take_frame, take_payload, take_tail};
 use crate::event::{ActRefused, Event, Fault, Role};
 use crate::heads::HeadRefused;
 use crate::sending::{append_data, append_frame, put_frame};
-use crate::streams::{Stream, Streams};
+use crate::streams::{Row, Streams};
 use bytes::Bytes;
 use std::alloc::{AllocError, Global};
 use std::collections::BTreeMap;
@@ -71,8 +71,8 @@ impl Session {
                 remote: 0,
                 next: if role == Role::Client { 1 } else { 2 },
                 reading: None,
-                left: false,
-                gone: false,
+                local_go_away: false,
+                remote_go_away: false,
             },
             cutter: Cutter::new(),
             output: Vec::new(alloc),
@@ -188,13 +188,14 @@ impl Session {
     /// there is no window left to open, so a caller may take what it holds without asking first.
     pub fn taken(&mut self, stream: u32, count: usize) -> Result<(), ActRefused>
         ensures ok { OnOk result (Adds self.old self.new (λ role past.
-            Take stream (min count (untaken role past stream)))) }
+            Taken stream (min count (untaken role past stream)))) }
         ensures going { OnOk result (self.new.failed ≡ false) }
         ensures refused { IfErr result (λ refused.
             Whenever self.old (λ role past. IsRefusedFor (stream_refusal role past stream) refused)) }
         // Memory is asked for only where something is given back, and only where its frame finds no room.
-        ensures memory { IfErr result (λ refused. refused ≡ ActRefused.OutOfMemory → Whenever self.old (λ role past.
-            0 < given_back role stream past (Did (Take stream (min count (untaken role past stream)))))) }
+        ensures memory { IfErr result (λ refused. refused ≡ ActRefused.OutOfMemory
+            → Whenever self.old (λ role past.
+            0 < given_back role stream past (Did (Taken stream (min count (untaken role past stream)))))) }
         ensures room { IfErr result (λ refused. refused ≡ ActRefused.OutOfMemory → self.old.room < 12) }
         ensures err { OnErr result (self.new ≡ self.old) }
         ensures failed { self.old.failed ≡ true → (result ≡ Err ActRefused.Failed) × (self.new ≡ self.old) }
@@ -246,7 +247,7 @@ impl Session {
         if row.finished {
             self.streams.forget(stream);
         } else {
-            let row = Stream {
+            let row = Row {
                 closed: true,
                 ..row
             };
@@ -281,7 +282,7 @@ impl Session {
     /// Says that this end goes away: it opens no stream of the other end any more. The specification knows the codes 0
     /// (no error), 1 (protocol error) and 2 (internal error); a code above makes some peers end the session.
     pub fn go_away(&mut self, code: u32) -> Result<(), ActRefused>
-        ensures ok { OnOk result (Adds self.old self.new (λ role past. Leave code)) }
+        ensures ok { OnOk result (Adds self.old self.new (λ role past. Act.GoAway code)) }
         ensures going { OnOk result (self.new.failed ≡ false) }
         ensures refused { IfErr result (λ refused. self.old.failed ≡ false → refused ≡ ActRefused.OutOfMemory) }
         ensures memory { IfErr result (λ refused. refused ≡ ActRefused.OutOfMemory → self.old.room < 12) }
@@ -294,7 +295,7 @@ impl Session {
         if append_frame(&mut self.output, FrameKind::GoAway, 0, 0, code).is_err() {
             return Err(ActRefused::OutOfMemory);
         }
-        self.streams.left = true;
+        self.streams.local_go_away = true;
         Ok(())
     }
 
@@ -307,7 +308,8 @@ impl Session {
         ensures fed { IfOk result (λ told. Feeds self.old bytes.now told.items self.new) }
         ensures filled { IfOk result (λ told. Whenever self.old (λ role past. AllByRecursion HasData told.items)) }
         ensures refused { IfErr result (λ refused. self.old.failed ≡ false
-            → (refused ≡ ActRefused.OutOfMemory) × (self.new.failed ≡ true) × RunsOut self.old bytes.now self.new) }
+            → (refused ≡ ActRefused.OutOfMemory) × (self.new.failed ≡ true)
+            × RunsOut self.old bytes.now self.new) }
         ensures memory { OnErr result (self.old.failed ≡ false → 0 < length bytes.now) }
         ensures failed { self.old.failed ≡ true → (result ≡ Err ActRefused.Failed) × (self.new ≡ self.old) }
     {
@@ -376,7 +378,8 @@ impl Session {
         ensures nothing_left { length piece.now ≤ at → self.old.failed ≡ false
             → (result ≡ Ok 0) × (self.new ≡ self.old) × (told.new ≡ told.old) }
         ensures refused { IfErr result (λ refused. self.old.failed ≡ false
-            → (refused ≡ ActRefused.OutOfMemory) × (self.new.failed ≡ true) × (self.new.pending ≡ self.old.pending)) }
+            → (refused ≡ ActRefused.OutOfMemory) × (self.new.failed ≡ true)
+            × (self.new.pending ≡ self.old.pending)) }
         ensures untold { OnErr result (told.new.items ≡ told.old.items) }
         ensures memory { OnErr result (BringsMore self.old (drop at piece.now)) }
         ensures failed { self.old.failed ≡ true
@@ -454,7 +457,7 @@ impl Session {
           room = self.new.room;
           failed = true;
         }) }
-        ensures told { OnOk result (Tells told.old.items told.new.items (Failed fault ∷ [])) }
+        ensures told { OnOk result (Tells told.old.items told.new.items (Told.Fault fault ∷ [])) }
         ensures extends { Extends told.old.items told.new.items }
         ensures kept { OnErr result (self.new ≡ self.old) }
     {

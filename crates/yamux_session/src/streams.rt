@@ -3,10 +3,10 @@
 ghost use Rattle.std.specs.Prelude.{◌≡◌, ℕ, ◌<◌, ◌-◌, ◌+◌, List, ◌∷◌, ◌||◌, ◌&&◌, Some, None, IfOk, IfErr, OnErr, OnOk, IsSome, IfSome, IfNone, is_some, ◌==◌, ◌^◌, true, false, if◌then◌else◌, nat_lt, not};
 ghost use Rattle.std.specs.Ordering.{nat_cmp};
 ghost use Rattle.std.specs.BTreeMap as tree;
-ghost use Rattle.yamux_session.specs.Items.{Item, is_own, is_remote, is_update, syn, ack, fin, rst};
-ghost use Rattle.yamux_session.specs.Items.Item.{Came};
+ghost use Rattle.yamux_session.specs.History.{Item, is_own, is_remote, is_update, syn, ack, fin, rst};
+ghost use Rattle.yamux_session.specs.History.Item.{Came};
 ghost use Rattle.yamux_frames.specs.Frames.Arrival.{Head, Tail};
-ghost use Rattle.yamux_session.specs.Meaning.{fault_at};
+ghost use Rattle.yamux_session.specs.Faults.{fault_at};
 ghost use Rattle.yamux_session.specs.Acts.{open_credit, start_refusal, AreAnswered};
 ghost use Rattle.yamux_session.specs.Keeps.{Keeps};
 ghost use Rattle.yamux_session.specs.Table.{table_of, Rewrites, Opens};
@@ -24,7 +24,7 @@ const LIVE_LIMIT: usize = 256;
 
 /// The windows of a live stream, in bytes.
 #[derive(Clone, Copy, Debug, Drop)]
-pub struct Stream {
+pub struct Row {
     /// What may still be written.
     pub credit: u32,
     /// What the other end may still send.
@@ -42,7 +42,7 @@ pub struct Stream {
 }
 
 /// A stream that was opened just now.
-pub const OPENED: Stream = Stream {
+pub const OPENED: Row = Row {
     credit: INITIAL_WINDOW,
     window: INITIAL_WINDOW,
     owed: 0,
@@ -56,7 +56,7 @@ pub const OPENED: Stream = Stream {
 #[derive(Debug, Drop)]
 pub struct Streams {
     pub role: Role,
-    pub rows: BTreeMap<u32, Stream>,
+    pub rows: BTreeMap<u32, Row>,
     /// How many of them this end has opened.
     pub own: usize,
     /// How many of them the other end has opened.
@@ -66,9 +66,9 @@ pub struct Streams {
     /// The header of the frame that is being read, where it is for a live stream.
     pub reading: Option<Header>,
     /// This end has said that it goes away.
-    pub left: bool,
+    pub local_go_away: bool,
     /// The other end has.
-    pub gone: bool,
+    pub remote_go_away: bool,
 }
 
 /// Whether a stream of this number is opened by this end.
@@ -93,14 +93,14 @@ pub fn is_remote_number(role: Role, number: u32) -> bool
 
 impl Streams {
     /// The windows of a stream, where it is live.
-    pub fn row(&self, number: u32) -> Option<Stream>
+    pub fn row(&self, number: u32) -> Option<Row>
         ensures { result ≡ tree.get nat_cmp self.now.rows number }
     {
         self.rows.get(&number).copied()
     }
 
     /// Puts other windows of a live stream in the place of those that it has.
-    pub fn replace(&mut self, number: u32, row: Stream)
+    pub fn replace(&mut self, number: u32, row: Row)
         requires { IsSome (tree.get nat_cmp self.old.rows number) }
         ensures { Rewrites (table_of self.old) number (Some row) self.old.own self.old.remote (table_of self.new) }
     {
@@ -110,8 +110,9 @@ impl Streams {
     }
 
     /// Gives windows to a stream that becomes live.
-    pub fn add(&mut self, number: u32, row: Stream) -> Result<(), AllocError>
-        ensures ok { OnOk result (Rewrites (table_of self.old) number (Some row) self.old.own self.old.remote (table_of self.new)) }
+    pub fn add(&mut self, number: u32, row: Row) -> Result<(), AllocError>
+        ensures ok { OnOk result (Rewrites (table_of self.old) number (Some row) self.old.own self.old.remote
+            (table_of self.new)) }
         ensures err { OnErr result (table_of self.new ≡ table_of self.old) }
     {
         match self.rows.insert(number, row) {
@@ -137,18 +138,19 @@ impl Streams {
 
     /// Whether the other end may open a stream: fewer than 256 of its streams are live, and this end hasn't gone away.
     pub fn has_room(&self) -> bool
-        ensures { result ≡ (nat_lt self.now.remote 256 && not self.now.left) }
+        ensures { result ≡ (nat_lt self.now.remote 256 && not self.now.local_go_away) }
     {
-        self.remote < LIVE_LIMIT && !self.left
+        self.remote < LIVE_LIMIT && !self.local_go_away
     }
 
     /// Why this end may open no stream.
     pub fn start_refused(&self) -> Option<ActRefused>
-        ensures why { (role : Role) (past : List Item) → Keeps role past (table_of self.now) → result ≡ start_refusal role past }
+        ensures why { (role : Role) (past : List Item) → Keeps role past (table_of self.now)
+            → result ≡ start_refusal role past }
         ensures none { IfNone result (self.now.next < 2 ^ 32) }
         ensures room { IfNone result (self.now.own < 256) }
     {
-        if self.gone {
+        if self.remote_go_away {
             return Some(ActRefused::GoneAway);
         }
         if self.next > u32::MAX as u64 {
@@ -162,7 +164,8 @@ impl Streams {
 
     /// What may be written, unless the stream isn't live or is closed.
     pub fn credit(&self, number: u32) -> Option<u32>
-        ensures { (role : Role) (past : List Item) → Keeps role past (table_of self.now) → result ≡ open_credit role past number }
+        ensures { (role : Role) (past : List Item) → Keeps role past (table_of self.now)
+            → result ≡ open_credit role past number }
     {
         match self.row(number) {
             Some(row) if !row.closed => Some(row.credit),

@@ -1,6 +1,6 @@
 use Rattle.std.proofs.Common.{[], ◌∷◌, ◌++◌}
 use Rattle.yamux_frames.specs.Frames.Arrival.{Head, Tail}
-use Rattle.yamux_session.specs.Items.Item.{Came}
+use Rattle.yamux_session.specs.History.Item.{Came}
 use Rattle.yamux_session.specs.Table.{table_of}
 use Rattle.yamux_session.specs.Arrives.{written_header}
 use Rattle.yamux_session.proofs.Telling.{arrives_then, begins_whole, begins_bare}

@@ -5,7 +5,7 @@ use Rattle.yamux_session.specs.declared.calls.Act.TheVariants as act
 use Rattle.yamux_session.specs.declared.calls.ActAnswer.TheVariants.{Events, Count, Refused}
 use Rattle.yamux_session.specs.Windows.{credit}
 use Rattle.yamux_session.specs.State.{State, Feeds, RunsOut}
-use Rattle.yamux_session.specs.Runs.{Point, IsAt}
+use Rattle.yamux_session.specs.Runs.{Point, Stands}
 use Rattle.yamux_session.specs.Runs.Point.{At, Over}
 use Rattle.yamux_session.proofs.CallLemmas.{Leads, leads_as, takes, closes, resets, leaves, starts, start_refused, writes_at, write_refused, fed_at, cut_off_at}
 use Rattle.yamux_session.proofs.calls.perform.Goals as goal
@@ -45,7 +45,7 @@ returns-in-Err-open_stream c = λ role point at.
 pub returns-in-Ok-write : goal.returns-in-Ok-write
 returns-in-Ok-write c = λ role point at. go role point at
   where
-    go : (role : Role) (point : Point) → IsAt role point c.args.session.now → Leads role point c.args.act.now (Count c.in-Ok-write.count) c.write.new.self
+    go : (role : Role) (point : Point) → Stands role point c.args.session.now → Leads role point c.args.act.now (Count c.in-Ok-write.count) c.write.new.self
     go role (At past fed) at =
         leads_as role (At past fed) _ (act.Write c.in-Write.stream c.in-Write.bytes) _ _ c.write.new.self c.in-Write.is refl
         (writes_at role past fed c.in-Write.stream c.in-Write.bytes.items _ c.in-Ok-write.count c.args.session.now c.write.new.self c.deref-in-Write.ensures.value c.in-Ok-write.ensures.ok c.in-Ok-write.ensures.count at)
@@ -61,7 +61,7 @@ returns-in-Err-write c = λ role point at.
 pub returns-in-Ok : goal.returns-in-Ok
 returns-in-Ok c = λ role point at. go role point at
   where
-    go : (role : Role) (point : Point) → IsAt role point c.args.session.now → Leads role point c.args.act.now (Events c.in-Ok.told) c.feed.new.self
+    go : (role : Role) (point : Point) → Stands role point c.args.session.now → Leads role point c.args.act.now (Events c.in-Ok.told) c.feed.new.self
     go role (At past fed) at =
         leads_as role (At past fed) _ (act.Feed c.in-Feed.bytes) _ _ c.feed.new.self c.in-Feed.is refl
         (fed_at role past fed c.in-Feed.bytes.items c.in-Ok.told.items c.args.session.now c.feed.new.self c.feed.new.self.failed refl at
@@ -71,7 +71,7 @@ returns-in-Ok c = λ role point at. go role point at
 pub returns-in-Err : goal.returns-in-Err
 returns-in-Err c = λ role point at. go role point at
   where
-    go : (role : Role) (point : Point) → IsAt role point c.args.session.now → Leads role point c.args.act.now (Refused c.in-Err.refused) c.feed.new.self
+    go : (role : Role) (point : Point) → Stands role point c.args.session.now → Leads role point c.args.act.now (Refused c.in-Err.refused) c.feed.new.self
     go role (At past fed) at =
         let out = c.in-Err.ensures.refused at.going in
         let cut = cut_off_at role past fed c.in-Feed.bytes.items c.args.session.now c.feed.new.self out.1 at (subst (λ (xs : List ℕ). RunsOut c.args.session.now xs c.feed.new.self) c.deref.ensures.value out.2) in
@@ -79,4 +79,4 @@ returns-in-Err c = λ role point at. go role point at
     go role (Over out) at =
         let fails = c.feed.ensures.failed at.0 in
         let why : c.in-Err.refused ≡ refused.Failed = (let e = fails.0 in let is = c.in-Err.is in cc) in
-        (Over out, (ap Refused why, refl), subst (λ (s : State). IsAt role (Over out) s) (sym fails.1) at)
+        (Over out, (ap Refused why, refl), subst (λ (s : State). Stands role (Over out) s) (sym fails.1) at)

@@ -1,4 +1,4 @@
-use Rattle.yamux_session.proofs.Joining.{balance}
+use Rattle.yamux_session.proofs.joined.Joining.{balance}
 use Rattle.yamux_session.proofs.laws.balance.Goals as goal
 
 pub returns : goal.returns

@@ -1,4 +1,4 @@
-use Rattle.yamux_session.proofs.Joining.{no_fault}
+use Rattle.yamux_session.proofs.joined.Joining.{no_fault}
 use Rattle.yamux_session.proofs.laws.no_fault.Goals as goal
 
 pub returns : goal.returns

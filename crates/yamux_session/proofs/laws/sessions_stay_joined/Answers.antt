@@ -1,4 +1,4 @@
-use Rattle.yamux_session.proofs.Ties.{act_goes_on, feed_goes_on, want_of_memory_stops}
+use Rattle.yamux_session.proofs.joined.Ties.{act_goes_on, feed_goes_on, want_of_memory_stops}
 use Rattle.yamux_session.proofs.laws.sessions_stay_joined.Goals as goal
 
 pub returns-clause-feed : goal.returns-clause-feed

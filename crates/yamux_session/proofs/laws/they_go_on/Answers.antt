@@ -1,5 +1,5 @@
-use Rattle.yamux_session.proofs.Going.{both_go_on}
-use Rattle.yamux_session.proofs.Example.{some_joined}
+use Rattle.yamux_session.proofs.joined.Going.{both_go_on}
+use Rattle.yamux_session.proofs.joined.Example.{some_joined}
 use Rattle.yamux_session.proofs.laws.they_go_on.Goals as goal
 
 pub returns-clause-both_go_on : goal.returns-clause-both_go_on

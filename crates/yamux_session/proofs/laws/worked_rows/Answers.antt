@@ -1,4 +1,4 @@
-use Rattle.yamux_session.proofs.Rows.{opening_rows, ending_rows, window_rows, answer_rows}
+use Rattle.yamux_session.proofs.Rows.{opening_rows, ending_rows, window_rows, answer_rows, flag_rows}
 use Rattle.yamux_session.proofs.laws.worked_rows.Goals as goal
 
 pub returns-clause-openings : goal.returns-clause-openings
@@ -12,3 +12,6 @@ returns-clause-windows c = window_rows
 
 pub returns-clause-answers : goal.returns-clause-answers
 returns-clause-answers c = answer_rows
+
+pub returns-clause-flags : goal.returns-clause-flags
+returns-clause-flags c = flag_rows

@@ -1,5 +1,5 @@
 use Rattle.std.proofs.Common.{Some, true, false, not, refl, sym, ap, ◌∙◌, subst}
-use Rattle.yamux_session.specs.Items.Act.{Close}
+use Rattle.yamux_session.specs.History.Act.{Close}
 use Rattle.yamux_session.specs.Table.{table_of}
 use Rattle.yamux_session.specs.State.{State, Stands}
 use Rattle.yamux_session.proofs.Refusals.{no_direction, a_direction, on_ok, row_of}

@@ -1,7 +1,7 @@
 use Rattle.std.proofs.Common.{ℕ, ◌-◌, ◌≤◌, List, length, take}
 use Rattle.std.specs.List.{AllByRecursion}
 use Rattle.yamux_session.specs.declared.event.Role.{Role}
-use Rattle.yamux_session.specs.Items.{Item}
+use Rattle.yamux_session.specs.History.{Item}
 use Rattle.yamux_session.specs.Arrives.{tellings, HasData}
 use Rattle.yamux_session.specs.State.{Stands, Led}
 use Rattle.yamux_session.proofs.session.Session.feed_shared.Given as goal

@@ -1,5 +1,5 @@
 use Rattle.std.proofs.Common.{sym, subst}
-use Rattle.yamux_session.specs.Items.{arrivals}
+use Rattle.yamux_session.specs.History.{arrivals}
 use Rattle.yamux_session.specs.State.{State, Stands}
 use Rattle.yamux_session.proofs.session.Session.mid_frame.Goals as goal
 

@@ -1,8 +1,8 @@
 use Rattle.std.proofs.Common.{ℕ, ◌++◌, ◌∷◌, List, refl, sym, ap, ◌∙◌, subst}
-use Rattle.yamux_session.specs.Items.Item.{Did}
-use Rattle.yamux_session.specs.Items.Act.{Start}
+use Rattle.yamux_session.specs.History.Item.{Did}
+use Rattle.yamux_session.specs.History.Act.{Start}
 use Rattle.yamux_session.specs.Keeps.{Keeps}
-use Rattle.yamux_session.specs.Meaning.{frame}
+use Rattle.yamux_session.specs.Output.{frame}
 use Rattle.yamux_frames.specs.declared.header.FrameKind.TheVariants.{Window}
 use Rattle.yamux_session.specs.Table.{table_of}
 use Rattle.yamux_session.specs.State.{State, Stands}

@@ -1,5 +1,5 @@
 use Rattle.std.proofs.Common.{not, refl, sym, ap, ◌∙◌, subst}
-use Rattle.yamux_session.specs.Items.Act.{Reset}
+use Rattle.yamux_session.specs.History.Act.{Reset}
 use Rattle.yamux_session.specs.Table.{table_of}
 use Rattle.yamux_session.specs.State.{State, Stands}
 use Rattle.yamux_session.proofs.Refusals.{no_stream, a_stream, none_of, some_of, on_ok}

@@ -4,11 +4,11 @@ use Rattle.yamux_frames.specs.declared.cutter.Cut.{Cut}
 use Rattle.yamux_frames.specs.Frames.{StopsIn, EndsExactly, Uses}
 use Rattle.yamux_session.specs.declared.event.Event.{Event}
 use Rattle.yamux_session.specs.declared.heads.HeadRefused.{HeadRefused}
-use Rattle.yamux_session.specs.Meaning.{TellsMore}
-use Rattle.yamux_session.specs.Meaning.Told.{Failed}
+use Rattle.yamux_session.specs.Events.{TellsMore}
+use Rattle.yamux_session.specs.Events.{Told}
 use Rattle.yamux_session.specs.Heads.{IsNotTaken}
 use Rattle.yamux_session.specs.Arrives.{Tells, IsFaultOnly, written_header, began}
-use Rattle.yamux_session.specs.Items.{arrivals, came_bytes}
+use Rattle.yamux_session.specs.History.{arrivals, came_bytes}
 use Rattle.yamux_session.specs.Table.{table_of}
 use Rattle.yamux_session.specs.State.{State, Stands}
 use Rattle.yamux_session.proofs.Stepping.{arrives_nothing, went, rest_of, framed, fell_at_head, fell_at_garbled, frame_went, part_went, last_went, part_arrives, part_within}
@@ -37,8 +37,8 @@ returns-in-Err-Fault-clause-led c = λ role past fed sent stands.
     (subst (IsNotTaken role past c.in-Ok-default-Head.header (began c.in-Ok-default-Head.header past)) c.in-Err-Fault.field-0-is (c.in-Err-Fault.ensures.refused role past at.no_fault at.answered at.table))
     (framed fed _ _ used _ _ (arrivals past) _ c.in-Ok-default-Head.field-0-1-is rest (c.in-Ok-default-Head.ensures.frames fed (arrivals past) at.frames))
     (subst (λ (a : Cut). EndsExactly a c.feed.new.self) c.in-Ok-default-Head.field-0-1-is c.in-Ok-default-Head.ensures.exact)
-    (subst (λ (xs : List Event). Tells xs c.fail.new.told.items (Failed c.in-Err-Fault.fault ∷ [])) same
-    (subst (λ f. Tells c.take_frame.new.told.items c.fail.new.told.items (Failed f ∷ [])) c.in-Err-Fault.fault-is c.in_ok-fail-in-Err-Fault.ensures.told))
+    (subst (λ (xs : List Event). Tells xs c.fail.new.told.items (Told.Fault c.in-Err-Fault.fault ∷ [])) same
+    (subst (λ f. Tells c.take_frame.new.told.items c.fail.new.told.items (Told.Fault f ∷ [])) c.in-Err-Fault.fault-is c.in_ok-fail-in-Err-Fault.ensures.told))
     (ap (λ (s : State). s.failed) c.in_ok-fail-in-Err-Fault.ensures.failed)
     (ap (λ (s : State). s.pending) c.in_ok-fail-in-Err-Fault.ensures.failed)
 

@@ -1,6 +1,6 @@
 use Rattle.std.proofs.Common.{◌≡◌, ◌<◌, ℕ, ◌+◌, ◌-◌, ◌≤◌, ◌++◌, List, Some, not, min, refl, sym, ap, ◌∙◌, subst, arith}
-use Rattle.yamux_session.specs.Items.Act.{Take}
-use Rattle.yamux_session.specs.Items.Item.{Did}
+use Rattle.yamux_session.specs.History.Act.{Taken}
+use Rattle.yamux_session.specs.History.Item.{Did}
 use Rattle.yamux_session.specs.Windows.{given_back, given_of, untaken}
 use Rattle.yamux_session.specs.Table.{table_of}
 use Rattle.yamux_session.specs.State.{State, Stands}
@@ -32,8 +32,8 @@ returns-then-row-clause-ok c = λ role past fed sent stands.
       | goal.then-row-via-else-row+then-owed-lt-GIVE_BACK_FROM w ↦ none_few c.in-Some.row.now.finished (c.in-Some.row.now.owed + k) (let few = w.if-owed-lt-GIVE_BACK_FROM.true in omega arith)
     ] in
     as_counted role past fed sent n k _ _ size
-    (did role past fed sent (Take n k) _ _ at (a_stream role past (table_of c.self.inside.streams) n c.in-Some.row.now at.table found, omega arith)
-    (replaced role past (Take n k) n c.in-Some.row.now (record c.in-Some.row.now { owed = c.saturating_add-owed.result; untaken = c.in-Some.row.now.untaken - k }) (table_of c.self.inside.streams) _ at.table found
+    (did role past fed sent (Taken n k) _ _ at (a_stream role past (table_of c.self.inside.streams) n c.in-Some.row.now at.table found, omega arith)
+    (replaced role past (Taken n k) n c.in-Some.row.now (record c.in-Some.row.now { owed = c.saturating_add-owed.result; untaken = c.in-Some.row.now.untaken - k }) (table_of c.self.inside.streams) _ at.table found
     (rewritten c.self.inside.streams c.get_mut.follows.lender n c.in-Some.row.now (record c.in-Some.row.now { owed = c.saturating_add-owed.result; untaken = c.in-Some.row.now.untaken - k }) found c.get_mut.follows.holds)
     (taking role past n k 0 c.in-Some.row.now (record c.in-Some.row.now { owed = c.saturating_add-owed.result; untaken = c.in-Some.row.now.untaken - k }) row.1 none (omega arith) fits (omega arith) (omega arith) (omega arith) refl refl refl refl)
     (λ m. refl) (quiet _) refl refl)
@@ -62,8 +62,8 @@ returns-clause-ok c = λ role past fed sent stands.
     let many : 131072 ≤ g = c.if-owed-lt-GIVE_BACK_FROM.false in
     let all : given_of c.in-Some.row.now.finished (c.in-Some.row.now.owed + k) ≡ g = all_given c.in-Some.row.now.finished (c.in-Some.row.now.owed + k) c.if-row.false (omega arith) ∙ sym sum in
     as_counted role past fed sent n k _ _ size
-    (did role past fed sent (Take n k) _ _ at (a_stream role past (table_of c.self.inside.streams) n c.in-Some.row.now at.table found, omega arith)
-    (replaced role past (Take n k) n c.in-Some.row.now (record c.in-Some.row.now { window = c.saturating_add-row.result; owed = 0; untaken = c.in-Some.row.now.untaken - k }) (table_of c.self.inside.streams) _ at.table found
+    (did role past fed sent (Taken n k) _ _ at (a_stream role past (table_of c.self.inside.streams) n c.in-Some.row.now at.table found, omega arith)
+    (replaced role past (Taken n k) n c.in-Some.row.now (record c.in-Some.row.now { window = c.saturating_add-row.result; owed = 0; untaken = c.in-Some.row.now.untaken - k }) (table_of c.self.inside.streams) _ at.table found
     (rewritten c.self.inside.streams c.get_mut.follows.lender n c.in-Some.row.now (record c.in-Some.row.now { window = c.saturating_add-row.result; owed = 0; untaken = c.in-Some.row.now.untaken - k }) found c.get_mut.follows.holds)
     (taking role past n k g c.in-Some.row.now (record c.in-Some.row.now { window = c.saturating_add-row.result; owed = 0; untaken = c.in-Some.row.now.untaken - k }) row.1 all (omega arith) fits wide (omega arith) (omega arith) refl refl refl refl)
     (λ m. refl) (quiet _) refl refl)
@@ -87,7 +87,7 @@ returns-then-is_err-clause-memory c = λ why role past fed sent stands.
     let many : 131072 ≤ g = c.if-owed-lt-GIVE_BACK_FROM.false in
     let all : given_of c.in-Some.row.now.finished (c.in-Some.row.now.owed + k) ≡ g = all_given c.in-Some.row.now.finished (c.in-Some.row.now.owed + k) c.if-row.false (omega arith) ∙ sym sum in
     let some : 0 < g = omega arith in
-    subst (λ j. 0 < given_back role n past (Did (Take n j))) size (subst (λ t. 0 < t) (sym (giving role past n k g c.in-Some.row.now row.1 all)) some)
+    subst (λ j. 0 < given_back role n past (Did (Taken n j))) size (subst (λ t. 0 < t) (sym (giving role past n k g c.in-Some.row.now row.1 all)) some)
 
 pub returns-then-is_err-clause-err : goal.returns-then-is_err-clause-err
 returns-then-is_err-clause-err c =

@@ -1,9 +1,9 @@
 use Rattle.std.proofs.Common.{ℕ, ◌≤◌, List, length, refl, sym, subst, arith}
 use Rattle.std.specs.BTreeMap.{BTreeMap}
-use Rattle.yamux_session.specs.declared.streams.Stream.{Stream}
+use Rattle.yamux_session.specs.declared.streams.Row.{Row}
 use Rattle.yamux_session.specs.Keeps.{Keeps}
 use Rattle.yamux_frames.specs.Frames.{bytes_left}
-use Rattle.yamux_session.specs.Items.{arrivals, came_bytes}
+use Rattle.yamux_session.specs.History.{arrivals, came_bytes}
 use Rattle.yamux_session.specs.Table.{table_of}
 use Rattle.yamux_session.proofs.Written.{written, unwritten}
 use Rattle.yamux_session.proofs.Arriving.{nobody, nobody_takes, arrives_nowhere, absent_takes, absent_arrives, finished_takes, finished_arrives, live_takes, live_arrives, room_for}
@@ -18,7 +18,7 @@ returns-in_default-clause-taker c = λ role past keeps. nobody_takes role past (
 
 pub returns-in-None-clause-keeps : goal.returns-in-None-clause-keeps
 returns-in-None-clause-keeps c = λ role past bytes keeps size fits.
-    subst (λ (rows : BTreeMap ℕ Stream). Keeps role (came_bytes bytes past) (record (table_of c.args.self.now) { rows = rows.entries })) (sym c.get_mut.follows.holds-at-none)
+    subst (λ (rows : BTreeMap ℕ Row). Keeps role (came_bytes bytes past) (record (table_of c.args.self.now) { rows = rows.entries })) (sym c.get_mut.follows.holds-at-none)
     (absent_arrives role past (table_of c.args.self.now) keeps c.in-Some.header c.in-Some.is bytes (sym c.in-None.ensures.value) (omega arith))
 
 pub returns-in-None-clause-taker : goal.returns-in-None-clause-taker
@@ -27,7 +27,7 @@ returns-in-None-clause-taker c = λ role past keeps.
 
 pub returns-in-Some-get_mut-clause-keeps : goal.returns-in-Some-get_mut-clause-keeps
 returns-in-Some-get_mut-clause-keeps c = λ role past bytes keeps size fits.
-    subst (λ (rows : List (ℕ × Stream)). Keeps role (came_bytes bytes past) (record (table_of c.args.self.now) { rows = rows }))
+    subst (λ (rows : List (ℕ × Row)). Keeps role (came_bytes bytes past) (record (table_of c.args.self.now) { rows = rows }))
     (sym (unwritten c.args.self.now.rows (c.get_mut.follows.lender c.in-Some-get_mut.row.now) c.in-Some.header.stream c.in-Some-get_mut.row.now (sym c.in-Some-get_mut.ensures.value) (c.get_mut.follows.holds c.in-Some-get_mut.row.now)))
     (finished_arrives role past (table_of c.args.self.now) keeps c.in-Some.header c.in-Some.is bytes c.in-Some-get_mut.row.now (sym c.in-Some-get_mut.ensures.value) c.if-this.true (omega arith))
 
@@ -37,7 +37,7 @@ returns-in-Some-get_mut-clause-taker c = λ role past keeps.
 
 pub returns-in-Some-2-clause-keeps : goal.returns-in-Some-2-clause-keeps
 returns-in-Some-2-clause-keeps c = λ role past bytes keeps size fits.
-    let row : Stream = c.in-Some-get_mut.row.now in
+    let row : Row = c.in-Some-get_mut.row.now in
     let found = sym c.in-Some-get_mut.ensures.value in
     let fits2 : length bytes ≤ bytes_left (arrivals past) = omega arith in
     let room = room_for role past (table_of c.args.self.now) keeps c.in-Some.header c.in-Some.is (length bytes) row found c.if-this.false fits2 in

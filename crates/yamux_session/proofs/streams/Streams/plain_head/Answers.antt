@@ -1,9 +1,9 @@
 use Rattle.std.proofs.Common.{◌≡◌, ℕ, List, None, false, ◌&&◌, ◌||◌, not, ◌==◌, cond, Some, refl, sym, ap, ◌∙◌, subst}
 use Rattle.yamux_frames.specs.declared.header.Header.{Header}
 use Rattle.std.specs.BTreeMap.{BTreeMap}
-use Rattle.yamux_session.specs.declared.streams.Stream.{Stream}
+use Rattle.yamux_session.specs.declared.streams.Row.{Row}
 use Rattle.yamux_session.specs.declared.heads.Effect.{Effect}
-use Rattle.yamux_session.specs.Items.{ack, is_own}
+use Rattle.yamux_session.specs.History.{ack, is_own}
 use Rattle.yamux_session.specs.Table.{Table, table_of, row_at}
 use Rattle.yamux_session.specs.Heads.{HeadDone, charged}
 use Rattle.yamux_session.proofs.HeadLemmas.{plain_absent, plain_finished, plain_faults, plain_done, stays_there}
@@ -16,14 +16,14 @@ no_effect = record { opened = false; accepted = false; credited = false }
 
 pub returns-in_default-clause-done : goal.returns-in_default-clause-done
 returns-in_default-clause-done c = λ role past keeps.
-    subst (λ (rows : BTreeMap ℕ Stream). HeadDone role past c.args.header no_effect (record (table_of c.args.self.now) { rows = rows.entries; reading = None })) (sym c.get_mut.follows.holds-at-none)
+    subst (λ (rows : BTreeMap ℕ Row). HeadDone role past c.args.header no_effect (record (table_of c.args.self.now) { rows = rows.entries; reading = None })) (sym c.get_mut.follows.holds-at-none)
     (plain_absent role past c.args.header (table_of c.args.self.now) c.requires.kind c.requires.plain (stays_there c.args.header c.requires.kind) keeps (sym c.in_default.ensures.value))
 
 pub returns-then-is_skipped-clause-done : goal.returns-then-is_skipped-clause-done
 returns-then-is_skipped-clause-done c = λ role past keeps.
     let both = and_parts _ _ (sym c.is_skipped.ensures ∙ c.if-is_skipped.true) in
     let found = sym c.in-Some.ensures.value in
-    subst (λ (rows : List (ℕ × Stream)). HeadDone role past c.args.header no_effect (record (table_of c.args.self.now) { rows = rows; reading = Some c.args.header }))
+    subst (λ (rows : List (ℕ × Row)). HeadDone role past c.args.header no_effect (record (table_of c.args.self.now) { rows = rows; reading = Some c.args.header }))
     (sym (unwritten c.args.self.now.rows (c.get_mut.follows.lender c.in-Some.row.now) c.args.header.stream c.in-Some.row.now found (c.get_mut.follows.holds c.in-Some.row.now)))
     (plain_finished role past c.args.header c.in-Some.row.now (table_of c.args.self.now) both.0 c.requires.plain (stays_there c.args.header c.requires.kind) keeps found both.1)
 
@@ -35,14 +35,14 @@ returns-in-Err-clause-refused c = λ role past keeps.
 pub returns-clause-done : goal.returns-clause-done
 returns-clause-done c = λ role past keeps.
     let h : Header = c.args.header in
-    let row : Stream = c.in-Some.row.now in
+    let row : Row = c.in-Some.row.now in
     let found = sym c.in-Some.ensures.value in
-    let put : c.acknowledged.result ≡ record (charged row h) { accepted = ack h || row.accepted } = c.acknowledged.ensures ∙ ap (λ (r : Stream). record r { accepted = ack h || r.accepted }) c.in-Ok.ensures.windows in
+    let put : c.acknowledged.result ≡ record (charged row h) { accepted = ack h || row.accepted } = c.acknowledged.ensures ∙ ap (λ (r : Row). record r { accepted = ack h || r.accepted }) c.in-Ok.ensures.windows in
     let new : Table = record (table_of c.args.self.now) { rows = (c.get_mut.follows.lender c.acknowledged.result).entries; reading = Some h } in
     let done = plain_done role past h row (table_of c.args.self.now) new row.accepted c.requires.kind c.requires.plain (stays_there h c.requires.kind) keeps found
     (sym c.is_skipped.ensures ∙ c.if-is_skipped.false) c.in-Ok.ensures.good refl
     (λ m. written c.args.self.now.rows (c.get_mut.follows.lender c.acknowledged.result) h.stream row c.acknowledged.result found (c.get_mut.follows.holds c.acknowledged.result) m
-    ∙ ap (λ (r : Stream). cond (h.stream == m) (Some r) (row_at c.args.self.now.rows.entries m)) put) refl in
+    ∙ ap (λ (r : Row). cond (h.stream == m) (Some r) (row_at c.args.self.now.rows.entries m)) put) refl in
     subst (λ a. HeadDone role past h (record { opened = false; accepted = a; credited = c.is_crediting.result }) new)
     (ap (λ r. (ack h && is_own r h.stream) && not row.accepted) (sym keeps.role_is) ∙ sym c.is_accepting.ensures)
     (subst (λ a. HeadDone role past h (record { opened = false; accepted = (ack h && is_own role h.stream) && not row.accepted; credited = a }) new)

@@ -1,7 +1,7 @@
 use Rattle.std.proofs.Common.{◌∙◌, ◌==◌, cond, Some, refl, sym, ap}
-use Rattle.yamux_session.specs.declared.streams.Stream.{Stream}
+use Rattle.yamux_session.specs.declared.streams.Row.{Row}
 use Rattle.yamux_session.specs.Table.{table_of, row_at}
-use Rattle.yamux_session.specs.Items.{fin, rst}
+use Rattle.yamux_session.specs.History.{fin, rst}
 use Rattle.yamux_session.proofs.Lists.{neither}
 use Rattle.yamux_session.proofs.Tails.{tail_of_none, tail_plain, tail_absent, tail_forgets, tail_finished, tells_none, tells_plain, tells_absent, tells_row}
 use Rattle.yamux_session.proofs.streams.Streams.tail.Goals as goal
@@ -42,7 +42,7 @@ returns-then-ends_stream-clause-told c = λ role past keeps.
 pub returns-clause-keeps : goal.returns-clause-keeps
 returns-clause-keeps c = λ role past answered keeps.
     tail_finished role past c.in-Some.header c.in-Some-row.row (table_of c.args.self.now) _ keeps c.in-Some.is (sym c.row.ensures ∙ c.in-Some-row.is) (sym c.ends_stream.ensures ∙ c.if-ends_stream.false)
-    (λ m. c.replace.ensures.row_is m ∙ ap (λ (r : Stream). cond (c.in-Some.header.stream == m) (Some r) (row_at c.args.self.now.rows.entries m)) c.finished.ensures) c.replace.ensures.rest
+    (λ m. c.replace.ensures.row_is m ∙ ap (λ (r : Row). cond (c.in-Some.header.stream == m) (Some r) (row_at c.args.self.now.rows.entries m)) c.finished.ensures) c.replace.ensures.rest
 
 pub returns-clause-told : goal.returns-clause-told
 returns-clause-told c = λ role past keeps.

@@ -11,23 +11,24 @@ use Rattle.yamux_frames.specs.Frames.Arrival.{Head, Byte, Tail, Garbled}
 use Rattle.yamux_frames.proofs.Front.{between_none}
 use Rattle.yamux_session.specs.declared.event.Role.{Role}
 use Rattle.yamux_session.specs.declared.event.Role.TheVariants.{Client, Server}
-use Rattle.yamux_session.specs.declared.streams.Stream.{Stream}
-use Rattle.yamux_session.specs.Items.{Item, arrivals, is_data}
-use Rattle.yamux_session.specs.Items.Item.{Came, Did}
-use Rattle.yamux_session.specs.Items.Act.{Start, Write, Take, Close, Reset, Leave}
+use Rattle.yamux_session.specs.declared.streams.Row.{Row}
+use Rattle.yamux_session.specs.History.{Item, arrivals, is_data, Act}
+use Rattle.yamux_session.specs.History.Item.{Came, Did}
+use Rattle.yamux_session.specs.History.Act.{Start, Write, Taken, Close, Reset}
 use Rattle.yamux_session.specs.Openings.{is_live, opens, reading, is_reading, finished, finishes, byte_belongs}
 use Rattle.yamux_session.specs.Windows.{since_opening, data_length, arrived_length, taken_length, given_of, given_back, owed, untaken, receiving_window}
-use Rattle.yamux_session.specs.Meaning.{when, byte_at, inbound}
+use Rattle.yamux_session.specs.Events.{when}
+use Rattle.yamux_session.specs.Data.{byte_at, inbound}
 use Rattle.yamux_session.specs.Keeps.{IsRowAt}
 use Rattle.yamux_session.specs.Joined.{length_of_data, IsWritable, NothingStandsStill}
 use Rattle.yamux_session.proofs.Lists.{or_parts}
 use Rattle.yamux_session.proofs.Untaken.{small_given, row_there}
-use Rattle.yamux_session.proofs.Sent.{sent}
-use Rattle.yamux_session.proofs.Totals.{total}
-use Rattle.yamux_session.proofs.WholeFrames.{sent_frames}
-use Rattle.yamux_session.proofs.Coming.{head_at, all_data}
-use Rattle.yamux_session.proofs.Delivered.{bytes_of, delivered}
-use Rattle.yamux_session.proofs.Joining.{Linked, linked, turned, came_turn, way_is, balanced}
+use Rattle.yamux_session.proofs.joined.Sent.{sent}
+use Rattle.yamux_session.proofs.joined.Totals.{total}
+use Rattle.yamux_session.proofs.joined.WholeFrames.{sent_frames}
+use Rattle.yamux_session.proofs.joined.Coming.{head_at, all_data}
+use Rattle.yamux_session.proofs.joined.Delivered.{bytes_of, delivered}
+use Rattle.yamux_session.proofs.joined.Joining.{Linked, linked, turned, came_turn, way_is, balanced}
 
 -- ---- what arrived, and what was announced
 
@@ -91,7 +92,7 @@ taken_none false taken given rest e = omega arith
 
 taken_is : (role : Role) (past : List Item) (n : ℕ) → since_opening (taken_length n) role past n ≡ since_opening (given_back role n) role past n + owed role past n
 taken_is role [] n = refl
-taken_is role (Did (Take m count) ∷ past) n = by (m == n) (taken_is role past n)
+taken_is role (Did (Taken m count) ∷ past) n = by (m == n) (taken_is role past n)
   where
     fin : Bool
     fin = finished role past n
@@ -108,7 +109,7 @@ taken_is role (Did (Start k) ∷ past) n = let rest = taken_none (opens role pas
 taken_is role (Did (Write k pieces) ∷ past) n = let rest = taken_none false _ _ _ (taken_is role past n) in omega arith
 taken_is role (Did (Close k) ∷ past) n = let rest = taken_none false _ _ _ (taken_is role past n) in omega arith
 taken_is role (Did (Reset k) ∷ past) n = let rest = taken_none false _ _ _ (taken_is role past n) in omega arith
-taken_is role (Did (Leave code) ∷ past) n = let rest = taken_none false _ _ _ (taken_is role past n) in omega arith
+taken_is role (Did (Act.GoAway code) ∷ past) n = let rest = taken_none false _ _ _ (taken_is role past n) in omega arith
 taken_is role (Came (Head h) ∷ past) n = let rest = taken_none (opens role past (Came (Head h)) n) _ _ _ (taken_is role past n) in omega arith
 taken_is role (Came (Byte b) ∷ past) n = let rest = taken_none false _ _ _ (taken_is role past n) in omega arith
 taken_is role (Came Tail ∷ past) n = let rest = taken_none false _ _ _ (taken_is role past n) in omega arith
@@ -131,7 +132,7 @@ still_open role past x n going shut = (or_parts (finishes (reading role past) x 
 
 owed_few : (role : Role) (past : List Item) (n : ℕ) → finished role past n ≡ false → owed role past n < 131072
 owed_few role [] n going = omega arith
-owed_few role (Did (Take m count) ∷ past) n going = by (m == n) (finished role past n) going (owed_few role past n going)
+owed_few role (Did (Taken m count) ∷ past) n going = by (m == n) (finished role past n) going (owed_few role past n going)
   where
     by : (b f : Bool) → f ≡ false → owed role past n < 131072 → cond b ((owed role past n + cond b count 0) - given_of f (owed role past n + cond b count 0)) (owed role past n + cond b count 0) < 131072
     by true true going few = absurd cc
@@ -141,7 +142,7 @@ owed_few role (Did (Start k) ∷ past) n going = few_then (opens role past (Did 
 owed_few role (Did (Write k pieces) ∷ past) n going = few_then false (owed role past n) (λ shut. owed_few role past n (still_open role past (Did (Write k pieces)) n going refl))
 owed_few role (Did (Close k) ∷ past) n going = few_then false (owed role past n) (λ shut. owed_few role past n (still_open role past (Did (Close k)) n going refl))
 owed_few role (Did (Reset k) ∷ past) n going = few_then false (owed role past n) (λ shut. owed_few role past n (still_open role past (Did (Reset k)) n going refl))
-owed_few role (Did (Leave code) ∷ past) n going = few_then false (owed role past n) (λ shut. owed_few role past n (still_open role past (Did (Leave code)) n going refl))
+owed_few role (Did (Act.GoAway code) ∷ past) n going = few_then false (owed role past n) (λ shut. owed_few role past n (still_open role past (Did (Act.GoAway code)) n going refl))
 owed_few role (Came (Head h) ∷ past) n going = few_then (opens role past (Came (Head h)) n) (owed role past n) (λ shut. owed_few role past n (still_open role past (Came (Head h)) n going shut))
 owed_few role (Came (Byte b) ∷ past) n going = few_then false (owed role past n) (λ shut. owed_few role past n (still_open role past (Came (Byte b)) n going refl))
 owed_few role (Came Tail ∷ past) n going = few_then false (owed role past n) (λ shut. owed_few role past n (still_open role past (Came Tail) n going refl))
@@ -149,7 +150,7 @@ owed_few role (Came (Garbled bytes) ∷ past) n going = few_then false (owed rol
 
 -- ---- so the window is open again
 
-window_open : (role : Role) (past : List Item) (n : ℕ) (row : Option Stream) → IsRowAt role past n row → is_live role past n ≡ true → finished role past n ≡ false → untaken role past n ≡ 0
+window_open : (role : Role) (past : List Item) (n : ℕ) (row : Option Row) → IsRowAt role past n row → is_live role past n ≡ true → finished role past n ≡ false → untaken role past n ≡ 0
     → since_opening (arrived_length role n) role past n ≡ since_opening (data_length role n) role past n → 131072 < receiving_window role past n
 window_open role past n None off on going all_taken whole = absurd (let e : false ≡ true = sym off ∙ on in cc)
 window_open role past n (Some s) at on going all_taken whole =

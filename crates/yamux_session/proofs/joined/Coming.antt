@@ -8,17 +8,17 @@ use Rattle.yamux_frames.specs.Frames.{Arrival}
 use Rattle.yamux_frames.specs.Frames.Arrival.{Head, Byte, Tail, Garbled}
 use Rattle.yamux_session.specs.declared.event.Role.{Role}
 use Rattle.yamux_session.specs.declared.event.Fault.TheVariants.{WrongParity, DuplicateStream}
-use Rattle.yamux_session.specs.Items.{Item, arrivals, syn, fin, is_of_stream, is_remote, is_data, is_update}
-use Rattle.yamux_session.specs.Items.Item.{Came, Did}
-use Rattle.yamux_session.specs.Openings.{live, is_live, contains, has_left, is_let_in, opens, reading, is_for_stream, finished, finishes, tail_finishes, head_belongs}
+use Rattle.yamux_session.specs.History.{Item, arrivals, syn, fin, is_of_stream, is_remote, is_data, is_update}
+use Rattle.yamux_session.specs.History.Item.{Came, Did}
+use Rattle.yamux_session.specs.Openings.{live, is_live, contains, local_go_away, is_let_in, opens, reading, is_for_stream, finished, finishes, tail_finishes, head_belongs}
 use Rattle.yamux_session.specs.Windows.{since_opening, data_length, update_length}
-use Rattle.yamux_session.specs.Meaning.{HasNoFault, fault_at, syn_fault, window_fault, or_else}
+use Rattle.yamux_session.specs.Faults.{HasNoFault, fault_at, syn_fault, window_fault, or_else}
 use Rattle.yamux_session.specs.Joined.{length_of_data, length_of_update}
 use Rattle.yamux_session.proofs.Lists.{and_parts}
 use Rattle.yamux_session.proofs.Keeping.{and_false}
 use Rattle.yamux_session.proofs.Live.{was_or_opens}
-use Rattle.yamux_session.proofs.Totals.{total}
-use Rattle.yamux_session.proofs.InTurn.{head_of, fin_of, AreInTurn}
+use Rattle.yamux_session.proofs.joined.Totals.{total}
+use Rattle.yamux_session.proofs.joined.InTurn.{head_of, fin_of, AreInTurn}
 
 -- none of the stream's heads came before it was opened
 abbrev pub NoneBefore : Role → ℕ → List Item → Type 0
@@ -78,9 +78,9 @@ pub reading_head : (role : Role) (past : List Item) (h : Header) → reading rol
 reading_head role [] h e = absurd cc
 reading_head role (Did act ∷ past) h e = reading_head role past h e
 reading_head role (Came (Head g) ∷ past) h e =
-    let kept = kept_if (is_for_stream role (live role past) (has_left past) g) g h e in
+    let kept = kept_if (is_for_stream role (live role past) (local_go_away past) g) g h e in
     let same : g ≡ h = cc kept.0 in
-    (kept.0, ap is_of_stream (sym same) ∙ (and_parts (is_of_stream g) (cond (syn g) (is_let_in role (live role past) (has_left past) g) (contains (live role past) g.stream)) kept.1).0)
+    (kept.0, ap is_of_stream (sym same) ∙ (and_parts (is_of_stream g) (cond (syn g) (is_let_in role (live role past) (local_go_away past) g) (contains (live role past) g.stream)) kept.1).0)
 reading_head role (Came (Byte b) ∷ past) h e = reading_head role past h e
 reading_head role (Came Tail ∷ past) h e = absurd cc
 reading_head role (Came (Garbled bytes) ∷ past) h e = absurd cc
@@ -158,25 +158,25 @@ module _ (role : Role) (past : List Item) (h : Header) (n : ℕ) (good : fault_a
       by false other e =
           let f = sym (ap (λ b. or_else (cond (not b) (Some WrongParity) (cond (is_live role past h.stream) (Some DuplicateStream) None)) (cond (head_belongs role past h h.stream) (window_fault role past h) None)) other) ∙ e in cc
 
-  pub for_it : (s e : Bool) → syn h ≡ s → is_let_in role (live role past) (has_left past) h ≡ e → is_for_stream role (live role past) (has_left past) h ≡ true
+  pub for_it : (s e : Bool) → syn h ≡ s → is_let_in role (live role past) (local_go_away past) h ≡ e → is_for_stream role (live role past) (local_go_away past) h ≡ true
   for_it true true opening let_in =
-      ap (λ b. b && cond (syn h) (is_let_in role (live role past) (has_left past) h) (contains (live role past) h.stream)) kind
-      ∙ ap (λ b. cond b (is_let_in role (live role past) (has_left past) h) (contains (live role past) h.stream)) opening ∙ let_in
+      ap (λ b. b && cond (syn h) (is_let_in role (live role past) (local_go_away past) h) (contains (live role past) h.stream)) kind
+      ∙ ap (λ b. cond b (is_let_in role (live role past) (local_go_away past) h) (contains (live role past) h.stream)) opening ∙ let_in
   for_it true false opening shut =
       absurd (let none : opens role past (Came (Head h)) n ≡ false =
       ap (λ b. contains (cond ((is_of_stream h && syn h) && b) (h.stream ∷ []) []) n) shut ∙ ap (λ b. contains (cond b (h.stream ∷ []) []) n) (and_false (is_of_stream h && syn h)) in
       syn_live opening (ap (is_live role past) same ∙ was_live none))
   for_it false e plain let_in =
       let none : opens role past (Came (Head h)) n ≡ false =
-      ap (λ b. contains (cond ((is_of_stream h && b) && is_let_in role (live role past) (has_left past) h) (h.stream ∷ []) []) n) plain
-      ∙ ap (λ b. contains (cond (b && is_let_in role (live role past) (has_left past) h) (h.stream ∷ []) []) n) (and_false (is_of_stream h)) in
-      ap (λ b. b && cond (syn h) (is_let_in role (live role past) (has_left past) h) (contains (live role past) h.stream)) kind
-      ∙ ap (λ b. cond b (is_let_in role (live role past) (has_left past) h) (contains (live role past) h.stream)) plain ∙ ap (is_live role past) same ∙ was_live none
+      ap (λ b. contains (cond ((is_of_stream h && b) && is_let_in role (live role past) (local_go_away past) h) (h.stream ∷ []) []) n) plain
+      ∙ ap (λ b. contains (cond (b && is_let_in role (live role past) (local_go_away past) h) (h.stream ∷ []) []) n) (and_false (is_of_stream h)) in
+      ap (λ b. b && cond (syn h) (is_let_in role (live role past) (local_go_away past) h) (contains (live role past) h.stream)) kind
+      ∙ ap (λ b. cond b (is_let_in role (live role past) (local_go_away past) h) (contains (live role past) h.stream)) plain ∙ ap (is_live role past) same ∙ was_live none
 
   pub belongs : (is_data h.kind && finished role past n) ≡ false → head_belongs role past h n ≡ true
   belongs going =
-      ap (λ b. (b && is_for_stream role (live role past) (has_left past) h) && not ((is_data h.kind && not (syn h)) && finished role past n)) (eq-eqb h.stream n same)
-      ∙ ap (λ b. b && not ((is_data h.kind && not (syn h)) && finished role past n)) (for_it (syn h) (is_let_in role (live role past) (has_left past) h) refl refl)
+      ap (λ b. (b && is_for_stream role (live role past) (local_go_away past) h) && not ((is_data h.kind && not (syn h)) && finished role past n)) (eq-eqb h.stream n same)
+      ∙ ap (λ b. b && not ((is_data h.kind && not (syn h)) && finished role past n)) (for_it (syn h) (is_let_in role (live role past) (local_go_away past) h) refl refl)
       ∙ ap not (still (is_data h.kind) (not (syn h)) (finished role past n) going)
     where
       still : (d s f : Bool) → d && f ≡ false → (d && s) && f ≡ false
@@ -193,7 +193,7 @@ same_if false true false len on off = refl
 same_if b false k len on off = ap (λ c. cond (c && k) len 0) (off refl)
 
 belongs_to : (role : Role) (past : List Item) (h : Header) (n : ℕ) → (h.stream == n) ≡ false → head_belongs role past h n ≡ false
-belongs_to role past h n other = ap (λ b. (b && is_for_stream role (live role past) (has_left past) h) && not ((is_data h.kind && not (syn h)) && finished role past n)) other
+belongs_to role past h n other = ap (λ b. (b && is_for_stream role (live role past) (local_go_away past) h) && not ((is_data h.kind && not (syn h)) && finished role past n)) other
 
 data_kind : (k : FrameKind) → is_data k ≡ true → (is_data k || is_update k) ≡ true
 data_kind Payload e = refl

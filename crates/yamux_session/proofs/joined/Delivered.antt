@@ -1,4 +1,4 @@
--- The data that arrives for a stream is a front of what was written on it.
+-- The data that arrives for a stream is a prefix of what was written on it.
 use Rattle.std.proofs.Common.{◌≡◌, ℕ, ◌<◌, ◌≤◌, Bool, true, false, not, ◌||◌, ◌&&◌, ◌==◌, nat_lt, cond, List, [], ◌∷◌, ◌++◌, length, Option, Some, None, refl, sym, ap, ◌∙◌, subst, append_assoc, arith}
 use Rattle.std.proofs.lemmas.List.{append-nil}
 use Rattle.std.specs.List.{concat}
@@ -11,22 +11,24 @@ use Rattle.yamux_frames.specs.Spelling.{length_of}
 use Rattle.yamux_frames.specs.Frames.{Arrival, bytes_left, with_bytes, AreFrames}
 use Rattle.yamux_frames.specs.Frames.Arrival.{Head, Byte, Tail, Garbled}
 use Rattle.yamux_session.specs.declared.event.Role.{Role}
-use Rattle.yamux_session.specs.Items.{Item, arrivals, syn, is_ping, is_of_stream, is_data, is_update}
-use Rattle.yamux_session.specs.Items.Item.{Came, Did}
-use Rattle.yamux_session.specs.Items.Act.{Start, Write, Take, Close, Reset, Leave}
-use Rattle.yamux_session.specs.Openings.{live, is_live, contains, has_left, is_let_in, opens, reading, is_reading, finished, closed, byte_belongs}
+use Rattle.yamux_session.specs.History.{Item, arrivals, syn, is_ping, is_of_stream, is_data, is_update, Act}
+use Rattle.yamux_session.specs.History.Item.{Came, Did}
+use Rattle.yamux_session.specs.History.Act.{Start, Write, Taken, Close, Reset}
+use Rattle.yamux_session.specs.Openings.{live, is_live, contains, local_go_away, is_let_in, opens, reading, is_reading, finished, closed, byte_belongs}
 use Rattle.yamux_session.specs.Windows.{given_back}
 use Rattle.yamux_session.specs.Acts.{AreAnswered}
-use Rattle.yamux_session.specs.Meaning.{HasNoFault, when, inbound, byte_at, written_by, written}
+use Rattle.yamux_session.specs.Faults.{HasNoFault}
+use Rattle.yamux_session.specs.Events.{when}
+use Rattle.yamux_session.specs.Data.{inbound, byte_at, written_by, written}
 use Rattle.yamux_session.proofs.Lists.{either_way, and_parts}
 use Rattle.yamux_session.proofs.Live.{past_answered, was_or_opens}
 use Rattle.yamux_session.proofs.Keeping.{quiet}
 use Rattle.yamux_session.proofs.Untaken.{live_unless}
-use Rattle.yamux_session.proofs.Sent.{header, bare, data_on, sent_on, sent}
-use Rattle.yamux_session.proofs.Totals.{total, all_time}
-use Rattle.yamux_session.proofs.Once.{openings, never_live}
-use Rattle.yamux_session.proofs.InTurn.{head_of, fin_of, AreInTurn}
-use Rattle.yamux_session.proofs.Coming.{NoneBefore, head_at, reading_head, for_it, finished_came}
+use Rattle.yamux_session.proofs.joined.Sent.{header, bare, data_on, sent_on, sent}
+use Rattle.yamux_session.proofs.joined.Totals.{total, all_time}
+use Rattle.yamux_session.proofs.joined.Once.{openings, never_live}
+use Rattle.yamux_session.proofs.joined.InTurn.{head_of, fin_of, AreInTurn}
+use Rattle.yamux_session.proofs.joined.Coming.{NoneBefore, head_at, reading_head, for_it, finished_came}
 
 -- the bytes of Data of the stream n
 abbrev pub bytes_of : ℕ → List Arrival → List ℕ
@@ -77,12 +79,12 @@ bytes_on n role past (Came Tail) xs = sym (append-nil (bytes_of n xs))
 bytes_on n role past (Came (Garbled bytes)) xs = sym (append-nil (bytes_of n xs))
 bytes_on n role past (Did (Start k)) xs = sym (append-nil (bytes_of n xs))
 bytes_on n role past (Did (Write k pieces)) xs = data_bytes n k pieces xs
-bytes_on n role past (Did (Take k count)) xs =
-    let amount : ℕ = given_back role k past (Did (Take k count)) in
+bytes_on n role past (Did (Taken k count)) xs =
+    let amount : ℕ = given_back role k past (Did (Taken k count)) in
     same_bytes n (nat_lt 0 amount) (bare Window 0 k amount xs) xs xs refl refl ∙ sym (append-nil (bytes_of n xs))
 bytes_on n role past (Did (Close k)) xs = sym (append-nil (bytes_of n xs))
 bytes_on n role past (Did (Reset k)) xs = sym (append-nil (bytes_of n xs))
-bytes_on n role past (Did (Leave code)) xs = sym (append-nil (bytes_of n xs))
+bytes_on n role past (Did (Act.GoAway code)) xs = sym (append-nil (bytes_of n xs))
 
 -- nothing is written on a stream that was never opened
 none_written : (role : Role) (past : List Item) (x : Item) (n : ℕ) → AreAnswered role (x ∷ past) → is_live role past n ≡ false → written_by n x ≡ []
@@ -94,10 +96,10 @@ none_written role past (Did (Write k pieces)) n answered off = by (k == n) refl
         let e : true ≡ false = sym on ∙ ap (is_live role past) (eqb-true k n is) ∙ off in cc)
     by false is = ap (λ b. cond b (concat pieces) []) is
 none_written role past (Did (Start k)) n answered off = refl
-none_written role past (Did (Take k count)) n answered off = refl
+none_written role past (Did (Taken k count)) n answered off = refl
 none_written role past (Did (Close k)) n answered off = refl
 none_written role past (Did (Reset k)) n answered off = refl
-none_written role past (Did (Leave code)) n answered off = refl
+none_written role past (Did (Act.GoAway code)) n answered off = refl
 none_written role past (Came x) n answered off = refl
 
 never_sent : (role : Role) (past : List Item) (n : ℕ) → AreAnswered role past → all_time (openings role n) past ≡ 0 → bytes_of n (sent role past) ≡ []
@@ -121,7 +123,7 @@ sent_written role (x ∷ past) n answered once =
     bytes_on n role past x (sent role past)
     ∙ ap (λ (t : List ℕ). t ++ written_by n x) (sent_once role past x n (opens role past x n) refl once before (sent_written role past n before (omega arith)))
 
--- ---- what has come is a front of it
+-- ---- what has come is a prefix of it
 
 pub prefix_on : (xs ys zs : List ℕ) → IsPrefix xs ys → IsPrefix xs (ys ++ zs)
 prefix_on xs ys zs p = (p.0 ++ zs, sym (append_assoc xs p.0 zs) ∙ ap (λ (t : List ℕ). t ++ zs) p.1)
@@ -170,7 +172,7 @@ reads_for role (Did act ∷ past) n good none now some is =
     reads_for role past n good.1 none.1 (not_before role past (Did act) n (is_live role past n) refl none now some is) some is
 reads_for role (Came (Head h) ∷ past) n good none now some is =
     ap (λ b. is_reading (cond b (Some h) None) n)
-    (for_it role past h n good.0 now (eqb-true h.stream n is) (payload_kind h.kind h.length some) (syn h) (is_let_in role (live role past) (has_left past) h) refl refl) ∙ is
+    (for_it role past h n good.0 now (eqb-true h.stream n is) (payload_kind h.kind h.length some) (syn h) (is_let_in role (live role past) (local_go_away past) h) refl refl) ∙ is
 reads_for role (Came (Byte b) ∷ past) n good none now some is =
     reads_for role past n good.1 none.1 (sym (ap (λ ns. contains ns n) (quiet (live role past))) ∙ now) (omega arith) is
 reads_for role (Came Tail ∷ past) n good none now some is = absurd (omega arith)
@@ -200,9 +202,9 @@ data_open n (Byte b ∷ xs) turn some is = let rest = data_open n xs turn.1 (ome
 data_open n (Tail ∷ xs) turn some is = absurd (omega arith)
 data_open n (Garbled bytes ∷ xs) turn some is = absurd (omega arith)
 
--- what arrived for a stream is a front of its data that came, and all of it while it is live
+-- what arrived for a stream is a prefix of its data that came, and all of it while it is live
 pub record IsDelivered (role : Role) (n : ℕ) (past : List Item) : Type 0 where
-  pub front : IsPrefix (inbound role past n) (bytes_of n (arrivals past))
+  pub prefix : IsPrefix (inbound role past n) (bytes_of n (arrivals past))
   pub whole : is_live role past n ≡ true → inbound role past n ≡ bytes_of n (arrivals past)
 
 prefix_all : (xs ys : List ℕ) → xs ≡ ys → IsPrefix xs ys
@@ -217,12 +219,12 @@ byte_in role past b n true is good none turn some before =
     let same : inbound role past n ++ when (byte_belongs role past n) b ≡ bytes_of n (arrivals past) ++ cond (is_reading (head_at (arrivals past)) n) (b ∷ []) [] =
     ap (λ (t : List ℕ). t ++ when (byte_belongs role past n) b) (before.whole both.1)
     ∙ ap (λ c. bytes_of n (arrivals past) ++ when c b) is ∙ ap (λ c. bytes_of n (arrivals past) ++ cond c (b ∷ []) []) (sym head) in
-    record { front = prefix_all _ _ same; whole = λ on. same }
+    record { prefix = prefix_all _ _ same; whole = λ on. same }
 byte_in role past b n false is good none turn some before =
     let same : inbound role past n ++ when (byte_belongs role past n) b ≡ inbound role past n = ap (λ c. inbound role past n ++ when c b) is ∙ append-nil (inbound role past n) in
     record {
-      front = subst (λ (t : List ℕ). IsPrefix t (bytes_of n (arrivals past) ++ cond (is_reading (head_at (arrivals past)) n) (b ∷ []) [])) (sym same)
-          (prefix_on (inbound role past n) (bytes_of n (arrivals past)) (cond (is_reading (head_at (arrivals past)) n) (b ∷ []) []) before.front);
+      prefix = subst (λ (t : List ℕ). IsPrefix t (bytes_of n (arrivals past) ++ cond (is_reading (head_at (arrivals past)) n) (b ∷ []) [])) (sym same)
+          (prefix_on (inbound role past n) (bytes_of n (arrivals past)) (cond (is_reading (head_at (arrivals past)) n) (b ∷ []) []) before.prefix);
       whole = λ on.
           let was : is_live role past n ≡ true = sym (ap (λ ns. contains ns n) (quiet (live role past))) ∙ on in
           same ∙ before.whole was ∙ sym (append-nil (bytes_of n (arrivals past)))
@@ -243,12 +245,12 @@ other_in role past x n true l is was no_byte same none frames before =
     let empty : cond (opens role past x n) [] (inbound role past n) ++ byte_at role past x n ≡ [] =
     ap (λ (t : List ℕ). cond (opens role past x n) [] (inbound role past n) ++ t) no_byte ∙ append-nil (cond (opens role past x n) [] (inbound role past n)) ∙ ap (λ b. cond b [] (inbound role past n)) is in
     let zero : bytes_of n (arrivals (x ∷ past)) ≡ [] = same ∙ no_bytes n (arrivals past) frames (none.0 is) in
-    record { front = prefix_all _ _ (empty ∙ sym zero); whole = λ on. empty ∙ sym zero }
+    record { prefix = prefix_all _ _ (empty ∙ sym zero); whole = λ on. empty ∙ sym zero }
 other_in role past x n false l is was no_byte same none frames before =
     let kept : cond (opens role past x n) [] (inbound role past n) ++ byte_at role past x n ≡ inbound role past n =
     ap (λ (t : List ℕ). cond (opens role past x n) [] (inbound role past n) ++ t) no_byte ∙ append-nil (cond (opens role past x n) [] (inbound role past n)) ∙ ap (λ b. cond b [] (inbound role past n)) is in
     record {
-      front = subst (λ (t : List ℕ). IsPrefix t (bytes_of n (arrivals (x ∷ past)))) (sym kept) (subst (λ (t : List ℕ). IsPrefix (inbound role past n) t) (sym same) before.front);
+      prefix = subst (λ (t : List ℕ). IsPrefix t (bytes_of n (arrivals (x ∷ past)))) (sym kept) (subst (λ (t : List ℕ). IsPrefix (inbound role past n) t) (sym same) before.prefix);
       whole = λ on. kept ∙ before.whole (still_on l was on) ∙ sym same;
     }
   where
@@ -257,7 +259,7 @@ other_in role past x n false l is was no_byte same none frames before =
     still_on false was on = absurd (let e : true ≡ false = sym (was_or_opens role x past n on was) ∙ is in cc)
 
 pub delivered : (role : Role) (past : List Item) (n : ℕ) → HasNoFault role past → NoneBefore role n past → AreFrames (arrivals past) → AreInTurn (arrivals past) → IsDelivered role n past
-delivered role [] n good none frames turn = record { front = ([], refl); whole = λ on. refl }
+delivered role [] n good none frames turn = record { prefix = ([], refl); whole = λ on. refl }
 delivered role (Came (Byte b) ∷ past) n good none frames turn =
     byte_in role past b n (byte_belongs role past n) refl good.1 none.1 turn.1 frames.0 (delivered role past n good.1 none.1 frames.1 turn.1)
 delivered role (Came (Head h) ∷ past) n good none frames turn =

@@ -10,33 +10,35 @@ use Rattle.yamux_frames.specs.declared.header.FrameKind.{FrameKind}
 use Rattle.yamux_frames.specs.declared.header.FrameKind.TheVariants.{Payload, Window, Ping, GoAway}
 use Rattle.yamux_frames.specs.Frames.{Arrival, spelling, spelled, IsBetween, IsRest, IsSound, AreFrames, Reads}
 use Rattle.yamux_frames.specs.Frames.Arrival.{Head, Byte, Tail, Garbled}
-use Rattle.yamux_frames.proofs.Front as fronts
+use Rattle.yamux_frames.proofs.Front as prefixes
 use Rattle.yamux_frames.proofs.Readings.{one_reading}
 use Rattle.yamux_session.specs.declared.event.Role.{Role}
 use Rattle.yamux_session.specs.declared.event.Role.TheVariants.{Client, Server}
 use Rattle.yamux_session.specs.declared.event.Fault.{Fault}
 use Rattle.yamux_session.specs.declared.event.Fault.TheVariants.{WrongParity, DuplicateStream, WindowExceeded, WindowTooLarge}
-use Rattle.yamux_session.specs.Items.{Item, Act, arrivals, syn, is_of_stream, is_own, is_remote, is_data, is_update}
-use Rattle.yamux_session.specs.Items.Item.{Came, Did}
-use Rattle.yamux_session.specs.Items.Act.{Start, Write, Take, Close, Reset, Leave}
-use Rattle.yamux_session.specs.Openings.{live, is_live, contains, has_left, is_let_in, opens, head_belongs}
+use Rattle.yamux_session.specs.History.{Item, Act, arrivals, syn, is_of_stream, is_own, is_remote, is_data, is_update}
+use Rattle.yamux_session.specs.History.Item.{Came, Did}
+use Rattle.yamux_session.specs.History.Act.{Start, Write, Taken, Close, Reset}
+use Rattle.yamux_session.specs.Openings.{live, is_live, contains, local_go_away, is_let_in, opens, head_belongs}
 use Rattle.yamux_session.specs.Windows.{initial_window, since_opening, written_length, given_back, credit, receiving_window}
 use Rattle.yamux_session.specs.Acts.{AreAnswered, IsAnswered}
-use Rattle.yamux_session.specs.Meaning.{HasNoFault, inbound, written, output, fault_at, syn_fault, window_fault, window_at, credit_at, or_else}
+use Rattle.yamux_session.specs.Faults.{HasNoFault, fault_at, syn_fault, window_fault, window_at, credit_at, or_else}
+use Rattle.yamux_session.specs.Data.{inbound, written}
+use Rattle.yamux_session.specs.Output.{output}
 use Rattle.yamux_session.specs.Joined.{End, IsFed, IsDone, Joined, NoFault, length_of_data, length_of_update, IsOnTheWay, IsBalanced, Balance, IsWhole, NothingIsLost}
 use Rattle.yamux_session.specs.Joined.Joined.{Begin, Client_fed, Server_fed, Client_acts, Server_acts}
 use Rattle.yamux_session.proofs.Keeping.{and_false}
 use Rattle.yamux_session.proofs.Lists.{either_way, and_parts}
 use Rattle.yamux_session.proofs.Live.{not_both, own_next, let_in_at, or_none_true}
-use Rattle.yamux_session.proofs.Sent.{sent, sent_on, sent_spelled, sent_behind}
-use Rattle.yamux_session.proofs.Totals.{total, total_both, all_time, syn_of, starts, data_sent, update_sent, syn_sent}
-use Rattle.yamux_session.proofs.Once.{openings, never_live, written_once, given_once, data_came, update_came, windows_hold, starts_once, started_below, none_unless, own_openings, other_openings}
-use Rattle.yamux_session.proofs.InTurn.{head_of, AreInTurn, older_turn, sent_turn, other_silent}
-use Rattle.yamux_session.proofs.Coming.{NoneBefore, all_data, all_updates}
-use Rattle.yamux_session.proofs.Delivered.{bytes_of, older_bytes, sent_written, delivered}
-use Rattle.yamux_session.proofs.WholeFrames.{IsSent, sent_frames, sent_one}
+use Rattle.yamux_session.proofs.joined.Sent.{sent, sent_on, sent_spelled, sent_behind}
+use Rattle.yamux_session.proofs.joined.Totals.{total, total_both, all_time, syn_of, starts, data_sent, update_sent, syn_sent}
+use Rattle.yamux_session.proofs.joined.Once.{openings, never_live, written_once, given_once, data_came, update_came, windows_hold, starts_once, started_below, none_unless, own_openings, other_openings}
+use Rattle.yamux_session.proofs.joined.InTurn.{head_of, AreInTurn, older_turn, sent_turn, other_silent}
+use Rattle.yamux_session.proofs.joined.Coming.{NoneBefore, all_data, all_updates}
+use Rattle.yamux_session.proofs.joined.Delivered.{bytes_of, older_bytes, sent_written, delivered}
+use Rattle.yamux_session.proofs.joined.WholeFrames.{IsSent, sent_frames, sent_one}
 
--- each end has read a front of the frames that the other has sent
+-- each end has read a prefix of the frames that the other has sent
 pub record Linked (p q : Role) (far near : List Item) : Type 0 where
   pub q_remote : (n : ℕ) → is_remote q n ≡ is_own p n
   pub p_remote : (n : ℕ) → is_remote p n ≡ is_own q n
@@ -229,8 +231,8 @@ module _ (p q : Role) (far near : List Item) (l : Linked p q far near) where
   came_first : (newer : List Arrival) (x : Arrival) (n : ℕ) → ((n : ℕ) → all_time (openings p n) far ≤ 1) → sent p far ≡ newer ++ x ∷ arrivals near
       → opens q near (Came x) n ≡ true → total (head_of n) (arrivals near) ≡ 0
   came_first newer (Head h) n p_once split is =
-      let lets = opening (is_of_stream h && syn h) (is_let_in q (live q near) (has_left near) h) is in
-      let same : h.stream ≡ n = (let_in_at q near h n (is_of_stream h && syn h && is_let_in q (live q near) (has_left near) h) refl is).0 in
+      let lets = opening (is_of_stream h && syn h) (is_let_in q (live q near) (local_go_away near) h) is in
+      let same : h.stream ≡ n = (let_in_at q near h n (is_of_stream h && syn h && is_let_in q (live q near) (local_go_away near) h) refl is).0 in
       let turn = older_turn newer (Head h ∷ arrivals near) (subst AreInTurn split (sent_turn p far l.p_answered l.p_good p_once)) in
       subst (λ m. total (head_of m) (arrivals near) ≡ 0) same (turn.0.0 lets)
     where
@@ -255,10 +257,10 @@ module _ (p q : Role) (far near : List Item) (l : Linked p q far near) where
       not_own true mine own = absurd (not_both q n own (l.q_remote n ∙ mine))
       not_own false mine own = mine
   started_first (Write k pieces) n answered is = absurd cc
-  started_first (Take k count) n answered is = absurd cc
+  started_first (Taken k count) n answered is = absurd cc
   started_first (Close k) n answered is = absurd cc
   started_first (Reset k) n answered is = absurd cc
-  started_first (Leave code) n answered is = absurd cc
+  started_first (Act.GoAway code) n answered is = absurd cc
 
   -- ---- one step
 
@@ -304,7 +306,7 @@ reads_all : (p q : Role) (far near : List Item) (came : List Arrival) (newer : L
 reads_all p q far near [] newer l split frames = l
 reads_all p q far near (x ∷ came) newer l split frames =
     let now : List Item = map Came came ++ near in
-    let before = reads_all p q far near came (newer ++ x ∷ []) l (split ∙ sym (append_assoc newer (x ∷ []) (arrivals now))) (fronts.past_frames x (arrivals now) frames) in
+    let before = reads_all p q far near came (newer ++ x ∷ []) l (split ∙ sym (append_assoc newer (x ∷ []) (arrivals now))) (prefixes.past_frames x (arrivals now) frames) in
     reads p q far now before newer x (opened_once p q far now before) split frames
 
 between_sound : (past : List Arrival) → IsBetween past → IsSound past
@@ -319,20 +321,20 @@ nothing_garbled : (p : Role) (far : List Item) (some : List Arrival) (rest : Lis
     → spelled (sent p far) ≡ spelled some ++ rest → IsSound some
 nothing_garbled p far (Garbled bytes ∷ past) rest answered frames between some e =
     let whole = e ∙ append_assoc (spelled past) bytes rest in
-    let before = fronts.front (sent p far) past (bytes ++ rest) frames between some.2 (between_sound past some.0) whole in
-    elim (fronts.oldest_of before.0) [
+    let before = prefixes.prefix (sent p far) past (bytes ++ rest) frames between some.2 (between_sound past some.0) whole in
+    elim (prefixes.oldest_of before.0) [
       | inl none ↦
           let same : sent p far ≡ past = before.1 ∙ ap (λ (t : List Arrival). t ++ past) none in
           let size : length (spelled past) ≡ length (spelled past ++ (bytes ++ rest)) = ap length (sym (ap spelled same) ∙ whole) in
-          let twelve = fronts.twelve bytes some.1.0 some.1.1 in
+          let twelve = prefixes.twelve bytes some.1.0 some.1.1 in
           absurd (omega (arith, length-append (spelled past) (bytes ++ rest), length-append bytes rest))
       | inr more ↦
           let w : List Arrival = more.newer in
           let y : Arrival = more.oldest in
           let split : sent p far ≡ w ++ (y ∷ past) = before.1 ∙ ap (λ (t : List Arrival). t ++ past) more.whole ∙ append_assoc w (y ∷ []) past in
-          let same : Garbled bytes ≡ y = fronts.same_next (Garbled bytes) y past rest (spelled w) some (fronts.older_frames w (y ∷ past) (subst AreFrames split frames))
+          let same : Garbled bytes ≡ y = prefixes.same_next (Garbled bytes) y past rest (spelled w) some (prefixes.older_frames w (y ∷ past) (subst AreFrames split frames))
           (append_cancel_left (spelled past) (bytes ++ rest) (spelling y ++ spelled w)
-          (sym whole ∙ ap spelled split ∙ fronts.spelled_both w (y ∷ past) ∙ append_assoc (spelled past) (spelling y) (spelled w))) in
+          (sym whole ∙ ap spelled split ∙ prefixes.spelled_both w (y ∷ past) ∙ append_assoc (spelled past) (spelling y) (spelled w))) in
           absurd (subst (IsSent p) (sym same) (sent_one p far w y past answered split))
     ]
 nothing_garbled p far [] rest answered frames between some e = tt
@@ -348,7 +350,7 @@ fed_linked p q from old new byte l fed =
     let bytes : spelled (sent p far) ≡ spelled (arrivals new.items) ++ (fed.read.0 ++ fed.sent.0) =
     sent_spelled p far l.p_good ∙ sym fed.sent.1 ∙ ap (λ (t : List ℕ). t ++ fed.sent.0) reading.whole ∙ append_assoc (spelled (arrivals new.items)) fed.read.0 fed.sent.0 in
     let sound = nothing_garbled p far (arrivals new.items) (fed.read.0 ++ fed.sent.0) l.p_answered whole.0 whole.1 reading.frames_are bytes in
-    let way = fronts.front (sent p far) (arrivals new.items) (fed.read.0 ++ fed.sent.0) whole.0 whole.1 reading.frames_are sound bytes in
+    let way = prefixes.prefix (sent p far) (arrivals new.items) (fed.read.0 ++ fed.sent.0) whole.0 whole.1 reading.frames_are sound bytes in
     subst (Linked p q far) (sym fed.came.1)
     (reads_all p q far old.items fed.came.0 way.0 l (way.1 ∙ ap (λ (xs : List Item). way.0 ++ arrivals xs) fed.came.1) (subst (λ (xs : List Item). AreFrames (arrivals xs)) fed.came.1 reading.frames_are))
 
@@ -388,7 +390,7 @@ came_turn p q far near l = older_turn l.way.0 (arrivals near) (subst AreInTurn l
 
 front_of_written : (p q : Role) (far near : List Item) → Linked p q far near → (n : ℕ) → IsPrefix (inbound q near n) (written p far n)
 front_of_written p q far near l n =
-    let came = (delivered q near n l.q_good (l.q_none n) l.q_frames (came_turn p q far near l)).front in
+    let came = (delivered q near n l.q_good (l.q_none n) l.q_frames (came_turn p q far near l)).prefix in
     let older = older_bytes n l.way.0 (arrivals near) in
     let same : bytes_of n (l.way.0 ++ arrivals near) ≡ written p far n = ap (bytes_of n) (sym l.way.1) ∙ sent_written p far n l.p_answered (opened_once p q far near l n) in
     prefix_then (inbound q near n) (bytes_of n (arrivals near)) (written p far n) came (subst (IsPrefix (bytes_of n (arrivals near))) same older)

@@ -8,15 +8,15 @@ use Rattle.yamux_frames.specs.declared.header.FrameKind.TheVariants.{Payload, Wi
 use Rattle.yamux_frames.specs.Frames.{Arrival, with_bytes}
 use Rattle.yamux_frames.specs.Frames.Arrival.{Head, Byte, Tail, Garbled}
 use Rattle.yamux_session.specs.declared.event.Role.{Role}
-use Rattle.yamux_session.specs.Items.{Item, syn, is_ping, is_of_stream}
-use Rattle.yamux_session.specs.Items.Item.{Came, Did}
-use Rattle.yamux_session.specs.Items.Act.{Start, Write, Take, Close, Reset, Leave}
+use Rattle.yamux_session.specs.History.{Item, syn, is_ping, is_of_stream, Act}
+use Rattle.yamux_session.specs.History.Item.{Came, Did}
+use Rattle.yamux_session.specs.History.Act.{Start, Write, Taken, Close, Reset}
 use Rattle.yamux_session.specs.Openings.{opens}
 use Rattle.yamux_session.specs.Windows.{given_back, written_length}
 use Rattle.yamux_session.specs.Joined.{length_of_data, length_of_update}
 use Rattle.yamux_session.proofs.Lists.{either_way}
 use Rattle.yamux_session.proofs.Keeping.{and_true, and_false}
-use Rattle.yamux_session.proofs.Sent.{header, bare, data_on, answer_on, sent_on, sent}
+use Rattle.yamux_session.proofs.joined.Sent.{header, bare, data_on, answer_on, sent_on, sent}
 
 -- the sum over a list of frames, and over the items of a session
 abbrev pub total : (Arrival → ℕ) → List Arrival → ℕ
@@ -121,12 +121,12 @@ data_sent_on n role past (Came Tail) xs = omega arith
 data_sent_on n role past (Came (Garbled bytes)) xs = omega arith
 data_sent_on n role past (Did (Start k)) xs = let e = no_data n 1 k 0 in omega arith
 data_sent_on n role past (Did (Write k pieces)) xs = data_by n k (k == n) refl pieces xs
-data_sent_on n role past (Did (Take k count)) xs =
-    let amount : ℕ = given_back role k past (Did (Take k count)) in
+data_sent_on n role past (Did (Taken k count)) xs =
+    let amount : ℕ = given_back role k past (Did (Taken k count)) in
     let e = same_total (length_of_data n) (nat_lt 0 amount) (bare Window 0 k amount xs) xs xs (let none = no_data n 0 k amount in omega arith) refl in omega arith
 data_sent_on n role past (Did (Close k)) xs = let e = no_data n 4 k 0 in omega arith
 data_sent_on n role past (Did (Reset k)) xs = let e = no_data n 8 k 0 in omega arith
-data_sent_on n role past (Did (Leave code)) xs = let e : length_of_data n (Head (header GoAway 0 0 code)) ≡ 0 = ap (λ b. cond b code 0) (and_false (0 == n)) in omega arith
+data_sent_on n role past (Did (Act.GoAway code)) xs = let e : length_of_data n (Head (header GoAway 0 0 code)) ≡ 0 = ap (λ b. cond b code 0) (and_false (0 == n)) in omega arith
 
 pub data_sent : (n : ℕ) (role : Role) (past : List Item) → total (length_of_data n) (sent role past) ≡ all_time (written_length n) past
 data_sent n role [] = refl
@@ -151,13 +151,13 @@ update_sent_on n role past (Came (Garbled bytes)) xs = omega arith
 update_sent_on n role past (Did (Start k)) xs = let e = no_update n 1 k in omega arith
 update_sent_on n role past (Did (Write k pieces)) xs =
     let e = data_else (length_of_update n) k (λ b. refl) refl (λ len. ap (λ b. cond b len 0) (and_false (k == n))) pieces xs in omega arith
-update_sent_on n role past (Did (Take k count)) xs =
-    take_update n k (given_back role k past (Did (Take k count))) (given_back role n past (Did (Take k count))) (k == n) xs refl
-    (λ same. ap (λ m. given_back role m past (Did (Take k count))) (sym (eqb-true k n same)))
+update_sent_on n role past (Did (Taken k count)) xs =
+    take_update n k (given_back role k past (Did (Taken k count))) (given_back role n past (Did (Taken k count))) (k == n) xs refl
+    (λ same. ap (λ m. given_back role m past (Did (Taken k count))) (sym (eqb-true k n same)))
     (λ other. ap (λ b. cond b (Rattle.yamux_session.specs.Windows.given_of (Rattle.yamux_session.specs.Openings.finished role past n) (Rattle.yamux_session.specs.Windows.owed role past n + count)) 0) other)
 update_sent_on n role past (Did (Close k)) xs = let e = no_update n 4 k in omega arith
 update_sent_on n role past (Did (Reset k)) xs = let e = no_update n 8 k in omega arith
-update_sent_on n role past (Did (Leave code)) xs = let e : length_of_update n (Head (header GoAway 0 0 code)) ≡ 0 = ap (λ b. cond b code 0) (and_false (0 == n)) in omega arith
+update_sent_on n role past (Did (Act.GoAway code)) xs = let e : length_of_update n (Head (header GoAway 0 0 code)) ≡ 0 = ap (λ b. cond b code 0) (and_false (0 == n)) in omega arith
 
 pub update_sent : (n : ℕ) (role : Role) (past : List Item) → total (length_of_update n) (sent role past) ≡ all_time (given_back role n) past
 update_sent n role [] = refl
@@ -174,12 +174,12 @@ syn_sent_on n role past (Came (Garbled bytes)) xs = omega arith
 syn_sent_on n role past (Did (Start k)) xs = let e : syn_of n (Head (header Window 1 k 0)) ≡ cond (k == n) 1 0 = ap (λ b. cond b 1 0) (and_true (k == n)) in omega arith
 syn_sent_on n role past (Did (Write k pieces)) xs =
     let e = data_else (syn_of n) k (λ b. refl) refl (λ len. ap (λ b. cond b 1 0) (and_false (k == n))) pieces xs in omega arith
-syn_sent_on n role past (Did (Take k count)) xs =
-    let amount : ℕ = given_back role k past (Did (Take k count)) in
+syn_sent_on n role past (Did (Taken k count)) xs =
+    let amount : ℕ = given_back role k past (Did (Taken k count)) in
     let e = same_total (syn_of n) (nat_lt 0 amount) (bare Window 0 k amount xs) xs xs (let none : syn_of n (Head (header Window 0 k amount)) ≡ 0 = ap (λ b. cond b 1 0) (and_false (k == n)) in omega arith) refl in omega arith
 syn_sent_on n role past (Did (Close k)) xs = let e = syn_none n 4 k refl in omega arith
 syn_sent_on n role past (Did (Reset k)) xs = let e = syn_none n 8 k refl in omega arith
-syn_sent_on n role past (Did (Leave code)) xs = let e : syn_of n (Head (header GoAway 0 0 code)) ≡ 0 = ap (λ b. cond b 1 0) (and_false (0 == n)) in omega arith
+syn_sent_on n role past (Did (Act.GoAway code)) xs = let e : syn_of n (Head (header GoAway 0 0 code)) ≡ 0 = ap (λ b. cond b 1 0) (and_false (0 == n)) in omega arith
 
 pub syn_sent : (n : ℕ) (role : Role) (past : List Item) → total (syn_of n) (sent role past) ≡ all_time (starts n) past
 syn_sent n role [] = refl

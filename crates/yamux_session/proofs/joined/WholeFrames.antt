@@ -10,18 +10,18 @@ use Rattle.yamux_frames.specs.Frames.{Arrival, bytes_left, with_bytes, IsBetween
 use Rattle.yamux_frames.specs.Frames.Arrival.{Head, Byte, Tail, Garbled}
 use Rattle.yamux_session.specs.declared.event.Role.{Role}
 use Rattle.yamux_session.specs.declared.event.ActRefused.TheVariants.{GoneAway, StreamsExhausted, StreamsFull}
-use Rattle.yamux_session.specs.declared.streams.Stream.{Stream}
-use Rattle.yamux_session.specs.Items.{Item, arrivals, syn, is_ping, is_of_stream, is_own, is_data}
-use Rattle.yamux_session.specs.Items.Item.{Came, Did}
-use Rattle.yamux_session.specs.Items.Act.{Start, Write, Take, Close, Reset, Leave}
-use Rattle.yamux_session.specs.Openings.{live, is_live, has_left, is_let_in, opens, finished, closed}
+use Rattle.yamux_session.specs.declared.streams.Row.{Row}
+use Rattle.yamux_session.specs.History.{Item, arrivals, syn, is_ping, is_of_stream, is_own, is_data, Act}
+use Rattle.yamux_session.specs.History.Item.{Came, Did}
+use Rattle.yamux_session.specs.History.Act.{Start, Write, Taken, Close, Reset}
+use Rattle.yamux_session.specs.Openings.{live, is_live, local_go_away, is_let_in, opens, finished, closed}
 use Rattle.yamux_session.specs.Windows.{given_back, given_of, owed}
-use Rattle.yamux_session.specs.Acts.{AreAnswered, IsAnswered, IsPiece, next_own, other_left, own_count}
-use Rattle.yamux_session.specs.Meaning.{HasNoFault}
+use Rattle.yamux_session.specs.Acts.{AreAnswered, IsAnswered, IsPiece, next_own, remote_go_away, own_count}
+use Rattle.yamux_session.specs.Faults.{HasNoFault}
 use Rattle.yamux_session.specs.Keeps.{IsRowAt}
 use Rattle.yamux_session.proofs.Live.{past_answered, let_in_at, was_or_opens, own_next, or_none_true}
 use Rattle.yamux_session.proofs.Untaken.{row_there, frames_before, live_unless, live_if, small_given, untaken_limit}
-use Rattle.yamux_session.proofs.Sent.{header, bare, data_on, sent_on, sent}
+use Rattle.yamux_session.proofs.joined.Sent.{header, bare, data_on, sent_on, sent}
 
 -- ---- the numbers of live streams
 
@@ -32,18 +32,18 @@ first_small false false c e = refl
 
 start_small : (role : Role) (past : List Item) (k : ℕ) → IsAnswered role past (Start k) → k < 4294967296
 start_small role past k can =
-    let room = ltb-false 4294967295 (next_own role past) (first_small (other_left past) (nat_lt 4294967295 (next_own role past)) (nat_lt 255 (own_count role past)) can.0) in
+    let room = ltb-false 4294967295 (next_own role past) (first_small (remote_go_away past) (nat_lt 4294967295 (next_own role past)) (nat_lt 255 (own_count role past)) can.0) in
     let next = can.1 in omega arith
 
 opened_small : (role : Role) (past : List Item) (x : Item) (n : ℕ) → AreAnswered role (x ∷ past) → AreFrames (arrivals (x ∷ past)) → opens role past x n ≡ true → n < 4294967296
 opened_small role past (Did (Start k)) n answered frames is = let e = eqb-true k n (or_none_true (k == n) is) in let small = start_small role past k answered.0 in omega arith
 opened_small role past (Did (Write k pieces)) n answered frames is = absurd cc
-opened_small role past (Did (Take k count)) n answered frames is = absurd cc
+opened_small role past (Did (Taken k count)) n answered frames is = absurd cc
 opened_small role past (Did (Close k)) n answered frames is = absurd cc
 opened_small role past (Did (Reset k)) n answered frames is = absurd cc
-opened_small role past (Did (Leave code)) n answered frames is = absurd cc
+opened_small role past (Did (Act.GoAway code)) n answered frames is = absurd cc
 opened_small role past (Came (Head h)) n answered frames is =
-    let e = (let_in_at role past h n (is_of_stream h && syn h && is_let_in role (live role past) (has_left past) h) refl is).0 in
+    let e = (let_in_at role past h n (is_of_stream h && syn h && is_let_in role (live role past) (local_go_away past) h) refl is).0 in
     let small = frames.1.stream in omega arith
 opened_small role past (Came (Byte b)) n answered frames is = absurd cc
 opened_small role past (Came Tail) n answered frames is = absurd cc
@@ -60,12 +60,12 @@ live_small role (x ∷ past) n answered frames on =
     small_at role past x n (is_live role past n) refl answered frames on (live_small role past n (past_answered role x past answered) (frames_before x past frames))
 
 -- what is given back
-owed_small : (role : Role) (past : List Item) (n : ℕ) (row : Option Stream) → IsRowAt role past n row → is_live role past n ≡ true → owed role past n ≤ 262144
+owed_small : (role : Role) (past : List Item) (n : ℕ) (row : Option Row) → IsRowAt role past n row → is_live role past n ≡ true → owed role past n ≤ 262144
 owed_small role past n None off on = absurd (let e : true ≡ false = sym on ∙ off in cc)
 owed_small role past n (Some s) at on = let bound = at.1.bound in let e = at.1.owed_is in omega arith
 
-given_small : (role : Role) (past : List Item) (n count : ℕ) → AreAnswered role past → HasNoFault role past → AreFrames (arrivals past) → IsAnswered role past (Take n count)
-    → given_back role n past (Did (Take n count)) < 4294967296
+given_small : (role : Role) (past : List Item) (n count : ℕ) → AreAnswered role past → HasNoFault role past → AreFrames (arrivals past) → IsAnswered role past (Taken n count)
+    → given_back role n past (Did (Taken n count)) < 4294967296
 given_small role past n count answered good frames can =
     let on : is_live role past n ≡ true = live_if (is_live role past n) can.0 in
     let row = row_there role past n answered good frames in
@@ -129,15 +129,15 @@ sent_on_whole role past (Came (Garbled bytes)) xs answered good frames whole = w
 sent_on_whole role past (Did (Start k)) xs answered good frames whole = bare_whole Window 1 k 0 xs refl (omega arith) (start_small role past k answered.0) (omega arith) whole
 sent_on_whole role past (Did (Write k pieces)) xs answered good frames whole =
     data_whole k pieces xs (live_small role past k answered.1 frames (live_unless (is_live role past k) (closed role past k) answered.0.0)) answered.0.1 whole
-sent_on_whole role past (Did (Take k count)) xs answered good frames whole =
-    let amount : ℕ = given_back role k past (Did (Take k count)) in
+sent_on_whole role past (Did (Taken k count)) xs answered good frames whole =
+    let amount : ℕ = given_back role k past (Did (Taken k count)) in
     if_whole (nat_lt 0 amount) _ xs
     (bare_whole Window 0 k amount xs refl (omega arith) (live_small role past k answered.1 frames (live_if (is_live role past k) answered.0.0)) (given_small role past k count answered.1 good.1 frames answered.0) whole) whole
 sent_on_whole role past (Did (Close k)) xs answered good frames whole =
     bare_whole Window 4 k 0 xs refl (omega arith) (live_small role past k answered.1 frames (live_unless (is_live role past k) (closed role past k) answered.0)) (omega arith) whole
 sent_on_whole role past (Did (Reset k)) xs answered good frames whole =
     bare_whole Window 8 k 0 xs refl (omega arith) (live_small role past k answered.1 frames (live_if (is_live role past k) answered.0)) (omega arith) whole
-sent_on_whole role past (Did (Leave code)) xs answered good frames whole = bare_whole GoAway 0 0 code xs refl (omega arith) (omega arith) answered.0 whole
+sent_on_whole role past (Did (Act.GoAway code)) xs answered good frames whole = bare_whole GoAway 0 0 code xs refl (omega arith) (omega arith) answered.0 whole
 
 sent_whole : (role : Role) (past : List Item) → AreAnswered role past → HasNoFault role past → AreFrames (arrivals past) → AreWhole (sent role past)
 sent_whole role [] answered good frames = record { frames = tt; between = tt }
@@ -190,12 +190,12 @@ sent_on_are role past (Came Tail) xs answered are = are
 sent_on_are role past (Came (Garbled bytes)) xs answered are = are
 sent_on_are role past (Did (Start k)) xs answered are = (tt, ((λ on. (ap (is_own role) answered.0.1 ∙ own_next role past answered.1, refl, refl)), are))
 sent_on_are role past (Did (Write k pieces)) xs answered are = data_sent role k pieces xs are
-sent_on_are role past (Did (Take k count)) xs answered are =
-    let amount : ℕ = given_back role k past (Did (Take k count)) in
+sent_on_are role past (Did (Taken k count)) xs answered are =
+    let amount : ℕ = given_back role k past (Did (Taken k count)) in
     if_sent role (nat_lt 0 amount) _ xs (bare_sent role Window 0 k amount xs refl are) are
 sent_on_are role past (Did (Close k)) xs answered are = bare_sent role Window 4 k 0 xs refl are
 sent_on_are role past (Did (Reset k)) xs answered are = bare_sent role Window 8 k 0 xs refl are
-sent_on_are role past (Did (Leave code)) xs answered are = bare_sent role GoAway 0 0 code xs refl are
+sent_on_are role past (Did (Act.GoAway code)) xs answered are = bare_sent role GoAway 0 0 code xs refl are
 
 sent_are : (role : Role) (past : List Item) → AreAnswered role past → AreSent role (sent role past)
 sent_are role [] answered = tt

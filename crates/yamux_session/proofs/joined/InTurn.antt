@@ -9,20 +9,20 @@ use Rattle.yamux_frames.specs.Frames.Arrival.{Head, Byte, Tail, Garbled}
 use Rattle.yamux_session.specs.declared.event.Role.{Role}
 use Rattle.yamux_session.specs.declared.event.ActRefused.TheVariants.{NoStream, Ended}
 use Rattle.yamux_session.specs.declared.event.Fault.TheVariants.{WrongParity, DuplicateStream}
-use Rattle.yamux_session.specs.Items.{Item, arrivals, syn, fin, is_ping, is_of_stream, is_own, is_remote, is_data, is_update}
-use Rattle.yamux_session.specs.Items.Item.{Came, Did}
-use Rattle.yamux_session.specs.Items.Act.{Start, Write, Take, Close, Reset, Leave}
+use Rattle.yamux_session.specs.History.{Item, arrivals, syn, fin, is_ping, is_of_stream, is_own, is_remote, is_data, is_update, Act}
+use Rattle.yamux_session.specs.History.Item.{Came, Did}
+use Rattle.yamux_session.specs.History.Act.{Start, Write, Taken, Close, Reset}
 use Rattle.yamux_session.specs.Openings.{is_live, opens, closes, closed, head_belongs}
 use Rattle.yamux_session.specs.Windows.{given_back}
 use Rattle.yamux_session.specs.Acts.{AreAnswered}
-use Rattle.yamux_session.specs.Meaning.{HasNoFault, fault_at, syn_fault, window_fault, or_else}
+use Rattle.yamux_session.specs.Faults.{HasNoFault, fault_at, syn_fault, window_fault, or_else}
 use Rattle.yamux_session.proofs.Lists.{and_parts, or_parts}
 use Rattle.yamux_session.proofs.Keeping.{and_true, and_false}
 use Rattle.yamux_session.proofs.Live.{past_answered, was_or_opens, not_both, own_next}
 use Rattle.yamux_session.proofs.Untaken.{live_unless, live_if}
-use Rattle.yamux_session.proofs.Sent.{header, bare, data_on, answer_on, sent_on, sent}
-use Rattle.yamux_session.proofs.Totals.{total, all_time, syn_of, starts, bytes_total, data_else, same_total}
-use Rattle.yamux_session.proofs.Once.{openings, IsOfLive, never_live, never_any, own_openings, other_openings, started_below, none_unless, no_one}
+use Rattle.yamux_session.proofs.joined.Sent.{header, bare, data_on, answer_on, sent_on, sent}
+use Rattle.yamux_session.proofs.joined.Totals.{total, all_time, syn_of, starts, bytes_total, data_else, same_total}
+use Rattle.yamux_session.proofs.joined.Once.{openings, IsOfLive, never_live, never_any, own_openings, other_openings, started_below, none_unless, no_one}
 
 -- a head for the stream n
 abbrev pub head_of : ℕ → Arrival → ℕ
@@ -81,12 +81,12 @@ silent role past (Came (Garbled bytes)) n xs answered off shut = refl
 silent role past (Did (Start k)) n xs answered off shut = bare_off n k 1 0 xs shut
 silent role past (Did (Write k pieces)) n xs answered off shut =
     data_heads n k pieces xs (apart_if role past n k (k == n) refl (live_unless (is_live role past k) (closed role past k) answered.0.0) off)
-silent role past (Did (Take k count)) n xs answered off shut =
-    let amount : ℕ = given_back role k past (Did (Take k count)) in
+silent role past (Did (Taken k count)) n xs answered off shut =
+    let amount : ℕ = given_back role k past (Did (Taken k count)) in
     same_total (head_of n) (nat_lt 0 amount) (bare Window 0 k amount xs) xs xs (bare_off n k 0 amount xs (apart_if role past n k (k == n) refl (live_if (is_live role past k) answered.0.0) off)) refl
 silent role past (Did (Close k)) n xs answered off shut = bare_off n k 4 0 xs (apart_if role past n k (k == n) refl (live_unless (is_live role past k) (closed role past k) answered.0) off)
 silent role past (Did (Reset k)) n xs answered off shut = bare_off n k 8 0 xs (apart_if role past n k (k == n) refl (live_if (is_live role past k) answered.0) off)
-silent role past (Did (Leave code)) n xs answered off shut = let none : head_of n (Head (header GoAway 0 0 code)) ≡ 0 = ap (λ b. cond b 1 0) (and_false (0 == n)) in omega arith
+silent role past (Did (Act.GoAway code)) n xs answered off shut = let none : head_of n (Head (header GoAway 0 0 code)) ≡ 0 = ap (λ b. cond b 1 0) (and_false (0 == n)) in omega arith
 
 -- ---- a session is silent on its own stream before its start, and on another's before the SYN
 
@@ -114,10 +114,10 @@ own_shut role past (Came Tail) n good own none = tt
 own_shut role past (Came (Garbled bytes)) n good own none = tt
 own_shut role past (Did (Start k)) n good own none = no_one (k == n) none
 own_shut role past (Did (Write k pieces)) n good own none = tt
-own_shut role past (Did (Take k count)) n good own none = tt
+own_shut role past (Did (Taken k count)) n good own none = tt
 own_shut role past (Did (Close k)) n good own none = tt
 own_shut role past (Did (Reset k)) n good own none = tt
-own_shut role past (Did (Leave code)) n good own none = tt
+own_shut role past (Did (Act.GoAway code)) n good own none = tt
 
 pub own_silent : (role : Role) (past : List Item) (n : ℕ) → AreAnswered role past → HasNoFault role past → is_own role n ≡ true → all_time (starts n) past ≡ 0 → total (head_of n) (sent role past) ≡ 0
 own_silent role [] n answered good own none = refl
@@ -141,10 +141,10 @@ other_shut role past (Did (Start k)) n answered other none = by (k == n) refl
         let e : true ≡ false = sym own ∙ ap (is_own role) (eqb-true k n is) ∙ other in cc)
     by false is = is
 other_shut role past (Did (Write k pieces)) n answered other none = tt
-other_shut role past (Did (Take k count)) n answered other none = tt
+other_shut role past (Did (Taken k count)) n answered other none = tt
 other_shut role past (Did (Close k)) n answered other none = tt
 other_shut role past (Did (Reset k)) n answered other none = tt
-other_shut role past (Did (Leave code)) n answered other none = tt
+other_shut role past (Did (Act.GoAway code)) n answered other none = tt
 
 syn_grows : (n : ℕ) (x : Item) (past : List Item) → total (syn_of n) (arrivals past) ≤ total (syn_of n) (arrivals (x ∷ past))
 syn_grows n (Came x) past = omega arith
@@ -189,9 +189,9 @@ closed_of_live : (role : Role) (n : ℕ) → IsOfLive role n (closings n)
 closed_of_live role n past (Did (Close k)) answered off = ap (λ b. cond b 1 0) (apart_if role past n k (k == n) refl (live_unless (is_live role past k) (closed role past k) answered.0) off)
 closed_of_live role n past (Did (Start k)) answered off = refl
 closed_of_live role n past (Did (Write k pieces)) answered off = refl
-closed_of_live role n past (Did (Take k count)) answered off = refl
+closed_of_live role n past (Did (Taken k count)) answered off = refl
 closed_of_live role n past (Did (Reset k)) answered off = refl
-closed_of_live role n past (Did (Leave code)) answered off = refl
+closed_of_live role n past (Did (Act.GoAway code)) answered off = refl
 closed_of_live role n past (Came x) answered off = refl
 
 no_fin : (n k flags len : ℕ) (kind : FrameKind) → (is_of_stream (header kind flags k len) && fin (header kind flags k len)) ≡ false → fin_of n (Head (header kind flags k len)) ≡ 0
@@ -213,12 +213,12 @@ fins_on n role past (Came Tail) xs = omega arith
 fins_on n role past (Came (Garbled bytes)) xs = omega arith
 fins_on n role past (Did (Start k)) xs = let none = no_fin n k 1 0 Window refl in omega arith
 fins_on n role past (Did (Write k pieces)) xs = let e = data_else (fin_of n) k (λ b. refl) refl (λ len. no_fin n k 0 len Payload (and_false true)) pieces xs in omega arith
-fins_on n role past (Did (Take k count)) xs =
-    let amount : ℕ = given_back role k past (Did (Take k count)) in
+fins_on n role past (Did (Taken k count)) xs =
+    let amount : ℕ = given_back role k past (Did (Taken k count)) in
     let e = same_total (fin_of n) (nat_lt 0 amount) (bare Window 0 k amount xs) xs xs (let none = no_fin n k 0 amount Window refl in omega arith) refl in omega arith
 fins_on n role past (Did (Close k)) xs = let one : fin_of n (Head (header Window 4 k 0)) ≡ cond (k == n) 1 0 = ap (λ b. cond b 1 0) (and_true (k == n)) in omega arith
 fins_on n role past (Did (Reset k)) xs = let none = no_fin n k 8 0 Window refl in omega arith
-fins_on n role past (Did (Leave code)) xs = let none = no_fin n 0 0 code GoAway refl in omega arith
+fins_on n role past (Did (Act.GoAway code)) xs = let none = no_fin n 0 0 code GoAway refl in omega arith
 
 fins_sent : (n : ℕ) (role : Role) (past : List Item) → total (fin_of n) (sent role past) ≡ all_time (closings n) past
 fins_sent n role [] = refl
@@ -237,9 +237,9 @@ open_at role past x n true l is was answered once on shut before =
     opening_closes (Did (Close k)) is = absurd cc
     opening_closes (Did (Start k)) is = refl
     opening_closes (Did (Write k pieces)) is = refl
-    opening_closes (Did (Take k count)) is = refl
+    opening_closes (Did (Taken k count)) is = refl
     opening_closes (Did (Reset k)) is = refl
-    opening_closes (Did (Leave code)) is = refl
+    opening_closes (Did (Act.GoAway code)) is = refl
     opening_closes (Came y) is = refl
 open_at role past x n false false is was answered once on shut before = absurd (let e : true ≡ false = sym (was_or_opens role x past n on was) ∙ is in cc)
 open_at role past x n false true is was answered once on shut before =
@@ -302,12 +302,12 @@ turn_on role past (Did (Write k pieces)) answered good once are =
     not_closed true true e = absurd cc
     not_closed true false e = refl
     not_closed false c e = absurd cc
-turn_on role past (Did (Take k count)) answered good once are =
-    let amount : ℕ = given_back role k past (Did (Take k count)) in
+turn_on role past (Did (Taken k count)) answered good once are =
+    let amount : ℕ = given_back role k past (Did (Taken k count)) in
     if_turn (nat_lt 0 amount) (bare Window 0 k amount (sent role past)) (sent role past) (bare_turn Window 0 k amount (sent role past) ((λ e. absurd cc), (λ e. absurd cc)) are) are
 turn_on role past (Did (Close k)) answered good once are = bare_turn Window 4 k 0 (sent role past) ((λ e. absurd cc), (λ e. absurd cc)) are
 turn_on role past (Did (Reset k)) answered good once are = bare_turn Window 8 k 0 (sent role past) ((λ e. absurd cc), (λ e. absurd cc)) are
-turn_on role past (Did (Leave code)) answered good once are = bare_turn GoAway 0 0 code (sent role past) ((λ e. absurd cc), (λ e. absurd cc)) are
+turn_on role past (Did (Act.GoAway code)) answered good once are = bare_turn GoAway 0 0 code (sent role past) ((λ e. absurd cc), (λ e. absurd cc)) are
 
 pub sent_turn : (role : Role) (past : List Item) → AreAnswered role past → HasNoFault role past → ((n : ℕ) → all_time (openings role n) past ≤ 1) → AreInTurn (sent role past)
 sent_turn role [] answered good once = tt

@@ -1,23 +1,24 @@
--- The list of a session: what arrived, and between it what this end did, each where it was done. Lists of items have the newest first.
+-- The list of a session: what arrived, and between it what this end did, each where it was done. Lists of items have
+-- the newest first.
 -- Source: hashicorp yamux, "Framing".
 use Rattle.std.specs.Prelude.{ℕ, Bool, true, false, ◌==◌, ◌||◌, ◌&&◌, not, List, [], ◌∷◌, bit_and, ◌%◌}
 use Rattle.yamux_frames.specs.declared.header.Header.{Header}
 use Rattle.yamux_frames.specs.declared.header.FrameKind.{FrameKind}
-use Rattle.yamux_frames.specs.declared.header.FrameKind.TheVariants.{Payload, Window, Ping, GoAway}
+use Rattle.yamux_frames.specs.declared.header.FrameKind.TheVariants as kinds
 use Rattle.yamux_frames.specs.Frames.{Arrival}
 use Rattle.yamux_frames.specs.Frames.Arrival.{Byte}
 use Rattle.yamux_session.specs.declared.event.Role.{Role}
 use Rattle.yamux_session.specs.declared.event.Role.TheVariants.{Client, Server}
 
--- What this end did; what was refused isn't listed. Start: a stream was opened. Write: these bytes went out, in frames cut so.
--- Take: so many bytes of what arrived were taken.
+-- What this end did; what was refused isn't listed. Start: a stream was opened. Write: these bytes went out, in frames
+-- cut so. Taken: so many bytes of what arrived were taken.
 pub data Act : Type 0 where
   Start : ℕ → Act
   Write : ℕ → List (List ℕ) → Act
-  Take : ℕ → ℕ → Act
+  Taken : ℕ → ℕ → Act
   Close : ℕ → Act
   Reset : ℕ → Act
-  Leave : ℕ → Act
+  GoAway : ℕ → Act
 
 pub data Item : Type 0 where
   Came : Arrival → Item
@@ -35,35 +36,47 @@ came_bytes [] past = past
 came_bytes (b ∷ bytes) past = came_bytes bytes (Came (Byte b) ∷ past)
 
 -- the flags of a header
+abbrev pub syn_flag : ℕ
+syn_flag = 1
+
+abbrev pub ack_flag : ℕ
+ack_flag = 2
+
+abbrev pub fin_flag : ℕ
+fin_flag = 4
+
+abbrev pub rst_flag : ℕ
+rst_flag = 8
+
 abbrev pub has_flag : ℕ → Header → Bool
 has_flag flag h = not (bit_and h.flags flag == 0)
 
 abbrev pub syn : Header → Bool
-syn h = has_flag 1 h
+syn h = has_flag syn_flag h
 
 abbrev pub ack : Header → Bool
-ack h = has_flag 2 h
+ack h = has_flag ack_flag h
 
 abbrev pub fin : Header → Bool
-fin h = has_flag 4 h
+fin h = has_flag fin_flag h
 
 abbrev pub rst : Header → Bool
-rst h = has_flag 8 h
+rst h = has_flag rst_flag h
 
 abbrev pub is_data : FrameKind → Bool
-is_data Payload = true
+is_data kinds.Payload = true
 is_data kind = false
 
 abbrev pub is_update : FrameKind → Bool
-is_update Window = true
+is_update kinds.Window = true
 is_update kind = false
 
 abbrev pub is_ping : FrameKind → Bool
-is_ping Ping = true
+is_ping kinds.Ping = true
 is_ping kind = false
 
 abbrev pub is_go_away : FrameKind → Bool
-is_go_away GoAway = true
+is_go_away kinds.GoAway = true
 is_go_away kind = false
 
 -- Data and WindowUpdate are about a stream

@@ -1,21 +1,23 @@
 -- A session that is fed what a joined one has sent.
-use Rattle.std.proofs.Common.{◌≡◌, ℕ, ◌<◌, inl, inr, Bool, true, false, List, [], ◌∷◌, ◌++◌, map, take, drop, refl, sym, ap, ◌∙◌, subst, append_assoc}
+use Rattle.std.proofs.Common.{◌≡◌, ℕ, ◌<◌, inl, Bool, true, false, List, [], ◌∷◌, ◌++◌, map, take, drop, refl, sym, ap, ◌∙◌, subst, append_assoc}
 use Rattle.std.specs.List.{AllByRecursion}
 use mathlib.Core.List.{IsPrefix}
-use Rattle.yamux_frames.specs.Frames.{Arrival, Reads}
+use Rattle.yamux_frames.specs.Frames.{Arrival}
 use Rattle.yamux_frames.proofs.Readings.{all_front}
 use Rattle.yamux_session.specs.declared.event.Role.{Role}
 use Rattle.yamux_session.specs.declared.event.Role.TheVariants.{Client, Server}
-use Rattle.yamux_session.specs.Items.{Item, arrivals}
-use Rattle.yamux_session.specs.Items.Item.{Came}
-use Rattle.yamux_session.specs.Meaning.{Told, HasNoFault, output}
+use Rattle.yamux_session.specs.History.{Item}
+use Rattle.yamux_session.specs.History.Item.{Came}
+use Rattle.yamux_session.specs.Faults.{HasNoFault}
+use Rattle.yamux_session.specs.Events.{Told}
+use Rattle.yamux_session.specs.Output.{output}
 use Rattle.yamux_session.specs.State.{State, Stands, FirstFaults, Led}
 use Rattle.yamux_session.specs.Arrives.{tellings}
-use Rattle.yamux_session.specs.Joined.{End, Joined, GoesOn, IsDone}
+use Rattle.yamux_session.specs.Joined.{End, GoesOn}
 use Rattle.yamux_session.specs.Joined.Joined.{Client_acts, Server_acts}
-use Rattle.yamux_session.specs.Tied.{other, AreJoined, GoesOnBehind, FeedGoesOn, ActGoesOn, StopsWithin, WantOfMemoryStops}
-use Rattle.yamux_session.proofs.Going.{HasRead, both_go_on, both_read}
-use Rattle.yamux_session.proofs.Joining.{no_fault}
+use Rattle.yamux_session.specs.Tied.{other, AreJoined, GoesOnBehind, FeedGoesOn, ActGoesOn, WantOfMemoryStops}
+use Rattle.yamux_session.proofs.joined.Going.{HasRead, both_go_on, both_read}
+use Rattle.yamux_session.proofs.joined.Joining.{no_fault}
 use Rattle.yamux_session.proofs.OneOutcome.{Shape, shape, one_list, split_at}
 
 -- ---- what holds of the first of two joined ends
@@ -86,22 +88,22 @@ act_goes_on Server here there act sent new joined stands = Server_acts joined (r
 pub want_of_memory_stops : WantOfMemoryStops
 want_of_memory_stops role here there bytes sent old new at runs =
     let out = runs role here.items here.fed sent at.stands in
-    let front : List ℕ = take out.0 bytes in
+    let prefix : List ℕ = take out.0 bytes in
     let behind : List ℕ = drop out.0 bytes in
-    let whole : (here.fed ++ front) ++ behind ≡ here.fed ++ bytes =
-    append_assoc here.fed front behind ∙ ap (λ (t : List ℕ). here.fed ++ t) (sym (split_at out.0 bytes)) in
-    let are_bytes = all_front (here.fed ++ front) behind (subst (AllByRecursion (λ k. k < 256)) (sym whole) at.are_bytes) in
-    let was_sent : IsPrefix (here.fed ++ front) (output (other role) there.items) =
-    (behind ++ at.was_sent.0, sym (append_assoc (here.fed ++ front) behind at.was_sent.0) ∙ ap (λ (t : List ℕ). t ++ at.was_sent.0) whole ∙ at.was_sent.1) in
-    let go = (going role here there at.joined).fed front are_bytes was_sent in
+    let whole : (here.fed ++ prefix) ++ behind ≡ here.fed ++ bytes =
+    append_assoc here.fed prefix behind ∙ ap (λ (t : List ℕ). here.fed ++ t) (sym (split_at out.0 bytes)) in
+    let are_bytes = all_front (here.fed ++ prefix) behind (subst (AllByRecursion (λ k. k < 256)) (sym whole) at.are_bytes) in
+    let was_sent : IsPrefix (here.fed ++ prefix) (output (other role) there.items) =
+    (behind ++ at.was_sent.0, sym (append_assoc (here.fed ++ prefix) behind at.was_sent.0) ∙ ap (λ (t : List ℕ). t ++ at.was_sent.0) whole ∙ at.was_sent.1) in
+    let go = (going role here there at.joined).fed prefix are_bytes was_sent in
     let come = out.3 in
-    let made : Shape role (here.fed ++ front) out.2 = record {
+    let made : Shape role (here.fed ++ prefix) out.2 = record {
       rest = come.read.0;
       whole = come.read.1.whole;
       are = come.read.1.frames_are;
       stop = inl (come.no_fault, come.read.1.rest_is);
     } in
-    let same = same_list role here go.0 there out.2 (here.fed ++ front) come.came.0 go.2.0 go.3 go.1 go.2.1 come.came.1 made in
+    let same = same_list role here go.0 there out.2 (here.fed ++ prefix) come.came.0 go.2.0 go.3 go.1 go.2.1 come.came.1 made in
     record {
       next = go.0;
       joined = go.3;

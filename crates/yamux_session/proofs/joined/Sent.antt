@@ -9,12 +9,13 @@ use Rattle.yamux_frames.specs.Frames.{Arrival, spelled, with_bytes}
 use Rattle.yamux_frames.specs.Frames.Arrival.{Head, Byte, Tail, Garbled}
 use Rattle.yamux_frames.proofs.Frames.{bytes_spelled}
 use Rattle.yamux_session.specs.declared.event.Role.{Role}
-use Rattle.yamux_session.specs.Items.{Item, syn, is_ping, is_of_stream}
-use Rattle.yamux_session.specs.Items.Item.{Came, Did}
-use Rattle.yamux_session.specs.Items.Act.{Start, Write, Take, Close, Reset, Leave}
+use Rattle.yamux_session.specs.History.{Item, syn, is_ping, is_of_stream, Act}
+use Rattle.yamux_session.specs.History.Item.{Came, Did}
+use Rattle.yamux_session.specs.History.Act.{Start, Write, Taken, Close, Reset}
 use Rattle.yamux_session.specs.Openings.{opens}
 use Rattle.yamux_session.specs.Windows.{given_back}
-use Rattle.yamux_session.specs.Meaning.{HasNoFault, output, output_unless, item_output, frame, data_frame}
+use Rattle.yamux_session.specs.Faults.{HasNoFault}
+use Rattle.yamux_session.specs.Output.{output, output_unless, item_output, frame, data_frame}
 
 -- a frame without payload, and frames of data, behind others
 abbrev pub header : FrameKind → ℕ → ℕ → ℕ → Header
@@ -38,10 +39,10 @@ sent_on role past (Came Tail) xs = xs
 sent_on role past (Came (Garbled bytes)) xs = xs
 sent_on role past (Did (Start n)) xs = bare Window 1 n 0 xs
 sent_on role past (Did (Write n pieces)) xs = data_on n pieces xs
-sent_on role past (Did (Take n count)) xs = cond (nat_lt 0 (given_back role n past (Did (Take n count)))) (bare Window 0 n (given_back role n past (Did (Take n count))) xs) xs
+sent_on role past (Did (Taken n count)) xs = cond (nat_lt 0 (given_back role n past (Did (Taken n count)))) (bare Window 0 n (given_back role n past (Did (Taken n count))) xs) xs
 sent_on role past (Did (Close n)) xs = bare Window 4 n 0 xs
 sent_on role past (Did (Reset n)) xs = bare Window 8 n 0 xs
-sent_on role past (Did (Leave code)) xs = bare GoAway 0 0 code xs
+sent_on role past (Did (Act.GoAway code)) xs = bare GoAway 0 0 code xs
 
 abbrev pub sent : Role → List Item → List Arrival
 sent role [] = []
@@ -79,12 +80,12 @@ sent_on_spelled role past (Came Tail) xs = sym (append-nil (spelled xs))
 sent_on_spelled role past (Came (Garbled bytes)) xs = sym (append-nil (spelled xs))
 sent_on_spelled role past (Did (Start n)) xs = bare_spelled Window 1 n 0 xs
 sent_on_spelled role past (Did (Write n pieces)) xs = data_spelled n pieces xs
-sent_on_spelled role past (Did (Take n count)) xs =
-    let amount : ℕ = given_back role n past (Did (Take n count)) in
+sent_on_spelled role past (Did (Taken n count)) xs =
+    let amount : ℕ = given_back role n past (Did (Taken n count)) in
     if_spelled (nat_lt 0 amount) _ xs xs _ [] (bare_spelled Window 0 n amount xs) (sym (append-nil (spelled xs)))
 sent_on_spelled role past (Did (Close n)) xs = bare_spelled Window 4 n 0 xs
 sent_on_spelled role past (Did (Reset n)) xs = bare_spelled Window 8 n 0 xs
-sent_on_spelled role past (Did (Leave code)) xs = bare_spelled GoAway 0 0 code xs
+sent_on_spelled role past (Did (Act.GoAway code)) xs = bare_spelled GoAway 0 0 code xs
 
 pub sent_spelled : (role : Role) (past : List Item) → HasNoFault role past → spelled (sent role past) ≡ output role past
 sent_spelled role [] good = refl
@@ -118,9 +119,9 @@ sent_behind role past (Came Tail) xs ys = refl
 sent_behind role past (Came (Garbled bytes)) xs ys = refl
 sent_behind role past (Did (Start n)) xs ys = refl
 sent_behind role past (Did (Write n pieces)) xs ys = data_behind n pieces xs ys
-sent_behind role past (Did (Take n count)) xs ys =
-    let amount : ℕ = given_back role n past (Did (Take n count)) in
+sent_behind role past (Did (Taken n count)) xs ys =
+    let amount : ℕ = given_back role n past (Did (Taken n count)) in
     if_behind (nat_lt 0 amount) _ _ (bare Window 0 n amount xs) xs ys refl refl
 sent_behind role past (Did (Close n)) xs ys = refl
 sent_behind role past (Did (Reset n)) xs ys = refl
-sent_behind role past (Did (Leave code)) xs ys = refl
+sent_behind role past (Did (Act.GoAway code)) xs ys = refl

@@ -10,37 +10,38 @@ use Rattle.yamux_frames.specs.Frames.Arrival.{Head, Byte, Tail, Garbled}
 use Rattle.yamux_session.specs.declared.event.Role.{Role}
 use Rattle.yamux_session.specs.declared.event.Role.TheVariants.{Client, Server}
 use Rattle.yamux_session.specs.declared.event.Fault.{Fault}
-use Rattle.yamux_session.specs.Items.{Item, arrivals, ack, fin, rst, is_update, is_go_away, is_of_stream, is_own}
-use Rattle.yamux_session.specs.Items.Item.{Came, Did}
+use Rattle.yamux_session.specs.History.{Item, arrivals, ack, fin, rst, is_update, is_go_away, is_of_stream, is_own}
+use Rattle.yamux_session.specs.History.Item.{Came, Did}
 use Rattle.yamux_session.specs.Openings.{is_live, opens, reading, is_reading, finished, finishes, tail_finishes, head_belongs, byte_belongs}
 use Rattle.yamux_session.specs.Windows.{accepted}
-use Rattle.yamux_session.specs.Meaning.{Told, HasNoFault, when, events, events_at, events_unless, fault_at, head_events, tail_events, byte_told, taker, inbound}
-use Rattle.yamux_session.specs.Meaning.Told.{Opened, Accepted, Ended, WasReset, Credit, Left}
+use Rattle.yamux_session.specs.Faults.{HasNoFault, fault_at}
+use Rattle.yamux_session.specs.Events.{Told, when, events, events_at, events_unless, head_events, tail_events, byte_told, taker}
+use Rattle.yamux_session.specs.Data.{inbound}
 use Rattle.yamux_session.specs.Joined.{IsWholeAtEnd, AllBeforeTheEnd}
 use Rattle.yamux_session.proofs.Lists.{and_parts}
 use Rattle.yamux_session.proofs.Keeping.{and_false}
 use Rattle.yamux_session.proofs.Live.{or_none_true}
 use Rattle.yamux_session.proofs.Untaken.{frames_before}
-use Rattle.yamux_session.proofs.Totals.{total, total_both}
-use Rattle.yamux_session.proofs.WholeFrames.{sent_frames}
-use Rattle.yamux_session.proofs.InTurn.{head_of, fin_of, AreInTurn, sent_turn}
-use Rattle.yamux_session.proofs.Coming.{NoneBefore, head_at, past_turn, finished_came}
-use Rattle.yamux_session.proofs.Delivered.{bytes_of, sent_written, data_open, delivered}
-use Rattle.yamux_session.proofs.Joining.{Linked, linked, turned, opened_once, came_turn}
+use Rattle.yamux_session.proofs.joined.Totals.{total, total_both}
+use Rattle.yamux_session.proofs.joined.WholeFrames.{sent_frames}
+use Rattle.yamux_session.proofs.joined.InTurn.{head_of, fin_of, AreInTurn, sent_turn}
+use Rattle.yamux_session.proofs.joined.Coming.{NoneBefore, head_at, past_turn, finished_came}
+use Rattle.yamux_session.proofs.joined.Delivered.{bytes_of, sent_written, data_open, delivered}
+use Rattle.yamux_session.proofs.joined.Joining.{Linked, linked, turned, opened_once, came_turn}
 
 -- ---- where an end is told
 
 abbrev is_end : ℕ → Told → Bool
-is_end n (Ended m) = m == n
+is_end n (Told.Ended m) = m == n
 is_end n x = false
 
 or_true : (b : Bool) → b || true ≡ true
 or_true true = refl
 or_true false = refl
 
-is_told : (n : ℕ) (told before after : List Told) → told ≡ before ++ Ended n ∷ after → list_any (is_end n) told ≡ true
+is_told : (n : ℕ) (told before after : List Told) → told ≡ before ++ Told.Ended n ∷ after → list_any (is_end n) told ≡ true
 is_told n told before after e =
-    ap (list_any (is_end n)) e ∙ list_any-append (is_end n) before (Ended n ∷ after)
+    ap (list_any (is_end n)) e ∙ list_any-append (is_end n) before (Told.Ended n ∷ after)
     ∙ ap (λ b. list_any (is_end n) before || (b || list_any (is_end n) after)) (eq-eqb n n refl) ∙ or_true (list_any (is_end n) before)
 
 none_when : (n : ℕ) (b : Bool) (told : Told) → is_end n told ≡ false → list_any (is_end n) (when b told) ≡ false
@@ -52,13 +53,13 @@ none_both n xs ys x y = list_any-append (is_end n) xs ys ∙ ap (λ b. b || list
 
 head_tells_none : (role : Role) (past : List Item) (h : Header) (n : ℕ) → list_any (is_end n) (head_events role past h) ≡ false
 head_tells_none role past h n =
-    let left : List Told = when (is_go_away h.kind) (Left h.length) in
-    let opened : List Told = when (opens role past (Came (Head h)) h.stream) (Opened h.stream) in
+    let left : List Told = when (is_go_away h.kind) (Told.GoAway h.length) in
+    let opened : List Told = when (opens role past (Came (Head h)) h.stream) (Told.Opened h.stream) in
     let accepts : Bool = head_belongs role past h h.stream && ack h && is_own role h.stream && not (accepted role past h.stream) in
-    none_both n ((left ++ opened) ++ when accepts (Accepted h.stream)) _
-    (none_both n (left ++ opened) _ (none_both n left opened (none_when n (is_go_away h.kind) (Left h.length) refl) (none_when n (opens role past (Came (Head h)) h.stream) (Opened h.stream) refl))
-    (none_when n accepts (Accepted h.stream) refl))
-    (none_when n (head_belongs role past h h.stream && is_update h.kind && nat_lt 0 h.length) (Credit h.stream) refl)
+    none_both n ((left ++ opened) ++ when accepts (Told.Accepted h.stream)) _
+    (none_both n (left ++ opened) _ (none_both n left opened (none_when n (is_go_away h.kind) (Told.GoAway h.length) refl) (none_when n (opens role past (Came (Head h)) h.stream) (Told.Opened h.stream) refl))
+    (none_when n accepts (Told.Accepted h.stream) refl))
+    (none_when n (head_belongs role past h h.stream && is_update h.kind && nat_lt 0 h.length) (Told.Credit h.stream) refl)
 
 none_unless : (n : ℕ) (fault : Option Fault) (told : List Told) → list_any (is_end n) told ≡ false → list_any (is_end n) (events_unless fault told) ≡ false
 none_unless n (Some fault) told none = refl
@@ -69,7 +70,7 @@ byte_tells_none n b (Some stream) = refl
 byte_tells_none n b None = refl
 
 -- an end that is told is that of a live stream, which its FIN finishes
-told_if : (n m : ℕ) (live reset fins : Bool) → list_any (is_end n) (cond live (cond reset (WasReset m ∷ []) (when fins (Ended m))) []) ≡ true → (live ≡ true) × (fins ≡ true) × ((m == n) ≡ true)
+told_if : (n m : ℕ) (live reset fins : Bool) → list_any (is_end n) (cond live (cond reset (Told.Reset m ∷ []) (when fins (Told.Ended m))) []) ≡ true → (live ≡ true) × (fins ≡ true) × ((m == n) ≡ true)
 told_if n m true true fins is = absurd cc
 told_if n m true false true is = (refl, refl, or_none_true (m == n) is)
 told_if n m true false false is = absurd cc

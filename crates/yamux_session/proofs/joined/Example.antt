@@ -11,15 +11,15 @@ use Rattle.yamux_frames.specs.Frames.{Arrival, AreFrames, Reads}
 use Rattle.yamux_frames.specs.Frames.Arrival.{Head, Byte, Tail}
 use Rattle.yamux_frames.proofs.Readings.{one_reading}
 use Rattle.yamux_session.specs.declared.event.Role.TheVariants.{Client, Server}
-use Rattle.yamux_session.specs.Items.{Item, arrivals}
-use Rattle.yamux_session.specs.Items.Item.{Came, Did}
-use Rattle.yamux_session.specs.Items.Act.{Start, Write, Close}
-use Rattle.yamux_session.specs.Meaning.{output}
+use Rattle.yamux_session.specs.History.{Item, arrivals}
+use Rattle.yamux_session.specs.History.Item.{Came, Did}
+use Rattle.yamux_session.specs.History.Act.{Start, Write, Close}
+use Rattle.yamux_session.specs.Output.{output}
 use Rattle.yamux_session.specs.Joined.{End, Joined, at_first, JoinedRow, EndedRow, SomeJoined}
 use Rattle.yamux_session.specs.Joined.Joined.{Begin, Client_acts}
-use Rattle.yamux_session.proofs.Sent.{header}
+use Rattle.yamux_session.proofs.joined.Sent.{header}
 use Rattle.yamux_session.proofs.Lists.{and_parts}
-use Rattle.yamux_session.proofs.Going.{both_read, both_go_on}
+use Rattle.yamux_session.proofs.joined.Going.{both_read, both_go_on}
 use Rattle.yamux_session.proofs.Stepping.{arrivals_on}
 
 -- an end that has been fed these bytes has read these frames
@@ -35,16 +35,16 @@ same_end old new bytes came rest more some fed items read worked =
 server_reads : (client server : End) (bytes : List ℕ) (came : List Arrival) (rest : List ℕ) → Joined client server → AllByRecursion (λ b. b < 256) (server.fed ++ bytes)
     → IsPrefix (server.fed ++ bytes) (output Client client.items) → Reads (server.fed ++ bytes) (came ++ arrivals server.items) rest
     → Joined client (record { items = map Came came ++ server.items; fed = server.fed ++ bytes })
-server_reads client server bytes came rest joined are_bytes front worked =
-    let new = (both_go_on client server joined).1.fed bytes are_bytes front in
+server_reads client server bytes came rest joined are_bytes prefix worked =
+    let new = (both_go_on client server joined).1.fed bytes are_bytes prefix in
     let read = (both_read client new.0 new.3).1 in
     subst (Joined client) (same_end server new.0 bytes came rest read.0 new.2.0 new.1 new.2.1 read.1 worked) new.3
 
 client_reads : (client server : End) (bytes : List ℕ) (came : List Arrival) (rest : List ℕ) → Joined client server → AllByRecursion (λ b. b < 256) (client.fed ++ bytes)
     → IsPrefix (client.fed ++ bytes) (output Server server.items) → Reads (client.fed ++ bytes) (came ++ arrivals client.items) rest
     → Joined (record { items = map Came came ++ client.items; fed = client.fed ++ bytes }) server
-client_reads client server bytes came rest joined are_bytes front worked =
-    let new = (both_go_on client server joined).0.fed bytes are_bytes front in
+client_reads client server bytes came rest joined are_bytes prefix worked =
+    let new = (both_go_on client server joined).0.fed bytes are_bytes prefix in
     let read = (both_read new.0 server new.3).0 in
     subst (λ (end : End). Joined end server) (same_end client new.0 bytes came rest read.0 new.2.0 new.1 new.2.1 read.1 worked) new.3
 

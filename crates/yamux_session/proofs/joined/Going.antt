@@ -7,13 +7,13 @@ use Rattle.yamux_frames.specs.Frames.{Arrival, spelled, AreFrames, Reads}
 use Rattle.yamux_frames.proofs.Readings.{all_front, both, ends, some_reading}
 use Rattle.yamux_session.specs.declared.event.Role.{Role}
 use Rattle.yamux_session.specs.declared.event.Role.TheVariants.{Client, Server}
-use Rattle.yamux_session.specs.Items.{Item, Act, arrivals}
-use Rattle.yamux_session.specs.Items.Item.{Came, Did}
+use Rattle.yamux_session.specs.History.{Item, Act, arrivals}
+use Rattle.yamux_session.specs.History.Item.{Came, Did}
 use Rattle.yamux_session.specs.Acts.{IsAnswered}
-use Rattle.yamux_session.specs.Meaning.{output}
+use Rattle.yamux_session.specs.Output.{output}
 use Rattle.yamux_session.specs.Joined.{End, IsFed, IsDone, Joined, BothGoOn}
 use Rattle.yamux_session.specs.Joined.Joined.{Begin, Client_fed, Server_fed, Client_acts, Server_acts}
-use Rattle.yamux_session.proofs.Joining.{linked, turned, on_its_way}
+use Rattle.yamux_session.proofs.joined.Joining.{linked, turned, on_its_way}
 use Rattle.yamux_session.proofs.Stepping.{arrivals_on}
 
 -- an end has read all that it was fed
@@ -36,7 +36,7 @@ both_read _ _ (Server_acts {client} {server} {new} {act} before done) =
 -- each byte that was sent can be fed
 fed_next : (role other : Role) (old from : End) (b : ℕ) → HasRead old → AllByRecursion (λ k. k < 256) (old.fed ++ b ∷ []) → IsPrefix (old.fed ++ b ∷ []) (output other from.items)
     → (new : End) × IsFed role other old new from b
-fed_next role other old from b read are_bytes front =
+fed_next role other old from b read are_bytes prefix =
     let bytes : List ℕ = old.fed ++ b ∷ [] in
     let before : List Arrival = arrivals old.items in
     let rest : List ℕ = read.0 ++ b ∷ [] in
@@ -49,7 +49,7 @@ fed_next role other old from b read are_bytes front =
             record { items = map Came came ++ old.items; fed = bytes },
             record {
               fed = refl;
-              sent = front;
+              sent = prefix;
               came = (came, refl);
               read = (now.1, subst (λ (xs : List Arrival). Reads bytes xs now.1) (longer.1 ∙ sym (arrivals_on came old.items)) now.2);
             },
@@ -60,7 +60,7 @@ fed_next role other old from b read are_bytes front =
             record { items = old.items; fed = bytes },
             record {
               fed = refl;
-              sent = front;
+              sent = prefix;
               came = ([], refl);
               read = (now.1, subst (λ (xs : List Arrival). Reads bytes xs now.1) (sym (shorter.1 ∙ ap (λ (xs : List Arrival). xs ++ now.0) none)) now.2);
             },
@@ -74,13 +74,13 @@ Feeds role other from IsNext old bytes =
 
 module _ (role other : Role) (from : End) (IsNext : End → Type 0) (reads : (end : End) → IsNext end → HasRead end) (step : (old new : End) (b : ℕ) → IsNext old → IsFed role other old new from b → IsNext new) where
   feeds : (bytes : List ℕ) (old : End) → IsNext old → AllByRecursion (λ k. k < 256) (old.fed ++ bytes) → IsPrefix (old.fed ++ bytes) (output other from.items) → Feeds role other from IsNext old bytes
-  feeds [] old joined are_bytes front = (old, sym (append-nil old.fed), ([], refl), joined)
-  feeds (b ∷ bytes) old joined are_bytes front =
+  feeds [] old joined are_bytes prefix = (old, sym (append-nil old.fed), ([], refl), joined)
+  feeds (b ∷ bytes) old joined are_bytes prefix =
       let split : (old.fed ++ b ∷ []) ++ bytes ≡ old.fed ++ b ∷ bytes = append_assoc old.fed (b ∷ []) bytes in
       let one = fed_next role other old from b (reads old joined) (all_front (old.fed ++ b ∷ []) bytes (subst (AllByRecursion (λ k. k < 256)) (sym split) are_bytes))
-      (bytes ++ front.0, sym (append_assoc (old.fed ++ b ∷ []) bytes front.0) ∙ ap (λ (t : List ℕ). t ++ front.0) split ∙ front.1) in
+      (bytes ++ prefix.0, sym (append_assoc (old.fed ++ b ∷ []) bytes prefix.0) ∙ ap (λ (t : List ℕ). t ++ prefix.0) split ∙ prefix.1) in
       let whole : one.0.fed ++ bytes ≡ old.fed ++ b ∷ bytes = ap (λ (t : List ℕ). t ++ bytes) one.1.fed ∙ split in
-      let rest = feeds bytes one.0 (step old one.0 b joined one.1) (subst (AllByRecursion (λ k. k < 256)) (sym whole) are_bytes) (subst (λ (t : List ℕ). IsPrefix t (output other from.items)) (sym whole) front) in (
+      let rest = feeds bytes one.0 (step old one.0 b joined one.1) (subst (AllByRecursion (λ k. k < 256)) (sym whole) are_bytes) (subst (λ (t : List ℕ). IsPrefix t (output other from.items)) (sym whole) prefix) in (
         rest.0,
         rest.1 ∙ whole,
         (

@@ -6,20 +6,20 @@ use Rattle.yamux_frames.specs.declared.header.Header.{Header}
 use Rattle.yamux_frames.specs.Frames.{AreFrames}
 use Rattle.yamux_frames.specs.Frames.Arrival.{Head, Byte, Tail, Garbled}
 use Rattle.yamux_session.specs.declared.event.Role.{Role}
-use Rattle.yamux_session.specs.declared.streams.Stream.{Stream}
-use Rattle.yamux_session.specs.Items.{Item, arrivals, syn, is_of_stream, is_own, is_data, is_update}
-use Rattle.yamux_session.specs.Items.Item.{Came, Did}
-use Rattle.yamux_session.specs.Items.Act.{Start, Write, Take, Close, Reset, Leave}
-use Rattle.yamux_session.specs.Openings.{contains, live, is_live, has_left, is_let_in, opens, head_belongs, is_for_stream, finished, closed}
+use Rattle.yamux_session.specs.declared.streams.Row.{Row}
+use Rattle.yamux_session.specs.History.{Item, arrivals, syn, is_of_stream, is_own, is_data, is_update, Act}
+use Rattle.yamux_session.specs.History.Item.{Came, Did}
+use Rattle.yamux_session.specs.History.Act.{Start, Write, Taken, Close, Reset}
+use Rattle.yamux_session.specs.Openings.{contains, live, is_live, local_go_away, is_let_in, opens, head_belongs, is_for_stream, finished, closed}
 use Rattle.yamux_session.specs.Windows.{since_opening, written_length, given_back, data_length, update_length, given_of, owed}
 use Rattle.yamux_session.specs.Acts.{AreAnswered, next_own}
-use Rattle.yamux_session.specs.Meaning.{HasNoFault}
+use Rattle.yamux_session.specs.Faults.{HasNoFault}
 use Rattle.yamux_session.specs.Keeps.{IsRowAt}
 use Rattle.yamux_session.specs.Joined.{length_of_data, length_of_update}
 use Rattle.yamux_session.proofs.Keeping.{quiet}
 use Rattle.yamux_session.proofs.Live.{past_answered, let_in_at, was_or_opens, not_both, own_next}
 use Rattle.yamux_session.proofs.Untaken.{row_there, frames_before, live_unless, live_if}
-use Rattle.yamux_session.proofs.Totals.{total, all_time, syn_of, starts}
+use Rattle.yamux_session.proofs.joined.Totals.{total, all_time, syn_of, starts}
 
 -- an opening of the stream n
 abbrev pub openings : Role → ℕ → List Item → Item → ℕ
@@ -85,14 +85,14 @@ written_of_live role n past (Did (Write k pieces)) answered off = other (k == n)
         let e : true ≡ false = sym on ∙ ap (is_live role past) (eqb-true k n is) ∙ off in cc)
     other false is = ap (λ b. cond b (sum_by length pieces) 0) is
 written_of_live role n past (Did (Start k)) answered off = refl
-written_of_live role n past (Did (Take k count)) answered off = refl
+written_of_live role n past (Did (Taken k count)) answered off = refl
 written_of_live role n past (Did (Close k)) answered off = refl
 written_of_live role n past (Did (Reset k)) answered off = refl
-written_of_live role n past (Did (Leave code)) answered off = refl
+written_of_live role n past (Did (Act.GoAway code)) answered off = refl
 written_of_live role n past (Came x) answered off = refl
 
 given_of_live : (role : Role) (n : ℕ) → IsOfLive role n (given_back role n)
-given_of_live role n past (Did (Take k count)) answered off = other (k == n) refl
+given_of_live role n past (Did (Taken k count)) answered off = other (k == n) refl
   where
     other : (b : Bool) → (k == n) ≡ b → cond (k == n) (given_of (finished role past n) (owed role past n + count)) 0 ≡ 0
     other true is =
@@ -103,7 +103,7 @@ given_of_live role n past (Did (Start k)) answered off = refl
 given_of_live role n past (Did (Write k pieces)) answered off = refl
 given_of_live role n past (Did (Close k)) answered off = refl
 given_of_live role n past (Did (Reset k)) answered off = refl
-given_of_live role n past (Did (Leave code)) answered off = refl
+given_of_live role n past (Did (Act.GoAway code)) answered off = refl
 given_of_live role n past (Came x) answered off = refl
 
 pub written_once : (role : Role) (n : ℕ) (past : List Item) → AreAnswered role past → all_time (openings role n) past ≤ 1
@@ -123,7 +123,7 @@ came_at false since all here there less rest = omega arith
 belongs_here : (role : Role) (past : List Item) (h : Header) (n : ℕ) (b : Bool) (kind : Bool) (len : ℕ) → (h.stream == n) ≡ b
     → cond (head_belongs role past h n && kind) len 0 ≤ cond (h.stream == n && kind) len 0
 belongs_here role past h n b kind len is =
-    by (h.stream == n) (is_for_stream role (live role past) (has_left past) h) (not ((is_data h.kind && not (syn h)) && finished role past n)) kind
+    by (h.stream == n) (is_for_stream role (live role past) (local_go_away past) h) (not ((is_data h.kind && not (syn h)) && finished role past n)) kind
   where
     by : (a b c k : Bool) → cond (((a && b) && c) && k) len 0 ≤ cond (a && k) len 0
     by true true true k = omega arith
@@ -164,7 +164,7 @@ pub record WindowsHold (role : Role) (n : ℕ) (past : List Item) : Type 0 where
   pub written : since_opening (written_length n) role past n ≤ 262144 + since_opening (update_length role n) role past n
   pub given : since_opening (given_back role n) role past n ≤ since_opening (data_length role n) role past n
 
-row_holds : (role : Role) (n : ℕ) (past : List Item) (row : Option Stream) → IsRowAt role past n row → is_live role past n ≡ true → WindowsHold role n past
+row_holds : (role : Role) (n : ℕ) (past : List Item) (row : Option Row) → IsRowAt role past n row → is_live role past n ≡ true → WindowsHold role n past
 row_holds role n past None off on = absurd (let e : true ≡ false = sym on ∙ off in cc)
 row_holds role n past (Some s) at on = record {
   written = let sum = at.1.credit in omega arith;
@@ -175,20 +175,20 @@ written_now : (role : Role) (n : ℕ) (past : List Item) (x : Item) → AreAnswe
 written_now role n past (Did (Write k pieces)) answered off =
     written_of_live role n past (Did (Write k pieces)) answered (sym (ap (λ ns. contains ns n) (quiet (live role past))) ∙ off)
 written_now role n past (Did (Start k)) answered off = refl
-written_now role n past (Did (Take k count)) answered off = refl
+written_now role n past (Did (Taken k count)) answered off = refl
 written_now role n past (Did (Close k)) answered off = refl
 written_now role n past (Did (Reset k)) answered off = refl
-written_now role n past (Did (Leave code)) answered off = refl
+written_now role n past (Did (Act.GoAway code)) answered off = refl
 written_now role n past (Came x) answered off = refl
 
 given_now : (role : Role) (n : ℕ) (past : List Item) (x : Item) → AreAnswered role (x ∷ past) → is_live role (x ∷ past) n ≡ false → given_back role n past x ≡ 0
-given_now role n past (Did (Take k count)) answered off =
-    given_of_live role n past (Did (Take k count)) answered (sym (ap (λ ns. contains ns n) (quiet (live role past))) ∙ off)
+given_now role n past (Did (Taken k count)) answered off =
+    given_of_live role n past (Did (Taken k count)) answered (sym (ap (λ ns. contains ns n) (quiet (live role past))) ∙ off)
 given_now role n past (Did (Start k)) answered off = refl
 given_now role n past (Did (Write k pieces)) answered off = refl
 given_now role n past (Did (Close k)) answered off = refl
 given_now role n past (Did (Reset k)) answered off = refl
-given_now role n past (Did (Leave code)) answered off = refl
+given_now role n past (Did (Act.GoAway code)) answered off = refl
 given_now role n past (Came x) answered off = refl
 
 goes_on : (b : Bool) (less more here there limit : ℕ) → less ≤ limit + more → here ≡ 0 → here + cond b 0 less ≤ limit + (there + cond b 0 more)
@@ -230,10 +230,10 @@ started_below role n (Did (Start k) ∷ past) answered some = by (k == n) refl (
         let none : starts n past (Did (Start k)) ≡ 0 = ap (λ b. cond b 1 0) is in
         let lt = before (omega arith) in let e = answered.0.1 in omega arith
 started_below role n (Did (Write k pieces) ∷ past) answered some = started_below role n past answered.1 (omega arith)
-started_below role n (Did (Take k count) ∷ past) answered some = started_below role n past answered.1 (omega arith)
+started_below role n (Did (Taken k count) ∷ past) answered some = started_below role n past answered.1 (omega arith)
 started_below role n (Did (Close k) ∷ past) answered some = started_below role n past answered.1 (omega arith)
 started_below role n (Did (Reset k) ∷ past) answered some = started_below role n past answered.1 (omega arith)
-started_below role n (Did (Leave code) ∷ past) answered some = started_below role n past answered.1 (omega arith)
+started_below role n (Did (Act.GoAway code) ∷ past) answered some = started_below role n past answered.1 (omega arith)
 started_below role n (Came x ∷ past) answered some = started_below role n past answered (omega arith)
 
 start_once : (role : Role) (n k : ℕ) (past : List Item) (b : Bool) → (k == n) ≡ b → k ≡ next_own role past → AreAnswered role past → all_time (starts n) past ≤ 1
@@ -247,15 +247,15 @@ pub starts_once : (role : Role) (n : ℕ) (past : List Item) → AreAnswered rol
 starts_once role n [] answered = omega arith
 starts_once role n (Did (Start k) ∷ past) answered = start_once role n k past (k == n) refl answered.0.1 answered.1 (starts_once role n past answered.1)
 starts_once role n (Did (Write k pieces) ∷ past) answered = let rest = starts_once role n past answered.1 in omega arith
-starts_once role n (Did (Take k count) ∷ past) answered = let rest = starts_once role n past answered.1 in omega arith
+starts_once role n (Did (Taken k count) ∷ past) answered = let rest = starts_once role n past answered.1 in omega arith
 starts_once role n (Did (Close k) ∷ past) answered = let rest = starts_once role n past answered.1 in omega arith
 starts_once role n (Did (Reset k) ∷ past) answered = let rest = starts_once role n past answered.1 in omega arith
-starts_once role n (Did (Leave code) ∷ past) answered = let rest = starts_once role n past answered.1 in omega arith
+starts_once role n (Did (Act.GoAway code) ∷ past) answered = let rest = starts_once role n past answered.1 in omega arith
 starts_once role n (Came x ∷ past) answered = let rest = starts_once role n past answered in omega arith
 
 head_opens : (role : Role) (n : ℕ) (past : List Item) (h : Header) (b : Bool) → opens role past (Came (Head h)) n ≡ b → is_own role n ≡ true → b ≡ false
 head_opens role n past h true is own =
-    absurd (not_both role n own (let_in_at role past h n (is_of_stream h && syn h && is_let_in role (live role past) (has_left past) h) refl is).1)
+    absurd (not_both role n own (let_in_at role past h n (is_of_stream h && syn h && is_let_in role (live role past) (local_go_away past) h) refl is).1)
 head_opens role n past h false is own = refl
 
 pub own_openings : (role : Role) (n : ℕ) (past : List Item) → is_own role n ≡ true → AreAnswered role past → all_time (openings role n) past ≤ all_time (starts n) past
@@ -266,10 +266,10 @@ own_openings role n (Did (Start k) ∷ past) own answered = let rest = own_openi
     or_none true = refl
     or_none false = refl
 own_openings role n (Did (Write k pieces) ∷ past) own answered = let rest = own_openings role n past own answered.1 in omega arith
-own_openings role n (Did (Take k count) ∷ past) own answered = let rest = own_openings role n past own answered.1 in omega arith
+own_openings role n (Did (Taken k count) ∷ past) own answered = let rest = own_openings role n past own answered.1 in omega arith
 own_openings role n (Did (Close k) ∷ past) own answered = let rest = own_openings role n past own answered.1 in omega arith
 own_openings role n (Did (Reset k) ∷ past) own answered = let rest = own_openings role n past own answered.1 in omega arith
-own_openings role n (Did (Leave code) ∷ past) own answered = let rest = own_openings role n past own answered.1 in omega arith
+own_openings role n (Did (Act.GoAway code) ∷ past) own answered = let rest = own_openings role n past own answered.1 in omega arith
 own_openings role n (Came (Head h) ∷ past) own answered =
     let rest = own_openings role n past own answered in
     let none : openings role n past (Came (Head h)) ≡ 0 = ap (λ b. cond b 1 0) (head_opens role n past h (opens role past (Came (Head h)) n) refl own) in omega arith
@@ -297,13 +297,13 @@ other_openings role n (Did (Start k) ∷ past) other answered = let rest = other
         let e : true ≡ false = sym own ∙ ap (is_own role) (eqb-true k n is) ∙ other in cc)
     apart false is = ap (λ b. cond (b || false) 1 0) is
 other_openings role n (Did (Write k pieces) ∷ past) other answered = let rest = other_openings role n past other answered.1 in omega arith
-other_openings role n (Did (Take k count) ∷ past) other answered = let rest = other_openings role n past other answered.1 in omega arith
+other_openings role n (Did (Taken k count) ∷ past) other answered = let rest = other_openings role n past other answered.1 in omega arith
 other_openings role n (Did (Close k) ∷ past) other answered = let rest = other_openings role n past other answered.1 in omega arith
 other_openings role n (Did (Reset k) ∷ past) other answered = let rest = other_openings role n past other answered.1 in omega arith
-other_openings role n (Did (Leave code) ∷ past) other answered = let rest = other_openings role n past other answered.1 in omega arith
+other_openings role n (Did (Act.GoAway code) ∷ past) other answered = let rest = other_openings role n past other answered.1 in omega arith
 other_openings role n (Came (Head h) ∷ past) other answered =
     let rest = other_openings role n past other answered in
-    let here = syn_opens (is_of_stream h && syn h) true (is_let_in role (live role past) (has_left past) h) h.stream n in omega arith
+    let here = syn_opens (is_of_stream h && syn h) true (is_let_in role (live role past) (local_go_away past) h) h.stream n in omega arith
 other_openings role n (Came (Byte b) ∷ past) other answered = let rest = other_openings role n past other answered in omega arith
 other_openings role n (Came Tail ∷ past) other answered = let rest = other_openings role n past other answered in omega arith
 other_openings role n (Came (Garbled bytes) ∷ past) other answered = let rest = other_openings role n past other answered in omega arith

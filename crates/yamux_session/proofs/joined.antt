@@ -1,0 +1,13 @@
+pub mod Sent
+pub mod Totals
+pub mod Once
+pub mod WholeFrames
+pub mod Joining
+pub mod InTurn
+pub mod Coming
+pub mod Delivered
+pub mod Ties
+pub mod Going
+pub mod Example
+pub mod Ending
+pub mod Flowing
