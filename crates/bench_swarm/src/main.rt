@@ -1,34 +1,41 @@
-//! Listings per second of 1, 2 and 4 threads beside a thread that makes calls: those of a swarm, against those of a plain
-//! mutex round a listing. The ratios are written to standard error, since they differ from run to run.
+//! What a swarm's calls and listings cost, in one thread and in several, against a pool and an `Arc` of its listing
+//! that a plain mutex guards. The figures are written to standard error, since they differ from run to run.
 #![tactic(auto)]
 
-ghost use Rattle.std.specs.Prelude.{◌≡◌, ◌+◌, ◌<◌};
+mod locked;
+mod plan;
+mod shared;
 
+use crate::plan::{Plan, Work};
 use peer_ids::PeerId;
-use pool_state::{Call, Config, Limits, Listing, Pool};
+use pool_state::{Config, Limits};
 use std::alloc::Global;
 use std::io::{self, Eprint};
-use std::marker::Brand;
 use std::rt::Clock;
-use std::sync::atomic::{AtomicBool, Ordering};
-use std::sync::ledger::Ledger;
-use std::sync::{Mutex, Wait};
-use std::thread::{Threads, join, map_indices, map_vec};
-use std::time::Instant;
-use swarm_calls::{BlankHistory, BlankLedgers, Eight, Identity, Ledgers, NoGate, Pass, Swarm};
+use std::sync::Wait;
+use std::thread::Threads;
 
-/// How many listings each thread asks for.
-const LISTINGS: u32 = 1_000;
+/// How many milliseconds one thread is measured, and several.
+const ONE: u128 = 10;
 
-fn other() -> io::Error {
+const SEVERAL: u128 = 100;
+
+const ROUNDS: u32 = 5;
+
+pub fn other() -> io::Error {
     io::Error::from(io::ErrorKind::Other)
 }
 
 /// The id of the Ed25519 key of 32 bytes that are all `byte`.
-fn peer(byte: u8) -> io::Result<PeerId> {
+pub fn peer(byte: u8) -> io::Result<PeerId> {
     let mut multihash = [byte; 38];
     multihash[..6].copy_from_slice(&[0x00, 0x24, 0x08, 0x01, 0x12, 0x20]);
     PeerId::from_bytes(&multihash).map_err(|_| other())
+}
+
+/// The peer of the connections that come and go.
+pub fn guest() -> io::Result<PeerId> {
+    peer(0x77)
 }
 
 fn config() -> io::Result<Config> {
@@ -42,191 +49,139 @@ fn config() -> io::Result<Config> {
     })
 }
 
-/// Blocks and unblocks a peer, until it is told to stop.
-fn call_until<J: Identity, L: Ledgers, R: Wait>(
-    rt: &R,
-    swarm: &Swarm<NoGate, J, L>,
-    pass: &mut Pass<J, L>,
-    peer: PeerId,
-    stop: &AtomicBool,
-) {
-    for _ in rt.forever() {
-        if stop.load(Ordering::SeqCst) {
-            return;
-        }
-        swarm.block(rt, pass, peer);
-        swarm.unblock(rt, pass, peer);
-    }
-}
-
-/// Asks for listings, as often as it is to.
-fn list_often<J: Identity, L: Ledgers>(swarm: &Swarm<NoGate, J, L>, mut pass: Pass<J, L>) {
-    for _ in 0..LISTINGS {
-        swarm.list(&mut pass);
-    }
-}
-
-/// Nanoseconds that the listings of so many readers take, beside the calls of one caller more.
-fn of_swarm<
-    J: Identity + Send + Sync,
-    L1: Ledger + Send + Sync,
-    L2: Ledger + Send + Sync,
-    L3: Ledger + Send + Sync,
-    L4: Ledger + Send + Sync,
-    L5: Ledger + Send + Sync,
-    L6: Ledger + Send + Sync,
-    L7: Ledger + Send + Sync,
-    L8: Ledger + Send + Sync,
-    R: Threads + Wait + Clock + Sync,
->(
-    rt: &R,
-    alloc: Global,
-    config: Config,
-    readers: usize,
-    history: BlankHistory,
-    ledgers: BlankLedgers,
-) -> io::Result<u128>
-    requires history { history ≡ J.book }
-    requires config { config ≡ J.config }
-    requires callers { readers + 1 ≡ J.callers }
-    requires first { (ledgers.first.name ≡ L1.name) × (ledgers.first.parts ≡ L1.parts) }
-    requires second { (ledgers.second.name ≡ L2.name) × (ledgers.second.parts ≡ L2.parts) }
-    requires third { (ledgers.third.name ≡ L3.name) × (ledgers.third.parts ≡ L3.parts) }
-    requires fourth { (ledgers.fourth.name ≡ L4.name) × (ledgers.fourth.parts ≡ L4.parts) }
-    requires fifth { (ledgers.fifth.name ≡ L5.name) × (ledgers.fifth.parts ≡ L5.parts) }
-    requires sixth { (ledgers.sixth.name ≡ L6.name) × (ledgers.sixth.parts ≡ L6.parts) }
-    requires seventh { (ledgers.seventh.name ≡ L7.name) × (ledgers.seventh.parts ≡ L7.parts) }
-    requires eighth { (ledgers.eighth.name ≡ L8.name) × (ledgers.eighth.parts ≡ L8.parts) }
-    requires few { readers < 8 }
+/// The most of some rounds.
+fn most<F: FnMut() -> io::Result<u128>>(mut round: F) -> io::Result<u128>
+    requires { F.IsAlwaysCallable round }
 {
-    let Ok((swarm, mut passes)) = Swarm::<NoGate, J, Eight<L1, L2, L3, L4, L5, L6, L7, L8>>::new(
-        rt,
-        alloc,
-        config,
-        readers + 1,
-        NoGate,
-        history,
-        ledgers,
-    ) else {
-        return Err(other());
-    };
-    let Some(mut writer) = passes.pop() else {
-        return Err(other());
-    };
-    let (shared, stop, blocked) = (&swarm, &AtomicBool::new(false), peer(0x11)?);
-    let (_, time) = join(
-        rt,
-        || call_until(rt, shared, &mut writer, blocked, stop),
-        || {
-            let start = Instant::now(rt)?;
-            let ended = map_vec(rt, passes, &|pass| list_often(shared, pass));
-            let time = start.elapsed(rt);
-            stop.store(true, Ordering::SeqCst);
-            ended?;
-            Ok::<u128, io::Error>(time?.as_nanos())
-        },
-    );
-    time
+    let mut most = 0;
+    for _ in 0..ROUNDS {
+        most = most.max(round()?);
+    }
+    Ok(most)
 }
 
-/// The same with a new history and new ledgers.
-fn of_new_swarm<R: Threads + Wait + Clock + Sync>(
+/// Tells how many times one rate is another, to the tenth.
+fn ratio(ours: u128, theirs: u128) -> (u128, u128) {
+    let tenths = ours.saturating_mul(10) / theirs.max(1);
+    (tenths / 10, tenths % 10)
+}
+
+/// Writes what one thread's work costs, and how many times as fast it is as under a mutex.
+fn show_cost<R: Threads + Wait + Clock + Eprint + Sync>(
     rt: &R,
     alloc: Global,
-    config: Config,
-    readers: usize,
-) -> io::Result<u128>
-    requires few { readers < 8 }
-{
-    of_swarm::<Brand, Brand, Brand, Brand, Brand, Brand, Brand, Brand, Brand, R>(
-        rt,
-        alloc,
-        config,
-        readers,
-        BlankHistory::new(),
-        BlankLedgers::new(),
-    )
-}
-
-/// A pool with its listing, for a lock.
-#[derive(Drop)]
-struct Shown {
-    pool: Pool,
-    listing: Listing,
-}
-
-impl Shown {
-    fn call(&mut self, call: &Call) {
-        let reply = self.pool.apply(*call);
-        self.listing.add(*call, reply);
-    }
-}
-
-/// Blocks and unblocks a peer under the lock, until it is told to stop.
-fn call_under_lock<R: Wait>(rt: &R, shown: &Mutex<Shown>, peer: PeerId, stop: &AtomicBool) {
-    for _ in rt.forever() {
-        if stop.load(Ordering::SeqCst) {
-            return;
-        }
-        shown.lock(rt).call(&Call::Block(peer));
-        shown.lock(rt).call(&Call::Unblock(peer));
-    }
-}
-
-/// Copies the listing under the lock, as often as it is to.
-fn list_under_lock<R: Wait>(rt: &R, shown: &Mutex<Shown>) {
-    for _ in 0..LISTINGS {
-        let _listing = shown.lock(rt).listing.copied();
-    }
-}
-
-/// Nanoseconds that the listings of these readers take, where a mutex stands round the pool and its listing.
-fn of_mutex<R: Threads + Wait + Clock + Sync>(
-    rt: &R,
-    alloc: Global,
-    config: Config,
-    readers: usize,
-) -> io::Result<u128> {
-    let pool = Pool::new(config);
-    let listing = pool.listing();
-    let (shown, stop, blocked) = (
-        &Mutex::new(Shown { pool, listing }),
-        &AtomicBool::new(false),
-        peer(0x11)?,
-    );
-    let (_, time) = join(
-        rt,
-        || call_under_lock(rt, shown, blocked, stop),
-        || {
-            let start = Instant::now(rt)?;
-            let ended = map_indices(rt, alloc, readers, &|_| list_under_lock(rt, shown));
-            let time = start.elapsed(rt);
-            stop.store(true, Ordering::SeqCst);
-            ended?;
-            Ok::<u128, io::Error>(time?.as_nanos())
-        },
-    );
-    time
-}
-
-/// Writes how many listings a second the readers had, and how many times as many as of the mutex.
-fn show(rt: &impl Eprint, readers: usize, ours: u128, theirs: u128) -> io::Result<()> {
-    let listings = u128::from(LISTINGS).saturating_mul(readers as u128);
-    let a_second = listings.saturating_mul(1_000_000_000) / ours.max(1);
-    let tenths = theirs.saturating_mul(10) / ours.max(1);
+    what: &str,
+    plan: &Plan,
+) -> io::Result<()> {
+    let config = config()?;
+    let ours = most(|| Ok(shared::rate(rt, alloc, config, plan)?.work))?;
+    let theirs = most(|| Ok(locked::rate(rt, alloc, config, plan)?.work))?;
+    let (whole, tenth) = ratio(ours, theirs);
     eprintln!(rt;
-        "{readers} readers: {a_second} listings a second, {}.{} times those under a mutex",
-        tenths / 10,
-        tenths % 10
+        "{what}, {} rows: {} ns each, {whole}.{tenth} times as fast as under a mutex",
+        plan.most_rows(),
+        1_000_000_000 / ours.max(1)
     )
+}
+
+/// Writes how much of its work the threads do in a second, and how many times as much as under a mutex.
+fn show_rate<R: Threads + Wait + Clock + Eprint + Sync>(
+    rt: &R,
+    alloc: Global,
+    what: &str,
+    plan: &Plan,
+) -> io::Result<()> {
+    let ours = shared::rate(rt, alloc, config()?, plan)?;
+    let theirs = locked::rate(rt, alloc, config()?, plan)?;
+    let (whole, tenth) = ratio(ours.work, theirs.work);
+    eprintln!(rt;
+        "{what}, {} threads, {} rows: {} a second beside {} calls, under a mutex {} beside {}: {whole}.{tenth} times",
+        plan.threads,
+        plan.most_rows(),
+        ours.work,
+        ours.calls,
+        theirs.work,
+        theirs.calls
+    )
+}
+
+/// Writes what a listing costs that is borrowed where nothing changed, against a lock that is taken and left.
+fn show_unchanged<R: Threads + Wait + Clock + Eprint + Sync>(
+    rt: &R,
+    alloc: Global,
+) -> io::Result<()> {
+    let plan = Plan {
+        work: Work::Borrow,
+        threads: 1,
+        millis: ONE,
+        rows: 255,
+        beside_calls: false,
+    };
+    let config = config()?;
+    let ours = most(|| Ok(shared::rate(rt, alloc, config, &plan)?.work))?;
+    let locks = most(|| locked::rate_of_locks(rt))?;
+    let hundredths = locks.saturating_mul(100) / ours.max(1);
+    eprintln!(rt;
+        "borrowed listings where nothing changed: {} ns each, {hundredths} hundredths of a lock",
+        1_000_000_000 / ours.max(1)
+    )
+}
+
+/// Writes what one thread's calls and copied listings cost.
+fn show_costs<R: Threads + Wait + Clock + Eprint + Sync>(
+    rt: &R,
+    alloc: Global,
+    rows: u8,
+) -> io::Result<()> {
+    for (what, work) in [
+        ("calls", Work::Call),
+        ("refused calls", Work::Refused),
+        ("copied listings", Work::Copy),
+    ] {
+        let plan = Plan {
+            work,
+            threads: 1,
+            millis: ONE,
+            rows,
+            beside_calls: false,
+        };
+        show_cost(rt, alloc, what, &plan)?;
+    }
+    Ok(())
+}
+
+/// Writes how many calls the threads make, and how many listings they borrow beside a thread that makes calls.
+fn show_rates<R: Threads + Wait + Clock + Eprint + Sync>(
+    rt: &R,
+    alloc: Global,
+    threads: usize,
+) -> io::Result<()> {
+    let threads = threads.min(7);
+    for (what, work, rows) in [
+        ("calls", Work::Call, 0),
+        ("borrowed listings", Work::Borrow, 0),
+        ("borrowed listings", Work::Borrow, 255),
+    ] {
+        let plan = Plan {
+            work,
+            threads,
+            millis: SEVERAL,
+            rows,
+            beside_calls: work == Work::Borrow,
+        };
+        show_rate(rt, alloc, what, &plan)?;
+    }
+    Ok(())
 }
 
 fn main(rt: HostRuntime) -> io::Result<()> {
     let alloc = rt.alloc();
-    for readers in [1, 2, 4] {
-        let ours = of_new_swarm(&rt, alloc, config()?, readers)?;
-        let theirs = of_mutex(&rt, alloc, config()?, readers)?;
-        show(&rt, readers, ours, theirs)?;
+    show_unchanged(&rt, alloc)?;
+    for rows in [0, 15, 63, 255] {
+        show_costs(&rt, alloc, rows)?;
+    }
+    for threads in [1, 2, 4] {
+        show_rates(&rt, alloc, threads)?;
     }
     Ok(())
 }

@@ -17,7 +17,7 @@ use Rattle.pool_state.specs.History.{Entry, entry, next_number}
 use Rattle.pool_state.specs.Shown.{Shown, IsLegal, reply_after}
 use Rattle.swarm_calls.specs.Calls.{Past, past, Later, SameCalls, IsMade, IsTurnedAway, AllHere, IsWhole}
 use Rattle.swarm_calls.specs.History.{mine, IsOf, calls_of}
-use Rattle.both_seen.specs.Both.{IsInOrder, ShowsBoth, HasDialed}
+use Rattle.both_seen.specs.Both.{IsInOrder, ShowsBoth, HasDialed, EndsWith}
 
 -- a call that is answered a number is in the history
 pub is_made : (r : Reply) (n : ℕ) → r ≡ Conn n → ¬ IsTurnedAway r
@@ -78,6 +78,19 @@ prefix_whole [] (y ∷ ys) p le = absurd (omega arith)
 prefix_whole (x ∷ xs) [] p le = absurd (cc (p.1))
 prefix_whole (x ∷ xs) (y ∷ ys) p le =
     let rest = prefix_whole xs ys (p.0, cc (p.1)) (omega arith) in cc (p.1, rest)
+
+-- a call that was made is the last that is seen
+pub ends_with :
+    ((config : Config) (history : List Entry) (e : Entry) → IsLegal config (history ++ e ∷ []) → (e.reply ≡ reply_after config history e.call) × (e.reply ≢ Refused Spent))
+    → ((config : Config) (history : List Entry) (caller : ℕ) (call : Call) (reply : Reply) → IsLegal config (history ++ entry caller call reply ∷ []) → added (Shown config history) call reply ≡ Shown config (history ++ entry caller call reply ∷ []))
+    → (config : Config) (callers : ℕ) (call : Call) (reply : Reply) (old new : Past) → Later config callers old new → IsMade call reply old new → EndsWith config call reply new
+ends_with last shown config callers call reply old new later made =
+    let legal : IsLegal config (made.before ++ entry old.number call reply ∷ []) = subst (IsLegal config) made.last later.legal in
+    record {
+      before = made.before;
+      answered = (last config made.before (entry old.number call reply) legal).0;
+      shown = ap (Shown config) made.last ∙ sym (shown config made.before old.number call reply legal);
+    }
 
 -- the laws, as the laws' functions give them
 module _

@@ -1,14 +1,17 @@
 -- What a dial of each of two callers comes to.
 -- Source: This project's profile of a swarm, as a caller of it.
-use Rattle.std.specs.Prelude.{◌≡◌, ℕ, ◌+◌, [], ◌∷◌, Some, ◌⊎◌}
+use Rattle.std.specs.Prelude.{◌≡◌, ℕ, ◌+◌, List, [], ◌∷◌, Some, ◌⊎◌}
+use Rattle.pool_state.specs.declared.call.Call.{Call}
 use Rattle.pool_state.specs.declared.call.Call.TheVariants.{Dial}
+use Rattle.pool_state.specs.declared.call.Reply.{Reply}
 use Rattle.pool_state.specs.declared.call.Reply.TheVariants.{Conn}
 use Rattle.pool_state.specs.declared.limits.Config.{Config}
 use Rattle.pool_state.specs.declared.listing.Listing.{Listing}
 use Rattle.pool_state.specs.declared.row.ConnSide.TheVariants.{Dialer}
 use Rattle.pool_state.specs.Parts.{Peer}
-use Rattle.pool_state.specs.Added.{fresh}
-use Rattle.pool_state.specs.History.{entry}
+use Rattle.pool_state.specs.Added.{added, fresh}
+use Rattle.pool_state.specs.History.{Entry, entry}
+use Rattle.pool_state.specs.Shown.{Shown, reply_after}
 use Rattle.swarm_calls.specs.Calls.{Past}
 use Rattle.swarm_calls.specs.History.{mine}
 
@@ -29,3 +32,10 @@ ShowsBoth config shown n a m b = IsInOrder config shown n a m b ⊎ IsInOrder co
 pub record HasDialed (caller : ℕ) (p : Past) (n : ℕ) (a : Peer) : Type 0 where
   pub number : p.number ≡ caller
   pub calls : mine caller p.seen ≡ entry caller (Dial (Some a)) (Conn n) ∷ []
+
+-- This call is the last that the caller has seen: the pool answers it so behind what stood before, and what is shown is
+-- what it adds to that.
+pub record EndsWith (config : Config) (call : Call) (reply : Reply) (p : Past) : Type 0 where
+  pub before : List Entry
+  pub answered : reply ≡ reply_after config before call
+  pub shown : Shown config p.seen ≡ added (Shown config before) call reply

@@ -4,10 +4,11 @@
 #![tactic(auto)]
 
 ghost use Rattle.std.specs.Prelude.{◌≡◌, ◌≢◌, ℕ, [], IfErr, IfOk};
+ghost use Rattle.pool_state.specs.declared.call.Call.TheVariants.{Dial};
 ghost use Rattle.pool_state.specs.declared.call.Reply.TheVariants.{Conn};
 ghost use Rattle.swarm_calls.specs.declared.swarm.NewRefused.TheVariants.{BadCallers};
-ghost use Rattle.swarm_calls.specs.Calls.{newcomers, past};
-ghost use Rattle.both_seen.specs.Both.{HasDialed, ShowsBoth};
+ghost use Rattle.swarm_calls.specs.Calls.{IsTurnedAway, SameCalls, newcomers, past};
+ghost use Rattle.both_seen.specs.Both.{EndsWith, HasDialed, ShowsBoth};
 
 use peer_ids::PeerId;
 use pool_state::laws::{added_is_shown, beginning_is_legal, last_reply, next_number_is_given};
@@ -66,7 +67,24 @@ pub fn list_both<G: Gate, J: Identity, L: Ledgers, R: Wait>(
     }
 }
 
-/// The same, from new passes to the end of the swarm.
+/// A dial, which its caller sees without looking anew, as the last call of all that it has seen. One that is turned away
+/// is none of the caller's calls.
+pub fn dial_seen<G: Gate, J: Identity, L: Ledgers, R: Wait>(
+    rt: &R,
+    swarm: &Swarm<G, J, L>,
+    pass: &mut Pass<J, L>,
+    peer: PeerId,
+) -> Reply
+    ensures seen { ¬ IsTurnedAway result → EndsWith J.config (Dial (Some peer)) result pass.new }
+    ensures turned_away { IsTurnedAway result → SameCalls pass.old pass.new }
+{
+    let reply = swarm.dial(rt, pass, Some(peer));
+    last_reply();
+    added_is_shown();
+    reply
+}
+
+/// Two dials as by `list_both`, from new passes to the end of the swarm.
 pub fn close_both<G: Gate, J: Identity, L: Ledgers, R: Wait>(
     rt: &R,
     swarm: Swarm<G, J, L>,

@@ -1,10 +1,12 @@
 //! A plain and slow answer to each pool call, found by searching the whole history of calls, and tests that compare the
-//! pool with it. It shares no code with the pool, and is used by these tests alone.
+//! pool with it. It shares no code with the pool, and is used by these tests alone. Beside it stands what a caller
+//! concludes from the pool's laws.
 #![tactic(auto)]
 
 #[cfg(test)]
 mod calls;
 #[cfg(test)]
 mod history;
+pub mod laws;
 #[cfg(test)]
 mod tests;

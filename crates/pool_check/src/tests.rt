@@ -9,11 +9,8 @@ use std::process::Abort;
 use std::test::*;
 
 /// The id of the Ed25519 key of 32 bytes that are all `byte`.
-fn peer(byte: u8) -> Result<PeerId, Fail> {
-    let mut multihash = [byte; 38];
-    multihash[..6].copy_from_slice(&[0x00, 0x24, 0x08, 0x01, 0x12, 0x20]);
-    let id = PeerId::from_bytes(&multihash).ok().ok_or("a multihash")?;
-    Ok(id)
+fn peer(byte: u8) -> PeerId {
+    PeerId::of_ed25519(&[byte; 32])
 }
 
 /// What the scripts have met.
@@ -62,7 +59,7 @@ fn compare(
     met: &mut Met,
 ) -> Result<(), Fail> {
     let mut cast = Cast {
-        peers: [config.own, peer(0x11)?, peer(0x22)?, peer(0x33)?],
+        peers: [config.own, peer(0x11), peer(0x22), peer(0x33)],
         agents: [
             Agent::from_bytes(b"node/1.0.0").ok_or("a name")?,
             Agent::from_bytes(b"x").ok_or("a name")?,
@@ -109,7 +106,7 @@ fn compare(
 
 #[test]
 fn pool_answers_as_the_history_says(rt: HostRuntime) -> Result<(), Fail> {
-    let own = peer(0)?;
+    let own = peer(0);
     let tight = Limits::new(3, 1, 1, 1, 1, 2, 1).ok_or("in range")?;
     let wide = Limits::new(5, 2, 2, 2, 4, 4, 2).ok_or("in range")?;
     let mut met = Met::nothing();
@@ -143,7 +140,7 @@ fn pool_answers_as_the_history_says(rt: HostRuntime) -> Result<(), Fail> {
 #[test]
 fn pool_stops_at_the_last_front(rt: HostRuntime) -> Result<(), Fail> {
     let config = Config {
-        own: peer(0)?,
+        own: peer(0),
         limits: Limits::new(5, 2, 2, 2, 4, 4, 2).ok_or("in range")?,
         first_conn: 1,
         first_front: u64::MAX - 20,

@@ -1,6 +1,7 @@
 pub mod AgentLemmas
 pub mod Questions
 pub mod Rows
+pub mod Refused
 pub mod Agree
 pub mod Standing
 pub mod Listed

@@ -1,5 +1,5 @@
--- A listing after one more entry of a call and its reply. It is total: a count that can grow no further and a table that
--- is full stay as they are, which no legal history meets (the law `added_is_shown`).
+-- A listing after one more entry of a call and its reply. It is total: a count that can grow no further and a table
+-- that is full stay as they are, which no legal history meets (the law `added_is_shown`).
 -- Source: This project's profile of a swarm.
 use Rattle.std.specs.Prelude.{ℕ, ◌+◌, ◌-◌, ◌^◌, ◌==◌, nat_lt, not, if◌then◌else◌, List, [], ◌∷◌, ◌++◌, length, map, Option, Some, None, slice_index, slice_set}
 use Rattle.std.specs.List.{filter}
@@ -26,7 +26,16 @@ more_at xs i = slice_set xs i (more (slice_index xs i))
 
 -- the row of a connection that was just admitted
 abbrev pub fresh : ℕ → ConnSide → Option Peer → Row
-fresh n s p = record { conn = n; role = s; phase = phase.Pending; peer = p; asked = 0 ∷ 0 ∷ 0 ∷ []; done = 0 ∷ 0 ∷ 0 ∷ []; agent = None }
+fresh n s p = record {
+  conn = n;
+  role = s;
+  phase = phase.Pending;
+  peer = p;
+  asked = 0 ∷ 0 ∷ 0 ∷ [];
+  done = 0 ∷ 0
+      ∷ 0 ∷ [];
+  agent = None;
+}
 
 -- a phase after a Settle
 abbrev pub settled : Phase → Phase
@@ -35,13 +44,15 @@ settled f = phase.Live
 
 -- A row after one more entry. A Disallow that counts none closed none.
 abbrev pub row_after : Call → Reply → Row → Row
-row_after (call.Settle n p) reply.Done row = if row.conn == n then record row { phase = settled row.phase; peer = Some p } else row
+row_after (call.Settle n p) reply.Done row = if row.conn == n then record row
+    { phase = settled row.phase; peer = Some p } else row
 row_after (call.Ask n i) reply.Done row = if row.conn == n then record row { asked = more_at row.asked i } else row
 row_after (call.Done n i) reply.Done row = if row.conn == n then record row { done = more_at row.done i } else row
 row_after (call.Note n agent) reply.Done row = if row.conn == n then record row { agent = Some agent } else row
 row_after (call.HangUp p) (reply.Count k) row = if is_peer p row.peer then record row { phase = phase.Closing } else row
 row_after (call.Block p) (reply.Count k) row = if is_peer p row.peer then record row { phase = phase.Closing } else row
-row_after (call.Disallow p) (reply.Count k) row = if nat_lt 0 k then (if is_peer p row.peer then record row { phase = phase.Closing } else row) else row
+row_after (call.Disallow p) (reply.Count k) row = if nat_lt 0 k then
+    (if is_peer p row.peer then record row { phase = phase.Closing } else row) else row
 row_after c r row = row
 
 -- one more row, where the table has room

@@ -31,4 +31,5 @@ unfolding made
 inside_again a h =
     let size : length (take a.len a.bytes) ≡ a.len = length-take-le a.len a.bytes (omega (arith, h.fits, h.whole)) in
     ap (λ (n : ℕ). made (take a.len a.bytes ++ replicate (64 - n) 0) n) size
-    ∙ ap (λ (t : List ℕ). made t a.len) (ap (λ (z : List ℕ). take a.len a.bytes ++ z) (sym h.zeros) ∙ take-append-drop a.len a.bytes)
+    ∙ ap (λ (t : List ℕ). made t a.len) (ap (λ (z : List ℕ). take a.len a.bytes
+    ++ z) (sym h.zeros) ∙ take-append-drop a.len a.bytes)

@@ -22,9 +22,11 @@ pub record IsBounded (config : Config) (l : Listing) : Type 0 where
   pub blocked : length l.blocked.items ≤ config.limits.blocked
   pub allowed : length l.allowed.items ≤ config.limits.allowed
   -- a connection whose peer is blocked is closing
-  pub blocked_close : All (λ row. (p : Peer) → row.peer ≡ Some p → Contains l.blocked.items p → row.phase ≡ Closing) l.conns.items
+  pub blocked_close :
+      All (λ row. (p : Peer) → row.peer ≡ Some p → Contains l.blocked.items p → row.phase ≡ Closing) l.conns.items
   -- where only allowed peers may connect, a connection that has a peer and isn't closing has an allowed one
-  pub allowed_stay : config.allow_only ≡ true → All (λ row. (p : Peer) → row.peer ≡ Some p → row.phase ≢ Closing → Contains l.allowed.items p) l.conns.items
+  pub allowed_stay : config.allow_only ≡ true → All (λ row. (p : Peer) → row.peer ≡ Some p
+      → row.phase ≢ Closing → Contains l.allowed.items p) l.conns.items
   -- rows stand by rising number, so no number stands twice
   pub rising : IsStrictlyIncreasing (map (λ row. row.conn) l.conns.items)
 

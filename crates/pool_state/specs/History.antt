@@ -129,7 +129,8 @@ same_peer (Some p) known = is_peer p known
 abbrev pub is_closed_after : Bool → List Entry → List Entry → ℕ → Bool
 is_closed_after allow_only before [] n = false
 is_closed_after allow_only before (e ∷ later) n =
-    same_peer (closes allow_only e.call e.reply) (peer_of before n) || is_closed_after allow_only (before ++ e ∷ []) later n
+    same_peer (closes allow_only e.call e.reply) (peer_of before n)
+    || is_closed_after allow_only (before ++ e ∷ []) later n
 
 abbrev pub is_closed : Bool → List Entry → ℕ → Bool
 is_closed allow_only h n = is_closed_after allow_only [] h n
@@ -154,8 +155,10 @@ agent_of h n = last_of (filter_map (λ e. agent_noted n e.call e.reply) h)
 
 -- WHAT MAY BE ASKED OF A PEER
 
-abbrev pub is_listed : (Call → Reply → Option Peer) → (Call → Reply → Option Peer) → List Entry → Peer → Bool
-is_listed adds removes h p = any_since (λ e. is_peer p (adds e.call e.reply)) (λ e. is_peer p (removes e.call e.reply)) h
+abbrev pub is_listed : (Call → Reply → Option Peer) → (Call → Reply → Option Peer) → List Entry → Peer
+    → Bool
+is_listed adds removes h p = any_since (λ e. is_peer p (adds e.call e.reply))
+    (λ e. is_peer p (removes e.call e.reply)) h
 
 -- Peer p is blocked: a Block of it, and no later Unblock.
 abbrev pub is_blocked : List Entry → Peer → Bool
@@ -166,15 +169,19 @@ abbrev pub is_allowed : List Entry → Peer → Bool
 is_allowed h p = is_listed allows disallows h p
 
 -- The peer that an entry adds, where it was not listed before and no later entry removes it.
-abbrev pub comes_to_stay : (Call → Reply → Option Peer) → (Call → Reply → Option Peer) → List Entry → Option Peer → List Entry → Option Peer
+abbrev pub comes_to_stay : (Call → Reply → Option Peer) → (Call → Reply → Option Peer) → List Entry
+    → Option Peer → List Entry → Option Peer
 comes_to_stay adds removes before None later = None
 comes_to_stay adds removes before (Some p) later =
-    if is_listed adds removes before p || list_any (λ e. is_peer p (removes e.call e.reply)) later then None else Some p
+    if is_listed adds removes before p
+    || list_any (λ e. is_peer p (removes e.call e.reply)) later then None else Some p
 
-abbrev pub listed_after : (Call → Reply → Option Peer) → (Call → Reply → Option Peer) → List Entry → List Entry → List Peer
+abbrev pub listed_after : (Call → Reply → Option Peer) → (Call → Reply → Option Peer) → List Entry
+    → List Entry → List Peer
 listed_after adds removes before [] = []
 listed_after adds removes before (e ∷ later) =
-    filter_map (λ o. o) (comes_to_stay adds removes before (adds e.call e.reply) later ∷ []) ++ listed_after adds removes (before ++ e ∷ []) later
+    filter_map (λ o. o) (comes_to_stay adds removes before (adds e.call e.reply) later ∷ [])
+    ++ listed_after adds removes (before ++ e ∷ []) later
 
 -- The blocked peers, each at the place of the Block by which it came to be blocked and stayed so.
 abbrev pub blocked : List Entry → List Peer

@@ -16,7 +16,13 @@ Peer = List ℕ
 
 -- the listing of a front, rows, blocked peers and allowed peers
 abbrev pub listing : ℕ → List Row → List Peer → List Peer → Listing
-listing front rows blocked allowed = record { front = front; conns = record { items = rows }; blocked = record { items = blocked }; allowed = record { items = allowed } }
+listing front rows blocked allowed = record {
+  front = front;
+  conns = record { items = rows };
+  blocked = record
+      { items = blocked };
+  allowed = record { items = allowed };
+}
 
 -- this peer is there, and it is p
 abbrev pub is_peer : Peer → Option Peer → Bool

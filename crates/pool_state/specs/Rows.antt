@@ -230,7 +230,8 @@ pub record StreamRows : Type 0 where
       ∷ (Settle 2 second, reply.Done) ∷ (Ask 1 0, reply.Done) ∷ (Ask 1 2, reply.Done) ∷ (Ask 1 2, reply.Done)
       ∷ (Done 1 2, reply.Done) ∷ (Ask 2 1, reply.Done) ∷ (HangUp first, reply.Count 1) ∷ [])
       (listing 10 (counting (row 1 Listener phase.Closing (Some first)) (1 ∷ 0 ∷ 2 ∷ []) (0 ∷ 0 ∷ 1 ∷ [])
-      ∷ counting (row 2 Listener phase.Live (Some second)) (0 ∷ 1 ∷ 0 ∷ []) (0 ∷ 0 ∷ 0 ∷ []) ∷ []) [] [])
+      ∷ counting (row 2 Listener phase.Live (Some second)) (0 ∷ 1 ∷ 0 ∷ []) (0 ∷ 0 ∷ 0 ∷ []) ∷ []) []
+      [])
   pub last_agent : Play wide
       ((Accept, reply.Conn 1) ∷ (Accept, reply.Conn 2) ∷ (Settle 1 first, reply.Done)
       ∷ (Settle 2 second, reply.Done) ∷ (Note 1 x, reply.Done) ∷ (Note 2 x, reply.Done)
@@ -242,7 +243,8 @@ pub record StreamRows : Type 0 where
       ∷ (Done 1 0, reply.Done) ∷ (Allow first, reply.Count 1) ∷ (Disallow second, reply.Count 0)
       ∷ (Disallow first, reply.Count 0) ∷ (Unblock first, reply.Count 0)
       ∷ (Ask 1 3, refused BadProtocol) ∷ [])
-      (listing 10 (counting (naming (row 1 Listener phase.Live (Some first)) x) (1 ∷ 0 ∷ 0 ∷ []) (1 ∷ 0 ∷ 0 ∷ [])
+      (listing 10 (counting (naming (row 1 Listener phase.Live (Some first)) x) (1 ∷ 0 ∷ 0 ∷ [])
+      (1 ∷ 0 ∷ 0 ∷ [])
       ∷ []) [] [])
   pub agent_of_the_closing : Play guarded
       ((Accept, reply.Conn 1) ∷ (Allow first, reply.Count 1) ∷ (Settle 1 first, reply.Done)
@@ -297,13 +299,15 @@ pub record RefusalRows : Type 0 where
       ∷ (Done 1 3, refused NotLive) ∷ (Note 1 x, refused NotLive) ∷ (Settle 1 first, reply.Done)
       ∷ (Ask 1 3, refused BadProtocol) ∷ (Done 1 3, refused BadProtocol) ∷ (Done 1 2, refused NothingAsked)
       ∷ (Ask 1 2, reply.Done) ∷ [])
-      (listing 13 (counting (row 1 Listener phase.Live (Some first)) (0 ∷ 0 ∷ 1 ∷ []) (0 ∷ 0 ∷ 0 ∷ []) ∷ []) [] [])
+      (listing 13 (counting (row 1 Listener phase.Live (Some first)) (0 ∷ 0 ∷ 1 ∷ []) (0 ∷ 0 ∷ 0 ∷ []) ∷
+      []) [] [])
   pub open_streams : Play narrow
       ((Accept, reply.Conn 1) ∷ (Settle 1 first, reply.Done) ∷ (Ask 1 2, reply.Done)
       ∷ (Ask 1 0, refused StreamsFull) ∷ (Done 1 0, refused NothingAsked) ∷ (Done 1 2, reply.Done)
       ∷ (Done 1 2, refused NothingAsked) ∷ (Ask 1 0, reply.Done) ∷ (HangUp first, reply.Count 1)
       ∷ (Ask 1 0, refused Closing) ∷ (Done 1 0, refused Closing) ∷ (Note 1 x, refused Closing) ∷ [])
-      (listing 12 (counting (row 1 Listener phase.Closing (Some first)) (1 ∷ 0 ∷ 1 ∷ []) (0 ∷ 0 ∷ 1 ∷ []) ∷ []) [] [])
+      (listing 12 (counting (row 1 Listener phase.Closing (Some first)) (1 ∷ 0 ∷ 1 ∷ []) (0 ∷ 0 ∷ 1 ∷ [])
+      ∷ []) [] [])
   pub peers : Play narrow
       ((HangUp own, refused SelfPeer) ∷ (Block own, refused SelfPeer) ∷ (Unblock own, refused SelfPeer)
       ∷ (Allow own, refused SelfPeer) ∷ (Disallow own, refused SelfPeer) ∷ (Block first, reply.Count 0)
@@ -352,7 +356,8 @@ settle_refusals peer_full =
 
 abbrev pub ask_refusals : Bool → List (Refusal × Bool)
 ask_refusals streams_full =
-    (NoConn, false) ∷ (Closing, false) ∷ (NotLive, false) ∷ (BadProtocol, false) ∷ (StreamsFull, streams_full) ∷ []
+    (NoConn, false) ∷ (Closing, false) ∷ (NotLive, false) ∷ (BadProtocol, false) ∷ (StreamsFull, streams_full)
+    ∷ []
 
 -- Which refusals hold at the largest limits: one below, and there. (Where 256 stand, Full comes before SideFull.)
 pub record LimitRows : Type 0 where
@@ -370,7 +375,8 @@ pub record LimitRows : Type 0 where
       ≡ settle_refusals true
   pub room_for_a_stream : at_rows (busy (60 ∷ 2 ∷ 1 ∷ []) (0 ∷ 0 ∷ 0 ∷ [])) (Ask 1 0) ≡ ask_refusals false
   pub none_for_a_stream : at_rows (busy (60 ∷ 3 ∷ 1 ∷ []) (0 ∷ 0 ∷ 0 ∷ [])) (Ask 1 0) ≡ ask_refusals true
-  pub streams_that_are_done : at_rows (busy (90 ∷ 3 ∷ 1 ∷ []) (30 ∷ 1 ∷ 0 ∷ [])) (Ask 1 0) ≡ ask_refusals false
+  pub streams_that_are_done : at_rows (busy (90 ∷ 3 ∷ 1 ∷ []) (30 ∷ 1 ∷ 0 ∷ [])) (Ask 1 0)
+      ≡ ask_refusals false
   pub room_to_block : at_peers 63 (Block first) ≡ (SelfPeer, false) ∷ (BlockFull, false) ∷ []
   pub none_to_block : at_peers 64 (Block first) ≡ (SelfPeer, false) ∷ (BlockFull, true) ∷ []
   pub blocked_already : at_peers 64 (Block (67 ∷ [])) ≡ (SelfPeer, false) ∷ (BlockFull, false) ∷ []

@@ -41,7 +41,8 @@ reply_after config h call = reply_to config (next_number config h) (Shown config
 -- Spent.
 abbrev pub IsLegalAfter : Config → List Entry → List Entry → Type 0
 IsLegalAfter config before [] = Unit {0}
-IsLegalAfter config before (e ∷ later) = ((e.reply ≡ reply_after config before e.call) × (e.reply ≢ Refused Spent)) × IsLegalAfter config (before ++ e ∷ []) later
+IsLegalAfter config before (e ∷ later) = ((e.reply ≡ reply_after config before e.call)
+    × (e.reply ≢ Refused Spent)) × IsLegalAfter config (before ++ e ∷ []) later
 
 abbrev pub IsLegal : Config → List Entry → Type 0
 IsLegal config h = IsLegalAfter config [] h
@@ -49,7 +50,9 @@ IsLegal config h = IsLegalAfter config [] h
 -- What the table asks of a listing is asked of the history: a test of the row of n is a test of connection n, which
 -- stands; a count of rows is one of the standing connections; a listed peer is blocked, or allowed.
 pub record ShowsHistory (config : Config) (h : List Entry) : Type 0 where
-  pub row : (n : ℕ) (test : Row → Bool) → row_is (Shown config h).conns.items n test ≡ (stands h n && test (row_of config h n))
-  pub count : (test : Row → Bool) → count_by test (Shown config h).conns.items ≡ count_by (λ n. test (row_of config h n)) (standing config h)
+  pub row : (n : ℕ) (test : Row → Bool) → row_is (Shown config h).conns.items n test
+      ≡ (stands h n && test (row_of config h n))
+  pub count : (test : Row → Bool) → count_by test (Shown config h).conns.items
+      ≡ count_by (λ n. test (row_of config h n)) (standing config h)
   pub blocked : (p : Peer) → has (Shown config h).blocked.items p ≡ is_blocked h p
   pub allowed : (p : Peer) → has (Shown config h).allowed.items p ≡ is_allowed h p

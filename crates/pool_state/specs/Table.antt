@@ -1,5 +1,5 @@
--- The table of refusals and answers (this project's profile). The conditions are said of what a history shows, which the
--- law `table_asks_history` turns into questions of the history.
+-- The table of refusals and answers (this project's profile). The conditions are said of what a history shows, which
+-- the law `table_asks_history` turns into questions of the history.
 use Rattle.std.specs.Prelude.{ℕ, ◌+◌, ◌-◌, ◌^◌, ◌==◌, nat_le, Bool, true, not, ◌&&◌, if◌then◌else◌, List, Option, [], ◌∷◌, length, Some, None, slice_index}
 use Rattle.std.specs.List.{list_any, count_by}
 use Rattle.std.specs.Str.{bytes_eq}
@@ -38,7 +38,8 @@ expects_another l n p = row_is l.conns.items n (λ row. is_other_peer p row.peer
 
 -- how many streams of a row are asked for and not yet done
 abbrev pub open_streams : Row → ℕ
-open_streams row = (slice_index row.asked 0 - slice_index row.done 0) + (slice_index row.asked 1 - slice_index row.done 1) + (slice_index row.asked 2 - slice_index row.done 2)
+open_streams row = (slice_index row.asked 0 - slice_index row.done 0) +
+    (slice_index row.asked 1 - slice_index row.done 1) + (slice_index row.asked 2 - slice_index row.done 2)
 
 -- connection n has as many open streams as may be
 abbrev pub is_busy : Config → Listing → ℕ → Bool

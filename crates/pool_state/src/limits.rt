@@ -44,9 +44,11 @@ impl Limits {
         outbound: usize,
         allowed: usize,
     ) -> Option<Limits>
-        ensures in_range { IsSome result ↔ (((1 ≤ conns) × (conns ≤ 256)) × ((1 ≤ per_peer) × (per_peer ≤ 8)) × ((1 ≤ streams) × (streams ≤ 64))
+        ensures in_range { IsSome result ↔ (((1 ≤ conns) × (conns ≤ 256))
+            × ((1 ≤ per_peer) × (per_peer ≤ 8)) × ((1 ≤ streams) × (streams ≤ 64))
             × (blocked ≤ 64) × (inbound ≤ 256) × (outbound ≤ 256) × (allowed ≤ 64)) }
-        ensures connections { IfSome result (λ limits. (limits.conns ≡ conns) × (limits.per_peer ≡ per_peer) × (limits.streams ≡ streams)) }
+        ensures connections { IfSome result (λ limits. (limits.conns ≡ conns) × (limits.per_peer ≡ per_peer)
+            × (limits.streams ≡ streams)) }
         ensures sides { IfSome result (λ limits. (limits.inbound ≡ inbound) × (limits.outbound ≡ outbound)) }
         ensures lists { IfSome result (λ limits. (limits.blocked ≡ blocked) × (limits.allowed ≡ allowed)) }
     {

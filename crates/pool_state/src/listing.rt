@@ -32,13 +32,16 @@ fn change(rows: &mut [Row], call: &Call, reply: &Reply)
     ensures { rows.new ≡ map (row_after call.now reply.now) rows.old }
 {
     for row in rows.iter_mut() {
-        *row = row.after(call, reply);
+        row.follow(call, reply);
     }
 }
 
 fn change_rows(rows: &mut ArrayVec<Row, 256>, call: &Call, reply: &Reply)
     ensures { rows.new.items ≡ rows_after call.now reply.now rows.old.items }
 {
+    if let Reply::Refused(_) = reply {
+        return;
+    }
     match (call, reply) {
         (Call::Dial(peer), Reply::Conn(conn)) => {
             let _full = rows.try_push(Row::fresh(*conn, ConnSide::Dialer, *peer));

@@ -1,8 +1,8 @@
 //! The pool: the sequential swarm, kept as tables.
 
-ghost use Rattle.std.specs.Prelude.{◌≡◌, ◌≢◌, [], ◌∷◌, ◌++◌, ◌<◌, Some, None, ℕ, List};
+ghost use Rattle.std.specs.Prelude.{◌≡◌, ◌≢◌, true, [], ◌∷◌, ◌++◌, ◌<◌, Some, None, ℕ, List};
 ghost use Rattle.pool_state.specs.Parts.{has};
-ghost use Rattle.pool_state.specs.Table.{may_refuse, answer, first_that_holds, closable, is_kept_out, is_full, is_exhausted};
+ghost use Rattle.pool_state.specs.Table.{may_refuse, answer, has_conn, first_that_holds, closable, is_kept_out, is_full, is_exhausted};
 ghost use Rattle.pool_state.specs.declared.call.Call.TheVariants as call;
 ghost use Rattle.pool_state.specs.declared.row.Agent.{Agent};
 ghost use Rattle.pool_state.specs.declared.call.Reply.TheVariants.{Refused};
@@ -10,7 +10,7 @@ ghost use Rattle.pool_state.specs.declared.call.Refusal.TheVariants.{Spent};
 ghost use Rattle.pool_state.specs.declared.limits.Config.{Config};
 ghost use Rattle.pool_state.specs.History.{Entry, entry};
 ghost use Rattle.pool_state.specs.Shown.{Shown, reply_after};
-ghost use Rattle.pool_state.specs.At.{IsAt, number_after};
+ghost use Rattle.pool_state.specs.At.{Stands, followed, number_after};
 
 use crate::call::{Call, Refusal, Reply};
 use crate::limits::Config;
@@ -74,6 +74,12 @@ impl Pool {
         self.next > u64::from(u32::MAX)
     }
 
+    fn stands(&self, conn: u32) -> bool
+        ensures { result ≡ has_conn self.now.listing conn }
+    {
+        has_conn(self.listing.conns.as_slice(), conn)
+    }
+
     fn dial_refusals(&self, peer: &PeerId) -> [(Refusal, bool); 7]
         ensures { result ≡ may_refuse self.now.config self.now.next self.now.listing (call.Dial (Some peer.now)) }
     {
@@ -122,11 +128,12 @@ impl Pool {
     }
 
     fn settle_refusals(&self, conn: u32, peer: &PeerId) -> [(Refusal, bool); 8]
+        requires { has_conn self.now.listing conn ≡ true }
         ensures { result ≡ may_refuse self.now.config self.now.next self.now.listing (call.Settle conn peer.now) }
     {
         let rows = self.listing.conns.as_slice();
         [
-            (Refusal::NoConn, !has_conn(rows, conn)),
+            (Refusal::NoConn, false),
             (Refusal::Closing, has_phase(rows, conn, Phase::Closing)),
             (Refusal::NotPending, has_phase(rows, conn, Phase::Live)),
             (Refusal::SelfPeer, is_same(&self.config.own, peer)),
@@ -141,11 +148,12 @@ impl Pool {
     }
 
     fn ask_refusals(&self, conn: u32, index: u8) -> [(Refusal, bool); 5]
+        requires { has_conn self.now.listing conn ≡ true }
         ensures { result ≡ may_refuse self.now.config self.now.next self.now.listing (call.Ask conn index) }
     {
         let rows = self.listing.conns.as_slice();
         [
-            (Refusal::NoConn, !has_conn(rows, conn)),
+            (Refusal::NoConn, false),
             (Refusal::Closing, has_phase(rows, conn, Phase::Closing)),
             (Refusal::NotLive, has_phase(rows, conn, Phase::Pending)),
             (Refusal::BadProtocol, index >= 3),
@@ -157,11 +165,12 @@ impl Pool {
     }
 
     fn done_refusals(&self, conn: u32, index: u8) -> [(Refusal, bool); 5]
+        requires { has_conn self.now.listing conn ≡ true }
         ensures { result ≡ may_refuse self.now.config self.now.next self.now.listing (call.Done conn index) }
     {
         let rows = self.listing.conns.as_slice();
         [
-            (Refusal::NoConn, !has_conn(rows, conn)),
+            (Refusal::NoConn, false),
             (Refusal::Closing, has_phase(rows, conn, Phase::Closing)),
             (Refusal::NotLive, has_phase(rows, conn, Phase::Pending)),
             (Refusal::BadProtocol, index >= 3),
@@ -170,11 +179,13 @@ impl Pool {
     }
 
     fn note_refusals(&self, conn: u32) -> [(Refusal, bool); 3]
-        ensures { (agent : Agent) → result ≡ may_refuse self.now.config self.now.next self.now.listing (call.Note conn agent) }
+        requires { has_conn self.now.listing conn ≡ true }
+        ensures { (agent : Agent) → result
+            ≡ may_refuse self.now.config self.now.next self.now.listing (call.Note conn agent) }
     {
         let rows = self.listing.conns.as_slice();
         [
-            (Refusal::NoConn, !has_conn(rows, conn)),
+            (Refusal::NoConn, false),
             (Refusal::Closing, has_phase(rows, conn, Phase::Closing)),
             (Refusal::NotLive, has_phase(rows, conn, Phase::Pending)),
         ]
@@ -214,16 +225,24 @@ impl Pool {
             Call::Dial(Some(peer)) => first_that_holds(&self.dial_refusals(peer)),
             Call::Dial(None) => first_that_holds(&self.unnamed_dial_refusals()),
             Call::Accept => first_that_holds(&self.accept_refusals()),
-            Call::Settle(conn, peer) => first_that_holds(&self.settle_refusals(*conn, peer)),
-            Call::Ask(conn, index) => first_that_holds(&self.ask_refusals(*conn, *index)),
-            Call::Done(conn, index) => first_that_holds(&self.done_refusals(*conn, *index)),
-            Call::Note(conn, _) => first_that_holds(&self.note_refusals(*conn)),
+            Call::Settle(conn, peer) if self.stands(*conn) => {
+                first_that_holds(&self.settle_refusals(*conn, peer))
+            }
+            Call::Ask(conn, index) if self.stands(*conn) => {
+                first_that_holds(&self.ask_refusals(*conn, *index))
+            }
+            Call::Done(conn, index) if self.stands(*conn) => {
+                first_that_holds(&self.done_refusals(*conn, *index))
+            }
+            Call::Note(conn, _) if self.stands(*conn) => {
+                first_that_holds(&self.note_refusals(*conn))
+            }
+            Call::Gone(conn) if self.stands(*conn) => None,
+            Call::Settle(..) | Call::Ask(..) | Call::Done(..) | Call::Note(..) | Call::Gone(_) => {
+                Some(Refusal::NoConn)
+            }
             Call::Block(peer) => first_that_holds(&self.block_refusals(peer)),
             Call::Allow(peer) => first_that_holds(&self.allow_refusals(peer)),
-            Call::Gone(conn) => {
-                let stands = has_conn(self.listing.conns.as_slice(), *conn);
-                first_that_holds(&[(Refusal::NoConn, !stands)])
-            }
             Call::HangUp(peer) | Call::Unblock(peer) | Call::Disallow(peer) => {
                 first_that_holds(&[(Refusal::SelfPeer, is_same(&self.config.own, peer))])
             }
@@ -231,7 +250,8 @@ impl Pool {
     }
 
     fn closable_of(&self, peer: &PeerId) -> u8
-        ensures { closable self.now.listing.conns.items peer.now < 256 → result ≡ closable self.now.listing.conns.items peer.now }
+        ensures { closable self.now.listing.conns.items peer.now < 256
+            → result ≡ closable self.now.listing.conns.items peer.now }
     {
         closable(self.listing.conns.as_slice(), peer).min(255) as u8
     }
@@ -239,7 +259,8 @@ impl Pool {
     /// What the call is answered where nothing refuses it.
     fn answer(&self, call: &Call) -> Reply
         requires { first_that_holds (may_refuse self.now.config self.now.next self.now.listing call.now) ≡ None }
-        ensures { ((p : List ℕ) → closable self.now.listing.conns.items p < 256) → result ≡ answer self.now.config self.now.next self.now.listing call.now }
+        ensures { ((p : List ℕ) → closable self.now.listing.conns.items p < 256)
+            → result ≡ answer self.now.config self.now.next self.now.listing call.now }
     {
         match call {
             Call::Dial(_) => Reply::Conn(self.next as u32),
@@ -263,7 +284,7 @@ impl Pool {
 
     /// A pool without connections, blocked or allowed peers: it is at the empty history.
     pub fn new(config: Config) -> Pool
-        ensures { IsAt config [] result }
+        ensures { Stands config [] result }
     {
         Pool {
             config,
@@ -274,7 +295,8 @@ impl Pool {
 
     /// What `apply` would answer.
     pub fn reply(&self, call: Call) -> Reply
-        ensures { (config : Config) (history : List Entry) → IsAt config history self.now → result ≡ reply_after config history call }
+        ensures { (config : Config) (history : List Entry) → Stands config history self.now
+            → result ≡ reply_after config history call }
     {
         if self.listing.front == u64::MAX {
             return Reply::Refused(Refusal::Spent);
@@ -288,23 +310,46 @@ impl Pool {
     /// Makes the call, refused or not, and moves the front by 1. A call that is answered `Spent` leaves the pool as it
     /// is.
     pub fn apply(&mut self, call: Call) -> Reply
-        ensures reply { (config : Config) (history : List Entry) → IsAt config history self.old → result ≡ reply_after config history call }
-        ensures moved { (config : Config) (history : List Entry) (caller : ℕ) → IsAt config history self.old → result ≢ Refused Spent
-            → IsAt config (history ++ entry caller call result ∷ []) self.new }
+        ensures reply { (config : Config) (history : List Entry) → Stands config history self.old
+            → result ≡ reply_after config history call }
+        ensures moved { (config : Config) (history : List Entry) (caller : ℕ) → Stands config history self.old
+            → result ≢ Refused Spent
+            → Stands config (history ++ entry caller call result ∷ []) self.new }
         ensures spent { result ≡ Refused Spent → self.new ≡ self.old }
     {
         let reply = self.reply(call);
-        if reply == Reply::Refused(Refusal::Spent) {
-            return reply;
-        }
-        self.next = number_after(self.next, &reply);
-        self.listing.add_entry(&call, &reply);
+        self.commit(&call, &reply);
         reply
+    }
+
+    /// Follows a call and its reply: what `apply` does once it knows the reply. Where it is the reply that `reply`
+    /// gives, the pool has then made the call. A call that is answered `Spent` leaves the pool as it is.
+    pub fn commit(&mut self, call: &Call, reply: &Reply)
+        ensures moved { (config : Config) (history : List Entry) (caller : ℕ) → Stands config history self.old
+            → reply.now ≡ reply_after config history call.now → reply.now ≢ Refused Spent
+            → Stands config (history ++ entry caller call.now reply.now ∷ []) self.new }
+        ensures followed { reply.now ≢ Refused Spent → self.new ≡ followed self.old call.now reply.now }
+        ensures spent { reply.now ≡ Refused Spent → self.new ≡ self.old }
+    {
+        if *reply == Reply::Refused(Refusal::Spent) {
+            return;
+        }
+        self.next = number_after(self.next, reply);
+        self.listing.add_entry(call, reply);
+    }
+
+    /// What the pool shows. The pool stays borrowed while it is looked at.
+    pub fn show(&self) -> &Listing
+        ensures { (config : Config) (history : List Entry) → Stands config history self.now
+            → result.now ≡ Shown config history }
+    {
+        &self.listing
     }
 
     /// What the pool shows: a copy of its listing.
     pub fn listing(&self) -> Listing
-        ensures { (config : Config) (history : List Entry) → IsAt config history self.now → result ≡ Shown config history }
+        ensures { (config : Config) (history : List Entry) → Stands config history self.now
+            → result ≡ Shown config history }
     {
         self.listing.copied()
     }

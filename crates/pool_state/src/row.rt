@@ -150,10 +150,16 @@ impl Phase {
     }
 }
 
+/// Both are one peer. The last byte is looked at first: the first ones are alike in most ids.
 pub(crate) fn is_same(peer: &PeerId, other: &PeerId) -> bool
     ensures { result ≡ bytes_eq peer.now other.now }
 {
-    peer.as_bytes() == other.as_bytes()
+    let (one, two) = (peer.as_bytes(), other.as_bytes());
+    let last = one.len().saturating_sub(1);
+    if last < one.len() && last < two.len() && one[last] != two[last] {
+        return false;
+    }
+    one == two
 }
 
 fn one_more(counts: [u64; 3], index: u8) -> [u64; 3]
@@ -217,37 +223,31 @@ impl Row {
         index >= 3 || self.asked[index] == self.done[index]
     }
 
-    /// The row after one more call.
-    pub(crate) fn after(self, call: &Call, reply: &Reply) -> Row
-        ensures { result ≡ row_after call.now reply.now self }
+    /// Follows one more call and its reply, in place.
+    pub(crate) fn follow(&mut self, call: &Call, reply: &Reply)
+        ensures { self.new ≡ row_after call.now reply.now self.old }
     {
         match (call, reply) {
-            (Call::Settle(conn, peer), Reply::Done) if self.conn == *conn => Row {
-                phase: self.phase.settled(),
-                peer: Some(*peer),
-                ..self
-            },
-            (Call::Ask(conn, index), Reply::Done) if self.conn == *conn => Row {
-                asked: one_more(self.asked, *index),
-                ..self
-            },
-            (Call::Done(conn, index), Reply::Done) if self.conn == *conn => Row {
-                done: one_more(self.done, *index),
-                ..self
-            },
-            (Call::Note(conn, agent), Reply::Done) if self.conn == *conn => Row {
-                agent: Some(*agent),
-                ..self
-            },
-            (Call::HangUp(peer) | Call::Block(peer), Reply::Count(_)) if self.is_of(peer) => Row {
-                phase: Phase::Closing,
-                ..self
-            },
-            (Call::Disallow(peer), Reply::Count(count)) if *count > 0 && self.is_of(peer) => Row {
-                phase: Phase::Closing,
-                ..self
-            },
-            _ => self,
+            (Call::Settle(conn, peer), Reply::Done) if self.conn == *conn => {
+                self.phase = self.phase.settled();
+                self.peer = Some(*peer);
+            }
+            (Call::Ask(conn, index), Reply::Done) if self.conn == *conn => {
+                self.asked = one_more(self.asked, *index);
+            }
+            (Call::Done(conn, index), Reply::Done) if self.conn == *conn => {
+                self.done = one_more(self.done, *index);
+            }
+            (Call::Note(conn, agent), Reply::Done) if self.conn == *conn => {
+                self.agent = Some(*agent);
+            }
+            (Call::HangUp(peer) | Call::Block(peer), Reply::Count(_)) if self.is_of(peer) => {
+                self.phase = Phase::Closing;
+            }
+            (Call::Disallow(peer), Reply::Count(count)) if *count > 0 && self.is_of(peer) => {
+                self.phase = Phase::Closing;
+            }
+            _ => {}
         }
     }
 }

@@ -381,6 +381,34 @@ fn a_copy_follows_the_pool(rt: HostRuntime) -> Result<(), Fail> {
 }
 
 #[test]
+fn a_commit_is_the_rest_of_a_call(rt: HostRuntime) -> Result<(), Fail> {
+    let mut pool = Pool::new(Config {
+        first_front: u64::MAX - 4,
+        ..config()?
+    });
+    let mut other = Pool::new(Config {
+        first_front: u64::MAX - 4,
+        ..config()?
+    });
+    let first = peer(0x11)?;
+    let calls = [
+        (Call::Accept, Reply::Conn(1)),
+        (Call::Settle(1, first), Reply::Done),
+        (Call::Settle(1, first), refused(Refusal::NotPending)),
+        (Call::Block(first), Reply::Count(1)),
+        (Call::Gone(1), refused(Refusal::Spent)),
+    ];
+    for (call, reply) in calls {
+        other.commit(&call, &reply);
+        assert_eq!(rt; pool.apply(call), reply);
+        assert!(rt; other.show() == pool.show());
+    }
+    assert_eq!(rt; pool.show().front, u64::MAX);
+    assert_eq!(rt; pool.show().conns.len(), 1);
+    Ok(())
+}
+
+#[test]
 fn no_call_leads_to_this_node_itself(rt: HostRuntime) -> Result<(), Fail> {
     let mut pool = Pool::new(config()?);
     let own = peer(0)?;

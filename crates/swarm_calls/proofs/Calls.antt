@@ -9,7 +9,7 @@ use Rattle.pool_state.specs.declared.call.Reply.TheVariants.{Refused}
 use Rattle.pool_state.specs.declared.call.Refusal.TheVariants.{Spent, OutOfMemory}
 use Rattle.pool_state.specs.declared.limits.Config.{Config}
 use Rattle.pool_state.specs.declared.pool.Pool.{Pool}
-use Rattle.pool_state.specs.At.{IsAt}
+use Rattle.pool_state.specs.At.{Stands}
 use Rattle.pool_state.specs.History.{Entry, entry, front_of}
 use Rattle.pool_state.specs.Shown.{IsLegal, reply_after}
 use Rattle.swarm_calls.specs.declared.ledgers.Tally.{Tally}
@@ -41,22 +41,22 @@ calls_same caller amount books history seen counts within book share begins = mi
 
 -- what lies under the lock, with the entry
 pub locked_snoc : (book : Book) (config : Config) (callers : ℕ) (word : Book) (pool pool' : Pool) (books : List ℕ) (published published' : Snapshot) (e : Entry) → (1 ≤ e.caller) × (e.caller ≤ 8)
-    → IsLocked book config callers word pool books published → IsShown book config callers published' → published'.beginning.log ≡ published.beginning.log ++ e ∷ [] → IsAt config (published.beginning.log ++ e ∷ []) pool'
+    → IsLocked book config callers word pool books published → IsShown book config callers published' → published'.beginning.log ≡ published.beginning.log ++ e ∷ [] → Stands config (published.beginning.log ++ e ∷ []) pool'
     → IsLocked book config callers word pool' (slice_set books (e.caller - 1) (slice_index books (e.caller - 1) + 1)) published'
 locked_snoc book config callers word pool pool' books published published' e within at shown longer pool_at = record {
   word_is = at.word_is;
   shown = shown;
-  pool_is = subst (λ (h : List Entry). IsAt config h pool') (sym longer) pool_at;
+  pool_is = subst (λ (h : List Entry). Stands config h pool') (sym longer) pool_at;
   books_are = subst (λ (h : List Entry). Counts (slice_set books (e.caller - 1) (slice_index books (e.caller - 1) + 1)) h) (sym longer) (counts_snoc books published.beginning.log e within.0 within.1 at.books_are);
 }
 
 -- at the start all is at the empty history
-pub locked_nil : (book : Book) (config : Config) (callers : ℕ) (word : Book) (pool : Pool) (published : Snapshot) → word ≡ book → IsAt config [] pool → IsShown book config callers published → published.beginning.log ≡ []
+pub locked_nil : (book : Book) (config : Config) (callers : ℕ) (word : Book) (pool : Pool) (published : Snapshot) → word ≡ book → Stands config [] pool → IsShown book config callers published → published.beginning.log ≡ []
     → IsLocked book config callers word pool (0 ∷ 0 ∷ 0 ∷ 0 ∷ 0 ∷ 0 ∷ 0 ∷ 0 ∷ []) published
 locked_nil book config callers word pool published word_is at shown none = record {
   word_is = word_is;
   shown = shown;
-  pool_is = subst (λ (h : List Entry). IsAt config h pool) (sym none) at;
+  pool_is = subst (λ (h : List Entry). Stands config h pool) (sym none) at;
   books_are = subst (λ (h : List Entry). Counts (0 ∷ 0 ∷ 0 ∷ 0 ∷ 0 ∷ 0 ∷ 0 ∷ 0 ∷ []) h) (sym none) counts_nil;
 }
 

@@ -13,8 +13,8 @@ use Rattle.pool_state.specs.Shown.{Shown, IsLegal, reply_after}
 use Rattle.pool_state.specs.Added.{added, more}
 use Rattle.swarm_calls.specs.declared.snapshot.Snapshot.{Snapshot}
 use Rattle.swarm_calls.specs.declared.addition.Addition.{Addition}
-use Rattle.swarm_calls.specs.Steps.{beginning}
-use Rattle.swarm_calls.specs.Snapshots.{IsShown, absorbed}
+use Rattle.swarm_calls.specs.Steps.{Beginning, beginning}
+use Rattle.swarm_calls.specs.Snapshots.{IsShown, absorbed, followed}
 use Rattle.swarm_calls.proofs.Legal.{legal_snoc, counts_snoc, mine_le, of_snoc}
 use Rattle.swarm_calls.proofs.Replies.{unspent_below}
 
@@ -31,21 +31,20 @@ short config h e reply unspent =
     let P : Reply → Type 0 = λ r. r ≢ Refused Spent in
     omega (arith, unspent_below config h e.call (subst P reply unspent))
 
--- what is published after the entry shows the history with it
+-- what follows the entry shows the history with it
 pub shown_snoc : ((config : Config) (history : List Entry) (caller : ℕ) (call : Call) (reply : Reply) → IsLegal config (history ++ entry caller call reply ∷ []) → added (Shown config history) call reply ≡ Shown config (history ++ entry caller call reply ∷ []))
-    → (book : Book) (config : Config) (callers : ℕ) (s : Snapshot) (a : Addition) → IsShown book config callers s → a.after ≡ beginning book (s.beginning.log ++ a.entry ∷ []) → (1 ≤ a.entry.caller) × (a.entry.caller ≤ 8)
-    → a.entry.caller ≤ callers → a.entry.reply ≡ reply_after config s.beginning.log a.entry.call → a.entry.reply ≢ Refused Spent
-    → IsShown book config callers (absorbed s (Some a))
-shown_snoc law book config callers s a shown after within below reply unspent =
+    → (book : Book) (config : Config) (callers : ℕ) (s : Snapshot) (after : Beginning) (e : Entry) → IsShown book config callers s → after ≡ beginning book (s.beginning.log ++ e ∷ []) → (1 ≤ e.caller) × (e.caller ≤ 8)
+    → e.caller ≤ callers → e.reply ≡ reply_after config s.beginning.log e.call → e.reply ≢ Refused Spent
+    → IsShown book config callers (followed s after e)
+shown_snoc law book config callers s after e shown after_is within below reply unspent =
     let h = s.beginning.log in
-    let e = a.entry in
     let small = short config h e reply unspent in
     let all = legal_snoc config h e shown.legal reply unspent in
-    let log : a.after.log ≡ h ++ e ∷ [] = ap (λ (b : Rattle.swarm_calls.specs.Steps.Beginning). b.log) after in
+    let log : after.log ≡ h ++ e ∷ [] = ap (λ (b : Beginning). b.log) after_is in
     let own = shown.calls_are.each e.caller within.0 within.1 in
     let few : slice_index s.calls (e.caller - 1) < 18446744073709551615 = omega (arith, own, mine_le e.caller h, small) in
     record {
-      book_is = ap (λ (b : Rattle.swarm_calls.specs.Steps.Beginning). b.book) after;
+      book_is = ap (λ (b : Beginning). b.book) after_is;
       count_is = rw log (more_is s.count (omega (arith, shown.count_is, small)) ∙ omega (arith, shown.count_is, length-append h (e ∷ [])));
       legal = rw log all;
       listing_is = rw log (ap (λ (l : Listing). added l e.call e.reply) shown.listing_is ∙ law config h e.caller e.call e.reply all);
@@ -63,4 +62,4 @@ pub next_shown : (a : Addition)
 next_shown a law book config callers w v next before pending same first second is shown after within below reply unspent =
     let two : pending ≡ None ∷ Some a ∷ [] = second ∙ ap (λ (l : List (Option Addition)). l ++ Some a ∷ []) first in
     let changed : next ≡ absorbed w (Some a) = is ∙ (ap (fold absorbed v) two ∙ ap (λ (s : Snapshot). absorbed s (Some a)) same) in
-    subst (IsShown book config callers) (sym changed) (shown_snoc law book config callers w a shown after within below reply unspent)
+    subst (IsShown book config callers) (sym changed) (shown_snoc law book config callers w a.after a.entry shown after within below reply unspent)

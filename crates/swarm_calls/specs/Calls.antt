@@ -52,11 +52,13 @@ pub record IsCalled (config : Config) (callers : ℕ) (call : Call) (old : Past)
     -- a call that is turned away is none of the caller's
     pub unmade : IsTurnedAway reply → SameCalls old new
     -- of the two it is Spent exactly where the front has reached its end
-    pub spent : IsTurnedAway reply → ((reply ≡ Refused Spent) ↔ (front_of config new.seen ≡ 18446744073709551615))
+    pub spent : IsTurnedAway reply → ((reply ≡ Refused Spent)
+        ↔ (front_of config new.seen ≡ 18446744073709551615))
 
 -- There is a pass of each caller.
 abbrev pub AllHere : ℕ → List Past → Type 0
-AllHere callers passes = (caller : ℕ) → 1 ≤ caller → caller ≤ callers → list_any (λ p. p.number == caller) passes ≡ true
+AllHere callers passes = (caller : ℕ) → 1 ≤ caller → caller ≤ callers
+    → list_any (λ p. p.number == caller) passes ≡ true
 
 -- One legal history begins with what each pass has seen; of its caller it has just the calls that the pass has made,
 -- and it has the calls of no others.

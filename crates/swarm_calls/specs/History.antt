@@ -20,4 +20,5 @@ calls_of (suc n) history = calls_of n history + length (mine (suc n) history)
 -- the numbers are those of each caller's entries, from caller 1 on
 pub record Counts (calls : List ℕ) (history : List Entry) : Type 0 where
   pub long : length calls ≡ 8
-  pub each : (caller : ℕ) → 1 ≤ caller → caller ≤ 8 → slice_index calls (caller - 1) ≡ length (mine caller history)
+  pub each : (caller : ℕ) → 1 ≤ caller → caller ≤ 8 → slice_index calls (caller - 1)
+      ≡ length (mine caller history)

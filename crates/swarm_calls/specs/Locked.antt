@@ -4,7 +4,7 @@ use Rattle.std.specs.Prelude.{◌≡◌, ℕ, List}
 use Rattle.logbook.specs.Pages.{Book}
 use Rattle.pool_state.specs.declared.limits.Config.{Config}
 use Rattle.pool_state.specs.declared.pool.Pool.{Pool}
-use Rattle.pool_state.specs.At.{IsAt}
+use Rattle.pool_state.specs.At.{Stands}
 use Rattle.swarm_calls.specs.declared.snapshot.Snapshot.{Snapshot}
 use Rattle.swarm_calls.specs.Snapshots.{IsShown}
 use Rattle.swarm_calls.specs.History.{Counts}
@@ -16,5 +16,5 @@ pub record IsLocked (book : Book) (config : Config) (callers : ℕ) (word : Book
   where
     pub word_is : word ≡ book
     pub shown : IsShown book config callers published
-    pub pool_is : IsAt config published.beginning.log pool
+    pub pool_is : Stands config published.beginning.log pool
     pub books_are : Counts books published.beginning.log

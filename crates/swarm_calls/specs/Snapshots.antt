@@ -4,10 +4,12 @@ use Rattle.std.specs.Prelude.{◌≡◌, ◌-◌, ℕ, length, Option, Some, Non
 use Rattle.logbook.specs.Pages.{Book}
 use Rattle.pool_state.specs.declared.limits.Config.{Config}
 use Rattle.pool_state.specs.Added.{added, more, more_at}
+use Rattle.pool_state.specs.History.{Entry}
 use Rattle.pool_state.specs.Shown.{Shown, IsLegal}
 use Rattle.swarm_calls.specs.declared.snapshot.Snapshot.{Snapshot}
 use Rattle.swarm_calls.specs.declared.addition.Addition.{Addition}
 use Rattle.swarm_calls.specs.History.{Counts, IsOf}
+use Rattle.swarm_calls.specs.Steps.{Beginning}
 
 -- A snapshot shows a legal history of this swarm's callers: its length, its listing, and the number of each caller's
 -- entries.
@@ -19,12 +21,16 @@ pub record IsShown (book : Book) (config : Config) (callers : ℕ) (s : Snapshot
   pub calls_are : Counts s.calls s.beginning.log
   pub callers_are : IsOf callers s.beginning.log
 
+-- a snapshot after an entry that joins the history, with the history that it makes
+abbrev pub followed : Snapshot → Beginning → Entry → Snapshot
+followed s after e = record {
+  beginning = after;
+  count = more s.count;
+  listing = added s.listing e.call e.reply;
+  calls = more_at s.calls (e.caller - 1);
+}
+
 -- A snapshot after an operation: none changes nothing.
 abbrev pub absorbed : Snapshot → Option Addition → Snapshot
 absorbed s None = s
-absorbed s (Some a) = record {
-  beginning = a.after;
-  count = more s.count;
-  listing = added s.listing a.entry.call a.entry.reply;
-  calls = more_at s.calls (a.entry.caller - 1);
-}
+absorbed s (Some a) = followed s a.after a.entry

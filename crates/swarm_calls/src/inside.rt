@@ -18,7 +18,7 @@ use crate::identity::Identity;
 use crate::ledgers::{Books, Ledgers};
 use crate::pass::Pass;
 use crate::rule::{ShowsSwarm, SwarmWriter};
-use crate::snapshot::Operation;
+use crate::snapshot::{Operation, Snapshot};
 use crate::swarm::{Closed, Gate};
 use core::mem::replace_with;
 use pool_state::laws::added_is_shown;
@@ -97,7 +97,8 @@ fn publish<J: Identity, R: Wait>(
     ensures pending { drop result.0.behind result.0.log.items ≡ [] }
     ensures shown { result.1 ≡ true → IsShown J.book J.config J.callers result.0.desk.shown.value }
     ensures yes { result.1 ≡ true
-        → result.0.desk.shown.value.beginning ≡ beginning J.book (writer.desk.shown.value.beginning.log ++ entry ∷ []) }
+        → result.0.desk.shown.value.beginning ≡ beginning J.book (writer.desk.shown.value.beginning.log
+        ++ entry ∷ []) }
     ensures no { result.1 ≡ false → result.0.desk.shown.value ≡ writer.desk.shown.value }
 {
     if writer.append(None).is_err() {
@@ -110,6 +111,19 @@ fn publish<J: Identity, R: Wait>(
     added_is_shown();
     let (writer, _absorbed) = writer.publish_as::<ShowsSwarm<J>, R>(rt);
     (writer, true)
+}
+
+// Comes to show the whole history, of which it shows a beginning. Where that is the whole already, it copies nothing.
+fn catch_up<J: Identity>(kept: &mut Snapshot, published: &Snapshot)
+    requires kept { IsShown J.book J.config J.callers kept.old }
+    requires published { IsShown J.book J.config J.callers published.now }
+    requires begins { IsPrefix kept.old.beginning.log published.now.beginning.log }
+    ensures shown { IsShown J.book J.config J.callers kept.new }
+    ensures whole { kept.new.beginning.log ≡ published.now.beginning.log }
+{
+    if kept.count < published.count {
+        kept.copy_from(published);
+    }
 }
 
 impl<J: Identity, L: Ledgers> Inside<J, L> {
@@ -128,7 +142,7 @@ impl<J: Identity, L: Ledgers> Inside<J, L> {
             published.count,
         );
         self.books.audit(&mut pass.tally);
-        pass.kept.copy_from(published);
+        catch_up::<J>(&mut pass.kept, published);
     }
 
     /// Makes a call: asks the pool for its reply, and publishes both in one step.
@@ -166,13 +180,15 @@ impl<J: Identity, L: Ledgers> Inside<J, L> {
     {
         let made = Entry::new(pass.tally.caller(), *call, reply);
         let length = &self.length;
-        let published = replace_with(&mut self.writer, made, |writer, made| {
+        let published = replace_with(&mut self.writer, made.copied(), |writer, made| {
             publish(rt, writer, length, made)
         });
         if published {
             self.books.count(&mut pass.tally);
-            self.pool.apply(*call);
-            pass.kept.copy_from(self.writer.published());
+            self.pool.commit(call, &reply);
+            let after = &self.writer.published().beginning;
+            pass.kept.follow(after, &made);
+            added_is_shown();
         }
         published
     }

@@ -6,5 +6,6 @@ ghost use Rattle.swarm_calls.specs.History.{IsOf, calls_of};
 
 /// A history of the calls of these callers alone is as long as their calls are many.
 pub fn calls_add_up()
-    ensures { (callers : ℕ) (history : List Entry) → IsOf callers history → length history ≡ calls_of callers history }
+    ensures { (callers : ℕ) (history : List Entry) → IsOf callers history
+        → length history ≡ calls_of callers history }
 {}

@@ -76,7 +76,8 @@ impl<L: Ledgers> Model for Books<L> {
 
     ghost Value = { List ℕ };
 
-    ghost view = { λ b. b.first.total ∷ b.second.total ∷ b.third.total ∷ b.fourth.total ∷ b.fifth.total ∷ b.sixth.total ∷ b.seventh.total ∷ b.eighth.total ∷ [] };
+    ghost view = { λ b. b.first.total ∷ b.second.total ∷ b.third.total ∷ b.fourth.total ∷ b.fifth.total ∷
+        b.sixth.total ∷ b.seventh.total ∷ b.eighth.total ∷ [] };
 }
 
 /// The whole share of a ledger. Contracts see its amount.
@@ -136,7 +137,8 @@ pub struct BlankLedgers {
     pub sixth: Blank,
     pub seventh: Blank,
     pub eighth: Blank,
-    ghost parts: { (first.parts ≡ 1) × (second.parts ≡ 1) × (third.parts ≡ 1) × (fourth.parts ≡ 1) × (fifth.parts ≡ 1) × (sixth.parts ≡ 1)
+    ghost parts: { (first.parts ≡ 1) × (second.parts ≡ 1) × (third.parts ≡ 1) × (fourth.parts ≡ 1)
+        × (fifth.parts ≡ 1) × (sixth.parts ≡ 1)
         × (seventh.parts ≡ 1) × (eighth.parts ≡ 1) },
 }
 
@@ -234,7 +236,8 @@ impl<L: Ledgers> Books<L> {
 
     /// Counts an entry of the caller.
     pub fn count(&mut self, tally: &mut Tally<L>)
-        ensures books { self.new ≡ slice_set self.old (caller_of tally.old - 1) (slice_index self.old (caller_of tally.old - 1) + 1) }
+        ensures books { self.new
+            ≡ slice_set self.old (caller_of tally.old - 1) (slice_index self.old (caller_of tally.old - 1) + 1) }
         ensures caller { caller_of tally.new ≡ caller_of tally.old }
         ensures amount { amount_of tally.new ≡ amount_of tally.old + 1 }
     {

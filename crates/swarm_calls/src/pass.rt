@@ -18,7 +18,7 @@ use std::marker::Model;
 /// A caller's right to make calls. Contracts see its number and the history that it has seen.
 #[derive(Drop)]
 pub struct Pass<J: Identity, L: Ledgers> {
-    // It is out of its place only while `list` reads.
+    // It is out of its place only while `renew` reads.
     pub(crate) reader: Option<SwarmReader<J>>,
     pub(crate) tally: Tally<L>,
     pub(crate) kept: Snapshot,
@@ -90,16 +90,30 @@ impl<J: Identity, L: Ledgers> Pass<J, L> {
         self.kept.front()
     }
 
-    // The listing of what it has then seen. Where there is nothing newer, that is what it had seen.
-    pub(crate) fn list(&mut self) -> Listing
+    /// The listing of what the caller has seen. The pass stays borrowed while it is looked at.
+    pub fn listing(&self) -> &Listing
+        ensures shown { result.now ≡ Shown J.config self.now.seen }
+    {
+        &self.kept.listing
+    }
+
+    // How long the history is that the caller has seen.
+    pub(crate) fn length(&self) -> u64 {
+        self.kept.count
+    }
+
+    // Sees what is published, where that is newer. It is said to be so long: where the pass has seen so much, it
+    // doesn't enter.
+    pub(crate) fn renew(&mut self, length: u64)
         ensures later { Later J.config J.callers self.old self.new }
         ensures own { SameCalls self.old self.new }
-        ensures shown { result ≡ Shown J.config self.new.seen }
     {
+        if self.kept.count == length {
+            return;
+        }
         let caller = self.tally.caller();
         if let Some(reader) = self.reader.take() {
             self.reader = Some(look(reader, &mut self.kept, caller));
         }
-        self.kept.listing.copied()
     }
 }

@@ -1,9 +1,11 @@
 //! What is published: a listing, with the history that it shows and the number of each caller's entries there.
 
-ghost use Rattle.std.specs.Prelude.{◌≡◌, ◌<◌, ◌^◌, []};
+ghost use Rattle.std.specs.Prelude.{◌≡◌, ◌<◌, ◌≤◌, ◌^◌, []};
 ghost use Rattle.pool_state.specs.Added.{more, more_at};
+ghost use Rattle.swarm_calls.specs.Snapshots.{followed};
 
 use crate::addition::Addition;
+use crate::entry::Entry;
 use crate::history::Beginning;
 use left_right::Absorb;
 use pool_state::Listing;
@@ -63,6 +65,17 @@ impl Snapshot {
         self.calls = other.calls;
     }
 
+    /// Follows an entry that joins the history, with the history that it makes.
+    pub fn follow(&mut self, after: &Beginning, entry: &Entry)
+        requires { (1 ≤ entry.now.caller) × (entry.now.caller ≤ 8) }
+        ensures { self.new ≡ followed self.old after.now entry.now }
+    {
+        self.beginning = after.copied();
+        self.count = one_more(self.count);
+        self.listing.add(entry.call(), entry.reply());
+        one_more_at(&mut self.calls, entry.caller() - 1);
+    }
+
     /// The front of the listing.
     pub fn front(&self) -> u64
         ensures is { result ≡ self.now.listing.front }
@@ -85,11 +98,7 @@ impl Absorb<Operation> for Snapshot {
 
     fn absorb_first(&mut self, operation: &Operation, _other: &Snapshot) -> Result<(), AllocError> {
         if let Some(addition) = operation {
-            let entry = &addition.entry;
-            self.beginning = addition.after.copied();
-            self.count = one_more(self.count);
-            self.listing.add(entry.call(), entry.reply());
-            one_more_at(&mut self.calls, entry.caller() - 1);
+            self.follow(&addition.after, &addition.entry);
         }
         Ok(())
     }

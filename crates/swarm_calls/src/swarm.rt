@@ -4,7 +4,7 @@ ghost use Rattle.std.specs.Prelude.{◌≡◌, ◌≢◌, ◌+◌, ◌-◌, ◌<
 ghost use Rattle.std.specs.Prelude.{IfOk, IfErr, OnOk};
 ghost use Rattle.std.specs.List.{list_any};
 ghost use Rattle.peer_ids.specs.PeerId.{id_of};
-ghost use Rattle.pool_state.specs.At.{IsAt};
+ghost use Rattle.pool_state.specs.At.{Stands};
 ghost use Rattle.pool_state.specs.History.{Entry};
 ghost use Rattle.pool_state.specs.Shown.{Shown};
 ghost use Rattle.pool_state.specs.declared.call.Call.TheVariants as call;
@@ -26,6 +26,7 @@ use plaintext_x::Proven;
 use pool_state::{Agent, Call, Config, Listing, Pool, Reply};
 use std::alloc::{AllocError, Global};
 use std::marker::Model;
+use std::sync::atomic::{AtomicU64, Ordering};
 use std::sync::{Mutex, Wait};
 
 /// Why there is no swarm.
@@ -69,6 +70,9 @@ impl Gate for NoGate {
 pub struct Swarm<G: Gate, J: Identity, L: Ledgers> {
     gate: G,
     callers: usize,
+    // How long the published history is. It is written under the lock, behind each publishing step, and read without
+    // it: no clause rests on it.
+    length: AtomicU64,
     inside: Mutex<Inside<J, L>>,
 }
 
@@ -135,6 +139,7 @@ impl<G: Gate, J: Identity, L: Ledgers> Swarm<G, J, L> {
             Swarm {
                 gate,
                 callers,
+                length: AtomicU64::new(0),
                 inside,
             },
             passes,
@@ -145,7 +150,10 @@ impl<G: Gate, J: Identity, L: Ledgers> Swarm<G, J, L> {
     fn make<R: Wait>(&self, rt: &R, pass: &mut Pass<J, L>, call: &Call) -> Reply
         ensures { IsCalled J.config J.callers call.now pass.old result pass.new }
     {
-        self.inside.lock(rt).make(rt, &self.gate, pass, call)
+        let mut inside = self.inside.lock(rt);
+        let reply = inside.make(rt, &self.gate, pass, call);
+        self.length.store(pass.length(), Ordering::SeqCst);
+        reply
     }
 
     /// Admits a connection that this end dials, to the peer that is expected, if one is.
@@ -238,14 +246,24 @@ impl<G: Gate, J: Identity, L: Ledgers> Swarm<G, J, L> {
         self.make(rt, pass, &Call::Note(conn, agent))
     }
 
-    /// The listing of what the caller has then seen, which is no less than it had seen. It waits for nobody, takes no
-    /// memory and always answers.
+    /// Lets the caller see what is published, which is no less than it had seen. It waits for nobody and takes no
+    /// memory; where nothing was published since, it changes nothing. `Pass::listing` then shows it.
+    pub fn renew(&self, pass: &mut Pass<J, L>)
+        ensures later { Later J.config J.callers pass.old pass.new }
+        ensures own { SameCalls pass.old pass.new }
+    {
+        pass.renew(self.length.load(Ordering::SeqCst));
+    }
+
+    /// The listing of what the caller has then seen, which is no less than it had seen: `renew`, and a copy of the
+    /// pass's listing. It waits for nobody, takes no memory and always answers.
     pub fn list(&self, pass: &mut Pass<J, L>) -> Listing
         ensures later { Later J.config J.callers pass.old pass.new }
         ensures own { SameCalls pass.old pass.new }
         ensures shown { result ≡ Shown J.config pass.new.seen }
     {
-        pass.list()
+        self.renew(pass);
+        pass.listing().copied()
     }
 
     /// Afterwards both callers have seen one history. It adds no call.
@@ -278,6 +296,7 @@ impl<G: Gate, J: Identity, L: Ledgers> Swarm<G, J, L> {
         let Swarm {
             gate: _gate,
             callers: _,
+            length: _length,
             inside,
         } = self;
         Ok(inside.into_inner().close(rt, passes))
@@ -289,7 +308,7 @@ fn start<J: Identity>(config: Config, beginning: Beginning) -> (Pool, Snapshot)
     requires book { beginning.book ≡ J.book }
     requires empty { beginning.log ≡ [] }
     requires config { config ≡ J.config }
-    ensures pool { IsAt J.config [] result.0 }
+    ensures pool { Stands J.config [] result.0 }
     ensures shown { IsShown J.book J.config J.callers result.1 }
     ensures empty { result.1.beginning.log ≡ [] }
 {

@@ -1,5 +1,5 @@
-//! The dials of two callers of one swarm, made in turn by one thread. Played with a growth refused: a dial that is refused
-//! for memory leaves rows and front as they were, and made again it answers what the first would have.
+//! The dials of two callers of one swarm, made in turn by one thread. Played with a growth refused: a dial that is
+//! refused for memory leaves rows and front as they were, and made again it answers what the first would have.
 #![tactic(auto)]
 
 ghost use Rattle.std.specs.Prelude.{◌≡◌};

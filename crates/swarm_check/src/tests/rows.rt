@@ -85,7 +85,10 @@ fn goes_so<J: Identity, L: Ledgers, R: Wait>(
         Act::Make(1, call, reply) => make(rt, swarm, one, call) == *reply,
         Act::Make(_, call, reply) => make(rt, swarm, two, call) == *reply,
         Act::List(1) => swarm.list(one).front == one.front(),
-        Act::List(_) => swarm.list(two).front == two.front(),
+        Act::List(_) => {
+            swarm.renew(two);
+            two.listing().front == two.front()
+        }
         Act::Meet => {
             swarm.meet(rt, one, two);
             one.front() == two.front()
@@ -279,6 +282,7 @@ fn take<J: Identity, L: Ledgers, R: Wait + Abort>(
     }
     assert_eq!(rt; reply, step.reply, "row {row}");
     assert_eq!(rt; pool.apply(step.call), step.reply, "row {row}");
+    assert!(rt; pass.listing() == pool.show(), "row {row}");
     assert!(rt; swarm.list(pass) == pool.listing(), "row {row}");
 }
 

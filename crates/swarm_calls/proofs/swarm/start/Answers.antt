@@ -1,5 +1,5 @@
 use Rattle.std.proofs.Common.{◌≡◌, [], ◌∷◌, List, length, ap, sym, subst, ◌∙◌}
-use Rattle.pool_state.specs.At.{IsAt}
+use Rattle.pool_state.specs.At.{Stands}
 use Rattle.pool_state.specs.History.{Entry}
 use Rattle.pool_state.specs.Shown.{Shown, IsLegal}
 use Rattle.pool_state.specs.declared.limits.Config.{Config}
@@ -10,7 +10,7 @@ use Rattle.swarm_calls.proofs.swarm.start.Goals as goal
 pub returns-clause-shown : goal.returns-clause-shown
 returns-clause-shown g c =
     let none : c.args.beginning.log ≡ [] = c.requires.empty in
-    let at : IsAt g.J.Identity.config [] c.new-pool.result = subst (λ (k : Config). IsAt k [] c.new-pool.result) c.requires.config c.new-pool.ensures in
+    let at : Stands g.J.Identity.config [] c.new-pool.result = subst (λ (k : Config). Stands k [] c.new-pool.result) c.requires.config c.new-pool.ensures in
     record {
       book_is = c.requires.book;
       count_is = ap length (sym none);

@@ -1,7 +1,5 @@
-use Rattle.std.proofs.Common.{refl}
-use Rattle.pool_state.proofs.Replies.{moved}
 use Rattle.pool_state.proofs.pool.Pool.apply.Goals as goal
 
 pub returns-clause-moved : goal.returns-clause-moved
 returns-clause-moved c config history caller at not_spent =
-    moved config history caller c.args.self.now _ c.args.call c.reply-reply.result at (c.reply-reply.ensures config history at) not_spent refl c.add_entry.ensures c.number_after-self.ensures
+    c.commit.ensures.moved config history caller at (c.reply-reply.ensures config history at) not_spent

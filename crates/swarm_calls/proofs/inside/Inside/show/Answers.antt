@@ -16,4 +16,4 @@ returns-clause-own g c =
     let b : c.published-published.result.now.beginning.log ≡ h = ap (λ (x : Snapshot). x.beginning.log) c.published-published.ensures in
     let begins : IsPrefix s h = subst (λ (l : List Entry). IsPrefix s l) b c.compare.ensures in
     let same = calls_same (caller_of tally) (amount_of tally) c.self.inside.books h s at.books_are (caller_within tally) c.audit.ensures.amount c.pass.invariant.1 begins in
-    rw (← ap (λ (p : Past). p.number) c.pass.view_is, ← ap (λ (p : Past). p.seen) c.pass.view_is, c.copy_from.ensures, c.published-published.ensures) same
+    rw (← ap (λ (p : Past). p.number) c.pass.view_is, ← ap (λ (p : Past). p.seen) c.pass.view_is, c.catch_up.ensures.whole, c.published-published.ensures) same
