@@ -36,8 +36,8 @@ const UNREADABLE: [(&str, AddrFault); 5] = [
 ];
 
 /// The address is printed so.
-fn printed(alloc: Global, tally: &mut Tally, address: &Multiaddr, text: &'static str) {
-    match address.print(alloc) {
+fn printed(tally: &mut Tally, address: &Multiaddr, text: &'static str) {
+    match address.print() {
         Ok(made) => tally.expect(text, made.as_str() == text),
         Err(AddrFault::OutOfMemory) => tally.refuse(),
         Err(_) => tally.expect(text, false),
@@ -54,13 +54,13 @@ fn readable(
     match Multiaddr::parse(alloc, text) {
         Ok(address) => {
             tally.expect(text, address.bytes() == bytes);
-            printed(alloc, tally, &address, print);
+            printed(tally, &address, print);
         }
         Err(AddrFault::OutOfMemory) => tally.refuse(),
         Err(_) => tally.expect(text, false),
     }
     match Multiaddr::read(alloc, bytes) {
-        Ok(address) => printed(alloc, tally, &address, print),
+        Ok(address) => printed(tally, &address, print),
         Err(AddrFault::OutOfMemory) => tally.refuse(),
         Err(_) => tally.expect(text, false),
     }

@@ -1,9 +1,10 @@
-//! Worked rows of keys, ids, addresses, negotiation and exchange, each with its answer. Played with a growth refused, the
-//! answers up to it are those of ample memory, and at it a call answers want of memory.
+//! Worked rows of keys, ids, addresses, negotiation, exchange and handlers, each with its answer. Played with a growth refused,
+//! the answers up to it are those of ample memory, and at it a call answers want of memory.
 #![tactic(auto)]
 
 mod addresses;
 mod exchanges;
+mod handlings;
 mod keys;
 mod negotiations;
 mod tally;
@@ -19,6 +20,7 @@ fn main(rt: HostRuntime) -> io::Result<ExitCode> {
     addresses::play(alloc, &mut tally);
     negotiations::play(alloc, &mut tally);
     exchanges::play(alloc, &mut tally);
+    handlings::play(alloc, &mut tally);
     let at_most_one = tally.refused <= 1;
     tally.expect("one growth is refused at most", at_most_one);
     if let Some(row) = tally.first_wrong {

@@ -1,5 +1,5 @@
--- The calls of a handler, and what it was handed by them (this project's profile; libp2p connections, "Opening new streams over
--- a connection": what a protocol's handler is given is its stream).
+-- The calls of a handler, and what it was handed by them (this project's profile; libp2p connections, "Opening new
+-- streams over a connection": what a protocol's handler is given is its stream).
 use Rattle.std.specs.Prelude.{◌≡◌, ℕ, ◌+◌, Bool, true, false, List, [], ◌∷◌, ◌++◌, length}
 
 -- a call that was answered Ok: bytes were handed over; with so much room these bytes were given; the end was said

@@ -1,2 +1,3 @@
+-- cited by public clauses and laws
 pub mod Calls
 pub mod Names

@@ -14,8 +14,8 @@ pub struct HandlerFault {
 
 /// What serves one stream of a connection: it is handed what comes on the stream, and gives what is to be sent.
 ///
-/// A connection says the end at most once, and hands nothing over behind it. A handler that needs memory keeps the allocator
-/// that it was made with; `closed` and `finished` need none.
+/// A connection says the end at most once, and hands nothing over behind it. A handler that needs memory keeps the
+/// allocator that it was made with; `closed` and `finished` need none.
 pub trait Handler: Drop {
     /// The call, answered so, leads from the first value to the second.
     ghost steps: { Self → HandlerCall → Self → Type 0 };

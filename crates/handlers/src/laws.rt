@@ -25,6 +25,8 @@ pub fn calls_split<H: Handler>()
 
 /// What was handed, and whether the end was said, is determined by the list of calls.
 pub fn one_handing<H: Handler>()
-    ensures { (made value : H) (some other : List ℕ) (ended end : Bool) (one : WasHanded H.steps made some ended value)
-        (two : WasHanded H.steps made other end value) → one.calls ≡ two.calls → (some ≡ other) × (ended ≡ end) }
+    ensures { (made value : H) (some other : List ℕ) (ended end : Bool)
+        (one : WasHanded H.steps made some ended value)
+        (two : WasHanded H.steps made other end value) → one.calls ≡ two.calls
+        → (some ≡ other) × (ended ≡ end) }
 {}

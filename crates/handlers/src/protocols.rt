@@ -20,7 +20,8 @@ pub trait Protocols: Drop {
     /// A stream of this protocol that this end opens is served before the other end has answered.
     ghost is_eager: { Self → ℕ → Bool };
 
-    /// What may be made for a protocol and a peer: the handler of a stream that the peer opened, and of one that this end opened.
+    /// What may be made for a protocol and a peer: the handler of a stream that the peer opened, and of one that this
+    /// end opened.
     ghost makes_inbound: { Self → ℕ → List ℕ → Self.H → Type 0 };
 
     ghost makes_outbound: { Self → ℕ → List ℕ → Self.H → Type 0 };

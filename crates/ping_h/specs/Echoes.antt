@@ -1,4 +1,5 @@
--- The end that answers (libp2p ping 1.0.0: 32 bytes are echoed, again and again; the listener closes once the dialer has).
+-- The end that answers (libp2p ping 1.0.0: 32 bytes are echoed, again and again; the listener closes once the dialer
+-- has).
 use Rattle.std.specs.Prelude.{◌≡◌, ℕ, List, [], Bool, true, false, ◌||◌, ◌++◌, ◌+◌, ◌-◌, ◌*◌, ◌/◌, ◌%◌, ◌<◌}
 use Rattle.std.specs.Prelude.{take, drop, length, min, if◌then◌else◌}
 use Rattle.handlers.specs.Calls.{HandlerCall, Take, Give, End, Asked, ToTake, ToGive, ToEnd}
@@ -9,7 +10,8 @@ use Rattle.ping_h.specs.Faults.{number_of}
 abbrev pub whole_rounds : List ℕ → List ℕ
 whole_rounds input = take (length input / 32 * 32) input
 
--- an echo: the bytes that it was handed and hasn't given back, and how many of them, at the end, are of a round that isn't whole
+-- an echo: the bytes that it was handed and hasn't given back, and how many of them, at the end, are of a round that
+-- isn't whole
 pub record Echo : Type 0 where
   pub owed : List ℕ
   pub begun : ℕ
@@ -32,11 +34,12 @@ abbrev pub EchoStep : Echo → HandlerCall → Echo → Type 0
 EchoStep e (Take bytes) f =
     (is_over e ≡ false) × (f ≡ record e { owed = e.owed ++ bytes; begun = (e.begun + length bytes) % 32 })
 EchoStep e (Give room bytes) f =
-    (e.failed ≡ false) × (bytes ≡ take (min room (whole e)) e.owed) × (f ≡ record e { owed = drop (min room (whole e)) e.owed })
+    (e.failed ≡ false) × (bytes ≡ take (min room (whole e)) e.owed)
+    × (f ≡ record e { owed = drop (min room (whole e)) e.owed })
 EchoStep e End f = (is_over e ≡ false) × (e.begun ≡ 0) × (f ≡ record e { ended = true })
 
--- Why a call fails: the handler has failed, or the end was said before; else an end within a round is Cut, and memory may be wanting
--- where bytes are to be held or given
+-- Why a call fails: the handler has failed, or the end was said before; else an end within a round is Cut, and memory
+-- may be wanting where bytes are to be held or given
 abbrev pub EchoFails : Echo → Asked → ℕ → Type 0
 EchoFails e (ToTake bytes) n =
     (n ≡ number_of (if is_over e then Failed else OutOfMemory)) × (is_over e ≡ false → 0 < length bytes)

@@ -1,3 +1,4 @@
+-- cited by public clauses and laws
 pub mod Faults
 pub mod Echoes
 pub mod Rounds

@@ -1,5 +1,5 @@
--- The end that asks, for one round (libp2p ping 1.0.0: the dialer sends 32 bytes, and compares what comes back; one round a stream
--- is this project's profile).
+-- The end that asks, for one round (libp2p ping 1.0.0: the dialer sends 32 bytes, and compares what comes back; one
+-- round a stream is this project's profile).
 use Rattle.std.specs.Prelude.{◌≡◌, ℕ, List, Bool, true, false, ◌||◌, ◌<◌}
 use Rattle.std.specs.Prelude.{take, drop, length, min, if◌then◌else◌}
 use mathlib.Core.List.{IsPrefix}
@@ -28,11 +28,13 @@ RoundStep r (Give room bytes) s =
     (r.failed ≡ false) × (bytes ≡ take room r.unsent) × (s ≡ record r { unsent = drop room r.unsent })
 RoundStep r End s = (is_over r ≡ false) × (length r.awaited ≡ 0) × (s ≡ record r { ended = true })
 
--- Why a call fails: the handler has failed, or the end was said before; else bytes that aren't awaited are WrongEcho, an end before the
--- echo is whole is Cut, and memory may be wanting where bytes are to be given
+-- Why a call fails: the handler has failed, or the end was said before; else bytes that aren't awaited are WrongEcho,
+-- an end before the echo is whole is Cut, and memory may be wanting where bytes are to be given
 abbrev pub RoundFails : Round → Asked → ℕ → Type 0
 RoundFails r (ToTake bytes) n =
     (n ≡ number_of (if is_over r then Failed else WrongEcho)) × (is_over r ≡ false → ¬ IsPrefix bytes r.awaited)
 RoundFails r (ToGive room) n =
-    (n ≡ number_of (if r.failed then Failed else OutOfMemory)) × (r.failed ≡ false → 0 < min room (length r.unsent))
-RoundFails r ToEnd n = (n ≡ number_of (if is_over r then Failed else Cut)) × (is_over r ≡ false → 0 < length r.awaited)
+    (n ≡ number_of (if r.failed then Failed else OutOfMemory))
+    × (r.failed ≡ false → 0 < min room (length r.unsent))
+RoundFails r ToEnd n = (n ≡ number_of (if is_over r then Failed else Cut))
+    × (is_over r ≡ false → 0 < length r.awaited)

@@ -34,7 +34,8 @@ pub fn echo_gives_all()
 pub fn echo_finishes()
     ensures { (calls : List HandlerCall) (ended : Bool) (echo : Echo) → EndsAs calls ended
         → Arises ⟦<PingEcho as Handler>⟧.steps fresh calls echo
-        → (⟦<PingEcho as Handler>⟧.is_finished echo ≡ true) ↔ ((ended ≡ true) × (given calls ≡ taken calls)) }
+        → (⟦<PingEcho as Handler>⟧.is_finished echo ≡ true) ↔ ((ended ≡ true)
+        × (given calls ≡ taken calls)) }
 {}
 
 /// What a round sent is a first part of the ping, and all of it where the last call left room.

@@ -11,8 +11,8 @@ use handlers::{Handler, HandlerFault};
 use std::alloc::Global;
 use std::marker::Model;
 
-/// Sends one ping of 32 bytes and awaits its echo. Once the echo is whole it is closed; once the other end has ended then, it is
-/// finished.
+/// Sends one ping of 32 bytes and awaits its echo. Once the echo is whole it is closed; once the other end has ended
+/// then, it is finished.
 #[derive(Drop)]
 pub struct PingOut {
     alloc: Global,
@@ -26,7 +26,13 @@ pub struct PingOut {
 impl Model for PingOut {
     ghost Value = { Round };
 
-    ghost view = { λ p. record { unsent = drop p.sent p.ping; awaited = drop p.echoed p.ping; ended = p.ended; failed = p.failed } };
+    ghost view = { λ p. record {
+      unsent = drop p.sent p.ping;
+      awaited = drop p.echoed p.ping;
+      ended = p.ended;
+      failed =
+          p.failed;
+    } };
 
     ghost invariant = { λ p. (p.sent ≤ 32) × (p.echoed ≤ 32) };
 }

@@ -14,8 +14,8 @@ const OTHER: [u8; 32] = [
     26, 27, 28, 29, 30, 127,
 ];
 
-/// Hands the bytes over in pieces of this size, asking for bytes with this room after each, and then says the end. Gives
-/// what was given, or the number of the fault.
+/// Hands the bytes over in pieces of this size, asking for bytes with this room after each, and then says the end.
+/// Gives what was given, or the number of the fault.
 fn serve<H: Handler>(
     handler: &mut H,
     given: &mut Vec<u8>,

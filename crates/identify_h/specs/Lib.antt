@@ -1,0 +1,10 @@
+-- cited by public clauses and laws
+pub mod Faults
+pub mod Messages
+pub mod Sending
+pub mod Streams
+pub mod Reading
+pub mod Rows
+-- inside: no public clause cites them
+pub mod Parts
+pub mod Room

@@ -1,0 +1,228 @@
+use super::*;
+use handlers::Handler;
+use peer_ids::{KeyType, PeerId, PublicKey};
+use std::alloc::Global;
+use std::test::*;
+
+/// A stream of two messages: version `abc`, and agent `x`.
+const TWO: [u8; 10] = [5, 0x2a, 3, 0x61, 0x62, 0x63, 3, 0x32, 1, 0x78];
+
+/// The same as one message behind its length.
+const ONE: [u8; 9] = [8, 0x2a, 3, 0x61, 0x62, 0x63, 0x32, 1, 0x78];
+
+/// An Ed25519 key of one byte, 32 times.
+fn key_of(alloc: Global, byte: u8) -> Result<PublicKey, Fail> {
+    match PublicKey::new(KeyType::Ed25519, vec![in alloc; byte; 32]?) {
+        Some(key) => Ok(key),
+        None => Err(Fail::from("a key of 32 bytes")),
+    }
+}
+
+fn peer_of(alloc: Global, byte: u8) -> Result<PeerId, Fail> {
+    Ok(PeerId::of_key(&key_of(alloc, byte)?))
+}
+
+fn copy(alloc: Global, bytes: &[u8]) -> Result<Vec<u8>, Fail> {
+    Ok(Vec::from_slice(alloc, bytes)?)
+}
+
+/// Nothing is said.
+fn nothing(alloc: Global) -> Identify {
+    Identify {
+        key: None,
+        listen: Vec::new(alloc),
+        protocols: Vec::new(alloc),
+        observed: None,
+        version: None,
+        agent: None,
+    }
+}
+
+/// Hands the bytes over in pieces of this size, and then says the end. Gives the number of the fault.
+fn read(reader: &mut IdentifyIn, bytes: &[u8], size: usize) -> Option<u8> {
+    for piece in bytes.chunks(size.max(1)) {
+        if let Err(fault) = reader.take(piece) {
+            return Some(fault.number);
+        }
+    }
+    reader.end().err().map(|fault| fault.number)
+}
+
+#[test]
+fn a_stream_is_read_however_cut(rt: HostRuntime) -> Result<(), Fail> {
+    let peer = peer_of(rt.alloc(), 1)?;
+    for size in [1, 7, 64] {
+        for stream in [&TWO[..], &ONE[..]] {
+            let mut reader = IdentifyIn::new(rt.alloc(), peer);
+            assert!(rt; reader.closed() && !reader.finished());
+            assert!(rt; reader.take(&[]).is_ok());
+            assert_eq!(rt; read(&mut reader, stream, size), None, "pieces of {size}");
+            assert!(rt; reader.finished());
+            assert_eq!(rt; reader.give(64)?.len(), 0);
+            let Ok(message) = reader.into_message() else {
+                return Err(Fail::from("a message"));
+            };
+            assert_eq!(rt;
+                message.version.as_deref(),
+                Some(&b"abc"[..]),
+                "pieces of {size}"
+            );
+            assert_eq!(rt;
+                message.agent.as_deref(),
+                Some(&b"x"[..]),
+                "pieces of {size}"
+            );
+            assert!(rt; message.key.is_none() && message.observed.is_none());
+            assert!(rt; message.listen.is_empty() && message.protocols.is_empty());
+        }
+    }
+    Ok(())
+}
+
+#[test]
+fn faults_come_where_they_stand(rt: HostRuntime) -> Result<(), Fail> {
+    let alloc = rt.alloc();
+    let peer = peer_of(alloc, 1)?;
+    let eleven = [0u8; 11];
+    let rows: [(&[u8], IdentifyFault); 9] = [
+        (&TWO[..9], IdentifyFault::Cut),
+        (&[], IdentifyFault::Cut),
+        (&[0x80], IdentifyFault::Cut),
+        (&eleven, IdentifyFault::TooMany),
+        (&[0x81, 0x80, 1], IdentifyFault::TooLong),
+        (&[1, 8, 0x80, 0x80, 1], IdentifyFault::TooLong),
+        (&[0x80, 0], IdentifyFault::Wire),
+        (&[1, 8], IdentifyFault::Wire),
+        (&[2, 10, 0], IdentifyFault::OtherKey),
+    ];
+    for size in [1, 7, 64] {
+        for (index, (stream, fault)) in rows.iter().enumerate() {
+            let mut reader = IdentifyIn::new(alloc, peer);
+            let number = read(&mut reader, stream, size);
+            assert_eq!(rt; number, Some(*fault as u8), "row {index}, pieces of {size}");
+            assert_eq!(rt; reader.take(&[0]).err().map(|fault| fault.number), Some(1));
+            assert_eq!(rt; reader.end().err().map(|fault| fault.number), Some(1));
+            assert_eq!(rt; reader.give(1).err().map(|fault| fault.number), Some(1));
+            assert!(rt; !reader.finished() && reader.closed());
+            assert!(rt; reader.into_message().is_err());
+        }
+    }
+    Ok(())
+}
+
+#[test]
+fn bodies_have_16384_bytes_together(rt: HostRuntime) -> Result<(), Fail> {
+    let alloc = rt.alloc();
+    let peer = peer_of(alloc, 1)?;
+    let rows: [(&[u8], Option<u8>); 2] = [
+        (&[8, 0x42, 6, 0, 0, 0, 0, 0, 0], None),
+        (&[9], Some(IdentifyFault::TooLong as u8)),
+    ];
+    for (last, fault) in rows {
+        // A body of 16376 bytes, whose field 8 isn't kept, and then another.
+        let mut stream = copy(alloc, &[0xf8, 0x7f, 0x42, 0xf5, 0x7f])?;
+        for _ in 0..16373 {
+            stream.push(0)?;
+        }
+        stream.extend_from_slice(last)?;
+        let mut reader = IdentifyIn::new(alloc, peer);
+        assert_eq!(rt;
+            read(&mut reader, &stream, 1000),
+            fault,
+            "behind it {} bytes",
+            last.len()
+        );
+    }
+    Ok(())
+}
+
+#[test]
+fn ten_messages_may_be_empty(rt: HostRuntime) -> Result<(), Fail> {
+    let peer = peer_of(rt.alloc(), 1)?;
+    let mut reader = IdentifyIn::new(rt.alloc(), peer);
+    assert_eq!(rt; read(&mut reader, &[0; 10], 3), None);
+    let Ok(message) = reader.into_message() else {
+        return Err(Fail::from("a message"));
+    };
+    assert_eq!(rt; message.write()?.len(), 0);
+    Ok(())
+}
+
+#[test]
+fn what_is_written_is_read_back(rt: HostRuntime) -> Result<(), Fail> {
+    let alloc = rt.alloc();
+    let mut said = nothing(alloc);
+    said.key = Some(key_of(alloc, 7)?);
+    said.listen.push(copy(alloc, &[4, 127, 0, 0, 1])?)?;
+    said.listen.push(copy(alloc, &[])?)?;
+    said.protocols.push(copy(alloc, b"/ipfs/ping/1.0.0")?)?;
+    said.observed = Some(copy(alloc, &[6, 0, 80])?);
+    said.agent = Some(copy(alloc, b"node/0.1.0")?);
+    let body = said.write()?;
+    let peer = peer_of(alloc, 7)?;
+    let back = Identify::read(alloc, &body, peer)?;
+    assert_eq!(rt; back.write()?.as_slice(), body.as_slice());
+    assert_eq!(rt; back.listen.len(), 2);
+    assert_eq!(rt; back.observed.as_deref(), Some(&[6, 0, 80][..]));
+    assert!(rt; back.version.is_none());
+    let other = Identify::read(alloc, &body, peer_of(alloc, 8)?);
+    assert!(rt; matches!(other, Err(IdentifyFault::OtherKey)));
+    Ok(())
+}
+
+#[test]
+fn a_message_is_sent_and_what_comes_is_dropped(rt: HostRuntime) -> Result<(), Fail> {
+    let alloc = rt.alloc();
+    let mut said = nothing(alloc);
+    said.version = Some(copy(alloc, b"abc")?);
+    said.agent = Some(copy(alloc, b"x")?);
+    for room in [1, 7, 64] {
+        let mut sender = IdentifyOut::new(alloc, &said)?;
+        assert!(rt; !sender.closed() && !sender.finished());
+        assert_eq!(rt; sender.give(0)?.len(), 0);
+        assert!(rt; sender.take(&[1, 2, 3]).is_ok());
+        let mut given = Vec::new(alloc);
+        for _ in 0..9 {
+            given.extend_from_slice(&sender.give(room)?)?;
+        }
+        assert_eq!(rt; given.as_slice(), &ONE[..], "room {room}");
+        assert!(rt; sender.closed() && sender.finished());
+        assert!(rt; sender.end().is_ok());
+        assert_eq!(rt; sender.end().err().map(|fault| fault.number), Some(1));
+        assert_eq!(rt; sender.take(&[1]).err().map(|fault| fault.number), Some(1));
+    }
+    Ok(())
+}
+
+#[test]
+fn a_body_has_at_most_16384_bytes(rt: HostRuntime) -> Result<(), Fail> {
+    let alloc = rt.alloc();
+    for (len, fits) in [(16381, true), (16382, false)] {
+        let mut said = nothing(alloc);
+        said.agent = Some(vec![in alloc; 0u8; len]?);
+        match IdentifyOut::new(alloc, &said) {
+            Ok(_) => assert!(rt; fits, "{len} bytes"),
+            Err(fault) => assert!(rt; !fits && fault == IdentifyFault::TooLong, "{len} bytes"),
+        }
+    }
+    Ok(())
+}
+
+#[test]
+fn a_push_leaves_what_it_does_not_name(rt: HostRuntime) -> Result<(), Fail> {
+    let alloc = rt.alloc();
+    let mut known = nothing(alloc);
+    known.agent = Some(copy(alloc, b"x")?);
+    known.listen.push(copy(alloc, &[1])?)?;
+    let mut push = nothing(alloc);
+    push.agent = Some(copy(alloc, b"y")?);
+    let merged = known.merged_with(push);
+    assert_eq!(rt; merged.agent.as_deref(), Some(&b"y"[..]));
+    assert_eq!(rt; merged.listen.len(), 1);
+    let mut other = nothing(alloc);
+    other.listen.push(copy(alloc, &[])?)?;
+    let merged = merged.merged_with(other);
+    assert_eq!(rt; merged.agent.as_deref(), Some(&b"y"[..]));
+    assert_eq!(rt; merged.listen[0].len(), 0);
+    Ok(())
+}
