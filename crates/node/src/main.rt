@@ -6,7 +6,15 @@ use std::process::ExitCode;
 use std::{env, io};
 
 fn main(rt: HostRuntime) -> io::Result<ExitCode> {
-    let args: Vec<String> = env::args(&rt)?.skip(1).collect(rt.alloc())?;
+    let args = match env::args(&rt) {
+        Ok(args) => args,
+        Err(error) if error.kind() == io::ErrorKind::InvalidData => {
+            eprintln!(rt; "error: the command line is no UTF-8")?;
+            return Ok(ExitCode::from(2));
+        }
+        Err(error) => return Err(error),
+    };
+    let args: Vec<String> = args.skip(1).collect(rt.alloc())?;
     let mut words = Vec::new(rt.alloc());
     for arg in &args {
         words.push(arg.as_str())?;

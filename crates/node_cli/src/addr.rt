@@ -22,14 +22,15 @@ pub struct AddrLines {
 /// The bytes and the printed text of the address that a text spells.
 fn lines_of(alloc: Global, text: &str) -> Result<AddrLines, AddrFault>
     ensures found { IfOk result (λ lines. (parts : List Part) × ReadsParts text.now parts
-        × (string_bytes lines.bytes ≡ encode_lower (flat_map spelling parts)) × PrintsParts (string_bytes lines.text) parts) }
+        × (string_bytes lines.bytes ≡ encode_lower (flat_map spelling parts))
+        × PrintsParts (string_bytes lines.text) parts) }
     ensures refused { IfErr result (RefusesText text.now) }
 {
     let address = match Multiaddr::parse(alloc, text) {
         Ok(address) => address,
         Err(fault) => return Err(fault),
     };
-    let text = match address.print(alloc) {
+    let text = match address.print() {
         Ok(text) => text,
         Err(fault) => return Err(fault),
     };
@@ -42,7 +43,8 @@ fn lines_of(alloc: Global, text: &str) -> Result<AddrLines, AddrFault>
 /// The bytes and the printed text of the address that a text spells. Memory is asked for only where it spells one.
 pub fn addr_lines(alloc: Global, text: &str) -> Result<AddrLines, AddrFault>
     ensures found { IfOk result (λ lines. (parts : List Part) × ReadsParts text.now parts
-        × (string_bytes lines.bytes ≡ encode_lower (flat_map spelling parts)) × PrintsParts (string_bytes lines.text) parts) }
+        × (string_bytes lines.bytes ≡ encode_lower (flat_map spelling parts))
+        × PrintsParts (string_bytes lines.text) parts) }
     ensures refused { IfErr result (RefusesText text.now) }
     ensures only_fault { (fault : AddrFault) → TextFault text.now fault → result ≡ Err fault }
 {

@@ -1,6 +1,6 @@
 //! What the words of a command line ask for.
 
-use crate::options::{config_of, replay_command};
+use crate::options::{BadOption, config_of, replay_command};
 use clap::error::ErrorKind;
 use clap::{Arg, ArgAction, Command, Error};
 use pool_state::Config;
@@ -25,8 +25,8 @@ pub enum Unasked {
     Told(Error),
     /// It is bad, as this text says.
     Bad(Error),
-    /// The own peer of a replay is no peer.
-    BadPeer,
+    /// An option of a replay has a value that is none.
+    BadOption(BadOption),
     /// It could not be read.
     OutOfMemory,
 }
@@ -70,6 +70,7 @@ fn command<'a>(alloc: Global) -> Result<Command<'a>, AllocError> {
     )?;
     Command::new(alloc, "node")
         .no_binary_name(true)
+        .bin_name("node")?
         .version("0.1.0")
         .about("A libp2p node's peers and connections")
         .subcommand_required(true)
@@ -80,23 +81,32 @@ fn command<'a>(alloc: Global) -> Result<Command<'a>, AllocError> {
 }
 
 /// What the words ask for, where they are a good command line.
-fn parse<'a>(alloc: Global, words: &'a [&'a str]) -> Result<Option<Asked<'a>>, Error> {
+fn parse<'a>(
+    alloc: Global,
+    words: &'a [&'a str],
+) -> Result<Result<Asked<'a>, BadOption>, Error> {
     let matches = command(alloc)?.try_get_matches_from(words)?;
-    Ok(match matches.subcommand() {
+    let word = match matches.subcommand() {
         Some(("id", found)) => found.get_str("HEX").map(|hex| Asked::Id(hex)),
         Some(("hash", found)) => found.get_str("TEXT").map(|text| Asked::Hash(text)),
         Some(("addr", found)) => found.get_str("TEXT").map(|text| Asked::Addr(text)),
-        Some(("replay", found)) => config_of(found).map(|config| Asked::Replay(config)),
+        Some(("replay", found)) => {
+            return Ok(config_of(found).map(|config| Asked::Replay(config)));
+        }
         _ => None,
-    })
+    };
+    match word {
+        Some(asked) => Ok(Ok(asked)),
+        // Each subcommand but a replay has its word.
+        None => Ok(Err(BadOption::Number)),
+    }
 }
 
 /// Reads the words behind the program's name.
 pub fn read<'a>(alloc: Global, words: &'a [&'a str]) -> Result<Asked<'a>, Unasked> {
     match parse(alloc, words) {
-        Ok(Some(asked)) => Ok(asked),
-        // Each subcommand but a replay has its word then, and a replay has limits in their ranges.
-        Ok(None) => Err(Unasked::BadPeer),
+        Ok(Ok(asked)) => Ok(asked),
+        Ok(Err(bad)) => Err(Unasked::BadOption(bad)),
         Err(error) if error.kind() == ErrorKind::OutOfMemory => Err(Unasked::OutOfMemory),
         Err(error) if error.use_stderr() => Err(Unasked::Bad(error)),
         Err(error) => Err(Unasked::Told(error)),

@@ -62,7 +62,8 @@ impl From<io::Error> for Ending {
 }
 
 /// Does a whole run of the words behind the program's name, and gives its status: 0 good, 1 refused input or a
-/// failing write, 2 a bad command line. What it writes to `output` is flushed before it ends, and before a refusal is told.
+/// failing write, 2 a bad command line. What it writes to `output` is flushed before it ends, and before a refusal is
+/// told.
 pub fn node<R, I, O, E>(rt: &R, words: &[&str], input: &mut I, output: &mut O, faults: &mut E) -> u8
 where
     R: AllocGlobal,
@@ -84,7 +85,7 @@ where
             written(told.and(flushed), 0)
         }
         Err(Unasked::Bad(text)) => written(write!(faults, "{text}"), 2),
-        Err(Unasked::BadPeer) => written(writeln!(faults, "error: the peer of '--own' is none"), 2),
+        Err(Unasked::BadOption(bad)) => written(writeln!(faults, "error: {bad}"), 2),
         Err(Unasked::OutOfMemory) => 1,
     }
 }

@@ -13,19 +13,12 @@ pub enum Line {
     List,
 }
 
-/// The id of the Ed25519 key of 32 equal bytes, which is an identity multihash of the key's canonical message.
-fn id_of_byte(byte: u8) -> Option<PeerId> {
-    let mut multihash = [byte; 38];
-    multihash[..6].copy_from_slice(&[0x00, 0x24, 0x08, 0x01, 0x12, 0x20]);
-    PeerId::from_bytes(&multihash).ok()
-}
-
-/// The peer that a word names: the text of an id, or `@hh` for the key of 32 bytes hh.
+/// The peer that a word names: the text of an id, or `@hh` for the Ed25519 key of 32 bytes hh.
 pub fn peer_of(word: &str) -> Option<PeerId> {
     match word.strip_prefix('@') {
         Some(digits) => {
             let [byte] = <[u8; 1] as FromHex>::from_hex(digits).ok()?;
-            id_of_byte(byte)
+            Some(PeerId::of_ed25519(&[byte; 32]))
         }
         None => PeerId::from_text(word).ok(),
     }

@@ -4,6 +4,7 @@ use crate::line::peer_of;
 use clap::{Arg, ArgAction, ArgMatches, Command, value_parser};
 use pool_state::{Config, Limits};
 use std::alloc::{AllocError, Global};
+use thiserror::Error;
 
 /// The option of this name, a number of this range.
 fn number<'a>(
@@ -106,8 +107,41 @@ pub fn replay_command<'a>(alloc: Global) -> Result<Command<'a>, AllocError> {
         .arg(allow_only)
 }
 
-/// What a pool is made with, by the options that were found; `None` where the own peer is none.
-pub fn config_of(found: &ArgMatches<'_>) -> Option<Config> {
+/// An option whose value is none, where the parser of the command line knows no better.
+#[derive(Clone, Copy, Debug, PartialEq, Eq, Error)]
+pub enum BadOption {
+    /// The own peer is no peer.
+    #[error("the peer of '--own' is none")]
+    Peer,
+    /// A number has a sign.
+    #[error("a number is digits alone")]
+    Number,
+}
+
+/// The options that are numbers.
+const NUMBERS: [&str; 9] = [
+    "conns",
+    "per-peer",
+    "streams",
+    "blocked",
+    "inbound",
+    "outbound",
+    "allowed",
+    "first-conn",
+    "first-front",
+];
+
+/// Whether the value of an option is digits alone. The parser of numbers takes a sign.
+fn is_digits(found: &ArgMatches<'_>, name: &str) -> bool {
+    let word = found.get_str(name).unwrap_or("");
+    word.bytes().all(|byte| byte.is_ascii_digit())
+}
+
+/// What a pool is made with, by the options that were found.
+pub fn config_of(found: &ArgMatches<'_>) -> Result<Config, BadOption> {
+    if !NUMBERS.iter().all(|name| is_digits(found, name)) {
+        return Err(BadOption::Number);
+    }
     let number = |name: &str| found.get_one::<u32>(name).unwrap_or(0);
     let limits = Limits::new(
         number("conns") as usize,
@@ -117,9 +151,11 @@ pub fn config_of(found: &ArgMatches<'_>) -> Option<Config> {
         number("inbound") as usize,
         number("outbound") as usize,
         number("allowed") as usize,
-    )?;
-    Some(Config {
-        own: peer_of(found.get_str("own")?)?,
+    )
+    .ok_or(BadOption::Number)?;
+    let own = found.get_str("own").and_then(|word| peer_of(word));
+    Ok(Config {
+        own: own.ok_or(BadOption::Peer)?,
         limits,
         first_conn: number("first-conn"),
         first_front: found.get_one::<u64>("first-front").unwrap_or(0),

@@ -40,12 +40,14 @@ fn are_pairs(hex: &str) -> bool
     hex.len() % 2 == 0 && hex.bytes().all(|byte| byte.is_ascii_hexdigit())
 }
 
-/// The text of the id of the key that a message in hexadecimal spells. Memory is asked for only where the text is hexadecimal: for the
-/// message, so that its want comes before a fault of the key, then for the key, then for the text.
+/// The text of the id of the key that a message in hexadecimal spells. Memory is asked for only where the text is
+/// hexadecimal: for the message, so that its want comes before a fault of the key, then for the key, then for the text.
 pub fn id_text(alloc: Global, hex: &str) -> Result<String, IdRefused>
-    ensures found { IfOk result (λ text. (bytes : List ℕ) × (key : Key) × (decode_of hex.now ≡ Ok bytes) × SpellsKey bytes key
+    ensures found { IfOk result (λ text. (bytes : List ℕ) × (key : Key) × (decode_of hex.now ≡ Ok bytes)
+        × SpellsKey bytes key
         × IsIdText (string_bytes text) (id_of key)) }
-    ensures not_hex { (result ≡ Err IdRefused.NotHex) ↔ ((bytes : List ℕ) → ¬ (decode_of hex.now ≡ Ok bytes)) }
+    ensures not_hex { (result ≡ Err IdRefused.NotHex) ↔ ((bytes : List ℕ)
+        → ¬ (decode_of hex.now ≡ Ok bytes)) }
     ensures no_key { (fault : KeyFault) → result ≡ Err (IdRefused.Key fault) → (fault ≢ KeyFault.OutOfMemory)
         × (bytes : List ℕ) × (decode_of hex.now ≡ Ok bytes) × RefusesKey bytes fault }
     ensures memory { result ≡ Err IdRefused.OutOfMemory → (bytes : List ℕ) × (decode_of hex.now ≡ Ok bytes) }
@@ -69,9 +71,11 @@ pub fn id_text(alloc: Global, hex: &str) -> Result<String, IdRefused>
 
 /// The multihash of the id whose text this is, in hexadecimal. Memory is asked for only for the digits.
 pub fn hash_hex(alloc: Global, text: &str) -> Result<String, HashRefused>
-    ensures found { IfOk result (λ digits. (multihash : List ℕ) × ReadsId text.now (Ok multihash) × (string_bytes digits ≡ encode_lower multihash)) }
+    ensures found { IfOk result (λ digits. (multihash : List ℕ) × ReadsId text.now (Ok multihash)
+        × (string_bytes digits ≡ encode_lower multihash)) }
     ensures refused { (fault : IdFault) → (result ≡ Err (HashRefused.Id fault)) ↔ ReadsId text.now (Err fault) }
-    ensures memory { result ≡ Err HashRefused.OutOfMemory → (multihash : List ℕ) × ReadsId text.now (Ok multihash) }
+    ensures memory { result ≡ Err HashRefused.OutOfMemory → (multihash : List ℕ)
+        × ReadsId text.now (Ok multihash) }
 {
     let id = match PeerId::from_text(text) {
         Ok(id) => id,

@@ -31,7 +31,7 @@ pub fn replay<I: Read, O: Write>(
         }
         match line_of(line) {
             Some(Line::Call(call)) => print_reply(&pool.apply(call), output)?,
-            Some(Line::List) => print_listing(&pool.listing(), output)?,
+            Some(Line::List) => print_listing(pool.show(), output)?,
             None => return Err(Ending::Line(number)),
         }
     }

@@ -148,11 +148,16 @@ fn replay_of_refusals_in_order(rt: HostRuntime) {
     replays(
         &rt,
         &options,
-        "dial @11\ndial @11\naccept\naccept\nsettle 2 @11\nsettle 1 @22\nsettle 1 @11\nsettle 1 @11\nask 1 2\nask 1 2\ndone 1 0\n\
-         done 1 2\nask 2 0\nblock @22\nblock @33\nblock @22\nsettle 2 @22\nhangup @11\nask 1 2\nunblock @22\ngone 1\ngone 1\ndial @00\nlist\n",
-        "conn 1\nrefused 12 PeerFull\nconn 2\nrefused 11 Full\nrefused 12 PeerFull\nrefused 9 Mismatch\nok\nrefused 5 NotPending\nok\n\
-         refused 13 StreamsFull\nrefused 14 NothingAsked\nok\nrefused 6 NotLive\ncount 0\nrefused 15 BlockFull\ncount 0\nrefused 10 Blocked\n\
-         count 1\nrefused 4 Closing\ncount 1\nok\nrefused 3 NoConn\nrefused 8 SelfPeer\nfront 23\nconn 2 listener pending - 0/0 0/0 0/0\nend\n",
+        "dial @11\ndial @11\naccept\naccept\nsettle 2 @11\nsettle 1 @22\nsettle 1 @11\nsettle 1 @11\nask 1 2\n\
+         ask 1 2\ndone 1 0\n\
+         done 1 2\nask 2 0\nblock @22\nblock @33\nblock @22\nsettle 2 @22\nhangup @11\nask 1 2\nunblock @22\n\
+         gone 1\ngone 1\ndial @00\nlist\n",
+        "conn 1\nrefused 12 PeerFull\nconn 2\nrefused 11 Full\nrefused 12 PeerFull\nrefused 9 Mismatch\nok\n\
+         refused 5 NotPending\nok\n\
+         refused 13 StreamsFull\nrefused 14 NothingAsked\nok\nrefused 6 NotLive\ncount 0\nrefused 15 BlockFull\n\
+         count 0\nrefused 10 Blocked\n\
+         count 1\nrefused 4 Closing\ncount 1\nok\nrefused 3 NoConn\nrefused 8 SelfPeer\nfront 23\n\
+         conn 2 listener pending - 0/0 0/0 0/0\nend\n",
         0,
         "",
     );
@@ -173,8 +178,10 @@ fn replay_of_admissions_alone(rt: HostRuntime) {
     replays(
         &rt,
         &options,
-        "dial @11\ndial @11\naccept\naccept\nsettle 2 @11\nsettle 1 @22\nsettle 1 @11\nsettle 1 @11\ngone 1\ngone 1\ndial @00\nlist\n",
-        "conn 1\nrefused 12 PeerFull\nconn 2\nrefused 11 Full\nrefused 12 PeerFull\nrefused 9 Mismatch\nok\nrefused 5 NotPending\nok\n\
+        "dial @11\ndial @11\naccept\naccept\nsettle 2 @11\nsettle 1 @22\nsettle 1 @11\nsettle 1 @11\ngone 1\n\
+         gone 1\ndial @00\nlist\n",
+        "conn 1\nrefused 12 PeerFull\nconn 2\nrefused 11 Full\nrefused 12 PeerFull\nrefused 9 Mismatch\nok\n\
+         refused 5 NotPending\nok\n\
          refused 3 NoConn\nrefused 8 SelfPeer\nfront 11\nconn 2 listener pending - 0/0 0/0 0/0\nend\n",
         0,
         "",
@@ -186,10 +193,13 @@ fn replay_of_blocks_and_hang_ups(rt: HostRuntime) {
     replays(
         &rt,
         &[],
-        "dial @11\naccept\nblock @11\nsettle 1 @11\nsettle 2 @11\nlist\nhangup @22\nhangup @00\nsettle 2 @22\nask 2 3\n",
+        "dial @11\naccept\nblock @11\nsettle 1 @11\nsettle 2 @11\nlist\nhangup @22\nhangup @00\nsettle 2 @22\n\
+         ask 2 3\n",
         "conn 1\nconn 2\ncount 1\nrefused 4 Closing\nrefused 10 Blocked\nfront 5\n\
-         conn 1 dialer closing bafzaajaiaejcaeirceirceirceirceirceirceirceirceirceirceirceirceir 0/0 0/0 0/0\nconn 2 listener pending - 0/0 0/0 0/0\n\
-         blocked bafzaajaiaejcaeirceirceirceirceirceirceirceirceirceirceirceirceir\nend\ncount 0\nrefused 8 SelfPeer\nok\nrefused 7 BadProtocol\n",
+         conn 1 dialer closing bafzaajaiaejcaeirceirceirceirceirceirceirceirceirceirceirceirceir 0/0 0/0 0/0\n\
+         conn 2 listener pending - 0/0 0/0 0/0\n\
+         blocked bafzaajaiaejcaeirceirceirceirceirceirceirceirceirceirceirceirceir\nend\ncount 0\n\
+         refused 8 SelfPeer\nok\nrefused 7 BadProtocol\n",
         0,
         "",
     );
@@ -228,9 +238,12 @@ fn replay_with_allowed_peers_alone(rt: HostRuntime) {
     replays(
         &rt,
         &["--inbound", "1", "--allow-only", "--allowed", "1"],
-        "accept\naccept\ndial @11\nallow @11\nallow @11\nallow @22\ndial @11\nsettle 1 @22\nsettle 1 @11\ndisallow @11\nsettle 2 @11\nlist\n",
-        "conn 1\nrefused 17 SideFull\nrefused 18 NotAllowed\ncount 1\ncount 0\nrefused 19 AllowFull\nconn 2\nrefused 18 NotAllowed\nok\ncount 2\n\
-         refused 4 Closing\nfront 11\nconn 1 listener closing bafzaajaiaejcaeirceirceirceirceirceirceirceirceirceirceirceirceir 0/0 0/0 0/0\n\
+        "accept\naccept\ndial @11\nallow @11\nallow @11\nallow @22\ndial @11\nsettle 1 @22\nsettle 1 @11\n\
+         disallow @11\nsettle 2 @11\nlist\n",
+        "conn 1\nrefused 17 SideFull\nrefused 18 NotAllowed\ncount 1\ncount 0\nrefused 19 AllowFull\nconn 2\n\
+         refused 18 NotAllowed\nok\ncount 2\n\
+         refused 4 Closing\nfront 11\n\
+         conn 1 listener closing bafzaajaiaejcaeirceirceirceirceirceirceirceirceirceirceirceirceir 0/0 0/0 0/0\n\
          conn 2 dialer closing bafzaajaiaejcaeirceirceirceirceirceirceirceirceirceirceirceirceir 0/0 0/0 0/0\nend\n",
         0,
         "",
@@ -330,6 +343,9 @@ fn help_and_version_are_good(rt: HostRuntime) {
         assert!(rt; !ran.output.is_empty());
         assert!(rt; ran.faults.is_empty());
     }
+    let told = run(&rt, &["id", "--help"], b"").output;
+    let usage = b"Usage: node id <HEX>";
+    assert!(rt; told.windows(usage.len()).any(|part| part == usage.as_slice()));
     assert_eq!(rt;
         run(&rt, &["--version"], b"").output.as_slice(),
         b"node 0.1.0\n".as_slice()
@@ -338,8 +354,10 @@ fn help_and_version_are_good(rt: HostRuntime) {
 
 #[test]
 fn bad_command_lines(rt: HostRuntime) {
-    let rows: [&[&str]; 12] = [
+    let rows: [&[&str]; 14] = [
         &["replay", "--conns", "0"],
+        &["replay", "--conns", "+5"],
+        &["replay", "--first-front", "+5"],
         &["replay", "--conns", "257"],
         &["replay", "--per-peer", "9"],
         &["replay", "--own", "@"],
