@@ -1,9 +1,9 @@
-//! How much more it costs to feed a message byte by byte than whole, for the largest message of a negotiation and of an exchange.
-//! The ratios are written to standard error, since they differ from run to run.
+//! How much more it costs to feed a message byte by byte than whole, for the largest message of a negotiation and of an
+//! exchange. The ratios are written to standard error, since they differ from run to run.
 #![tactic(auto)]
 
 use ms_select::Listener;
-use peer_ids::{KeyType, PublicKey};
+use peer_ids::PublicKey;
 use plaintext_x::Exchange;
 use std::alloc::{AllocError, Global};
 use std::io::{self, Eprint};
@@ -88,13 +88,7 @@ fn main(rt: HostRuntime) -> io::Result<()> {
     show(&rt, "negotiation", whole, bytes)?;
 
     let message = longest_message(alloc)?;
-    let mut body = Vec::new(alloc);
-    for _ in 0..32 {
-        body.push(0)?;
-    }
-    let Some(key) = PublicKey::new(KeyType::Ed25519, body) else {
-        return Err(io::Error::from(io::ErrorKind::Other));
-    };
+    let key = PublicKey::ed25519(alloc, &[0; 32])?;
     let whole = timed(&rt, || exchange(alloc, &key, &message, 16384))?;
     let bytes = timed(&rt, || exchange(alloc, &key, &message, 1))?;
     show(&rt, "exchange", whole, bytes)

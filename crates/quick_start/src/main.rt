@@ -1,19 +1,13 @@
-//! Two ends in one process: they agree on plaintext, show each other their keys, agree on yamux, and the listener echoes
-//! what comes on a stream.
+//! Two ends in one process: they agree on plaintext, show each other their keys, agree on yamux, and the listener
+//! echoes what comes on a stream.
 #![tactic(auto)]
 
 use anyhow::{Context, bail};
 use ms_select::{Answer, Dialer, Listener};
-use peer_ids::{KeyType, PublicKey};
+use peer_ids::PublicKey;
 use plaintext_x::{Exchange, Proven};
 use std::alloc::Global;
 use yamux_session::{Event, Role, Session};
-
-/// The Ed25519 key of 32 equal bytes.
-fn key(alloc: Global, byte: u8) -> anyhow::Result<PublicKey> {
-    let body = vec![in alloc; byte; 32]?;
-    PublicKey::new(KeyType::Ed25519, body).context("an Ed25519 key has 32 bytes")
-}
 
 /// Both ends agree on a protocol: what each writes is fed to the other.
 fn agree(alloc: Global, name: &str) -> anyhow::Result<()> {
@@ -57,7 +51,9 @@ fn echo(session: &mut Session, bytes: &[u8]) -> anyhow::Result<()> {
 fn main(rt: HostRuntime) -> anyhow::Result<()> {
     let alloc = rt.alloc();
     agree(alloc, "/plaintext/2.0.0")?;
-    let listener = prove(alloc, &key(alloc, 0)?, &key(alloc, 0x11)?)?;
+    let dialer_key = PublicKey::ed25519(alloc, &[0; 32])?;
+    let listener_key = PublicKey::ed25519(alloc, &[0x11; 32])?;
+    let listener = prove(alloc, &dialer_key, &listener_key)?;
     println!(rt; "connected to {}", listener.peer())?;
     agree(alloc, "/yamux/1.0.0")?;
 
