@@ -81,10 +81,7 @@ fn command<'a>(alloc: Global) -> Result<Command<'a>, AllocError> {
 }
 
 /// What the words ask for, where they are a good command line.
-fn parse<'a>(
-    alloc: Global,
-    words: &'a [&'a str],
-) -> Result<Result<Asked<'a>, BadOption>, Error> {
+fn parse<'a>(alloc: Global, words: &'a [&'a str]) -> Result<Result<Asked<'a>, BadOption>, Error> {
     let matches = command(alloc)?.try_get_matches_from(words)?;
     let word = match matches.subcommand() {
         Some(("id", found)) => found.get_str("HEX").map(|hex| Asked::Id(hex)),

@@ -345,7 +345,10 @@ fn help_and_version_are_good(rt: HostRuntime) {
     }
     let told = run(&rt, &["id", "--help"], b"").output;
     let usage = b"Usage: node id <HEX>";
-    assert!(rt; told.windows(usage.len()).any(|part| part == usage.as_slice()));
+    assert!(rt;
+        told.windows(usage.len())
+            .any(|part| part == usage.as_slice())
+    );
     assert_eq!(rt;
         run(&rt, &["--version"], b"").output.as_slice(),
         b"node 0.1.0\n".as_slice()
