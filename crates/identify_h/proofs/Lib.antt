@@ -6,3 +6,4 @@ pub mod Read
 pub mod Rows
 pub mod Outcomes
 pub mod Written
+pub mod Lengths

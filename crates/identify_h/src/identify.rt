@@ -1,10 +1,11 @@
 //! The identify message.
 
-ghost use Rattle.std.specs.Prelude.{◌≡◌, ◌≢◌, ◌⊎◌, ◌++◌, ◌<◌, ◌+◌, ◌*◌, ℕ, List, Option, Some, None, Ok, Err, IfOk, IfErr, OnOk, OnErr, length, map};
+ghost use Rattle.std.specs.Prelude.{◌≡◌, ◌≢◌, ◌⊎◌, ◌++◌, ◌<◌, ◌≤◌, ◌+◌, ◌*◌, ◌^◌, ◌-◌, ℕ, List, Option, Some, None, Ok, Err, IfOk, IfErr, OnOk, OnErr, length, map, min};
 ghost use Rattle.std.specs.Option.{option_copied, option_map};
 ghost use Rattle.std.specs.List.{flat_map};
 ghost use Rattle.varint_proto.specs.declared.fault.WireFault.{WireFault};
-ghost use Rattle.varint_proto.specs.Message.{FaultIn, shortest_field, IsTag};
+ghost use Rattle.varint_proto.specs.Message.{FaultIn, shortest_field, entry, Bytes, IsTag};
+ghost use Rattle.peer_ids.specs.PeerId.{canonical_of};
 ghost use Rattle.identify_h.specs.Messages.{Message, IsKeyOf, RefusesKeyOf, Spells, Refuses, written, body_if, bodies_of, merged, newer_list};
 ghost use Rattle.identify_h.specs.Parts.{texts, text};
 
@@ -13,7 +14,7 @@ use crate::parts::{bodies, last_parts, owned};
 use peer_ids::{PeerId, PublicKey};
 use std::alloc::{AllocError, Global};
 use std::marker::Model;
-use varint_proto::write_body;
+use varint_proto::{spell, write_body};
 
 /// What a node says of itself. Texts and addresses are kept as bytes, and are not parsed. Contracts see the lists and
 /// the bytes.
@@ -83,6 +84,51 @@ fn write_all(body: &mut Vec<u8>, number: u32, list: &[Vec<u8>]) -> Result<(), Al
     Ok(())
 }
 
+/// How many bytes a field has that holds so many.
+fn field_len(number: u32, len: usize) -> usize
+    requires tag { IsTag (8 * number + 2) }
+    requires small { len + 20 < 2 ^ 64 }
+    ensures most { result ≤ len + 20 }
+    ensures length { (body : List ℕ) → length body ≡ len
+        → result ≡ length (shortest_field (entry number (Bytes body))) }
+{
+    spell(u64::from(8 * number + 2)).1 + spell(len as u64).1 + len
+}
+
+/// How many bytes the field of the key has where it is there.
+fn key_len(key: &Option<PublicKey>) -> usize
+    ensures { result ≡ length (flat_map shortest_field (body_if 1 (option_map canonical_of key.now))) }
+{
+    match key {
+        None => 0,
+        // Its type is one byte, behind a tag of one byte.
+        Some(key) => field_len(1, 2 + field_len(2, key.body().len())),
+    }
+}
+
+/// How many bytes the field has where it is there.
+fn len_if(number: u32, part: &Option<Vec<u8>>) -> usize
+    requires { IsTag (8 * number + 2) }
+    ensures { result ≡ length (flat_map shortest_field (body_if number (text part.now))) }
+{
+    match part {
+        None => 0,
+        Some(bytes) => field_len(number, bytes.len()),
+    }
+}
+
+/// How many bytes the fields of the entries have, `usize::MAX` where there are more.
+fn len_of_all(number: u32, list: &[Vec<u8>]) -> usize
+    requires { IsTag (8 * number + 2) }
+    ensures { result ≡ min (length (flat_map shortest_field (bodies_of number (texts list.now)))) (2 ^ 64 - 1) }
+{
+    let mut len = 0usize;
+    for bytes in list {
+        len = len.saturating_add(field_len(number, bytes.len()));
+    }
+    len
+}
+
 impl Identify {
     /// Reads the bodies of an identify stream, joined. A key that is there must be that of the connection's peer.
     pub fn read(alloc: Global, bytes: &[u8], peer: PeerId) -> Result<Identify, IdentifyFault>
@@ -129,15 +175,34 @@ impl Identify {
         ensures written { IfOk result (λ body. body.items ≡ written self.now) }
     {
         let mut body = Vec::new(*self.listen.allocator());
-        if let Some(key) = &self.key {
-            write_body(&mut body, 1, &key.canonical()?)?;
-        }
-        write_all(&mut body, 2, &self.listen)?;
-        write_all(&mut body, 3, &self.protocols)?;
-        write_if(&mut body, 4, &self.observed)?;
-        write_if(&mut body, 5, &self.version)?;
-        write_if(&mut body, 6, &self.agent)?;
+        self.append_to(&mut body)?;
         Ok(body)
+    }
+
+    /// Appends that body.
+    pub(crate) fn append_to(&self, out: &mut Vec<u8>) -> Result<(), AllocError>
+        ensures { OnOk result (out.new.items ≡ out.old.items ++ written self.now) }
+    {
+        if let Some(key) = &self.key {
+            write_body(out, 1, &key.canonical()?)?;
+        }
+        write_all(out, 2, &self.listen)?;
+        write_all(out, 3, &self.protocols)?;
+        write_if(out, 4, &self.observed)?;
+        write_if(out, 5, &self.version)?;
+        write_if(out, 6, &self.agent)
+    }
+
+    /// How many bytes that body has, `usize::MAX` where there are more. Takes no memory.
+    pub(crate) fn written_len(&self) -> usize
+        ensures { result ≡ min (length (written self.now)) (2 ^ 64 - 1) }
+    {
+        key_len(&self.key)
+            .saturating_add(len_of_all(2, &self.listen))
+            .saturating_add(len_of_all(3, &self.protocols))
+            .saturating_add(len_if(4, &self.observed))
+            .saturating_add(len_if(5, &self.version))
+            .saturating_add(len_if(6, &self.agent))
     }
 
     /// What is known once a push has come: each field of the push that is there, else the known one. A list without

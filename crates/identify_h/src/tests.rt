@@ -38,6 +38,18 @@ fn nothing(alloc: Global) -> Identify {
     }
 }
 
+/// All but the version is said. Without the agent's bytes the body has 73, where they are 128 to 16383.
+fn most_of_it(alloc: Global, agent: Vec<u8>) -> Result<Identify, Fail> {
+    let mut said = nothing(alloc);
+    said.key = Some(key_of(alloc, 7)?);
+    said.listen.push(copy(alloc, &[4, 127, 0, 0, 1])?)?;
+    said.listen.push(copy(alloc, &[])?)?;
+    said.protocols.push(copy(alloc, b"/ipfs/ping/1.0.0")?)?;
+    said.observed = Some(copy(alloc, &[6, 0, 80])?);
+    said.agent = Some(agent);
+    Ok(said)
+}
+
 /// Hands the bytes over in pieces of this size, and then says the end. Gives the number of the fault.
 fn read(reader: &mut IdentifyIn, bytes: &[u8], size: usize) -> Option<u8> {
     for piece in bytes.chunks(size.max(1)) {
@@ -151,13 +163,7 @@ fn ten_messages_may_be_empty(rt: HostRuntime) -> Result<(), Fail> {
 #[test]
 fn what_is_written_is_read_back(rt: HostRuntime) -> Result<(), Fail> {
     let alloc = rt.alloc();
-    let mut said = nothing(alloc);
-    said.key = Some(key_of(alloc, 7)?);
-    said.listen.push(copy(alloc, &[4, 127, 0, 0, 1])?)?;
-    said.listen.push(copy(alloc, &[])?)?;
-    said.protocols.push(copy(alloc, b"/ipfs/ping/1.0.0")?)?;
-    said.observed = Some(copy(alloc, &[6, 0, 80])?);
-    said.agent = Some(copy(alloc, b"node/0.1.0")?);
+    let said = most_of_it(alloc, copy(alloc, b"node/0.1.0")?)?;
     let body = said.write()?;
     let peer = peer_of(alloc, 7)?;
     let back = Identify::read(alloc, &body, peer)?;
@@ -194,16 +200,31 @@ fn a_message_is_sent_and_what_comes_is_dropped(rt: HostRuntime) -> Result<(), Fa
     Ok(())
 }
 
+/// How many bytes are sent of this, or `None` where it is too long.
+fn sent_len(alloc: Global, said: &Identify) -> Result<Option<usize>, Fail> {
+    match IdentifyOut::new(alloc, said) {
+        Ok(mut sender) => Ok(Some(sender.give(20000)?.len())),
+        Err(IdentifyFault::TooLong) => Ok(None),
+        Err(_) => Err(Fail::from("a message that is sent or too long")),
+    }
+}
+
 #[test]
 fn a_body_has_at_most_16384_bytes(rt: HostRuntime) -> Result<(), Fail> {
     let alloc = rt.alloc();
-    for (len, fits) in [(16381, true), (16382, false)] {
+    // A body of 16384 bytes stands behind three of its length.
+    for (len, sent) in [(16381, Some(16387)), (16382, None)] {
         let mut said = nothing(alloc);
         said.agent = Some(vec![in alloc; 0u8; len]?);
-        match IdentifyOut::new(alloc, &said) {
-            Ok(_) => assert!(rt; fits, "{len} bytes"),
-            Err(fault) => assert!(rt; !fits && fault == IdentifyFault::TooLong, "{len} bytes"),
-        }
+        assert_eq!(rt;
+            sent_len(alloc, &said)?,
+            sent,
+            "an agent of {len} bytes alone"
+        );
+    }
+    for (len, sent) in [(16311, Some(16387)), (16312, None)] {
+        let said = most_of_it(alloc, vec![in alloc; 0u8; len]?)?;
+        assert_eq!(rt; sent_len(alloc, &said)?, sent, "an agent of {len} bytes");
     }
     Ok(())
 }
@@ -223,6 +244,6 @@ fn a_push_leaves_what_it_does_not_name(rt: HostRuntime) -> Result<(), Fail> {
     other.listen.push(copy(alloc, &[])?)?;
     let merged = merged.merged_with(other);
     assert_eq!(rt; merged.agent.as_deref(), Some(&b"y"[..]));
-    assert_eq!(rt; merged.listen[0].len(), 0);
+    assert_eq!(rt; merged.listen.first().map(|bytes| bytes.len()), Some(0));
     Ok(())
 }

@@ -45,14 +45,17 @@ impl IdentifyOut {
         ensures refused { IfErr result (λ fault. (fault ≡ IdentifyFault.TooLong)
             ⊎ (fault ≡ IdentifyFault.OutOfMemory)) }
         ensures too_long { result ≡ Err IdentifyFault.TooLong → most_bytes < length (written identify.now) }
+        ensures memory { result ≡ Err IdentifyFault.OutOfMemory → length (written identify.now) ≤ most_bytes }
     {
-        let body = identify.write()?;
-        if body.len() > MOST_BYTES {
+        // The length is known before memory is asked for, so want of memory never stands for TooLong.
+        let body_len = identify.written_len();
+        if body_len > MOST_BYTES {
             return Err(IdentifyFault::TooLong);
         }
-        let (spelling, len) = spell(body.len() as u64);
-        let mut message = Vec::from_slice(alloc, &spelling[..len])?;
-        message.extend_from_slice(&body)?;
+        let (spelling, len) = spell(body_len as u64);
+        let mut message = Vec::with_capacity(alloc, len + body_len)?;
+        message.extend_from_slice(&spelling[..len])?;
+        identify.append_to(&mut message)?;
         Ok(IdentifyOut {
             alloc,
             message,
