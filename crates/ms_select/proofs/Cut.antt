@@ -42,23 +42,23 @@ listener_cut names first rest (Ok NoneLeft) output l = absurd l
 listener_cut names first rest (Ok (Agreed index)) output l =
     let front : List ℕ = spelled (header ∷ l.0) ++ message l.1 in
     let parts : first ++ rest ≡ front ++ l.2 = l.3.parts ∙ sym (append_assoc (spelled (header ∷ l.0)) (message l.1) l.2) in
-    let is : first ≡ front = used_front first rest front l.2 parts l.6 in
+    let is : first ≡ front = used_front first rest front l.2 parts l.5 in
     let whole : first ≡ spelled (header ∷ l.0) ++ (message l.1 ++ []) = is ∙ ap (λ t. spelled (header ∷ l.0) ++ t) (sym (append-nil (message l.1))) in
-    (l.0, l.1, [], record { parts = whole; short = l.3.short; undecided = l.3.undecided }, l.4, l.5, nothing_more first, l.7)
+    (l.0, l.1, [], record { parts = whole; short = l.3.short; undecided = l.3.undecided }, l.4, nothing_more first, l.6)
 
 dialer_cut : (names : List (List ℕ)) (first rest : List ℕ) (standing : Result Answer SelectFault) (output : List ℕ)
     → Dials names (first ++ rest) standing (length first) output → Dials names first standing (length first) output
-dialer_cut names first rest (Ok Going) output d = subst (λ (t : List ℕ). Dials names t (Ok Going) (length first) output) (no_rest first rest d.5) d
-dialer_cut names first rest (Err fault) output d = subst (λ (t : List ℕ). Dials names t (Err fault) (length first) output) (no_rest first rest d.5) d
+dialer_cut names first rest (Ok Going) output d = subst (λ (t : List ℕ). Dials names t (Ok Going) (length first) output) (no_rest first rest d.4) d
+dialer_cut names first rest (Err fault) output d = subst (λ (t : List ℕ). Dials names t (Err fault) (length first) output) (no_rest first rest d.4) d
 dialer_cut names first rest (Ok (Agreed index)) output d =
     let front : List ℕ = spelled (header ∷ d.0) ++ message d.1 in
     let parts : first ++ rest ≡ front ++ d.2 = d.3.parts ∙ sym (append_assoc (spelled (header ∷ d.0)) (message d.1) d.2) in
-    let is : first ≡ front = used_front first rest front d.2 parts d.8 in
+    let is : first ≡ front = used_front first rest front d.2 parts d.5 in
     let whole : first ≡ spelled (header ∷ d.0) ++ (message d.1 ++ []) = is ∙ ap (λ t. spelled (header ∷ d.0) ++ t) (sym (append-nil (message d.1))) in
-    (d.0, d.1, [], record { parts = whole; refusals = d.3.refusals }, d.4, d.5, d.6, d.7, nothing_more first, d.9)
+    (d.0, d.1, [], record { parts = whole; refusals = d.3.refusals }, d.4, nothing_more first, d.6)
 dialer_cut names first rest (Ok NoneLeft) output d =
-    let is : first ≡ spelled d.0 = used_front first rest (spelled d.0) d.1 d.2.parts d.5 in
-    (d.0, [], record { parts = is ∙ sym (append-nil (spelled d.0)); refusals = d.2.refusals }, d.3, d.4, nothing_more first, d.6)
+    let is : first ≡ spelled d.0 = used_front first rest (spelled d.0) d.1 d.2.parts d.4 in
+    (d.0, [], record { parts = is ∙ sym (append-nil (spelled d.0)); refusals = d.2.refusals }, d.3, nothing_more first, d.5)
 
 pub nothing_behind : NothingBehind
 nothing_behind = record { listener = listener_cut; dialer = dialer_cut }
@@ -80,7 +80,7 @@ one_proposal name count =
     ap (λ (names : List (List ℕ)). spelled (header ∷ names)) behind
 
 pub asked_all : AskedAll
-asked_all name input (Ok Going) used output d = d.6 ∙ one_proposal name (refused d.0)
-asked_all name input (Ok (Agreed index)) used output d = d.9 ∙ one_proposal name index
-asked_all name input (Ok NoneLeft) used output d = d.6 ∙ one_proposal name 1
-asked_all name input (Err fault) used output d = d.6 ∙ one_proposal name (refused d.0)
+asked_all name input (Ok Going) used output d = d.5 ∙ one_proposal name (refused d.0)
+asked_all name input (Ok (Agreed index)) used output d = d.6 ∙ one_proposal name index
+asked_all name input (Ok NoneLeft) used output d = d.5 ∙ one_proposal name 1
+asked_all name input (Err fault) used output d = d.5 ∙ one_proposal name (refused d.0)

@@ -59,5 +59,5 @@ dialer_fresh x first r b c a l e at p = fresh x b (rw r c) a l e (rw r (tt, some
 -- a dialer without names
 pub nameless : (x : Negotiating) → x.role ≡ Dialer → x.names ≡ [] → x.pending ≡ [] → IsAt (Some NoneLeft) x [] 0 []
 nameless x r n p =
-    let none : Comes Dialer [] [] (Ok NoneLeft) 0 [] = ([], [], record { parts = refl; refusals = tt }, refl, (λ e. refl), refl, refl) in
+    let none : Comes Dialer [] [] (Ok NoneLeft) 0 [] = ([], [], record { parts = refl; refusals = tt }, record { all = refl; none = λ e. refl }, refl, refl) in
     rw (r, n, p) none

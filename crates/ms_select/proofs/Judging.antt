@@ -39,12 +39,12 @@ pub unread : (role : Role) (names texts : List (List ℕ)) (input rest : List �
 unread Listener names texts input rest fault e h r =
     (texts, rest, record { parts = e; short = h.0; undecided = h.1 }, any_refused texts rest fault r, refl, refl)
 unread Dialer names texts input rest fault e h r =
-    (texts, rest, record { parts = e; refusals = h.0 }, h.1, any_not_answer names texts rest fault r, refl, refl)
+    (texts, rest, record { answered = record { parts = e; refusals = h.0 }; left = h.1 }, any_not_answer names texts rest fault r, refl, refl)
 
 pub undecided : (role : Role) (names texts : List (List ℕ)) (input rest : List ℕ) → input ≡ spelled texts ++ rest → IsHeard role names texts
     → ReadsMessage rest (Ok None) → Comes role names input (Ok Going) (length input) (written role names texts)
 undecided Listener names texts input rest e h r = (texts, rest, record { parts = e; short = h.0; undecided = h.1 }, r, refl, refl)
-undecided Dialer names texts input rest e h r = (texts, rest, record { parts = e; refusals = h.0 }, h.1, r, refl, refl)
+undecided Dialer names texts input rest e h r = (texts, rest, record { answered = record { parts = e; refusals = h.0 }; left = h.1 }, r, refl, refl)
 
 -- ---- tests
 
@@ -71,7 +71,7 @@ not_header : (role : Role) (names : List (List ℕ)) (input text : List ℕ) →
 not_header Listener names input text e short h ne =
     ([], message text, record { parts = e; short = h.0; undecided = h.1 }, inr (text, reads text short, ne, refl), refl, refl)
 not_header Dialer names input text e short h ne =
-    ([], message text, record { parts = e; refusals = h.0 }, h.1, inr (text, reads text short, ne, refl), refl, refl)
+    ([], message text, record { answered = record { parts = e; refusals = h.0 }; left = h.1 }, inr (text, reads text short, ne, refl), refl, refl)
 
 -- ---- which way a verdict went
 
@@ -186,7 +186,7 @@ faulty Dialer names (first ∷ texts) input text fault e short h v = elim (reply
   | inr (inl hit) ↦ absurd (no_ok (Agreed (length texts), None) fault hit.2)
   | inr (inr miss) ↦
       let here : Comes Dialer names input (Err NotProposed) (length input) (written Dialer names (first ∷ texts)) =
-      (first ∷ texts, message text, record { parts = e; refusals = h.0 }, h.1, inr (text, reads text short, miss.0, miss.1, refl), refl, refl) in
+      (first ∷ texts, message text, record { answered = record { parts = e; refusals = h.0 }; left = h.1 }, inr (text, reads text short, miss.0, miss.1, refl), refl, refl) in
       subst (λ (f : SelectFault). (f ≢ OutOfMemory) × Comes Dialer names input (Err f) (length input) (written Dialer names (first ∷ texts))) (err_is NotProposed fault miss.2)
       ((λ m. cc), here)
 ]
@@ -267,7 +267,7 @@ echoed names texts input first text index e short h c =
     let is : first ≡ header = h.1.0 in
     let parts : input ≡ spelled (header ∷ texts) ++ message text = subst (λ (f : List ℕ). input ≡ spelled (f ∷ texts) ++ message text) is e in
     let shorts : All IsShort (header ∷ texts) = subst (λ (f : List ℕ). All IsShort (f ∷ texts)) is h.0 in
-    (texts, text, [], record { parts = behind input (spelled (header ∷ texts)) text parts; short = shorts; undecided = (refl, h.1.1) }, short, c, all input, refl)
+    (texts, text, [], record { parts = behind input (spelled (header ∷ texts)) text parts; short = shorts; undecided = (refl, h.1.1) }, record { short = short; chosen = c }, all input, refl)
 
 came_back : (names texts : List (List ℕ)) (input first text : List ℕ) → input ≡ spelled (first ∷ texts) ++ message text → IsShort text
     → IsHeard Dialer names (first ∷ texts) → text ≢ na → slice_get names (length texts) ≡ Some text
@@ -275,7 +275,7 @@ came_back : (names texts : List (List ℕ)) (input first text : List ℕ) → in
 came_back names texts input first text e short h ne name =
     let is : first ≡ header = h.0.0 in
     let parts : input ≡ spelled (header ∷ texts) ++ message text = subst (λ (f : List ℕ). input ≡ spelled (f ∷ texts) ++ message text) is e in
-    (texts, text, [], record { parts = behind input (spelled (header ∷ texts)) text parts; refusals = (refl, h.0.1) }, short, refl, name, ne, all input, append-nil (proposals names (length texts)))
+    (texts, text, [], record { parts = behind input (spelled (header ∷ texts)) text parts; refusals = (refl, h.0.1) }, record { short = short; place = refl; proposed = name; other = ne }, all input, append-nil (proposals names (length texts)))
 
 none_left : (names texts : List (List ℕ)) (input first text : List ℕ) → input ≡ spelled (first ∷ texts) ++ message text
     → IsHeard Dialer names (first ∷ texts) → text ≡ na → length texts + 1 ≡ length names
@@ -285,8 +285,7 @@ none_left names texts input first text e h is last =
       (first ∷ texts) ++ text ∷ [],
       [],
       record { parts = parts; refusals = (h.0.0, All-push (λ t. t ≡ na) texts text h.0.1 is) },
-      length-append texts (text ∷ []) ∙ last,
-      λ none. absurd (omega (arith, last, ap length none)),
+      record { all = length-append texts (text ∷ []) ∙ last; none = λ none. absurd (omega (arith, last, ap length none)) },
       all input,
       append-nil (proposals names (length texts)) ∙ sym (proposals_all names (length texts) last),
     )

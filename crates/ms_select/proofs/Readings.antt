@@ -81,14 +81,14 @@ one_name_of dialed served to_dialer to_listener i j joined =
     let answers : List (List ℕ) = d.0 in
     let name : List ℕ = d.1 in
     let echo : List ℕ = l.1 in
-    let c = chosen_name served echo j l.5 in
+    let c = chosen_name served echo j l.4.chosen in
     let refused : List (List ℕ) = map (λ _. na) l.0 in
     let all_na : All (λ t. t ≡ na) refused = All-map (λ t. t ≡ na) (λ _. na) l.0 (λ k x lt. refl) in
     let left : joined.from_listener ≡ message header ++ (spelled answers ++ (message name ++ (d.2 ++ joined.on_the_way))) = joined.delivered ∙ ap (λ (x : List ℕ). x ++ joined.on_the_way) d.3.parts ∙ regroup (message header) (spelled answers) (message name) d.2 joined.on_the_way in
-    let right : joined.from_listener ≡ message header ++ (spelled refused ++ (message echo ++ joined.serves.more)) = joined.serves.written_is ∙ ap (λ (x : List ℕ). x ++ joined.serves.more) l.7 ∙ simp append_assoc in
+    let right : joined.from_listener ≡ message header ++ (spelled refused ++ (message echo ++ joined.serves.more)) = joined.serves.written_is ∙ ap (λ (x : List ℕ). x ++ joined.serves.more) l.6 ∙ simp append_assoc in
     let both : spelled answers ++ (message name ++ (d.2 ++ joined.on_the_way)) ≡ spelled refused ++ (message echo ++ joined.serves.more) = append_cancel_left (message header) _ _ (sym left ∙ right) in
-    let same : name ≡ echo = behind answers refused name echo (d.2 ++ joined.on_the_way) joined.serves.more d.3.refusals.1 all_na d.7 c.1 d.4 l.4 both in
-    (name, d.6, c.0 ∙ ap some_name (sym same))
+    let same : name ≡ echo = behind answers refused name echo (d.2 ++ joined.on_the_way) joined.serves.more d.3.refusals.1 all_na d.4.other c.1 d.4.short l.4.short both in
+    (name, d.4.proposed, c.0 ∙ ap some_name (sym same))
 
 -- ---- one outcome
 
@@ -160,7 +160,7 @@ refused_ends names [] rest fault (inr r) =
 ends_at : (names : List (List ℕ)) (input : List ℕ) (a : Result Answer SelectFault) (used : ℕ) (output : List ℕ) → Listens names input a used output
     → (texts : List (List ℕ)) × (rest : List ℕ) × Heard names input texts rest × Stops (ending names texts) rest a × IsDone input texts rest a used output
 ends_at names input (Ok Going) used output l = (l.0, l.1, l.2, record { next = Ok None; reads = l.3; is = refl }, (l.4, l.5))
-ends_at names input (Ok (Agreed index)) used output l = (header ∷ l.0, message l.1 ++ l.2, l.3, record { next = some_text l.1; reads = message_again l.1 l.2 l.4; is = rw l.5 refl }, (l.1, l.2, refl, l.4, l.6, l.7))
+ends_at names input (Ok (Agreed index)) used output l = (header ∷ l.0, message l.1 ++ l.2, l.3, record { next = some_text l.1; reads = message_again l.1 l.2 l.4.short; is = rw l.4.chosen refl }, (l.1, l.2, refl, l.4.short, l.5, l.6))
 ends_at names input (Ok NoneLeft) used output l = absurd l
 ends_at names input (Err fault) used output l = (l.0, l.1, l.2, refused_ends names l.0 l.1 fault l.3, (l.4, l.5))
 
@@ -267,14 +267,14 @@ not_answer_ends names (first ∷ answers) rest fault (inr r) =
 dial_ends_at : (names : List (List ℕ)) (input : List ℕ) (a : Result Answer SelectFault) (used : ℕ) (output : List ℕ) → Dials names input a used output
     → (texts : List (List ℕ)) × (rest : List ℕ) × Answered input texts rest × DialEnds names texts rest a × DialDone names input texts rest a used output
 unfolding DialDone is_name
-dial_ends_at names input (Ok Going) used output d = (d.0, d.1, d.2, inr (lt-leb (length names) (refused d.0) d.3, record { next = Ok None; reads = d.4; is = refl }), (d.5, d.6))
+dial_ends_at names input (Ok Going) used output d = (d.0, d.1, d.2.answered, inr (lt-leb (length names) (refused d.0) d.2.left, record { next = Ok None; reads = d.3; is = refl }), (d.4, d.5))
 dial_ends_at names input (Ok (Agreed index)) used output d =
-    let below : index < length names = below_get names index d.1 d.6 in
-    let not_na : bytes_eq d.1 na ≡ false = not_true (bytes_eq d.1 na) (λ t. d.7 ((bytes_eq-Decides d.1 na).0 t)) in
+    let below : index < length names = below_get names index d.1 d.4.proposed in
+    let not_na : bytes_eq d.1 na ≡ false = not_true (bytes_eq d.1 na) (λ t. d.4.other ((bytes_eq-Decides d.1 na).0 t)) in
     let same : bytes_eq d.1 d.1 ≡ true = (bytes_eq-Decides d.1 d.1).1 refl in
-    (header ∷ d.0, message d.1 ++ d.2, d.3, inr (lt-leb (length names) (length d.0) (omega (arith, d.5, below)), record { next = some_text d.1; reads = message_again d.1 d.2 d.4; is = rw (not_na, d.5, d.6, same) refl }), (d.1, d.2, refl, d.4, d.8, d.9))
-dial_ends_at names input (Ok NoneLeft) used output d = (d.0, d.1, d.2, inl (le-leb (length names) (refused d.0) (omega (arith, d.3)), refl), (d.4, d.5, d.6))
-dial_ends_at names input (Err fault) used output d = (d.0, d.1, d.2, inr (lt-leb (length names) (refused d.0) d.3, not_answer_ends names d.0 d.1 fault d.4), (d.5, d.6))
+    (header ∷ d.0, message d.1 ++ d.2, d.3, inr (lt-leb (length names) (length d.0) (omega (arith, d.4.place, below)), record { next = some_text d.1; reads = message_again d.1 d.2 d.4.short; is = rw (not_na, d.4.place, d.4.proposed, same) refl }), (d.1, d.2, refl, d.4.short, d.5, d.6))
+dial_ends_at names input (Ok NoneLeft) used output d = (d.0, d.1, d.2, inl (le-leb (length names) (refused d.0) (omega (arith, d.3.all)), refl), (d.3.none, d.4, d.5))
+dial_ends_at names input (Err fault) used output d = (d.0, d.1, d.2.answered, inr (lt-leb (length names) (refused d.0) d.2.left, not_answer_ends names d.0 d.1 fault d.3), (d.4, d.5))
 
 -- as many refusals as there are names, at most
 Within : List (List ℕ) → List (List ℕ) → Type 0
@@ -286,10 +286,10 @@ within_less names texts lt = (omega arith, λ none. absurd (omega (arith, ap len
 
 within : (names : List (List ℕ)) (input : List ℕ) (a : Result Answer SelectFault) (used : ℕ) (output : List ℕ) (d : Dials names input a used output) → Within names (dial_ends_at names input a used output d).0
 unfolding Within dial_ends_at
-within names input (Ok Going) used output d = within_less names d.0 d.3
-within names input (Ok (Agreed index)) used output d = within_less names (header ∷ d.0) (omega (arith, d.5, below_get names index d.1 d.6))
-within names input (Ok NoneLeft) used output d = (omega (arith, d.3), d.4)
-within names input (Err fault) used output d = within_less names d.0 d.3
+within names input (Ok Going) used output d = within_less names d.0 d.2.left
+within names input (Ok (Agreed index)) used output d = within_less names (header ∷ d.0) (omega (arith, d.4.place, below_get names index d.1 d.4.proposed))
+within names input (Ok NoneLeft) used output d = (omega (arith, d.3.all), d.3.none)
+within names input (Err fault) used output d = within_less names d.0 d.2.left
 
 refusal_goes_on : (names texts more : List (List ℕ)) (text : List ℕ) → IsRefusals (texts ++ text ∷ more) → dial_text names texts (some_text text) ≡ None
 refusal_goes_on names [] more text r = rw ((bytes_eq-Decides text header).1 r.0) refl

@@ -81,7 +81,7 @@ listen_rows = record {
     refl,
     refl,
   );
-  agreed = (x ∷ [], y, 7 ∷ [], record { parts = refl; short = short_both; undecided = (refl, x_not_chosen) }, lit< tt, refl, refl, refl);
+  agreed = (x ∷ [], y, 7 ∷ [], record { parts = refl; short = short_both; undecided = (refl, x_not_chosen) }, record { short = lit< tt; chosen = refl }, refl, refl);
   other_header = ([], y_bytes, record { parts = refl; short = All-nil IsShort; undecided = tt }, inr (y, ([], record { parts = refl; short = lit< tt }), (λ e. cc), refl), refl, refl);
   no_header = ([], 0 ∷ [], record { parts = refl; short = All-nil IsShort; undecided = tt }, inl no_length, refl, refl);
   bad_length = (header ∷ [], 0 ∷ [], record { parts = refl; short = short_header; undecided = (refl, none_chosen) }, no_length, refl, refl);
@@ -106,18 +106,17 @@ not_proposed i s t ne e = ne (ap (λ (o : Option (List ℕ)). get_or (unwrap_or 
 pub dial_rows : DialRows
 unfolding message shortest shortest_within
 dial_rows = record {
-  first_at_once = ([], [], record { parts = refl; refusals = tt }, omega arith, nothing_came, refl, refl);
-  next = (header ∷ na ∷ [], [], record { parts = refl; refusals = (refl, one_na) }, omega arith, nothing_came, refl, refl);
-  agreed = ([], x, 7 ∷ [], record { parts = refl; refusals = (refl, no_na) }, lit< tt, refl, refl, (λ e. cc), refl, refl);
-  second = (na ∷ [], y, [], record { parts = refl; refusals = (refl, one_na) }, lit< tt, refl, refl, (λ e. cc), refl, refl);
-  none_left = (header ∷ na ∷ na ∷ [], 7 ∷ [], record { parts = refl; refusals = (refl, two_na) }, refl, (λ e. absurd (omega (arith, ap length e))), refl, refl);
-  nameless = ([], 7 ∷ [], record { parts = refl; refusals = tt }, refl, (λ e. refl), refl, refl);
-  other_header = ([], x_bytes, record { parts = refl; refusals = tt }, omega arith, inr (x, ([], record { parts = refl; short = lit< tt }), (λ e. cc), refl), refl, refl);
+  first_at_once = ([], [], record { answered = record { parts = refl; refusals = tt }; left = omega arith }, nothing_came, refl, refl);
+  next = (header ∷ na ∷ [], [], record { answered = record { parts = refl; refusals = (refl, one_na) }; left = omega arith }, nothing_came, refl, refl);
+  agreed = ([], x, 7 ∷ [], record { parts = refl; refusals = (refl, no_na) }, record { short = lit< tt; place = refl; proposed = refl; other = λ e. cc }, refl, refl);
+  second = (na ∷ [], y, [], record { parts = refl; refusals = (refl, one_na) }, record { short = lit< tt; place = refl; proposed = refl; other = λ e. cc }, refl, refl);
+  none_left = (header ∷ na ∷ na ∷ [], 7 ∷ [], record { parts = refl; refusals = (refl, two_na) }, record { all = refl; none = λ e. absurd (omega (arith, ap length e)) }, refl, refl);
+  nameless = ([], 7 ∷ [], record { parts = refl; refusals = tt }, record { all = refl; none = λ e. refl }, refl, refl);
+  other_header = ([], x_bytes, record { answered = record { parts = refl; refusals = tt }; left = omega arith }, inr (x, ([], record { parts = refl; short = lit< tt }), (λ e. cc), refl), refl, refl);
   other_name = (
     header ∷ [],
     y_bytes,
-    record { parts = refl; refusals = (refl, no_na) },
-    omega arith,
+    record { answered = record { parts = refl; refusals = (refl, no_na) }; left = omega arith },
     inr (y, ([], record { parts = refl; short = lit< tt }), differs 0 y na (omega arith), not_proposed 1 x y (omega arith), refl),
     refl,
     refl,
@@ -125,8 +124,7 @@ dial_rows = record {
   header_again = (
     header ∷ [],
     header_bytes,
-    record { parts = refl; refusals = (refl, no_na) },
-    omega arith,
+    record { answered = record { parts = refl; refusals = (refl, no_na) }; left = omega arith },
     inr (header, ([], record { parts = refl; short = lit< tt }), differs 0 header na (omega arith), not_proposed 1 x header (omega arith), refl),
     refl,
     refl,
@@ -134,13 +132,12 @@ dial_rows = record {
   refused_name = (
     header ∷ na ∷ [],
     x_bytes,
-    record { parts = refl; refusals = (refl, one_na) },
-    omega arith,
+    record { answered = record { parts = refl; refusals = (refl, one_na) }; left = omega arith },
     inr (x, ([], record { parts = refl; short = lit< tt }), differs 0 x na (omega arith), not_proposed 1 y x (omega arith), refl),
     refl,
     refl,
   );
-  bad_length = (header ∷ [], 0 ∷ [], record { parts = refl; refusals = (refl, no_na) }, omega arith, inl no_length, refl, refl);
+  bad_length = (header ∷ [], 0 ∷ [], record { answered = record { parts = refl; refusals = (refl, no_na) }; left = omega arith }, inl no_length, refl, refl);
 }
 
 pub send_rows : SendRows
@@ -169,8 +166,8 @@ memory_rows = record {
   dialer = record {
     n = 0;
     within = omega arith;
-    before = (header ∷ [], [], record { parts = refl; refusals = (refl, no_na) }, omega arith, nothing_came, refl, refl);
-    behind = (header ∷ [], 3 ∷ [], record { parts = refl; refusals = (refl, no_na) }, omega arith, length_came [] (omega arith), refl, refl);
+    before = (header ∷ [], [], record { answered = record { parts = refl; refusals = (refl, no_na) }; left = omega arith }, nothing_came, refl, refl);
+    behind = (header ∷ [], 3 ∷ [], record { answered = record { parts = refl; refusals = (refl, no_na) }; left = omega arith }, length_came [] (omega arith), refl, refl);
     ends = (header ∷ [], 3 ∷ [], 3, refl, one_byte 3 [] (omega arith));
   };
 }

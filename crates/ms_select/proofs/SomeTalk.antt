@@ -51,7 +51,7 @@ agreed_here names input first texts rest text after index h e short some =
     let heard : Heard names input (header ∷ texts) (message text ++ after) = subst (λ (x : List ℕ). Heard names input (header ∷ texts) x) e (subst (λ (x : List ℕ). Heard names input (x ∷ texts) rest) first-is h) in
     let size : length input ≡ length (spelled (header ∷ texts)) + length (message text ++ after) = ap length heard.parts ∙ length-append (spelled (header ∷ texts)) (message text ++ after) in
     let less = behind_message text after in
-    (Ok (Agreed index), length input - length after, refusals (header ∷ texts) ++ message text, (texts, text, after, heard, short, some, omega (arith, size, less), refl))
+    (Ok (Agreed index), length input - length after, refusals (header ∷ texts) ++ message text, (texts, text, after, heard, record { short = short; chosen = some }, omega (arith, size, less), refl))
 
 -- what the next text comes to, where the rest of the talk comes to something
 heard_next : (names : List (List ℕ)) (input : List ℕ) (texts : List (List ℕ)) (rest text after : List ℕ) → Heard names input texts rest → rest ≡ message text ++ after → IsShort text → ((more : List (List ℕ)) → Heard names input more after → Outcome names input) → Outcome names input
@@ -106,7 +106,7 @@ refused_on names input first answers rest after h lt e on =
     let size : length input ≡ length (spelled (texts ++ na ∷ [])) + length after = ap length parts ∙ length-append (spelled (texts ++ na ∷ [])) after in
     elim (cases_lt (length answers + 1) (length names)) [
       | inl left ↦ on (texts ++ na ∷ []) next (omega (arith, count, left))
-      | inr last ↦ (Ok NoneLeft, length input - length after, proposals names (length names), (texts ++ na ∷ [], after, next, omega (arith, count, last, lt), (λ none. absurd (omega (arith, lt, ap length none))), omega (arith, size), refl))
+      | inr last ↦ (Ok NoneLeft, length input - length after, proposals names (length names), (texts ++ na ∷ [], after, next, record { all = omega (arith, count, last, lt); none = λ none. absurd (omega (arith, lt, ap length none)) }, omega (arith, size), refl))
     ]
 
 -- the standing proposal, or another text
@@ -118,10 +118,10 @@ answer_here names input first answers rest text after h lt e short other name at
       let heard : Answered input (header ∷ answers) (message text ++ after) = subst (λ (x : List ℕ). Answered input (header ∷ answers) x) e (subst (λ (x : List ℕ). Answered input (x ∷ answers) rest) h.refusals.0 h) in
       let size : length input ≡ length (spelled (header ∷ answers)) + length (message text ++ after) = ap length heard.parts ∙ length-append (spelled (header ∷ answers)) (message text ++ after) in
       let less = behind_message text after in
-      (Ok (Agreed (length answers)), length input - length after, proposals names (length answers), (answers, text, after, heard, short, refl, at ∙ ap Some same, other, omega (arith, size, less), refl))
+      (Ok (Agreed (length answers)), length input - length after, proposals names (length answers), (answers, text, after, heard, record { short = short; place = refl; proposed = at ∙ ap Some same; other = other }, omega (arith, size, less), refl))
   | inr differs ↦
       let wrong : slice_get names (length answers) ≡ Some text → ⊥ = λ is. differs (cc (at, is)) in
-      (Err NotProposed, length input, proposals names (length answers), (first ∷ answers, rest, h, lt, inr (text, (after, record { parts = e; short = short }), other, wrong, refl), refl, refl))
+      (Err NotProposed, length input, proposals names (length answers), (first ∷ answers, rest, record { answered = h; left = lt }, inr (text, (after, record { parts = e; short = short }), other, wrong, refl), refl, refl))
 ]
 
 name_below : (names : List (List ℕ)) (index : ℕ) → index < length names → (name : List ℕ) × (slice_get names index ≡ Some name)
@@ -132,7 +132,7 @@ answered_next : (names : List (List ℕ)) (input : List ℕ) (texts : List (List
 unfolding Dialed
 answered_next names input [] rest text after h lt e short on = elim (decide text header) [
   | inl is ↦ on (text ∷ []) (record { parts = answered_more input [] rest text after h e; refusals = (is, All-nil (λ t. t ≡ na)) }) lt
-  | inr other ↦ (Err BadHeader, length input, proposals names 0, ([], rest, h, lt, inr (text, (after, record { parts = e; short = short }), other, refl), refl, refl))
+  | inr other ↦ (Err BadHeader, length input, proposals names 0, ([], rest, record { answered = h; left = lt }, inr (text, (after, record { parts = e; short = short }), other, refl), refl, refl))
 ]
 answered_next names input (first ∷ answers) rest text after h lt e short on = elim (decide text na) [
   | inl is ↦ refused_on names input first answers rest after h lt (e ∙ ap (λ (x : List ℕ). message x ++ after) is) on
@@ -144,8 +144,8 @@ answered_next names input (first ∷ answers) rest text after h lt e short on = 
 answered_by : (names : List (List ℕ)) (input : List ℕ) (texts : List (List ℕ)) (rest : List ℕ) → IsBytes rest → Answered input texts rest → refused texts < length names → (r : Read) → ReadsMessage rest r
     → ((more : List (List ℕ)) (after : List ℕ) → length after < length rest → IsBytes after → Answered input more after → refused more < length names → Dialed names input) → Dialed names input
 unfolding Dialed
-answered_by names input texts rest fits h lt (Ok None) reads on = (Ok Going, length input, proposals names (refused texts), (texts, rest, h, lt, reads, refl, refl))
-answered_by names input texts rest fits h lt (Err fault) reads on = (Err fault, length input, proposals names (refused texts), (texts, rest, h, lt, any_not_answer names texts rest fault reads, refl, refl))
+answered_by names input texts rest fits h lt (Ok None) reads on = (Ok Going, length input, proposals names (refused texts), (texts, rest, record { answered = h; left = lt }, reads, refl, refl))
+answered_by names input texts rest fits h lt (Err fault) reads on = (Err fault, length input, proposals names (refused texts), (texts, rest, record { answered = h; left = lt }, any_not_answer names texts rest fault reads, refl, refl))
 answered_by names input texts rest fits h lt (Ok (Some text)) reads on =
     let e : rest ≡ message text ++ reads.0 = reads.1.parts in
     let less : length reads.0 < length rest = omega (arith, behind_message text reads.0, ap length e) in
@@ -159,5 +159,5 @@ answered_on (suc n) names input texts rest short fits h lt =
 
 pub some_dialer : SomeDialer
 unfolding Dialed
-some_dialer [] input fits = (Ok NoneLeft, 0, [], ([], input, record { parts = refl; refusals = tt }, refl, (λ none. refl), omega arith, refl))
+some_dialer [] input fits = (Ok NoneLeft, 0, [], ([], input, record { parts = refl; refusals = tt }, record { all = refl; none = λ none. refl }, omega arith, refl))
 some_dialer (name ∷ names) input fits = answered_on (length input + 1) (name ∷ names) input [] input (omega arith) fits (record { parts = refl; refusals = tt }) (omega arith)

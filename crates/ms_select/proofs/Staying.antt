@@ -33,9 +33,8 @@ agreed_stays names input more output index used l = (
   l.2 ++ more,
   record { parts = ap (λ (x : List ℕ). x ++ more) l.3.parts ∙ append_assoc (spelled (header ∷ l.0)) (message l.1 ++ l.2) more ∙ ap (λ (x : List ℕ). spelled (header ∷ l.0) ++ x) (append_assoc (message l.1) l.2 more); short = l.3.short; undecided = l.3.undecided },
   l.4,
-  l.5,
-  omega (arith, l.6, length-append l.2 more, length-append input more),
-  l.7,
+  omega (arith, l.5, length-append l.2 more, length-append input more),
+  l.6,
 )
 
 -- ---- of a dialer
@@ -52,7 +51,7 @@ more_parts input texts rest more h = record { parts = ap (λ (x : List ℕ). x +
 -- What is refused stays so, whatever comes.
 dial_fault_stays : (names : List (List ℕ)) (input more output : List ℕ) (fault : SelectFault) (used : ℕ) → Dials names input (Err fault) used output
     → Dials names (input ++ more) (Err fault) (length (input ++ more)) output
-dial_fault_stays names input more output fault used d = (d.0, d.1 ++ more, more_parts input d.0 d.1 more d.2, d.3, not_answer_stays names d.0 d.1 more fault d.4, refl, d.6)
+dial_fault_stays names input more output fault used d = (d.0, d.1 ++ more, record { answered = more_parts input d.0 d.1 more d.2.answered; left = d.2.left }, not_answer_stays names d.0 d.1 more fault d.3, refl, d.5)
 
 agreed_dial_stays : (names : List (List ℕ)) (input more output : List ℕ) (index used : ℕ) → Dials names input (Ok (Agreed index)) used output
     → Dials names (input ++ more) (Ok (Agreed index)) used output
@@ -63,18 +62,15 @@ agreed_dial_stays names input more output index used d =
       d.2 ++ more,
       subst (λ (x : List ℕ). Answered (input ++ more) (header ∷ d.0) x) (append_assoc (message d.1) d.2 more) whole,
       d.4,
-      d.5,
+      omega (arith, d.5, length-append d.2 more, length-append input more),
       d.6,
-      d.7,
-      omega (arith, d.8, length-append d.2 more, length-append input more),
-      d.9,
     )
 
 none_left_stays : (names : List (List ℕ)) (input more output : List ℕ) (used : ℕ) → Dials names input (Ok NoneLeft) used output
     → Dials names (input ++ more) (Ok NoneLeft) used output
 none_left_stays names input more output used d =
-    let size : used + length (d.1 ++ more) ≡ length (input ++ more) = omega (arith, d.5, length-append d.1 more, length-append input more) in
-    (d.0, d.1 ++ more, more_parts input d.0 d.1 more d.2, d.3, d.4, size, d.6)
+    let size : used + length (d.1 ++ more) ≡ length (input ++ more) = omega (arith, d.4, length-append d.1 more, length-append input more) in
+    (d.0, d.1 ++ more, more_parts input d.0 d.1 more d.2, d.3, size, d.5)
 
 -- ---- of both
 

@@ -23,6 +23,23 @@ pub record Answered (input : List ℕ) (texts : List (List ℕ)) (rest : List �
   pub parts : input ≡ spelled texts ++ rest
   pub refusals : IsRefusals texts
 
+-- a name is left that it may answer
+pub record Proposing (names : List (List ℕ)) (input : List ℕ) (texts : List (List ℕ)) (rest : List ℕ) : Type 0 where
+  pub answered : Answered input texts rest
+  pub left : refused texts < length names
+
+-- behind these answers the name of this index is proposed, and this is it
+pub record IsEchoed (names answers : List (List ℕ)) (name : List ℕ) (index : ℕ) : Type 0 where
+  pub short : IsShort name
+  pub place : length answers ≡ index
+  pub proposed : slice_get names index ≡ Some name
+  pub other : name ≢ na
+
+-- each name got na, the last of them by the last text
+pub record AreRefused (names texts : List (List ℕ)) : Type 0 where
+  pub all : refused texts ≡ length names
+  pub none : names ≡ [] → texts ≡ []
+
 -- what has been written where so many names got na: the header, and one name more than these as long as there are names
 abbrev pub proposals : List (List ℕ) → ℕ → List ℕ
 proposals [] count = []
@@ -41,20 +58,19 @@ IsNotAnswer names (first ∷ answers) rest fault =
 abbrev pub Dials : List (List ℕ) → List ℕ → Result Answer SelectFault → ℕ → List ℕ → Type 0
 -- a message isn't whole, and nothing is decided
 Dials names input (Ok Going) used output =
-    (texts : List (List ℕ)) × (rest : List ℕ) × Answered input texts rest × (refused texts < length names)
-    × ReadsMessage rest (Ok None) × (used ≡ length input) × (output ≡ proposals names (refused texts))
+    (texts : List (List ℕ)) × (rest : List ℕ) × Proposing names input texts rest × ReadsMessage rest (Ok None)
+    × (used ≡ length input) × (output ≡ proposals names (refused texts))
 -- the standing proposal is echoed
 Dials names input (Ok (Agreed index)) used output =
     (answers : List (List ℕ)) × (name : List ℕ) × (after : List ℕ)
-    × Answered input (header ∷ answers) (message name ++ after) × IsShort name × (length answers ≡ index)
-    × (slice_get names index ≡ Some name) × (name ≢ na)
+    × Answered input (header ∷ answers) (message name ++ after) × IsEchoed names answers name index
     × (used + length after ≡ length input) × (output ≡ proposals names index)
 -- each name got na
 Dials names input (Ok NoneLeft) used output =
-    (texts : List (List ℕ)) × (after : List ℕ) × Answered input texts after × (refused texts ≡ length names)
-    × (names ≡ [] → texts ≡ []) × (used + length after ≡ length input) × (output ≡ proposals names (length names))
+    (texts : List (List ℕ)) × (after : List ℕ) × Answered input texts after × AreRefused names texts
+    × (used + length after ≡ length input) × (output ≡ proposals names (length names))
 Dials names input (Err fault) used output =
-    (texts : List (List ℕ)) × (rest : List ℕ) × Answered input texts rest × (refused texts < length names)
+    (texts : List (List ℕ)) × (rest : List ℕ) × Proposing names input texts rest
     × IsNotAnswer names texts rest fault × (used ≡ length input) × (output ≡ proposals names (refused texts))
 
 -- An end with this dialer may send more than the dialer wrote: once it has agreed, and with one name also before the

@@ -33,6 +33,11 @@ pub record Heard (names : List (List ℕ)) (input : List ℕ) (texts : List (Lis
   pub short : All IsShort texts
   pub undecided : IsUndecided names texts
 
+-- a name that is supported, with its index
+pub record IsSupported (names : List (List ℕ)) (name : List ℕ) (index : ℕ) : Type 0 where
+  pub short : IsShort name
+  pub chosen : choice names name ≡ Some index
+
 -- what has been written then: the header, and na for each proposal
 abbrev pub refusals : List (List ℕ) → List ℕ
 refusals texts = spelled (header ∷ map (λ _. na) (drop 1 texts))
@@ -53,7 +58,7 @@ Listens names input (Ok Going) used output =
 -- a proposal is supported, and the output ends with its echo
 Listens names input (Ok (Agreed index)) used output =
     (proposals : List (List ℕ)) × (name : List ℕ) × (after : List ℕ)
-    × Heard names input (header ∷ proposals) (message name ++ after) × IsShort name × (choice names name ≡ Some index)
+    × Heard names input (header ∷ proposals) (message name ++ after) × IsSupported names name index
     × (used + length after ≡ length input) × (output ≡ refusals (header ∷ proposals) ++ message name)
 -- a listener never gives up
 Listens names input (Ok NoneLeft) used output = ⊥

@@ -21,6 +21,7 @@ pub use dialer::Dialer;
 pub use fault::SelectFault;
 pub use listener::Listener;
 pub use run::{Talk, dial, listen};
+pub use verdict::Role;
 
 #[cfg(test)]
 mod tests;

@@ -12,10 +12,12 @@ use crate::fault::SelectFault;
 use crate::message::{HEADER, NA};
 use crate::names::{choice, name_at};
 
-/// Which end asks, and which is asked.
+/// The sides of a negotiation (multistream-select 1.0, "Protocol Negotiation").
 #[derive(Clone, Copy, Debug, PartialEq, Eq)]
-pub(crate) enum Role {
+pub enum Role {
+    /// Proposes its names, one after the other: the end that asks.
     Dialer,
+    /// Echoes a name that it supports, and answers `na` to another: the end that is asked.
     Listener,
 }
 
