@@ -7,4 +7,5 @@ pub mod ReadsText
 pub mod Laws
 pub mod Rows
 -- inside: no public clause cites them
+pub mod Padded
 pub mod Short

@@ -16,11 +16,11 @@ impl Model for Short {
 
     ghost Value = { List ℕ };
 
-    ghost use Rattle.peer_ids.specs.Short.{bytes_in, IsPadded, inside_of, inside_again};
+    ghost use Rattle.peer_ids.specs.Short.{bytes_in, IsShort, inside_of, inside_again};
 
     ghost view = { bytes_in };
 
-    ghost invariant = { IsPadded };
+    ghost invariant = { IsShort };
 
     ghost inverse = { inside_of };
 

@@ -1,4 +1,6 @@
 -- cited by public clauses and laws
+pub mod Ranges
+pub mod Limits
 pub mod AgentName
 pub mod Parts
 pub mod History

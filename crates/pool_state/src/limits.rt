@@ -1,6 +1,7 @@
 //! What a pool is made with.
 
 ghost use Rattle.std.specs.Prelude.{◌≡◌, ◌≤◌, ◌↔◌, IsSome, IfSome};
+ghost use Rattle.pool_state.specs.Ranges.{AreInRange};
 
 use peer_ids::PeerId;
 
@@ -44,9 +45,7 @@ impl Limits {
         outbound: usize,
         allowed: usize,
     ) -> Option<Limits>
-        ensures in_range { IsSome result ↔ (((1 ≤ conns) × (conns ≤ 256))
-            × ((1 ≤ per_peer) × (per_peer ≤ 8)) × ((1 ≤ streams) × (streams ≤ 64))
-            × (blocked ≤ 64) × (inbound ≤ 256) × (outbound ≤ 256) × (allowed ≤ 64)) }
+        ensures in_range { IsSome result ↔ AreInRange conns per_peer streams blocked inbound outbound allowed }
         ensures connections { IfSome result (λ limits. (limits.conns ≡ conns) × (limits.per_peer ≡ per_peer)
             × (limits.streams ≡ streams)) }
         ensures sides { IfSome result (λ limits. (limits.inbound ≡ inbound) × (limits.outbound ≡ outbound)) }
@@ -66,6 +65,25 @@ impl Limits {
             outbound,
             allowed,
         })
+    }
+}
+
+impl Default for Limits {
+    ghost use Rattle.pool_state.specs.Limits.{AreCommon};
+
+    ghost is_default = { AreCommon };
+
+    /// 64 connections, dialed or accepted, of one peer as many as can be, and as many streams and peers on the lists.
+    fn default() -> Limits {
+        Limits {
+            conns: 64,
+            per_peer: 8,
+            streams: 64,
+            blocked: 64,
+            inbound: 256,
+            outbound: 256,
+            allowed: 64,
+        }
     }
 }
 

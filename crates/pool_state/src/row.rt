@@ -24,11 +24,11 @@ impl Model for Agent {
 
     ghost Value = { List ℕ };
 
-    ghost use Rattle.pool_state.specs.AgentName.{name_in, IsPadded, inside_of, inside_again};
+    ghost use Rattle.pool_state.specs.AgentName.{name_in, HoldsName, inside_of, inside_again};
 
     ghost view = { name_in };
 
-    ghost invariant = { IsPadded };
+    ghost invariant = { HoldsName };
 
     ghost inverse = { inside_of };
 

@@ -4,11 +4,8 @@ use std::process::Abort;
 use std::test::*;
 
 /// The id of the Ed25519 key of 32 bytes that are all `byte`.
-fn peer(byte: u8) -> Result<PeerId, Fail> {
-    let mut multihash = [byte; 38];
-    multihash[..6].copy_from_slice(&[0x00, 0x24, 0x08, 0x01, 0x12, 0x20]);
-    let id = PeerId::from_bytes(&multihash).ok().ok_or("a multihash")?;
-    Ok(id)
+fn peer(byte: u8) -> PeerId {
+    PeerId::of_ed25519(&[byte; 32])
 }
 
 /// The agent of a name.
@@ -21,7 +18,7 @@ fn agent(name: &str) -> Result<Agent, Fail> {
 fn config() -> Result<Config, Fail> {
     let limits = Limits::new(256, 8, 64, 64, 256, 256, 64).ok_or("in range")?;
     Ok(Config {
-        own: peer(0)?,
+        own: peer(0),
         limits,
         first_conn: 1,
         first_front: 0,
@@ -61,7 +58,7 @@ fn refusals_in_order(rt: HostRuntime) -> Result<(), Fail> {
         limits,
         ..config()?
     });
-    let (own, first, second) = (peer(0)?, peer(0x11)?, peer(0x22)?);
+    let (own, first, second) = (peer(0), peer(0x11), peer(0x22));
     let script = [
         (Call::Dial(Some(first)), Reply::Conn(1)),
         (Call::Dial(Some(first)), refused(Refusal::PeerFull)),
@@ -77,7 +74,7 @@ fn refusals_in_order(rt: HostRuntime) -> Result<(), Fail> {
         (Call::Done(1, 2), Reply::Done),
         (Call::Ask(2, 0), refused(Refusal::NotLive)),
         (Call::Block(second), Reply::Count(0)),
-        (Call::Block(peer(0x33)?), refused(Refusal::BlockFull)),
+        (Call::Block(peer(0x33)), refused(Refusal::BlockFull)),
         (Call::Block(second), Reply::Count(0)),
         (Call::Settle(2, second), refused(Refusal::Blocked)),
         (Call::HangUp(first), Reply::Count(1)),
@@ -99,7 +96,7 @@ fn refusals_in_order(rt: HostRuntime) -> Result<(), Fail> {
 #[test]
 fn a_block_closes_pending_rows(rt: HostRuntime) -> Result<(), Fail> {
     let mut pool = Pool::new(config()?);
-    let (first, second) = (peer(0x11)?, peer(0x22)?);
+    let (first, second) = (peer(0x11), peer(0x22));
     let script = [
         (Call::Dial(Some(first)), Reply::Conn(1)),
         (Call::Accept, Reply::Conn(2)),
@@ -118,7 +115,7 @@ fn a_block_closes_pending_rows(rt: HostRuntime) -> Result<(), Fail> {
     assert_eq!(rt; listing.blocked.as_slice(), [first].as_slice());
     let script = [
         (Call::HangUp(second), Reply::Count(0)),
-        (Call::HangUp(peer(0)?), refused(Refusal::SelfPeer)),
+        (Call::HangUp(peer(0)), refused(Refusal::SelfPeer)),
         (Call::Settle(2, second), Reply::Done),
         (Call::Ask(2, 3), refused(Refusal::BadProtocol)),
     ];
@@ -134,7 +131,7 @@ fn the_last_front(rt: HostRuntime) -> Result<(), Fail> {
     });
     let script = [
         (Call::Dial(None), Reply::Conn(1)),
-        (Call::Block(peer(0x11)?), refused(Refusal::Spent)),
+        (Call::Block(peer(0x11)), refused(Refusal::Spent)),
     ];
     run(&rt, &mut pool, &script);
     let listing = pool.listing();
@@ -167,7 +164,7 @@ fn allowed_peers_alone(rt: HostRuntime) -> Result<(), Fail> {
         allow_only: true,
         ..config()?
     });
-    let (first, second) = (peer(0x11)?, peer(0x22)?);
+    let (first, second) = (peer(0x11), peer(0x22));
     let script = [
         (Call::Accept, Reply::Conn(1)),
         (Call::Accept, refused(Refusal::SideFull)),
@@ -241,7 +238,7 @@ fn each_side_is_full_at_its_limit(rt: HostRuntime) -> Result<(), Fail> {
 #[test]
 fn a_peer_has_eight_connections(rt: HostRuntime) -> Result<(), Fail> {
     let mut pool = Pool::new(config()?);
-    let first = peer(0x11)?;
+    let first = peer(0x11);
     admit(&rt, &mut pool, &Call::Dial(Some(first)), 8);
     let script = [
         (Call::Dial(Some(first)), refused(Refusal::PeerFull)),
@@ -259,7 +256,7 @@ fn a_connection_has_64_streams(rt: HostRuntime) -> Result<(), Fail> {
     let mut pool = Pool::new(config()?);
     let script = [
         (Call::Accept, Reply::Conn(1)),
-        (Call::Settle(1, peer(0x11)?), Reply::Done),
+        (Call::Settle(1, peer(0x11)), Reply::Done),
     ];
     run(&rt, &mut pool, &script);
     for stream in 0..64 {
@@ -283,7 +280,7 @@ fn a_connection_has_64_streams(rt: HostRuntime) -> Result<(), Fail> {
 fn each_list_has_64_peers(rt: HostRuntime) -> Result<(), Fail> {
     let mut pool = Pool::new(config()?);
     for byte in 0x40..0x80 {
-        let peer = peer(byte)?;
+        let peer = peer(byte);
         assert_eq!(rt;
             pool.apply(Call::Block(peer)),
             Reply::Count(0),
@@ -295,7 +292,7 @@ fn each_list_has_64_peers(rt: HostRuntime) -> Result<(), Fail> {
             "allow {byte}"
         );
     }
-    let (first, last) = (peer(0x11)?, peer(0x7f)?);
+    let (first, last) = (peer(0x11), peer(0x7f));
     let script = [
         (Call::Block(first), refused(Refusal::BlockFull)),
         (Call::Allow(first), refused(Refusal::AllowFull)),
@@ -316,7 +313,7 @@ fn each_list_has_64_peers(rt: HostRuntime) -> Result<(), Fail> {
 #[test]
 fn an_agent_is_noted_while_live(rt: HostRuntime) -> Result<(), Fail> {
     let mut pool = Pool::new(config()?);
-    let first = peer(0x11)?;
+    let first = peer(0x11);
     let script = [
         (Call::Dial(None), Reply::Conn(1)),
         (Call::Note(1, agent("x")?), refused(Refusal::NotLive)),
@@ -364,7 +361,7 @@ fn limits_have_ranges(rt: HostRuntime) {
 fn a_copy_follows_the_pool(rt: HostRuntime) -> Result<(), Fail> {
     let mut pool = Pool::new(config()?);
     let mut kept = pool.listing();
-    let first = peer(0x11)?;
+    let first = peer(0x11);
     let calls = [
         Call::Dial(Some(first)),
         Call::Accept,
@@ -390,7 +387,7 @@ fn a_commit_is_the_rest_of_a_call(rt: HostRuntime) -> Result<(), Fail> {
         first_front: u64::MAX - 4,
         ..config()?
     });
-    let first = peer(0x11)?;
+    let first = peer(0x11);
     let calls = [
         (Call::Accept, Reply::Conn(1)),
         (Call::Settle(1, first), Reply::Done),
@@ -411,7 +408,7 @@ fn a_commit_is_the_rest_of_a_call(rt: HostRuntime) -> Result<(), Fail> {
 #[test]
 fn no_call_leads_to_this_node_itself(rt: HostRuntime) -> Result<(), Fail> {
     let mut pool = Pool::new(config()?);
-    let own = peer(0)?;
+    let own = peer(0);
     let script = [
         (Call::Accept, Reply::Conn(1)),
         (Call::Dial(Some(own)), refused(Refusal::SelfPeer)),
