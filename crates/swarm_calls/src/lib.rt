@@ -3,7 +3,8 @@
 //! Up to eight callers make pool calls, each by its pass. The calls of all of them stand in one legal history of the
 //! pool of one thread (`pool_state`), and a listing, which waits for nobody, shows the pool after a beginning of that
 //! history that has at least what its caller had seen. A caller that looks often renews its pass and borrows the pass's
-//! listing (`Swarm::renew`, `Pass::listing`), which costs next to nothing where nothing changed; `Swarm::list` copies it.
+//! listing (`Swarm::renew`, `Pass::listing`), which costs next to nothing where nothing changed; `Swarm::list` copies
+//! it.
 //!
 //! # Example
 //!

@@ -1,6 +1,7 @@
-use Rattle.std.proofs.Common.{◌≡◌, ◌≢◌, ◌++◌, ◌∷◌, [], ◌<◌, ◌≤◌, ◌^◌, rules, ap, sym, subst}
+use Rattle.std.proofs.Common.{◌≡◌, ◌≢◌, ◌++◌, ◌∷◌, [], ◌<◌, ◌≤◌, ◌^◌, ◌∙◌, rules, ap, sym, subst}
 use Rattle.pool_state.specs.History.{entry, front_of}
 use Rattle.pool_state.specs.Shown.{reply_after}
+use Rattle.pool_state.specs.At.{Stands}
 use Rattle.pool_state.specs.declared.call.Reply.TheVariants.{Refused}
 use Rattle.pool_state.specs.declared.call.Refusal.TheVariants.{Spent}
 use Rattle.swarm_calls.specs.Calls.{Past, past}
@@ -12,11 +13,14 @@ returns g c =
     let h = c.args.self.now in
     let config = g.J.Identity.config in
     let call = c.args.call.now in
-    let reply_is : c.reply-reply.result ≡ reply_after config h call = search rules in
+    let stands = subst (λ log. Stands config log c.self.inside.pool) (c.self.view_is ∙ c.show.ensures.same) c.self.invariant.0.pool_is in
+    let reply_is : c.reply-reply.result ≡ reply_after config h call = c.reply-reply.ensures config h stands in
     let unspent : c.reply-reply.result ≢ Refused Spent = search rules in
     let front : front_of config c.show.new.pass.seen < 2 ^ 64 = subst (λ n. n < 2 ^ 64) c.front-front.ensures.is c.front-front.ensures.fits in
-    let made : c.publish.new.pass ≡ past c.show.new.pass.number (h ++ entry c.show.new.pass.number call c.reply-reply.result ∷ []) = search rules in
-    let within : (1 ≤ c.args.pass.now.number) × (c.args.pass.now.number ≤ g.J.Identity.callers) = search rules in
+    let made : c.publish.new.pass ≡ past c.show.new.pass.number (h ++ entry c.show.new.pass.number call c.reply-reply.result ∷ []) =
+    subst (λ log. c.publish.new.pass ≡ past c.show.new.pass.number (log ++ entry c.show.new.pass.number call c.reply-reply.result ∷ [])) c.show.ensures.same (c.publish.ensures.yes c.if-not-publish.false) in
+    let within : (1 ≤ c.args.pass.now.number) × (c.args.pass.now.number ≤ g.J.Identity.callers) =
+    subst (λ n. (1 ≤ n) × (n ≤ g.J.Identity.callers)) (c.number.ensures.is ∙ ap (λ (p : Past). p.number) c.show.ensures.seen) c.number.ensures.within in
     record {
       called = called_made config g.J.Identity.callers call c.args.pass.now c.show.new.pass h c.show.ensures.later c.show.ensures.own c.show.ensures.seen front c.reply-reply.result c.publish.new.pass within made reply_is unspent;
       seen = (entry c.show.new.pass.number call c.reply-reply.result ∷ [], sym (ap (λ (p : Past). p.seen) made));
