@@ -38,7 +38,7 @@ pub struct Header {
     /// The number of the stream; 0 is the connection itself.
     pub stream: u32,
     /// Of Data how many bytes follow, of WindowUpdate the credit that is added, of Ping a value to be sent back, of
-    /// GoAway a code.
+    /// GoAway a code, as [`Header::NORMAL_TERMINATION`].
     pub length: u32,
 }
 
@@ -51,6 +51,13 @@ impl Header {
     pub const FIN: u16 = 4;
     /// Both directions of the stream end with this frame.
     pub const RST: u16 = 8;
+
+    /// The code of a GoAway that says: nothing is wrong.
+    pub const NORMAL_TERMINATION: u32 = 0;
+    /// The code of a GoAway that says: the other end broke the protocol.
+    pub const PROTOCOL_ERROR: u32 = 1;
+    /// The code of a GoAway that says: this end can't go on.
+    pub const INTERNAL_ERROR: u32 = 2;
 
     /// Reads twelve bytes: the one header that they spell, or why they are none.
     pub fn read(bytes: &[u8; 12]) -> Result<Header, FrameFault>

@@ -64,6 +64,13 @@ fn headers() -> [([u8; 12], Header); 6] {
 }
 
 #[test]
+fn codes_of_go_away(rt: HostRuntime) {
+    assert_eq!(rt; Header::NORMAL_TERMINATION, 0);
+    assert_eq!(rt; Header::PROTOCOL_ERROR, 1);
+    assert_eq!(rt; Header::INTERNAL_ERROR, 2);
+}
+
+#[test]
 fn headers_are_read_and_written(rt: HostRuntime) {
     for (bytes, header) in headers() {
         assert_eq!(rt; Header::read(&bytes), Ok(header));

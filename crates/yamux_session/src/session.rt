@@ -28,9 +28,6 @@ use yamux_frames::{Cut, Cutter, FrameKind, Header};
 /// From so much on what was taken is given back.
 const GIVE_BACK_FROM: u32 = 131072;
 
-/// The code of GoAway for a protocol error.
-const PROTOCOL_ERROR: u32 = 1;
-
 /// A session of one end: the streams that are live with their windows, the output that waits, and where in a frame the
 /// input ends. Contracts see these three, how much output finds room without more memory, and whether the session has
 /// failed; `Stands` relates them to the history.
@@ -279,8 +276,9 @@ impl Session {
         Ok(())
     }
 
-    /// Says that this end goes away: it opens no stream of the other end any more. The specification knows the codes 0
-    /// (no error), 1 (protocol error) and 2 (internal error); a code above makes some peers end the session.
+    /// Says that this end goes away: it opens no stream of the other end any more. The specification knows the codes
+    /// [`Header::NORMAL_TERMINATION`], [`Header::PROTOCOL_ERROR`] and [`Header::INTERNAL_ERROR`]; a code above makes
+    /// some peers end the session.
     pub fn go_away(&mut self, code: u32) -> Result<(), ActRefused>
         ensures ok { OnOk result (Adds self.old self.new (λ role past. Act.GoAway code)) }
         ensures going { OnOk result (self.new.failed ≡ false) }
@@ -462,7 +460,7 @@ impl Session {
         ensures kept { OnErr result (self.new ≡ self.old) }
     {
         told.push(Event::Fault(fault))?;
-        append_frame(&mut self.output, FrameKind::GoAway, 0, 0, PROTOCOL_ERROR)?;
+        append_frame(&mut self.output, FrameKind::GoAway, 0, 0, Header::PROTOCOL_ERROR)?;
         self.failed = true;
         Ok(())
     }
