@@ -34,16 +34,14 @@ fn other() -> io::Error {
 }
 
 /// The id of the Ed25519 key of 32 bytes that are all `byte`.
-fn peer(byte: u8) -> io::Result<PeerId> {
-    let mut multihash = [byte; 38];
-    multihash[..6].copy_from_slice(&[0x00, 0x24, 0x08, 0x01, 0x12, 0x20]);
-    PeerId::from_bytes(&multihash).map_err(|_| other())
+fn peer(byte: u8) -> PeerId {
+    PeerId::of_ed25519(&[byte; 32])
 }
 
 /// The widest limits, for the node whose id is that of zeros.
 fn config() -> io::Result<Config> {
     Ok(Config {
-        own: peer(0)?,
+        own: peer(0),
         limits: Limits::new(256, 8, 64, 64, 256, 256, 64).ok_or(other())?,
         first_conn: 1,
         first_front: 0,
@@ -57,7 +55,7 @@ fn pool_of(rows: u8) -> io::Result<Pool> {
     for row in 0..=rows {
         let conn = u32::from(row) + 1;
         pool.apply(Call::Accept);
-        pool.apply(Call::Settle(conn, peer(row / 8 + 1)?));
+        pool.apply(Call::Settle(conn, peer(row / 8 + 1)));
         pool.apply(Call::Ask(conn, 0));
     }
     Ok(pool)

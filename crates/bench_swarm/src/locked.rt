@@ -114,7 +114,7 @@ fn work<R: Wait>(rt: &R, shown: &Mutex<Shown>, (plan, peer, pace): (&Plan, PeerI
 fn filled(alloc: Global, config: Config, rows: u8) -> io::Result<Mutex<Shown>> {
     let mut pool = Pool::new(config);
     for row in 0..rows {
-        pool.apply(Call::Dial(Some(peer(row / 8 + 1)?)));
+        pool.apply(Call::Dial(Some(peer(row / 8 + 1))));
     }
     let Ok(listing) = Arc::new(alloc, pool.listing()) else {
         return Err(other());
@@ -133,7 +133,7 @@ pub fn rate<R: Threads + Wait + Clock + Sync>(
     config: Config,
     plan: &Plan,
 ) -> io::Result<Rates> {
-    let (shown, pace, guest) = (&filled(alloc, config, plan.rows)?, &Pace::new(), guest()?);
+    let (shown, pace, guest) = (&filled(alloc, config, plan.rows)?, &Pace::new(), guest());
     let (calls, time) = join(
         rt,
         || pass_time(rt, shown, (plan, guest, pace)),

@@ -27,21 +27,19 @@ pub fn other() -> io::Error {
 }
 
 /// The id of the Ed25519 key of 32 bytes that are all `byte`.
-pub fn peer(byte: u8) -> io::Result<PeerId> {
-    let mut multihash = [byte; 38];
-    multihash[..6].copy_from_slice(&[0x00, 0x24, 0x08, 0x01, 0x12, 0x20]);
-    PeerId::from_bytes(&multihash).map_err(|_| other())
+pub fn peer(byte: u8) -> PeerId {
+    PeerId::of_ed25519(&[byte; 32])
 }
 
 /// The peer of the connections that come and go.
-pub fn guest() -> io::Result<PeerId> {
+pub fn guest() -> PeerId {
     peer(0x77)
 }
 
 fn config() -> io::Result<Config> {
     let limits = Limits::new(256, 8, 64, 64, 256, 256, 64).ok_or(other())?;
     Ok(Config {
-        own: peer(0)?,
+        own: peer(0),
         limits,
         first_conn: 1,
         first_front: 0,

@@ -93,7 +93,7 @@ fn fill<J: Identity, L: Ledgers, R: Wait>(
     rows: u8,
 ) -> io::Result<()> {
     for row in 0..rows {
-        swarm.dial(rt, pass, Some(peer(row / 8 + 1)?));
+        swarm.dial(rt, pass, Some(peer(row / 8 + 1)));
     }
     Ok(())
 }
@@ -139,7 +139,7 @@ fn rate_of<
     let Some(mut writer) = passes.pop() else {
         return Err(other());
     };
-    let (shared, pace, guest) = (&swarm, &Pace::new(), guest()?);
+    let (shared, pace, guest) = (&swarm, &Pace::new(), guest());
     fill(rt, shared, &mut writer, plan.rows)?;
     let (calls, time) = join(
         rt,

@@ -67,8 +67,8 @@ pub fn list_both<G: Gate, J: Identity, L: Ledgers, R: Wait>(
     }
 }
 
-/// A dial, which its caller sees without looking anew, as the last call of all that it has seen. One that is turned away
-/// is none of the caller's calls.
+/// A dial, which its caller sees without looking anew, as the last call of all that it has seen. One that is turned
+/// away is none of the caller's calls.
 pub fn dial_seen<G: Gate, J: Identity, L: Ledgers, R: Wait>(
     rt: &R,
     swarm: &Swarm<G, J, L>,

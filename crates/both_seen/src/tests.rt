@@ -4,11 +4,8 @@ use std::marker::Brand;
 use std::test::*;
 
 /// The id of the Ed25519 key of 32 bytes that are all `byte`.
-fn peer(byte: u8) -> Result<PeerId, Fail> {
-    let mut multihash = [byte; 38];
-    multihash[..6].copy_from_slice(&[0x00, 0x24, 0x08, 0x01, 0x12, 0x20]);
-    let id = PeerId::from_bytes(&multihash).ok().ok_or("a multihash")?;
-    Ok(id)
+fn peer(byte: u8) -> PeerId {
+    PeerId::of_ed25519(&[byte; 32])
 }
 
 /// Both dials on a new swarm.
@@ -45,13 +42,13 @@ fn row(conn: u32, peer: PeerId) -> Row {
 fn both_are_listed(rt: HostRuntime) -> Result<(), Fail> {
     let limits = Limits::new(256, 8, 64, 64, 256, 256, 64).ok_or("in range")?;
     let config = Config {
-        own: peer(0)?,
+        own: peer(0),
         limits,
         first_conn: 7,
         first_front: 20,
         allow_only: false,
     };
-    let (a, b) = (peer(0x11)?, peer(0x22)?);
+    let (a, b) = (peer(0x11), peer(0x22));
     let (dials, closed) = play(&rt, rt.alloc(), config, a, b).ok().ok_or("a swarm")?;
     assert_eq!(rt; (dials.one, dials.other), (Reply::Conn(7), Reply::Conn(8)));
     assert_eq!(rt; dials.listing.front, 22);

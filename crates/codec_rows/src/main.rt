@@ -1,5 +1,5 @@
-//! Worked rows of keys, ids, addresses, negotiation, exchange and handlers, each with its answer. Played with a growth refused,
-//! the answers up to it are those of ample memory, and at it a call answers want of memory.
+//! Worked rows of keys, ids, addresses, negotiation, exchange and handlers, each with its answer. Played with a growth
+//! refused, the answers up to it are those of ample memory, and at it a call answers want of memory.
 #![tactic(auto)]
 
 mod addresses;

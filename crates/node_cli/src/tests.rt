@@ -257,7 +257,8 @@ fn replay_of_agents(rt: HostRuntime) {
         &[],
         "dial -\nnote 1 x\nsettle 1 @11\nnote 1 a b\nlist\nnote 2 x\nhangup @11\nnote 1 y\n",
         "conn 1\nrefused 6 NotLive\nok\nok\nfront 4\n\
-         conn 1 dialer live bafzaajaiaejcaeirceirceirceirceirceirceirceirceirceirceirceirceir 0/0 0/0 0/0 agent a b\nend\nrefused 3 NoConn\n\
+         conn 1 dialer live bafzaajaiaejcaeirceirceirceirceirceirceirceirceirceirceirceirceir 0/0 0/0 0/0 agent a b\n\
+         end\nrefused 3 NoConn\n\
          count 1\nrefused 4 Closing\n",
         0,
         "",

@@ -21,11 +21,8 @@ use swarm_calls::{
 };
 
 /// The id of the Ed25519 key of 32 bytes that are all `byte`.
-fn peer(byte: u8) -> Result<PeerId, Fail> {
-    let mut multihash = [byte; 38];
-    multihash[..6].copy_from_slice(&[0x00, 0x24, 0x08, 0x01, 0x12, 0x20]);
-    let id = PeerId::from_bytes(&multihash).ok().ok_or("a multihash")?;
-    Ok(id)
+fn peer(byte: u8) -> PeerId {
+    PeerId::of_ed25519(&[byte; 32])
 }
 
 /// What an exchange with the holder of that key proves.
@@ -46,7 +43,7 @@ fn proven(alloc: Global, byte: u8) -> Result<Proven, Fail> {
 fn config(per_peer: usize) -> Result<Config, Fail> {
     let limits = Limits::new(256, per_peer, 64, 64, 256, 256, 64).ok_or("in range")?;
     Ok(Config {
-        own: peer(0)?,
+        own: peer(0),
         limits,
         first_conn: 1,
         first_front: 0,

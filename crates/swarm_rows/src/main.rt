@@ -36,10 +36,8 @@ impl Tally {
 }
 
 /// The id of the Ed25519 key of 32 bytes that are all `byte`.
-fn peer(byte: u8) -> io::Result<PeerId> {
-    let mut multihash = [byte; 38];
-    multihash[..6].copy_from_slice(&[0x00, 0x24, 0x08, 0x01, 0x12, 0x20]);
-    PeerId::from_bytes(&multihash).map_err(|_| io::Error::from(io::ErrorKind::Other))
+fn peer(byte: u8) -> PeerId {
+    PeerId::of_ed25519(&[byte; 32])
 }
 
 /// Of each peer one connection may stand.
@@ -48,7 +46,7 @@ fn config() -> io::Result<Config> {
         io::ErrorKind::Other,
     ))?;
     Ok(Config {
-        own: peer(0)?,
+        own: peer(0),
         limits,
         first_conn: 1,
         first_front: 0,
@@ -85,7 +83,7 @@ fn play<J: Identity, L: Ledgers, R: Wait>(
     mut passes: Vec<Pass<J, L>>,
     tally: &mut Tally,
 ) -> io::Result<()> {
-    let (first, second) = (peer(0x11)?, peer(0x22)?);
+    let (first, second) = (peer(0x11), peer(0x22));
     let (Some(mut two), Some(mut one)) = (passes.pop(), passes.pop()) else {
         return Err(io::Error::from(io::ErrorKind::Other));
     };

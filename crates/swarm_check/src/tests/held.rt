@@ -24,7 +24,7 @@ pub fn wait_for_the_first<C: Clock>(clock: &C, watch: &Watch) {
 
 /// Each call but Settle.
 fn calls() -> Result<[Call; 11], Fail> {
-    let (first, second) = (peer(0x11)?, peer(0x22)?);
+    let (first, second) = (peer(0x11), peer(0x22));
     let agent = Agent::from_bytes(b"x").ok_or("a name")?;
     Ok([
         Call::Dial(None),

@@ -130,7 +130,7 @@ fn pending(conn: u32, role: ConnSide, peer: Option<PeerId>) -> Row {
 /// Caller 1 dials, and both list it; then both dial another peer, of whom one connection may stand.
 #[test]
 fn two_callers_share_one_history(rt: HostRuntime) -> Result<(), Fail> {
-    let (first, second) = (peer(0x11)?, peer(0x22)?);
+    let (first, second) = (peer(0x11), peer(0x22));
     let again = Call::Dial(Some(second));
     let beats = [
         then(Act::Make(1, Call::Dial(Some(first)), Reply::Conn(1)), 1, 0),
@@ -157,7 +157,7 @@ fn two_callers_share_one_history(rt: HostRuntime) -> Result<(), Fail> {
 /// calls.
 #[test]
 fn fronts_behind_meetings(rt: HostRuntime) -> Result<(), Fail> {
-    let first = peer(0x11)?;
+    let first = peer(0x11);
     let beats = [
         then(Act::Meet, 0, 0),
         then(Act::Make(1, Call::Dial(Some(first)), Reply::Conn(1)), 1, 0),
@@ -165,15 +165,11 @@ fn fronts_behind_meetings(rt: HostRuntime) -> Result<(), Fail> {
         then(Act::Meet, 2, 2),
         then(Act::List(1), 2, 2),
         then(
-            Act::Make(2, Call::HangUp(peer(0x22)?), Reply::Count(0)),
+            Act::Make(2, Call::HangUp(peer(0x22)), Reply::Count(0)),
             2,
             3,
         ),
-        then(
-            Act::Make(2, Call::Block(peer(0x22)?), Reply::Count(0)),
-            2,
-            4,
-        ),
+        then(Act::Make(2, Call::Block(peer(0x22)), Reply::Count(0)), 2, 4),
         then(Act::List(2), 2, 4),
         then(Act::List(1), 4, 4),
     ];
@@ -193,7 +189,7 @@ fn fronts_behind_meetings(rt: HostRuntime) -> Result<(), Fail> {
 /// A dial of one and an accept of the other: behind a meeting both fronts are 2, and each lists both.
 #[test]
 fn each_lists_both_behind_a_meeting(rt: HostRuntime) -> Result<(), Fail> {
-    let first = peer(0x11)?;
+    let first = peer(0x11);
     let beats = [
         then(Act::Make(1, Call::Dial(Some(first)), Reply::Conn(1)), 1, 0),
         then(Act::Make(2, Call::Accept, Reply::Conn(2)), 1, 2),
@@ -320,7 +316,7 @@ fn play_steps<R: Wait + Abort>(
 
 #[test]
 fn one_caller_settles_nothing(rt: HostRuntime) -> Result<(), Fail> {
-    let (first, second) = (peer(0x11)?, peer(0x22)?);
+    let (first, second) = (peer(0x11), peer(0x22));
     let steps = [
         by(1, Call::HangUp(second), Reply::Count(0)),
         by(1, Call::Block(second), Reply::Count(0)),
@@ -334,7 +330,7 @@ fn one_caller_settles_nothing(rt: HostRuntime) -> Result<(), Fail> {
 
 #[test]
 fn each_call_is_made(rt: HostRuntime) -> Result<(), Fail> {
-    let (first, second) = (peer(0x11)?, peer(0x22)?);
+    let (first, second) = (peer(0x11), peer(0x22));
     let agent = Agent::from_bytes(b"x").ok_or("a name")?;
     let steps = [
         by(1, Call::Accept, Reply::Conn(1)),
@@ -365,7 +361,7 @@ fn each_call_is_made(rt: HostRuntime) -> Result<(), Fail> {
 
 #[test]
 fn allowed_peers_alone(rt: HostRuntime) -> Result<(), Fail> {
-    let (first, second) = (peer(0x11)?, peer(0x22)?);
+    let (first, second) = (peer(0x11), peer(0x22));
     let steps = [
         by(1, Call::Dial(Some(first)), refused(Refusal::NotAllowed)),
         by(2, Call::Accept, Reply::Conn(1)),
@@ -393,7 +389,7 @@ fn allowed_peers_alone(rt: HostRuntime) -> Result<(), Fail> {
 fn the_call_at_the_last_front_has_its_reply(rt: HostRuntime) -> Result<(), Fail> {
     let steps = [
         by(1, Call::Dial(None), Reply::Conn(1)),
-        by(2, Call::Block(peer(0x11)?), refused(Refusal::Spent)),
+        by(2, Call::Block(peer(0x11)), refused(Refusal::Spent)),
     ];
     let steps = Vec::from_array(rt.alloc(), steps)?;
     let config = Config {

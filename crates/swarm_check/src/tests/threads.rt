@@ -146,7 +146,7 @@ fn dial_at_once<
     let (Some(two), Some(one)) = (passes.pop(), passes.pop()) else {
         return Err(Fail::from("two passes"));
     };
-    let same = peer(0x22)?;
+    let same = peer(0x22);
     let shared = &swarm;
     let ((mut one, first), (mut two, second)) = join(
         rt,
@@ -208,7 +208,7 @@ fn list_while_held<
     let (Some(two), Some(one)) = (passes.pop(), passes.pop()) else {
         return Err(Fail::from("two passes"));
     };
-    let first = peer(0x11)?;
+    let first = peer(0x11);
     let shared = &swarm;
     let (_one, (mut two, front)) = join(
         rt,
@@ -250,7 +250,7 @@ fn call_while_held<
     let (Some(two), Some(one)) = (passes.pop(), passes.pop()) else {
         return Err(Fail::from("two passes"));
     };
-    let (first, second) = (peer(0x11)?, peer(0x22)?);
+    let (first, second) = (peer(0x11), peer(0x22));
     let shared = &swarm;
     let ((one, replied), (two, answered)) = join(
         rt,
@@ -300,7 +300,7 @@ fn call_in_a_crowd<
     passes: Vec<Pass<J, Eight<L1, L2, L3, L4, L5, L6, L7, L8>>>,
     calls: u64,
 ) -> Result<(), Fail> {
-    let peers = [peer(0x11)?, peer(0x22)?, peer(0x33)?];
+    let peers = [peer(0x11), peer(0x22), peer(0x33)];
     let (shared, named) = (&swarm, &peers);
     let callers = map_vec(
         rt,
