@@ -15,7 +15,7 @@ use Rattle.ms_select.specs.declared.answer.Answer.{Answer}
 use Rattle.ms_select.specs.declared.answer.Answer.TheVariants.{Going, Agreed, NoneLeft}
 use Rattle.ms_select.specs.declared.verdict.Role.{Role}
 use Rattle.ms_select.specs.Messages.{longest, spelled, of_refused}
-use Rattle.ms_select.specs.Sides.{Comes, answer_room, Negotiating, Hears, IsAt, Stands, RunsOut, EndsLength}
+use Rattle.ms_select.specs.Sides.{Comes, answer_room, Negotiating, Hears, StandsWith, Stands, RunsOut, EndsLength}
 use Rattle.ms_select.proofs.Reading.{IsBytes}
 use Rattle.ms_select.proofs.Framing.{partial_message, refused_length}
 use Rattle.ms_select.proofs.Judging.{unread, undecided}
@@ -25,12 +25,12 @@ use Rattle.ms_select.proofs.Staying.{fault_stays, decision_stays}
 
 pub going : (x : Negotiating) (input : List ℕ) (used : ℕ) (taken : List ℕ) → x.answer ≡ Some Going → Stands x input used taken
     → (texts : List (List ℕ)) × (rest : List ℕ) × Hears x input taken texts rest × ReadsFramed longest rest (Ok None) × (used ≡ length input)
-going x input used taken a s = subst (λ (answer : Option Answer). IsAt answer x input used taken) a s
+going x input used taken a s = subst (λ (answer : Option Answer). StandsWith answer x input used taken) a s
 
-pub stands_at : (x : Negotiating) (input : List ℕ) (used : ℕ) (taken : List ℕ) (answer : Option Answer) → x.answer ≡ answer → IsAt answer x input used taken → Stands x input used taken
-stands_at x input used taken answer a s = subst (λ (answer : Option Answer). IsAt answer x input used taken) (sym a) s
+pub stands_at : (x : Negotiating) (input : List ℕ) (used : ℕ) (taken : List ℕ) (answer : Option Answer) → x.answer ≡ answer → StandsWith answer x input used taken → Stands x input used taken
+stands_at x input used taken answer a s = subst (λ (answer : Option Answer). StandsWith answer x input used taken) (sym a) s
 
-comes_at : (answer : Answer) (x : Negotiating) (input : List ℕ) (used : ℕ) (taken : List ℕ) → IsAt (Some answer) x input used taken → Comes x.role x.names input (Ok answer) used (taken ++ x.pending)
+comes_at : (answer : Answer) (x : Negotiating) (input : List ℕ) (used : ℕ) (taken : List ℕ) → StandsWith (Some answer) x input used taken → Comes x.role x.names input (Ok answer) used (taken ++ x.pending)
 comes_at Going x input used taken (texts, rest, h, partial, all) =
     let here = undecided x.role x.names texts input rest h.parts h.heard (partial_message rest partial) in
     subst (λ (n : ℕ). Comes x.role x.names input (Ok Going) n (taken ++ x.pending)) (sym all)
@@ -41,13 +41,13 @@ comes_at NoneLeft x input used taken s = s
 -- what a side stands at is that of the definition
 pub comes : (x : Negotiating) (input : List ℕ) (used : ℕ) (taken : List ℕ) (answer : Answer) → x.answer ≡ Some answer → Stands x input used taken
     → Comes x.role x.names input (Ok answer) used (taken ++ x.pending)
-comes x input used taken answer a s = comes_at answer x input used taken (subst (λ (o : Option Answer). IsAt o x input used taken) a s)
+comes x input used taken answer a s = comes_at answer x input used taken (subst (λ (o : Option Answer). StandsWith o x input used taken) a s)
 
 -- the answer that is told later
-pub told : (x new : Negotiating) (input : List ℕ) (used : ℕ) (taken : List ℕ) (answer : Answer) → new ≡ record x { answer = new.answer } → IsAt (Some answer) x input used taken → IsAt (Some answer) new input used taken
-told x new input used taken answer e s = subst (λ (y : Negotiating). IsAt (Some answer) y input used taken) (sym e) (again answer new.answer x s)
+pub told : (x new : Negotiating) (input : List ℕ) (used : ℕ) (taken : List ℕ) (answer : Answer) → new ≡ record x { answer = new.answer } → StandsWith (Some answer) x input used taken → StandsWith (Some answer) new input used taken
+told x new input used taken answer e s = subst (λ (y : Negotiating). StandsWith (Some answer) y input used taken) (sym e) (again answer new.answer x s)
   where
-    again : (answer : Answer) (o : Option Answer) (x : Negotiating) → IsAt (Some answer) x input used taken → IsAt (Some answer) (record x { answer = o }) input used taken
+    again : (answer : Answer) (o : Option Answer) (x : Negotiating) → StandsWith (Some answer) x input used taken → StandsWith (Some answer) (record x { answer = o }) input used taken
     again Going o x (texts, rest, h, partial, all) = (
       texts,
       rest,
@@ -147,7 +147,7 @@ no_answer_room x i input taken texts rest piece (suc n) len h l a b e some pos l
     runs_out_at x input taken texts rest piece n len h (omega arith) bare some
 
 -- the message isn't whole yet
-pub unfinished : (new : Negotiating) (input taken : List ℕ) (texts : List (List ℕ)) (rest : List ℕ) → Hears new input taken texts rest → (IsWhole new.incoming → ⊥) → IsAt (Some Going) new input (length input) taken
+pub unfinished : (new : Negotiating) (input taken : List ℕ) (texts : List (List ℕ)) (rest : List ℕ) → Hears new input taken texts rest → (IsWhole new.incoming → ⊥) → StandsWith (Some Going) new input (length input) taken
 unfinished new input taken texts rest h partial =
     let here = partial_read new.incoming rest h.arrives partial in
     (texts, rest, h, subst (λ (n : ℕ). ReadsFramed n rest (Ok None)) h.limit here, refl)
@@ -232,10 +232,10 @@ hears_on x incoming room input taken texts rest piece used h bytes limit arrives
     fed x (further x incoming room) input taken texts rest piece used h bytes refl refl refl refl refl limit arrives fits
 
 -- whole or not, the message leaves the side where it stands
-pub whole_or_not : (whole : Bool) (answer : Answer) (new : Negotiating) (input taken : List ℕ) → (whole ≡ true → IsAt (Some answer) new input (length input) taken)
-    → (whole ≡ false → (answer ≡ Going) × IsAt (Some Going) new input (length input) taken) → IsAt (Some answer) new input (length input) taken
+pub whole_or_not : (whole : Bool) (answer : Answer) (new : Negotiating) (input taken : List ℕ) → (whole ≡ true → StandsWith (Some answer) new input (length input) taken)
+    → (whole ≡ false → (answer ≡ Going) × StandsWith (Some Going) new input (length input) taken) → StandsWith (Some answer) new input (length input) taken
 whole_or_not true answer new input taken t f = t refl
-whole_or_not false answer new input taken t f = subst (λ (a : Answer). IsAt (Some a) new input (length input) taken) (sym (f refl).0) (f refl).1
+whole_or_not false answer new input taken t f = subst (λ (a : Answer). StandsWith (Some a) new input (length input) taken) (sym (f refl).0) (f refl).1
 
 rest_of : (piece : List ℕ) (n : ℕ) → take (length piece - n) (drop n piece) ≡ drop n piece
 rest_of piece n = take_past (drop n piece) (length piece - n) (omega (arith, length-drop n piece))
@@ -247,9 +247,9 @@ further_on input piece m n = ap (λ (b : List ℕ). (input ++ take m piece) ++ t
 -- what is decided stands, told more
 pub still_decided : (x : Negotiating) (input more : List ℕ) (used : ℕ) (taken : List ℕ) (answer : Answer) → answer ≢ Going → x.answer ≡ Some answer → Stands x input used taken → Stands x (input ++ more) used taken
 still_decided x input more used taken answer ne e s =
-    stands_at x (input ++ more) used taken (Some answer) e (by answer ne (subst (λ (o : Option Answer). IsAt o x input used taken) e s))
+    stands_at x (input ++ more) used taken (Some answer) e (by answer ne (subst (λ (o : Option Answer). StandsWith o x input used taken) e s))
   where
-    by : (answer : Answer) → answer ≢ Going → IsAt (Some answer) x input used taken → IsAt (Some answer) x (input ++ more) used taken
+    by : (answer : Answer) → answer ≢ Going → StandsWith (Some answer) x input used taken → StandsWith (Some answer) x (input ++ more) used taken
     by Going ne s = absurd (ne refl)
     by (Agreed index) ne s = decision_stays x.role x.names input more (taken ++ x.pending) (Agreed index) used ne s
     by NoneLeft ne s = decision_stays x.role x.names input more (taken ++ x.pending) NoneLeft used ne s

@@ -10,7 +10,7 @@ use Rattle.ms_select.specs.declared.verdict.Role.TheVariants.{Dialer, Listener}
 use Rattle.ms_select.specs.Messages.{longest, header, message, IsShort}
 use Rattle.ms_select.specs.Listening.{IsName}
 use Rattle.ms_select.specs.Dialing.{proposals}
-use Rattle.ms_select.specs.Sides.{Comes, IsHeard, written, count_of, Negotiating, IsAt}
+use Rattle.ms_select.specs.Sides.{Comes, IsHeard, written, count_of, Negotiating, StandsWith}
 use Rattle.ms_select.proofs.Hearing.{nothing_read, no_bytes}
 
 -- names that can be proposed have messages
@@ -29,7 +29,7 @@ first_proposal (name ∷ names) first at =
 
 -- a side that nothing decided
 fresh : (x : Negotiating) → x.begun ≡ false → x.count ≡ count_of x.role [] → Arrives [] x.incoming → x.incoming.limit ≡ longest → x.incoming.expected ≡ None
-    → IsHeard x.role x.names [] → x.pending ≡ written x.role x.names [] → IsAt (Some Going) x [] 0 []
+    → IsHeard x.role x.names [] → x.pending ≡ written x.role x.names [] → StandsWith (Some Going) x [] 0 []
 fresh x b c a l e h p = (
   [],
   [],
@@ -49,15 +49,15 @@ fresh x b c a l e h p = (
 )
 
 pub listener_fresh : (x : Negotiating) → x.role ≡ Listener → x.begun ≡ false → x.count ≡ 0 → Arrives [] x.incoming → x.incoming.limit ≡ longest → x.incoming.expected ≡ None
-    → x.pending ≡ message header → IsAt (Some Going) x [] 0 []
+    → x.pending ≡ message header → StandsWith (Some Going) x [] 0 []
 listener_fresh x r b c a l e p = fresh x b (rw r c) a l e (rw r (All-nil IsShort, tt)) (rw r (p ∙ sym (append-nil (message header))))
 
 pub dialer_fresh : (x : Negotiating) (first : List ℕ) → x.role ≡ Dialer → x.begun ≡ false → x.count ≡ 0 → Arrives [] x.incoming → x.incoming.limit ≡ longest → x.incoming.expected ≡ None
-    → slice_get x.names 0 ≡ Some first → x.pending ≡ message header ++ message first → IsAt (Some Going) x [] 0 []
+    → slice_get x.names 0 ≡ Some first → x.pending ≡ message header ++ message first → StandsWith (Some Going) x [] 0 []
 dialer_fresh x first r b c a l e at p = fresh x b (rw r c) a l e (rw r (tt, some_below x.names first at)) (rw r (p ∙ sym (first_proposal x.names first at)))
 
 -- a dialer without names
-pub nameless : (x : Negotiating) → x.role ≡ Dialer → x.names ≡ [] → x.pending ≡ [] → IsAt (Some NoneLeft) x [] 0 []
+pub nameless : (x : Negotiating) → x.role ≡ Dialer → x.names ≡ [] → x.pending ≡ [] → StandsWith (Some NoneLeft) x [] 0 []
 nameless x r n p =
     let none : Comes Dialer [] [] (Ok NoneLeft) 0 [] = ([], [], record { parts = refl; refusals = tt }, record { all = refl; none = λ e. refl }, refl, refl) in
     rw (r, n, p) none

@@ -9,7 +9,7 @@ use Rattle.ms_select.specs.declared.fault.SelectFault.TheVariants.{OutOfMemory}
 use Rattle.ms_select.specs.declared.answer.Answer.{Answer}
 use Rattle.ms_select.specs.declared.answer.Answer.TheVariants.{Going, Agreed, NoneLeft}
 use Rattle.ms_select.specs.Messages.{longest, message, spelled, IsShort, IsNoText}
-use Rattle.ms_select.specs.Sides.{Comes, IsHeard, written, count_of, next_count, is_begun, answer_room, Negotiating, Hears, IsAt}
+use Rattle.ms_select.specs.Sides.{Comes, IsHeard, written, count_of, next_count, is_begun, answer_room, Negotiating, Hears, StandsWith}
 use Rattle.ms_select.specs.Verdicts.{said, verdict_of}
 use Rattle.ms_select.proofs.Texts.{spelled_more, still_begun}
 use Rattle.ms_select.proofs.Framing.{text_is, no_text, not_memory}
@@ -72,14 +72,14 @@ no_want x input taken texts text answer reply names h v full = omega (arith, h.r
 -- the message decides
 pub deciding : (x new : Negotiating) (input taken : List ℕ) (texts : List (List ℕ)) (text : List ℕ) (answer : Answer) (reply : Option (List ℕ)) → answer ≢ Going → Ends x input taken texts text
     → verdict_of x.role x.begun x.names x.count text ≡ Ok (answer, reply) → new.role ≡ x.role → new.names ≡ x.names → new.pending ≡ x.pending ++ said reply
-    → IsAt (Some answer) new input (length input) taken
+    → StandsWith (Some answer) new input (length input) taken
 deciding x new input taken texts text answer reply ne h v r n p =
     let here = decided x.role x.names texts input text answer reply ne h.parts h.short h.heard (sym (judged x input taken texts text h) ∙ v) in
     let output : written x.role x.names texts ++ said reply ≡ taken ++ new.pending =
     ap (λ (out : List ℕ). out ++ said reply) (sym h.written) ∙ append_assoc taken x.pending (said reply) ∙ ap (λ (out : List ℕ). taken ++ out) (sym p) in
     decided_at answer new input taken ne (rw (r, n) (subst (λ (out : List ℕ). Comes x.role x.names input (Ok answer) (length input) out) output here))
   where
-    decided_at : (answer : Answer) (new : Negotiating) (input taken : List ℕ) → answer ≢ Going → Comes new.role new.names input (Ok answer) (length input) (taken ++ new.pending) → IsAt (Some answer) new input (length input) taken
+    decided_at : (answer : Answer) (new : Negotiating) (input taken : List ℕ) → answer ≢ Going → Comes new.role new.names input (Ok answer) (length input) (taken ++ new.pending) → StandsWith (Some answer) new input (length input) taken
     decided_at Going new input taken ne c = absurd (ne refl)
     decided_at (Agreed index) new input taken ne c = c
     decided_at NoneLeft new input taken ne c = c
@@ -94,7 +94,7 @@ no_bytes i = omega arith
 pub continuing : (x new : Negotiating) (input taken : List ℕ) (texts : List (List ℕ)) (text : List ℕ) (reply : Option (List ℕ)) → Ends x input taken texts text
     → verdict_of x.role x.begun x.names x.count text ≡ Ok (Going, reply) → new.role ≡ x.role → new.names ≡ x.names → new.pending ≡ x.pending ++ said reply
     → new.begun ≡ true → new.count ≡ next_count x.role x.begun x.count → Arrives [] new.incoming → new.incoming.limit ≡ longest → new.incoming.expected ≡ None
-    → IsAt (Some Going) new input (length input) taken
+    → StandsWith (Some Going) new input (length input) taken
 continuing x new input taken texts text reply h v r n p b c a l e =
     let here = going_on x.role x.names texts text reply h.short h.heard (sym (judged x input taken texts text h) ∙ v) in
     let output : taken ++ new.pending ≡ written x.role x.names (texts ++ text ∷ []) =

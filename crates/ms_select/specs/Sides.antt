@@ -83,18 +83,19 @@ pub record Hears (x : Negotiating) (input taken : List ℕ) (texts : List (List 
   pub room : (len : ℕ) → x.incoming.expected ≡ Some len → 0 < len
       → answer_room x.role x.names x.count len ≤ x.room
 
-abbrev pub IsAt : Option Answer → Negotiating → List ℕ → ℕ → List ℕ → Type 0
-IsAt None x input used taken = Unit {0}
-IsAt (Some Going) x input used taken =
+-- by its answer; nothing is said of a side that has failed
+abbrev pub StandsWith : Option Answer → Negotiating → List ℕ → ℕ → List ℕ → Type 0
+StandsWith None x input used taken = Unit {0}
+StandsWith (Some Going) x input used taken =
     (texts : List (List ℕ)) × (rest : List ℕ) × Hears x input taken texts rest × ReadsFramed longest rest (Ok None)
     × (used ≡ length input)
-IsAt (Some (Agreed index)) x input used taken = Comes x.role x.names input (Ok (Agreed index)) used (taken ++ x.pending)
-IsAt (Some NoneLeft) x input used taken = Comes x.role x.names input (Ok NoneLeft) used (taken ++ x.pending)
+StandsWith (Some (Agreed index)) x input used taken = Comes x.role x.names input (Ok (Agreed index)) used (taken ++ x.pending)
+StandsWith (Some NoneLeft) x input used taken = Comes x.role x.names input (Ok NoneLeft) used (taken ++ x.pending)
 
 -- The side is what it comes to by this whole input, of which it has used so many bytes, where `taken` is what was taken
 -- of its output.
 abbrev pub Stands : Negotiating → List ℕ → ℕ → List ℕ → Type 0
-Stands x input used taken = IsAt x.answer x input used taken
+Stands x input used taken = StandsWith x.answer x input used taken
 
 -- a fact of every input at which the side stands
 abbrev pub Whenever : Negotiating → (List ℕ → ℕ → List ℕ → Type 0) → Type 0

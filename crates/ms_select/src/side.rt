@@ -5,7 +5,7 @@ ghost use Rattle.std.specs.Prelude.{string_bytes, Some, None, Ok, Err, IsOk, IfO
 ghost use Rattle.std.specs.List.{All};
 ghost use Rattle.varint_proto.specs.Incoming.{IsWhole, Stands as Arrives};
 ghost use Rattle.ms_select.specs.Messages.{longest, IsShort};
-ghost use Rattle.ms_select.specs.Sides.{Comes, Hears, IsAt, Stands, Whenever, RunsOut, answer_room, next_count};
+ghost use Rattle.ms_select.specs.Sides.{Comes, Hears, StandsWith, Stands, Whenever, RunsOut, answer_room, next_count};
 ghost use Rattle.ms_select.specs.declared.answer.Answer.{Answer};
 
 use crate::answer::{Answer, Step};
@@ -144,7 +144,7 @@ impl Side {
             × (self.new.incoming.failed ≡ false) × (self.new.incoming.expected ≡ None)) }
         ensures stands { (input taken : List ℕ) (texts : List (List ℕ)) (rest : List ℕ)
             → whole ≡ true → Hears self.old input taken texts rest
-            → IfOk result (λ answer. IsAt (Some answer) self.new input (length input) taken) }
+            → IfOk result (λ answer. StandsWith (Some answer) self.new input (length input) taken) }
         ensures fault { (input taken : List ℕ) (texts : List (List ℕ)) (rest : List ℕ)
             → whole ≡ true → Hears self.old input taken texts rest
             → IfErr result (λ fault. (fault ≢ SelectFault.OutOfMemory)

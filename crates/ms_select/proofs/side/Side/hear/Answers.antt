@@ -3,7 +3,7 @@ use Rattle.std.proofs.lemmas.Result.{err_from_is_err_and}
 use Rattle.varint_proto.specs.Incoming.{Arriving, Stands as Arrives}
 use Rattle.ms_select.specs.declared.answer.Answer.TheVariants.{Going}
 use Rattle.ms_select.specs.Messages.{longest, of_refused}
-use Rattle.ms_select.specs.Sides.{Negotiating, Hears, IsAt, Comes, answer_room}
+use Rattle.ms_select.specs.Sides.{Negotiating, Hears, StandsWith, Comes, answer_room}
 use Rattle.ms_select.proofs.Framing.{memory_alone}
 use Rattle.varint_proto.proofs.Arriving.{stands_on}
 use Rattle.ms_select.specs.declared.fault.SelectFault.TheVariants.{OutOfMemory}
@@ -200,5 +200,5 @@ returns-clause-stands c = λ input taken s.
     (λ f.
     let partial = c.in_ok-answer.ensures.partial f in
     let undecided = unfinished (further x i3 room) (input ++ take used piece) taken texts (rest ++ take used piece) hears (λ w. let no : false ≡ true = sym f ∙ c.in_ok-bytes.ensures.whole.1 w in absurd cc) in
-    (same_answer answer Going partial.0, subst (λ (y : Negotiating). IsAt (Some Going) y (input ++ take used piece) (length (input ++ take used piece)) taken) (sym (partial.1 ∙ is)) undecided)) in
+    (same_answer answer Going partial.0, subst (λ (y : Negotiating). StandsWith (Some Going) y (input ++ take used piece) (length (input ++ take used piece)) taken) (sym (partial.1 ∙ is)) undecided)) in
     told new _ (input ++ take used piece) (length (input ++ take used piece)) taken answer (ap (λ (y : Negotiating). record y { answer = Some answer }) c.self-3.view_is) at

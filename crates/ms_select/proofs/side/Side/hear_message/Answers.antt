@@ -7,7 +7,7 @@ use Rattle.varint_proto.specs.Incoming.{IsWhole}
 use Rattle.ms_select.specs.declared.answer.Answer.{Answer}
 use Rattle.ms_select.specs.declared.answer.Answer.TheVariants.{Going}
 use Rattle.ms_select.specs.Messages.{IsShort, IsNoText}
-use Rattle.ms_select.specs.Sides.{Negotiating, IsAt, next_count}
+use Rattle.ms_select.specs.Sides.{Negotiating, StandsWith, next_count}
 use Rattle.ms_select.specs.Verdicts.{said, verdict_of}
 use Rattle.ms_select.proofs.Judging.{reply_short}
 use Rattle.ms_select.proofs.Hearing.{ends, textless, misplaced, no_want, deciding, continuing}
@@ -78,7 +78,7 @@ returns-then-eq-clause-stands c = λ input taken texts rest w h.
     let going : given.answer ≡ Going = search rules in
     let pending : new.pending ≡ x.pending ++ said (option_copied given.reply) =
     ap (λ (y : Negotiating). y.pending) kept ∙ c.in_ok-append_reply.ensures.written ∙ ap (λ (y : Negotiating). y.pending ++ said (option_copied given.reply)) c.self.view_is in
-    subst (λ (a : Answer). IsAt (Some a) new input (length input) taken) (sym going)
+    subst (λ (a : Answer). StandsWith (Some a) new input (length input) taken) (sym going)
     (continuing x new input taken texts text (option_copied given.reply) (ends x input taken texts rest text h (c.requires.whole w) body)
     (v ∙ ap (λ (a : Answer). Ok (a, option_copied given.reply)) going)
     (ap (λ (y : Negotiating). y.role) kept ∙ ap (λ (y : Negotiating). y.role) c.self.view_is)
