@@ -3,7 +3,7 @@
 ghost use Rattle.std.specs.Prelude.{◌≡◌, ◌+◌, ◌≤◌, ◌<◌, ◌++◌, ◌↔◌, [], length, take, false, IsTrue, IsSome, None, Some, Err, IfOk, IfErr, List, ℕ};
 ghost use Rattle.yamux_frames.specs.Cuts.{Cuts, Answers};
 ghost use Rattle.yamux_frames.specs.Place.{is_within};
-ghost use Rattle.yamux_frames.specs.Frames.{Arrival, Stands, StopsIn, Uses, IsLongest, EndsExactly, IsOfLast, EndsWithin, with_cut};
+ghost use Rattle.yamux_frames.specs.Frames.{Arrival, Stands, StopsIn, Uses, IsLongest, EndsExactly, IsOfLast, EndsWithin, bytes_left, with_cut};
 
 use crate::header::{FrameFault, Header};
 use std::marker::Model;
@@ -111,6 +111,13 @@ impl Cutter {
         ensures failed { IsSome self.now.fault → result ≡ false }
     {
         self.is_within()
+    }
+
+    /// How many bytes of the last payload are still to come.
+    pub fn bytes_left(&self) -> u32
+        ensures { (bytes : List ℕ) (past : List Arrival) → Stands bytes past self.now → result ≡ bytes_left past }
+    {
+        self.left
     }
 
     fn is_within(&self) -> bool

@@ -132,6 +132,12 @@ fn input_ends_within_a_frame(rt: HostRuntime) {
             at != 0 && at != 15,
             "before byte {at}"
         );
+        let left = if at >= 12 {
+            15usize.saturating_sub(at)
+        } else {
+            0
+        };
+        assert_eq!(rt; cutter.bytes_left() as usize, left, "before byte {at}");
         let _answer = cutter.feed(&[*byte]);
     }
     assert!(rt; !cutter.is_mid_frame());

@@ -7,12 +7,12 @@ use Rattle.yamux_frames.specs.declared.header.FrameKind.TheVariants.{Window}
 use Rattle.yamux_frames.specs.Frames.{bytes_left}
 use Rattle.yamux_session.specs.declared.event.Role.{Role}
 use Rattle.yamux_session.specs.declared.streams.Row.{Row}
-use Rattle.yamux_session.specs.Table.{Table, row_at, Rewrites, Opens, opened}
+use Rattle.yamux_session.specs.Table.{Table, row_at, is_taker, Rewrites, Forgets, Opens, opened}
 use Rattle.yamux_session.specs.History.{Item, Act, arrivals, is_own, is_remote}
 use Rattle.yamux_session.specs.History.Item.{Came, Did}
 use Rattle.yamux_session.specs.History.Act.{Start, Write, Taken, Close, Reset}
-use Rattle.yamux_session.specs.Openings.{live, is_live, reading, finished, closed, contains, opens, finishes, closes, local_go_away, is_reading}
-use Rattle.yamux_session.specs.Windows.{since_opening, data_length, update_length, written_length, arrived_length, taken_length, given_back, given_of, is_take_of, owed, accepted, acks, coming}
+use Rattle.yamux_session.specs.Openings.{live, is_live, reading, finished, closed, contains, opens, finishes, closes, local_go_away, is_reading, byte_belongs}
+use Rattle.yamux_session.specs.Windows.{since_opening, data_length, update_length, written_length, arrived_length, taken_length, given_back, given_of, is_take_of, owed, accepted, acks, coming, untaken}
 use Rattle.yamux_session.specs.Acts.{AreAnswered, IsAnswered, next_own}
 use Rattle.yamux_session.specs.Keeps.{Keeps, IsRow, IsRowAt}
 use Rattle.yamux_session.specs.Output.{item_output, frame}
@@ -26,12 +26,20 @@ pub record Moves (role : Role) (past : List Item) (x : Item) (n : ℕ) (s new : 
   pub not_opened : opens role past x n ≡ false
   pub credit : new.credit + written_length n past x ≡ s.credit + update_length role n past x
   pub window : new.window + data_length role n past x ≡ s.window + given_back role n past x
-  pub untaken : new.untaken + taken_length n past x ≡ s.untaken + arrived_length role n past x
+  pub rest : new.window + new.owed + coming role (x ∷ past) n + arrived_length role n past x ≡ s.window + s.owed + coming role past n + taken_length n past x
   pub owed_is : new.owed ≡ cond (is_take_of n x) ((s.owed + taken_length n past x) - given_of s.finished (s.owed + taken_length n past x)) (s.owed + taken_length n past x)
   pub finished_is : new.finished ≡ finishes (reading role past) x n || s.finished
   pub closed_is : new.closed ≡ closes x n || s.closed
   pub accepted_is : new.accepted ≡ acks role past x n || s.accepted
-  pub bound : new.window + new.owed + new.untaken + coming role (x ∷ past) n ≤ s.window + s.owed + s.untaken + coming role past n
+  pub bound : taken_length n past x ≤ untaken role past n
+
+pub and_true : (b : Bool) → b && true ≡ b
+and_true true = refl
+and_true false = refl
+
+pub and_false : (b : Bool) → b && false ≡ false
+and_false true = refl
+and_false false = refl
 
 -- a sum goes on
 since_more : (amount : List Item → Item → ℕ) (role : Role) (past : List Item) (x : Item) (n : ℕ) → opens role past x n ≡ false → since_opening amount role (x ∷ past) n ≡ amount past x + since_opening amount role past n
@@ -45,7 +53,7 @@ after role past x n s new m row =
     record {
       credit = omega (arith, more (written_length n), more (update_length role n), m.credit, row.credit);
       window = omega (arith, more (data_length role n), more (given_back role n), m.window, row.window);
-      untaken = omega (arith, more (taken_length n), more (arrived_length role n), m.untaken, row.untaken);
+      untaken = omega (arith, more (taken_length n), more (arrived_length role n), m.rest, row.untaken);
       owed_is = m.owed_is
           ∙ ap (λ o. cond (is_take_of n x) ((o + t) - given_of s.finished (o + t)) (o + t)) row.owed_is
           ∙ ap (λ f. cond (is_take_of n x) ((owed role past n + t) - given_of f (owed role past n + t)) (owed role past n + t)) row.finished_is
@@ -53,14 +61,25 @@ after role past x n s new m row =
       finished_is = m.finished_is ∙ ap (λ f. finishes (reading role past) x n || f) row.finished_is ∙ sym (ap (λ b. not b && (finishes (reading role past) x n || finished role past n)) m.not_opened);
       closed_is = m.closed_is ∙ ap (λ f. closes x n || f) row.closed_is ∙ sym (ap (λ b. not b && (closes x n || closed role past n)) m.not_opened);
       accepted_is = m.accepted_is ∙ ap (λ f. acks role past x n || f) row.accepted_is ∙ sym (ap (λ b. not b && (acks role past x n || accepted role past n)) m.not_opened);
-      bound = let less = m.bound in let was = row.bound in omega arith;
+      bound = let less = m.bound in let was = row.bound in omega (arith, more (taken_length n), more (arrived_length role n));
     }
 
 -- an act that doesn't open the stream, nor ends it, leaves what is to come
+belongs_same : (role : Role) (past : List Item) (act : Act) (n : ℕ) → opens role past (Did act) n ≡ false → is_live role (Did act ∷ past) n ≡ is_live role past n → byte_belongs role (Did act ∷ past) n ≡ byte_belongs role past n
+belongs_same role past act n off same =
+    ap (λ f. (is_reading (reading role past) n && is_live role (Did act ∷ past) n) && not (not f && finished role past n)) off
+    ∙ ap (λ l. (is_reading (reading role past) n && l) && not (finished role past n)) same
+
 coming_same : (role : Role) (past : List Item) (act : Act) (n : ℕ) → opens role past (Did act) n ≡ false → is_live role (Did act ∷ past) n ≡ is_live role past n → coming role (Did act ∷ past) n ≡ coming role past n
-coming_same role past act n off same =
-    ap (λ f. cond ((is_reading (reading role past) n && is_live role (Did act ∷ past) n) && not (not f && finished role past n)) (bytes_left (arrivals past)) 0) off
-    ∙ ap (λ l. cond ((is_reading (reading role past) n && l) && not (finished role past n)) (bytes_left (arrivals past)) 0) same
+coming_same role past act n off same = ap (λ b. cond b (bytes_left (arrivals past)) 0) (belongs_same role past act n off same)
+
+-- between two frames nothing is to come
+pub none_coming : (role : Role) (past : List Item) (n : ℕ) → bytes_left (arrivals past) ≡ 0 → coming role past n ≡ 0
+none_coming role past n none = by (byte_belongs role past n)
+  where
+    by : (b : Bool) → cond b (bytes_left (arrivals past)) 0 ≡ 0
+    by true = none
+    by false = refl
 
 -- whether an act is about a stream
 abbrev pub acts_on : Act → ℕ → Bool
@@ -76,67 +95,67 @@ stays role past (Start k) m s h same = record {
   not_opened = ap (λ t. t || false) h;
   credit = refl;
   window = refl;
-  untaken = refl;
+  rest = let e = coming_same role past (Start k) m (ap (λ t. t || false) h) same in omega arith;
   owed_is = omega arith;
   finished_is = refl;
   closed_is = refl;
   accepted_is = refl;
-  bound = let e = coming_same role past (Start k) m (ap (λ t. t || false) h) same in omega arith;
+  bound = omega arith;
 }
 stays role past (Write k ps) m s h same = record {
   not_opened = refl;
   credit = ap (λ b. s.credit + cond b (sum_by length ps) 0) h;
   window = refl;
-  untaken = refl;
+  rest = let e = coming_same role past (Write k ps) m (refl) same in omega arith;
   owed_is = omega arith;
   finished_is = refl;
   closed_is = refl;
   accepted_is = refl;
-  bound = let e = coming_same role past (Write k ps) m (refl) same in omega arith;
+  bound = omega arith;
 }
 stays role past (Taken k c) m s h same = record {
   not_opened = refl;
   credit = refl;
   window = sym (ap (λ b. s.window + cond b (given_of (finished role past m) (owed role past m + c)) 0) h);
-  untaken = ap (λ b. s.untaken + cond b c 0) h;
+  rest = let e = coming_same role past (Taken k c) m (refl) same in let none : taken_length m past (Did (Taken k c)) ≡ 0 = ap (λ b. cond b c 0) h in omega arith;
   owed_is = sym (ap (λ b. cond b ((s.owed + cond b c 0) - given_of s.finished (s.owed + cond b c 0)) (s.owed + cond b c 0)) h ∙ (let e : s.owed + 0 ≡ s.owed = omega arith in e));
   finished_is = refl;
   closed_is = refl;
   accepted_is = refl;
-  bound = let e = coming_same role past (Taken k c) m (refl) same in omega arith;
+  bound = let none : taken_length m past (Did (Taken k c)) ≡ 0 = ap (λ b. cond b c 0) h in omega arith;
 }
 stays role past (Close k) m s h same = record {
   not_opened = refl;
   credit = refl;
   window = refl;
-  untaken = refl;
+  rest = let e = coming_same role past (Close k) m (refl) same in omega arith;
   owed_is = omega arith;
   finished_is = refl;
   closed_is = sym (ap (λ b. b || s.closed) h);
   accepted_is = refl;
-  bound = let e = coming_same role past (Close k) m (refl) same in omega arith;
+  bound = omega arith;
 }
 stays role past (Reset k) m s h same = record {
   not_opened = refl;
   credit = refl;
   window = refl;
-  untaken = refl;
+  rest = let e = coming_same role past (Reset k) m (refl) same in omega arith;
   owed_is = omega arith;
   finished_is = refl;
   closed_is = refl;
   accepted_is = refl;
-  bound = let e = coming_same role past (Reset k) m (refl) same in omega arith;
+  bound = omega arith;
 }
 stays role past (Act.GoAway code) m s h same = record {
   not_opened = refl;
   credit = refl;
   window = refl;
-  untaken = refl;
+  rest = let e = coming_same role past (Act.GoAway code) m (refl) same in omega arith;
   owed_is = omega arith;
   finished_is = refl;
   closed_is = refl;
   accepted_is = refl;
-  bound = let e = coming_same role past (Act.GoAway code) m (refl) same in omega arith;
+  bound = omega arith;
 }
 
 -- a stream that the act isn't about
@@ -156,8 +175,8 @@ rows_at role past act n m w old new false is e on same before now =
 -- an act that changes the row of a live stream
 pub replaced : (role : Role) (past : List Item) (act : Act) (n : ℕ) (s t : Row) (old new : Table) → Keeps role past old → row_at old.rows n ≡ Some s
     → Rewrites old n (Some t) old.own old.remote new → Moves role past (Did act) n s t → ((k : ℕ) → acts_on act k ≡ (n == k))
-    → live role (Did act ∷ past) ≡ live role past → local_go_away (Did act ∷ past) ≡ local_go_away past → next_own role (Did act ∷ past) ≡ next_own role past → Keeps role (Did act ∷ past) new
-replaced role past act n s t old new keeps found writes moves on same left next =
+    → live role (Did act ∷ past) ≡ live role past → ((m : ℕ) → opens role past (Did act) m ≡ false) → local_go_away (Did act ∷ past) ≡ local_go_away past → next_own role (Did act ∷ past) ≡ next_own role past → Keeps role (Did act ∷ past) new
+replaced role past act n s t old new keeps found writes moves on same shut left next =
     let before = row_of role past old n (Some s) keeps found in
     record {
       role_is = ap (λ (q : Table). q.role) writes.rest ∙ keeps.role_is;
@@ -166,6 +185,7 @@ replaced role past act n s t old new keeps found writes moves on same left next 
       own_is = ap (λ (q : Table). q.own) writes.rest ∙ keeps.own_is ∙ sym (ap (λ ns. length (filter (is_own role) ns)) same);
       remote_is = ap (λ (q : Table). q.remote) writes.rest ∙ keeps.remote_is ∙ sym (ap (λ ns. length (filter (is_remote role) ns)) same);
       reading_is = ap (λ (q : Table). q.reading) writes.rest ∙ keeps.reading_is;
+      takes = λ m. ap (λ (q : Table). is_taker q.taker m) writes.rest ∙ keeps.takes m ∙ sym (belongs_same role past act m (shut m) (ap (λ ns. contains ns m) same));
       local_go_away_is = ap (λ (q : Table). q.local_go_away) writes.rest ∙ keeps.local_go_away_is ∙ sym left;
       remote_go_away_is = ap (λ (q : Table). q.remote_go_away) writes.rest ∙ keeps.remote_go_away_is;
       next_is = ap (λ (q : Table). q.next) writes.rest ∙ keeps.next_is ∙ sym next;
@@ -177,11 +197,42 @@ not_here n ns = contains_filter (λ k. not (n == k)) ns n ∙ ap (λ b. not b &&
 pub still_there : (n m : ℕ) (ns : List ℕ) → (n == m) ≡ false → contains (without n ns) m ≡ contains ns m
 still_there n m ns h = contains_filter (λ k. not (n == k)) ns m ∙ ap (λ b. not b && contains ns m) h
 
+-- the payload of a stream that is forgotten belongs to none
+off_taken : (t : Option ℕ) (n m : ℕ) (b : Bool) → (n == m) ≡ b → is_taker (cond (is_taker t n) None t) m ≡ not b && is_taker t m
+off_taken None n m b is = sym (and_false (not b))
+off_taken (Some k) n m b is = by (k == n) refl
+  where
+    by : (c : Bool) → (k == n) ≡ c → is_taker (cond (k == n) None (Some k)) m ≡ not b && (k == m)
+    by true here =
+        ap (λ c. is_taker (cond c None (Some k)) m) here
+        ∙ sym (ap (λ j. not b && (j == m)) (eqb-true k n here) ∙ ap (λ c. not b && c) is ∙ not_and b)
+      where
+        not_and : (b : Bool) → not b && b ≡ false
+        not_and true = refl
+        not_and false = refl
+    by false other = ap (λ c. is_taker (cond c None (Some k)) m) other ∙ sym (still b is)
+      where
+        still : (b : Bool) → (n == m) ≡ b → not b && (k == m) ≡ (k == m)
+        still true same = sym (ap (λ j. k == j) (sym (eqb-true n m same)) ∙ other)
+        still false apart = refl
+
+without_first : (b r l f : Bool) → not b && ((r && l) && f) ≡ (r && (not b && l)) && f
+without_first true true l f = refl
+without_first true false l f = refl
+without_first false r l f = refl
+
+belongs_without : (role : Role) (past : List Item) (act : Act) (n m : ℕ) → opens role past (Did act) m ≡ false → live role (Did act ∷ past) ≡ without n (live role past)
+    → byte_belongs role (Did act ∷ past) m ≡ not (n == m) && byte_belongs role past m
+belongs_without role past act n m shut gone =
+    ap (λ f. (is_reading (reading role past) m && is_live role (Did act ∷ past) m) && not (not f && finished role past m)) shut
+    ∙ ap (λ l. (is_reading (reading role past) m && l) && not (finished role past m)) (ap (λ ns. contains ns m) gone ∙ contains_filter (λ k. not (n == k)) (live role past) m)
+    ∙ sym (without_first (n == m) (is_reading (reading role past) m) (is_live role past m) (not (finished role past m)))
+
 -- an act that ends a live stream
 pub forgotten : (role : Role) (past : List Item) (act : Act) (n : ℕ) (s : Row) (old new : Table) → AreAnswered role past → Keeps role past old → row_at old.rows n ≡ Some s
-    → Rewrites old n None (old.own - cond (is_own old.role n) 1 0) (old.remote - cond (is_remote old.role n) 1 0) new → ((k : ℕ) → acts_on act k ≡ (n == k))
-    → live role (Did act ∷ past) ≡ without n (live role past) → local_go_away (Did act ∷ past) ≡ local_go_away past → next_own role (Did act ∷ past) ≡ next_own role past → Keeps role (Did act ∷ past) new
-forgotten role past act n s old new answered keeps found writes on gone left next =
+    → Forgets old n new → ((k : ℕ) → acts_on act k ≡ (n == k))
+    → live role (Did act ∷ past) ≡ without n (live role past) → ((m : ℕ) → opens role past (Did act) m ≡ false) → local_go_away (Did act ∷ past) ≡ local_go_away past → next_own role (Did act ∷ past) ≡ next_own role past → Keeps role (Did act ∷ past) new
+forgotten role past act n s old new answered keeps found writes on gone shut left next =
     let before = row_of role past old n (Some s) keeps found in
     let d = distinct role past answered in
     record {
@@ -195,6 +246,7 @@ forgotten role past act n s old new answered keeps found writes on gone left nex
           ∙ (let count = count_without (is_remote role) n (live role past) d before.0 in let was = keeps.remote_is in let e : old.remote - one_if (is_remote role n) ≡ length (filter (is_remote role) (without n (live role past))) = omega arith in e)
           ∙ sym (ap (λ ns. length (filter (is_remote role) ns)) gone);
       reading_is = ap (λ (q : Table). q.reading) writes.rest ∙ keeps.reading_is;
+      takes = λ m. ap (λ (q : Table). is_taker q.taker m) writes.rest ∙ off_taken old.taker n m (n == m) refl ∙ ap (λ b. not (n == m) && b) (keeps.takes m) ∙ sym (belongs_without role past act n m (shut m) gone);
       local_go_away_is = ap (λ (q : Table). q.local_go_away) writes.rest ∙ keeps.local_go_away_is ∙ sym left;
       remote_go_away_is = ap (λ (q : Table). q.remote_go_away) writes.rest ∙ keeps.remote_go_away_is;
       next_is = ap (λ (q : Table). q.next) writes.rest ∙ keeps.next_is ∙ sym next;
@@ -208,14 +260,6 @@ quiet ns = append-nil (filter (λ k. true) ns) ∙ filter_true ns
 close_at : (role : Role) (past : List Item) (n k : ℕ) (f b : Bool) → (n == k) ≡ b → finished role past n ≡ f → not (n == k && finished role past k) ≡ not (n == k && f)
 close_at role past n k f true is e = ap (λ c. not (n == k && c)) (ap (finished role past) (sym (eqb-true n k is)) ∙ e)
 close_at role past n k f false is e = ap (λ c. not (c && finished role past k)) is ∙ sym (ap (λ c. not (c && f)) is)
-
-pub and_true : (b : Bool) → b && true ≡ b
-and_true true = refl
-and_true false = refl
-
-pub and_false : (b : Bool) → b && false ≡ false
-and_false true = refl
-and_false false = refl
 
 pub close_ends : (role : Role) (past : List Item) (n : ℕ) → finished role past n ≡ true → live role (Did (Close n) ∷ past) ≡ without n (live role past)
 close_ends role past n e =
@@ -259,6 +303,7 @@ first_row role past n unread =
     let x : Item = Did (Start n) in
     let here : opens role past x n ≡ true = ap (λ t. t || false) (eq-eqb n n refl) in
     let start = λ (amount : List Item → Item → ℕ). since_first amount role past x n here in
+    let coming_unread : coming role (x ∷ past) n ≡ 0 = ap (λ r. cond ((r && is_live role (x ∷ past) n) && not (finished role (x ∷ past) n)) (bytes_left (arrivals past)) 0) unread in
     record {
       credit = omega (arith, start (written_length n), start (update_length role n));
       window = omega (arith, start (data_length role n), start (given_back role n));
@@ -267,7 +312,7 @@ first_row role past n unread =
       finished_is = sym (ap (λ b. not b && finished role past n) here);
       closed_is = sym (ap (λ b. not b && closed role past n) here);
       accepted_is = sym (ap (λ b. not b && accepted role past n) here);
-      bound = let none : coming role (x ∷ past) n ≡ 0 = ap (λ r. cond ((r && is_live role (x ∷ past) n) && not (finished role (x ∷ past) n)) (bytes_left (arrivals past)) 0) unread in omega arith;
+      bound = omega (arith, start (taken_length n), start (arrived_length role n));
     }
 
 pub start_live : (role : Role) (past : List Item) (n : ℕ) → live role (Did (Start n) ∷ past) ≡ live role past ++ n ∷ []
@@ -291,6 +336,15 @@ not_remote : (role : Role) (n : ℕ) (b : Bool) → is_remote role n ≡ b → i
 not_remote role n true is own = absurd (not_both role n own is)
 not_remote role n false is own = refl
 
+-- a stream that is opened here has no payload that is being read
+belongs_started : (role : Role) (past : List Item) (n m : ℕ) (b : Bool) → (n == m) ≡ b → is_reading (reading role past) n ≡ false → byte_belongs role (Did (Start n) ∷ past) m ≡ byte_belongs role past m
+belongs_started role past n m true is unread =
+    let off : is_reading (reading role past) m ≡ false = subst (λ k. is_reading (reading role past) k ≡ false) (eqb-true n m is) unread in
+    ap (λ r. (r && is_live role (Did (Start n) ∷ past) m) && not (finished role (Did (Start n) ∷ past) m)) off
+    ∙ sym (ap (λ r. (r && is_live role past m) && not (finished role past m)) off)
+belongs_started role past n m false is unread =
+    belongs_same role past (Start n) m (ap (λ t. t || false) is) (ap (λ ns. contains ns m) (start_live role past n) ∙ other_after n m (live role past) is)
+
 pub started : (role : Role) (past : List Item) (old new : Table) → AreAnswered role past → Keeps role past old → Opens old new → Keeps role (Did (Start old.next) ∷ past) new
 started role past old new answered keeps writes =
     let n : ℕ = old.next in
@@ -308,6 +362,7 @@ started role past old new answered keeps writes =
           ∙ (let was = keeps.remote_is in let more = count_then (is_remote role) (live role past) n in let none : one_if (is_remote role n) ≡ 0 = ap one_if (not_remote role n (is_remote role n) refl own) in let e : old.remote ≡ length (filter (is_remote role) (live role past ++ n ∷ [])) = omega arith in e)
           ∙ sym (ap (λ ns. length (filter (is_remote role) ns)) same);
       reading_is = ap (λ (q : Table). q.reading) writes.rest ∙ keeps.reading_is;
+      takes = λ m. ap (λ (q : Table). is_taker q.taker m) writes.rest ∙ keeps.takes m ∙ sym (belongs_started role past n m (n == m) refl (unread role past n answered keeps.next_is));
       local_go_away_is = ap (λ (q : Table). q.local_go_away) writes.rest ∙ keeps.local_go_away_is;
       remote_go_away_is = ap (λ (q : Table). q.remote_go_away) writes.rest ∙ keeps.remote_go_away_is;
       next_is = ap (λ (q : Table). q.next) writes.rest;
@@ -324,6 +379,7 @@ gone_away role past code old new keeps e =
       own_is = keeps.own_is ∙ sym (ap (λ ns. length (filter (is_own role) ns)) same);
       remote_is = keeps.remote_is ∙ sym (ap (λ ns. length (filter (is_remote role) ns)) same);
       reading_is = keeps.reading_is;
+      takes = λ m. keeps.takes m ∙ sym (belongs_same role past (Act.GoAway code) m refl (ap (λ ns. contains ns m) same));
       local_go_away_is = refl;
       remote_go_away_is = keeps.remote_go_away_is;
       next_is = keeps.next_is;
@@ -333,11 +389,11 @@ gone_away role past code old new keeps e =
 
 pub closing : (role : Role) (past : List Item) (n : ℕ) (s : Row) → live role (Did (Close n) ∷ past) ≡ live role past → Moves role past (Did (Close n)) n s (record s { closed = true })
 closing role past n s same = record {
-  bound = let e = coming_same role past (Close n) n refl (ap (λ ns. contains ns n) same) in omega arith;
+  bound = omega arith;
   not_opened = refl;
   credit = refl;
   window = refl;
-  untaken = refl;
+  rest = let e = coming_same role past (Close n) n refl (ap (λ ns. contains ns n) same) in omega arith;
   owed_is = omega arith;
   finished_is = refl;
   closed_is = sym (ap (λ b. b || s.closed) (eq-eqb n n refl));
@@ -346,11 +402,11 @@ closing role past n s same = record {
 
 pub writing : (role : Role) (past : List Item) (n k : ℕ) (pieces : List (List ℕ)) (s : Row) → k ≤ s.credit → sum_by length pieces ≡ k → Moves role past (Did (Write n pieces)) n s (record s { credit = s.credit - k })
 writing role past n k pieces s fits sum = record {
-  bound = let e = coming_same role past (Write n pieces) n refl (ap (λ ns. contains ns n) (quiet (live role past))) in omega arith;
+  bound = omega arith;
   not_opened = refl;
   credit = let its : written_length n past (Did (Write n pieces)) ≡ sum_by length pieces = ap (λ b. cond b (sum_by length pieces) 0) (eq-eqb n n refl) in omega arith;
   window = refl;
-  untaken = refl;
+  rest = let e = coming_same role past (Write n pieces) n refl (ap (λ ns. contains ns n) (quiet (live role past))) in omega arith;
   owed_is = omega arith;
   finished_is = refl;
   closed_is = refl;
@@ -363,23 +419,23 @@ giving role past n k g s row e =
     ap (λ b. cond b (given_of (finished role past n) (owed role past n + k)) 0) (eq-eqb n n refl)
     ∙ ap (λ f. given_of f (owed role past n + k)) (sym row.finished_is) ∙ ap (λ o. given_of s.finished (o + k)) (sym row.owed_is) ∙ e
 
-pub taking : (role : Role) (past : List Item) (n k g : ℕ) (s new : Row) → IsRow role past n s → given_of s.finished (s.owed + k) ≡ g → g ≤ s.owed + k → k ≤ s.untaken
-    → new.window ≡ s.window + g → new.owed + g ≡ s.owed + k → new.untaken + k ≡ s.untaken
+pub taking : (role : Role) (past : List Item) (n k g : ℕ) (s new : Row) → IsRow role past n s → given_of s.finished (s.owed + k) ≡ g → g ≤ s.owed + k → k ≤ untaken role past n
+    → new.window ≡ s.window + g → new.owed + g ≡ s.owed + k
     → new.credit ≡ s.credit → new.finished ≡ s.finished → new.closed ≡ s.closed → new.accepted ≡ s.accepted
     → Moves role past (Did (Taken n k)) n s new
-taking role past n k g s new row g_is small fits window owed_is untaken credit finished_is closed_is accepted_is =
+taking role past n k g s new row g_is small fits window owed_is credit finished_is closed_is accepted_is =
     let its : taken_length n past (Did (Taken n k)) ≡ k = ap (λ b. cond b k 0) (eq-eqb n n refl) in
     record {
       not_opened = refl;
       credit = ap (λ c. c + 0) credit;
       window = let e = giving role past n k g s row g_is in omega arith;
-      untaken = omega arith;
+      rest = let e = coming_same role past (Taken n k) n refl (ap (λ ns. contains ns n) (quiet (live role past))) in omega arith;
       owed_is = (let e : new.owed ≡ (s.owed + k) - g = omega arith in e) ∙ ap (λ t. (s.owed + k) - t) (sym g_is)
           ∙ sym (ap (λ b. cond b ((s.owed + cond b k 0) - given_of s.finished (s.owed + cond b k 0)) (s.owed + cond b k 0)) (eq-eqb n n refl));
       finished_is = finished_is;
       closed_is = closed_is;
       accepted_is = accepted_is;
-      bound = let e = coming_same role past (Taken n k) n refl (ap (λ ns. contains ns n) (quiet (live role past))) in omega arith;
+      bound = omega arith;
     }
 
 pub none_finished : (f : Bool) (a : ℕ) → f ≡ true → given_of f a ≡ 0

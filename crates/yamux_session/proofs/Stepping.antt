@@ -11,6 +11,7 @@ use Rattle.yamux_frames.specs.Frames as wire
 use Rattle.yamux_frames.specs.Frames.{Arrival, spelled, bytes_left, with_bytes, with_cut, StopsIn}
 use Rattle.yamux_frames.specs.Frames.Arrival.{Head, Byte, Tail, Garbled}
 use Rattle.yamux_frames.proofs.Frames.{bytes_fit}
+use Rattle.yamux_frames.proofs.Front.{between_none}
 use Rattle.yamux_session.specs.declared.event.Role.{Role}
 use Rattle.yamux_session.specs.declared.event.Fault.{Fault}
 use Rattle.yamux_session.specs.declared.event.Fault.TheVariants.{BadFrame}
@@ -152,6 +153,11 @@ framed fed some rest used answer shape past place shape_is rest_is at =
     subst (λ (a : Cut). wire.Stands (fed ++ take used rest) (with_cut (take used rest) a past) place) shape_is
     (subst (λ (t : List ℕ). wire.Stands (fed ++ take used t) (with_cut (take used t) answer past) place) rest_is at)
 
+-- a head comes behind whole frames
+pub head_between : (bytes : List ℕ) (past : List Arrival) (h : Header) (b : Bool) (place : Place) → wire.Stands bytes (cond b (Head h ∷ past) (Tail ∷ Head h ∷ past)) place → bytes_left past ≡ 0
+head_between bytes past h true place at = between_none past at.reads.frames_are.0
+head_between bytes past h false place at = between_none past at.reads.frames_are.2.0
+
 -- a head, with its tail where it has no payload
 pub frame_went : (role : Role) (past : List Item) (fed bytes sent : List ℕ) (before after : List Event) (old new : State) (h : Header) (answer : List ℕ) (b : Bool) → nat_lt 0 (payload_length h) ≡ b
     → Stands role past fed sent old → wire.Stands (fed ++ bytes) (cond b (Head h ∷ arrivals past) (Tail ∷ Head h ∷ arrivals past)) new.place
@@ -178,10 +184,16 @@ part_went role past fed bytes sent before after old new last stands frames more 
     (subst (λ (xs : List Arrival). wire.Stands (fed ++ bytes) xs new.place) (ap (λ b. cond b (Tail ∷ with_bytes bytes (arrivals past)) (with_bytes bytes (arrivals past))) more ∙ sym (arrivals_of_bytes bytes past)) frames)
     arrives going (part_tells_one role past bytes)
 
+-- and a tail behind a whole payload
+last_whole : (bytes all : List ℕ) (past : List Item) (last : Bool) (place : Place) → wire.Stands all (cond last (Tail ∷ with_bytes bytes (arrivals past)) (with_bytes bytes (arrivals past))) place
+    → last ≡ true → bytes_left (arrivals (came_bytes bytes past)) ≡ 0
+last_whole bytes all past true place at ends = ap bytes_left (arrivals_of_bytes bytes past) ∙ at.reads.frames_are.1
+last_whole bytes all past false place at ends = absurd cc
+
 pub last_went : (role : Role) (past : List Item) (fed bytes sent : List ℕ) (before mid after : List Event) (old new : State) (table : Table) (last : Bool)
     → Stands role past fed sent old → wire.Stands (fed ++ bytes) (cond last (Tail ∷ with_bytes bytes (arrivals past)) (with_bytes bytes (arrivals past))) new.place
     → last ≡ true → Arrives role past (came_bytes bytes past) table before mid old.pending old.pending
-    → (AreAnswered role (came_bytes bytes past) → Keeps role (came_bytes bytes past) table → Arrives role (came_bytes bytes past) (Came Tail ∷ came_bytes bytes past) new.table mid after old.pending old.pending)
+    → (AreAnswered role (came_bytes bytes past) → bytes_left (arrivals (came_bytes bytes past)) ≡ 0 → Keeps role (came_bytes bytes past) table → Arrives role (came_bytes bytes past) (Came Tail ∷ came_bytes bytes past) new.table mid after old.pending old.pending)
     → new.pending ≡ old.pending → new.failed ≡ false → Steps role past fed bytes sent before after new
 last_went role past fed bytes sent before mid after old new table last stands frames ends arrives tail pending going =
     went role past (Came Tail ∷ came_bytes bytes past) fed bytes sent before after old new (Tail ∷ with_bytes bytes []) stands (ap (λ (xs : List Item). Came Tail ∷ xs) (came_are bytes past))
@@ -189,7 +201,8 @@ last_went role past fed bytes sent before mid after old new table last stands fr
     (ap (λ b. cond b (Tail ∷ with_bytes bytes (arrivals past)) (with_bytes bytes (arrivals past))) ends ∙ ap (λ (xs : List Arrival). Tail ∷ xs) (sym (arrivals_of_bytes bytes past))) frames)
     (subst (λ (t : List ℕ). Arrives role past (Came Tail ∷ came_bytes bytes past) new.table before after old.pending t) (sym pending)
     (arrives_then role past (came_bytes bytes past) (Came Tail ∷ came_bytes bytes past) table new.table before mid after old.pending old.pending old.pending arrives
-    (tail (subst (AreAnswered role) (sym (came_are bytes past)) (still_answered role (with_bytes bytes []) past stands.answered)) arrives.keeps)))
+    (tail (subst (AreAnswered role) (sym (came_are bytes past)) (still_answered role (with_bytes bytes []) past stands.answered))
+    (last_whole bytes (fed ++ bytes) past last new.place frames ends) arrives.keeps)))
     going (last_tells_one role past bytes)
 
 part_size : (piece : List ℕ) (at used : ℕ) → used ≤ length piece - at → length (take used (drop at piece)) ≡ used

@@ -11,17 +11,18 @@ use Rattle.yamux_session.specs.Table.{opened}
 use Rattle.yamux_session.specs.History.{Item, Act, arrivals}
 use Rattle.yamux_session.specs.History.Item.{Came, Did}
 use Rattle.yamux_session.specs.History.Act.{Start, Write, Taken, Close, Reset}
-use Rattle.yamux_session.specs.Openings.{live, is_live, contains, reading, is_reading, finished, closed, opens, byte_belongs}
+use Rattle.yamux_session.specs.Openings.{live, is_live, contains, reading, is_reading, finished, closed, opens}
 use Rattle.yamux_session.specs.Windows.{since_opening, arrived_length, taken_length, given_of, credit, untaken}
 use Rattle.yamux_session.specs.Acts.{AreAnswered, IsAnswered}
 use Rattle.yamux_session.specs.Faults.{HasNoFault}
 use Rattle.yamux_session.specs.Keeps.{IsRowAt}
 use Rattle.yamux_session.specs.Limits.{UntakenLimit}
+use Rattle.yamux_frames.proofs.Front.{between_none}
 use Rattle.yamux_session.proofs.Lists.{one_if}
 use Rattle.yamux_session.proofs.Live.{past_answered, unread}
 use Rattle.yamux_session.proofs.Refusals.{credit_is, untaken_is}
 use Rattle.yamux_session.proofs.Keeping.{acts_on, after, apart, quiet, first_row, start_live, here_after, other_after, not_here, still_there, close_ends, close_stays, reset_ends, closing, writing, taking}
-use Rattle.yamux_session.proofs.Arriving.{grown, grown_once}
+use Rattle.yamux_session.proofs.Arriving.{row_stays}
 use Rattle.yamux_session.proofs.HeadLemmas.{head_row}
 use Rattle.yamux_session.proofs.Tails.{tail_row}
 
@@ -56,13 +57,11 @@ taken_row role past n k None on fits at = absurd (let e : true ≡ false = sym o
 taken_row role past n k (Some s) on fits at =
     let g : ℕ = given_of s.finished (s.owed + k) in
     let small = small_given s.finished (s.owed + k) in
-    let there = untaken_is role past n s at.1 in
-    let less : k ≤ s.untaken = omega arith in
-    let new : Row = record s { window = s.window + g; owed = (s.owed + k) - g; untaken = s.untaken - k } in (
+    let new : Row = record s { window = s.window + g; owed = (s.owed + k) - g } in (
       Some new,
       (
         ap (λ ns. contains ns n) (quiet (live role past)) ∙ at.0,
-        after role past (Did (Taken n k)) n s new (taking role past n k g s new at.1 refl small less refl (omega arith) (omega arith) refl refl refl refl) at.1,
+        after role past (Did (Taken n k)) n s new (taking role past n k g s new at.1 refl small fits refl (omega arith) refl refl refl refl) at.1,
       ),
     )
 
@@ -126,18 +125,18 @@ row_there role (Did act ∷ past) n answered good frames =
     act_row role past act n before.0 answered.0 answered.1 before.1
 row_there role (Came (Head h) ∷ past) n answered good frames =
     let before = row_there role past n answered good.1 frames.2 in
-    head_row role past h n before.0 (h.stream == n) refl good.0 before.1
+    head_row role past h n before.0 (h.stream == n) (between_none (arrivals past) frames.0) refl good.0 before.1
 row_there role (Came (Byte b) ∷ past) n answered good frames =
     let before = row_there role past n answered good.1 frames.1 in
-    (grown (one_if (byte_belongs role past n)) before.0, grown_once role past b n before.0 frames.0 before.1)
+    (before.0, row_stays role past b n before.0 frames.0 before.1)
 row_there role (Came Tail ∷ past) n answered good frames =
     let before = row_there role past n answered good.1 frames.2 in
-    tail_row role past n before.0 (reading role past) refl before.1
+    tail_row role past n before.0 (reading role past) frames.1 refl before.1
 row_there role (Came (Garbled bytes) ∷ past) n answered good frames = absurd (let bad = good.0 in cc)
 
 untaken_at : (role : Role) (past : List Item) (n : ℕ) (row : Option Row) → IsRowAt role past n row → is_live role past n ≡ true → untaken role past n ≤ 262144
 untaken_at role past n None off on = absurd (let e : false ≡ true = sym off ∙ on in cc)
-untaken_at role past n (Some s) at on = let e = untaken_is role past n s at.1 in let b = at.1.bound in omega arith
+untaken_at role past n (Some s) at on = let e = untaken_is role past n s at.1 in omega arith
 
 -- nothing arrives for a stream that isn't live
 arrived_none : (role : Role) (past : List Item) (x : Item) (n : ℕ) → is_live role (x ∷ past) n ≡ false → arrived_length role n past x ≡ 0

@@ -1,7 +1,6 @@
 -- A row that was changed where it lies.
-use Rattle.std.proofs.Common.{◌≡◌, ℕ, Bool, List, ◌==◌, cond, nat_cmp, is_eq, ap, Some, IsSome, arith, refl, sym, ◌∙◌, subst}
-use Rattle.std.proofs.lemmas.Bool.Decides.{nat_tests}
-use Rattle.std.specs.BTreeMap.{BTreeMap, WritesThrough, is_at}
+use Rattle.std.proofs.Common.{◌≡◌, ℕ, Bool, List, ◌==◌, cond, ap, Some, IsSome, refl, sym, ◌∙◌, subst}
+use Rattle.std.specs.HashMap.{HashMap, WritesThrough}
 use Rattle.std.proofs.lemmas.Map.Steps.{set_value_same}
 use Rattle.yamux_session.specs.declared.streams.Row.{Row}
 use Rattle.yamux_session.specs.declared.streams.Streams.{Streams}
@@ -9,27 +8,24 @@ use Rattle.yamux_frames.specs.Place.{Place}
 use Rattle.yamux_session.specs.Table.{Table, Rewrites, table_of, row_at}
 use Rattle.yamux_session.specs.State.{State}
 
-same_number : (n m : ℕ) → is_eq (nat_cmp n m) ≡ (n == m)
-same_number n m = grind (arith, nat_tests)
-
-pub written : (old new : BTreeMap ℕ Row) (n : ℕ) (s w : Row) → row_at old.entries n ≡ Some s → WritesThrough nat_cmp (nat_cmp n) old w new
+pub written : {S : Type 0} (old new : HashMap ℕ Row S) (n : ℕ) (s w : Row) → row_at old.entries n ≡ Some s → WritesThrough (λ (a b : ℕ). a == b) (λ m. n == m) old w new
     → (m : ℕ) → row_at new.entries m ≡ cond (n == m) (Some w) (row_at old.entries m)
 written old new n s w found through m =
-    (through.3 (subst IsSome (sym found) refl)).0 m ∙ ap (λ b. cond b (Some w) (row_at old.entries m)) (same_number n m)
+    (through.3 (subst IsSome (sym found) refl)).0 m
 
 -- and one that was only looked at
-pub unwritten : (old new : BTreeMap ℕ Row) (n : ℕ) (s : Row) → row_at old.entries n ≡ Some s → WritesThrough nat_cmp (nat_cmp n) old s new
+pub unwritten : {S : Type 0} (old new : HashMap ℕ Row S) (n : ℕ) (s : Row) → row_at old.entries n ≡ Some s → WritesThrough (λ (a b : ℕ). a == b) (λ m. n == m) old s new
     → new.entries ≡ old.entries
-unwritten old new n s found through = through.0 ∙ set_value_same (is_at (nat_cmp n)) old.entries s found
+unwritten old new n s found through = through.0 ∙ set_value_same (λ m. n == m) old.entries s found
 
 -- the table after a row was lent and written
-pub rewritten : (s : Streams) (lender : Row → BTreeMap ℕ Row) (n : ℕ) (row w : Row) → row_at s.rows.entries n ≡ Some row
-    → ((v : Row) → WritesThrough nat_cmp (nat_cmp n) s.rows v (lender v)) → Rewrites (table_of s) n (Some w) s.own s.remote (table_of (record s { rows = lender w }))
+pub rewritten : (s : Streams) (lender : Row → HashMap ℕ Row _) (n : ℕ) (row w : Row) → row_at s.rows.entries n ≡ Some row
+    → ((v : Row) → WritesThrough (λ (a b : ℕ). a == b) (λ m. n == m) s.rows v (lender v)) → Rewrites (table_of s) n (Some w) s.own s.remote (table_of (record s { rows = lender w }))
 rewritten s lender n row w found holds = record { row_is = written s.rows (lender w) n row w found (holds w); rest = refl }
 
 -- and after it was only looked at
-pub looked_at : (s : Streams) (lender : Row → BTreeMap ℕ Row) (n : ℕ) (row : Row) → row_at s.rows.entries n ≡ Some row
-    → ((v : Row) → WritesThrough nat_cmp (nat_cmp n) s.rows v (lender v)) → table_of (record s { rows = lender row }) ≡ table_of s
+pub looked_at : (s : Streams) (lender : Row → HashMap ℕ Row _) (n : ℕ) (row : Row) → row_at s.rows.entries n ≡ Some row
+    → ((v : Row) → WritesThrough (λ (a b : ℕ). a == b) (λ m. n == m) s.rows v (lender v)) → table_of (record s { rows = lender row }) ≡ table_of s
 looked_at s lender n row found holds = ap (λ (rows : List (ℕ × Row)). record (table_of s) { rows = rows }) (unwritten s.rows (lender row) n row found (holds row))
 
 -- what contracts see is as it was

@@ -8,7 +8,7 @@ ghost use Rattle.yamux_session.specs.History.{Item, arrivals, came_bytes, is_go_
 ghost use Rattle.yamux_session.specs.History.Item.{Came};
 ghost use Rattle.yamux_session.specs.Openings.{reading};
 ghost use Rattle.yamux_session.specs.Faults.{HasNoFault};
-ghost use Rattle.yamux_session.specs.Events.{taker, tail_told, tail_events, TellsMore};
+ghost use Rattle.yamux_session.specs.Events.{tail_told, tail_events, TellsMore};
 ghost use Rattle.yamux_session.specs.Output.{answer_to};
 ghost use Rattle.yamux_session.specs.Acts.{AreAnswered};
 ghost use Rattle.yamux_session.specs.Keeps.{Keeps};
@@ -18,7 +18,7 @@ ghost use Rattle.yamux_session.specs.Arrives.{Arrives, Tells, Extends, HasData, 
 
 use crate::event::Event;
 use crate::heads::{Effect, HeadRefused};
-use crate::streams::{INITIAL_WINDOW, Row, Streams};
+use crate::streams::{Row, Streams};
 use bytes::Bytes;
 use std::alloc::AllocError;
 use yamux_frames::{FrameKind, Header};
@@ -71,34 +71,10 @@ fn tail_effect(row: Row, header: Header) -> TailEffect
 }
 
 impl Streams {
-    /// Bytes of a payload arrive: answers the stream that they belong to.
-    pub fn arrive(&mut self, count: usize) -> Option<u32>
-        ensures keeps { (role : Role) (past : List Item) (bytes : List ℕ) → Keeps role past (table_of self.old)
-            → length bytes ≡ count
-            → count ≤ bytes_left (arrivals past)
-            → Keeps role (came_bytes bytes past) (table_of self.new) }
-        ensures taker { (role : Role) (past : List Item) → Keeps role past (table_of self.old)
-            → result ≡ taker role past (reading role past) }
-    {
-        let Some(header) = self.reading else {
-            return None;
-        };
-        let stream = header.stream;
-        match self.rows.get_mut(&stream) {
-            None => None,
-            Some(row) if row.finished => None,
-            Some(row) => {
-                // Of no stream more than a window is untaken, so neither bound cuts anything off.
-                let count = count.min(INITIAL_WINDOW as usize) as u32;
-                row.untaken = row.untaken.saturating_add(count);
-                Some(stream)
-            }
-        }
-    }
-
     /// The frame that is being read is whole.
     pub fn tail(&mut self) -> TailEffect
         ensures keeps { (role : Role) (past : List Item) → AreAnswered role past
+            → bytes_left (arrivals past) ≡ 0
             → Keeps role past (table_of self.old)
             → Keeps role (Came Tail ∷ past) (table_of self.new) }
         ensures told { (role : Role) (past : List Item) → Keeps role past (table_of self.old)
@@ -108,18 +84,19 @@ impl Streams {
             return TailEffect::Nothing;
         };
         self.reading = None;
+        self.taker = None;
         if ends_nothing(header) {
             return TailEffect::Nothing;
         }
-        let Some(row) = self.row(header.stream) else {
+        let Some(row) = self.rows.get_mut(&header.stream) else {
             return TailEffect::Nothing;
         };
-        let effect = tail_effect(row, header);
-        if ends_stream(row, header) {
+        let effect = tail_effect(*row, header);
+        if ends_stream(*row, header) {
             self.forget(header.stream);
             return effect;
         }
-        self.replace(header.stream, finished(row, header));
+        *row = finished(*row, header);
         effect
     }
 }
@@ -201,10 +178,12 @@ fn take_head(
 ) -> Result<Option<Header>, HeadRefused>
     ensures done { IfOk result (λ answer. (role : Role) (past : List Item) (output : List ℕ)
         → AreAnswered role past
+        → bytes_left (arrivals past) ≡ 0
         → Keeps role past (table_of streams.old)
         → Arrives role past (Came (Head header) ∷ past) (table_of streams.new)
         told.old.items told.new.items output (output ++ written_header answer)) }
     ensures refused { IfErr result (λ refused. (role : Role) (past : List Item) → AreAnswered role past
+        → bytes_left (arrivals past) ≡ 0
         → Keeps role past (table_of streams.old)
         → IsNotTaken role past header (Came (Head header) ∷ past) refused) }
     ensures told { IfErr result (λ refused. IsFaultOnly refused (told.new.items ≡ told.old.items)) }
@@ -220,9 +199,10 @@ fn take_head(
     }
 }
 
-/// Takes bytes of a payload, which stand in the piece. An event holds a slice of the piece, not a copy.
+/// Takes bytes of a payload, which stand in the piece. An event holds a slice of the piece, not a copy. Of the streams
+/// nothing changes: the window has paid for the bytes at the head of their frame.
 pub fn take_payload(
-    streams: &mut Streams,
+    streams: &Streams,
     told: &mut Vec<Event>,
     piece: &Bytes,
     from: usize,
@@ -231,15 +211,15 @@ pub fn take_payload(
     requires some { from < to }
     requires within { to ≤ length piece.now }
     ensures ok { OnOk result ((role : Role) (past : List Item) (output : List ℕ)
-        → Keeps role past (table_of streams.old)
+        → Keeps role past (table_of streams.now)
         → to - from ≤ bytes_left (arrivals past)
-        → Arrives role past (came_bytes (take (to - from) (drop from piece.now)) past) (table_of streams.new)
+        → Arrives role past (came_bytes (take (to - from) (drop from piece.now)) past) (table_of streams.now)
         told.old.items told.new.items output output) }
     ensures extends { Extends told.old.items told.new.items }
-    ensures memory { OnErr result ((role : Role) (past : List Item) → Keeps role past (table_of streams.old)
+    ensures memory { OnErr result ((role : Role) (past : List Item) → Keeps role past (table_of streams.now)
         → TellsMore role past (came_bytes (take (to - from) (drop from piece.now)) past)) }
 {
-    let Some(stream) = streams.arrive(to - from) else {
+    let Some(stream) = streams.taker else {
         return Ok(());
     };
     let bytes = piece.slice(from..to)?;
@@ -250,6 +230,7 @@ pub fn take_payload(
 /// Takes the tail of a frame.
 pub fn take_tail(streams: &mut Streams, told: &mut Vec<Event>) -> Result<(), AllocError>
     ensures ok { OnOk result ((role : Role) (past : List Item) (output : List ℕ) → AreAnswered role past
+        → bytes_left (arrivals past) ≡ 0
         → Keeps role past (table_of streams.old)
         → Arrives role past (Came Tail ∷ past) (table_of streams.new) told.old.items told.new.items output output) }
     ensures extends { Extends told.old.items told.new.items }
@@ -271,11 +252,13 @@ pub fn take_frame(
 ) -> Result<Option<Header>, HeadRefused>
     ensures done { IfOk result (λ answer. (role : Role) (past : List Item) (output : List ℕ)
         → AreAnswered role past
+        → bytes_left (arrivals past) ≡ 0
         → Keeps role past (table_of streams.old)
         → Arrives role past (began header past) (table_of streams.new)
         told.old.items told.new.items output (output ++ written_header answer)) }
     ensures refused { IfErr result (λ refused. (role : Role) (past : List Item) → HasNoFault role past
         → AreAnswered role past
+        → bytes_left (arrivals past) ≡ 0
         → Keeps role past (table_of streams.old) → IsNotTaken role past header (began header past) refused) }
     ensures told { IfErr result (λ refused. IsFaultOnly refused (told.new.items ≡ told.old.items)) }
     ensures extends { Extends told.old.items told.new.items }

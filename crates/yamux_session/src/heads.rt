@@ -1,8 +1,9 @@
 //! What the head of a frame does to the streams.
 
-ghost use Rattle.std.specs.Prelude.{◌≡◌, ℕ, List, Some, None, IfOk, IfErr, true, false, not, nat_lt, ◌&&◌, ◌||◌};
+ghost use Rattle.std.specs.Prelude.{◌≡◌, ℕ, List, Some, None, IfOk, IfErr, true, false, not, nat_lt, ◌&&◌, ◌||◌, if◌then◌else◌};
+ghost use Rattle.yamux_frames.specs.Frames.{bytes_left};
 ghost use Rattle.yamux_session.specs.declared.event.Role.{Role};
-ghost use Rattle.yamux_session.specs.History.{Item, syn, ack, is_of_stream, is_data, is_update, is_own};
+ghost use Rattle.yamux_session.specs.History.{Item, arrivals, syn, ack, is_of_stream, is_data, is_update, is_own};
 ghost use Rattle.yamux_session.specs.Acts.{AreAnswered};
 ghost use Rattle.yamux_session.specs.Keeps.{Keeps};
 ghost use Rattle.yamux_session.specs.Table.{table_of};
@@ -95,10 +96,22 @@ fn is_crediting(header: Header) -> bool
     header.kind == FrameKind::Window && header.length > 0
 }
 
+/// The stream that takes the payload behind a head that belongs to it: none behind the other end's FIN, where only a
+/// WindowUpdate belongs to it.
+fn payload_taker(row: Row, header: Header) -> Option<u32>
+    ensures { result ≡ (if row.finished then None else Some header.stream) }
+{
+    if row.finished {
+        return None;
+    }
+    Some(header.stream)
+}
+
 impl Streams {
     /// The head of a frame arrives.
     pub fn head(&mut self, header: Header) -> Result<Effect, HeadRefused>
         ensures done { IfOk result (λ effect. (role : Role) (past : List Item) → AreAnswered role past
+            → bytes_left (arrivals past) ≡ 0
             → Keeps role past (table_of self.old) → HeadDone role past header effect (table_of self.new)) }
         ensures refused { IfErr result (λ refused. (role : Role) (past : List Item) → AreAnswered role past
             → Keeps role past (table_of self.old) → IsHeadRefused role past header refused) }
@@ -106,10 +119,12 @@ impl Streams {
         match header.kind {
             FrameKind::Ping => {
                 self.reading = None;
+                self.taker = None;
                 Ok(NO_EFFECT)
             }
             FrameKind::GoAway => {
                 self.reading = None;
+                self.taker = None;
                 self.remote_go_away = true;
                 Ok(NO_EFFECT)
             }
@@ -127,7 +142,8 @@ impl Streams {
     fn plain_head(&mut self, header: Header) -> Result<Effect, HeadRefused>
         requires kind { is_of_stream header ≡ true }
         requires plain { syn header ≡ false }
-        ensures done { IfOk result (λ effect. (role : Role) (past : List Item) → Keeps role past (table_of self.old)
+        ensures done { IfOk result (λ effect. (role : Role) (past : List Item) → bytes_left (arrivals past) ≡ 0
+            → Keeps role past (table_of self.old)
             → HeadDone role past header effect (table_of self.new)) }
         ensures refused { IfErr result (λ refused. (role : Role) (past : List Item)
             → Keeps role past (table_of self.old)
@@ -135,10 +151,12 @@ impl Streams {
     {
         let Some(row) = self.rows.get_mut(&header.stream) else {
             self.reading = None;
+            self.taker = None;
             return Ok(NO_EFFECT);
         };
         if is_skipped(*row, header) {
             self.reading = Some(header);
+            self.taker = None;
             return Ok(NO_EFFECT);
         }
         let windows = match charge(*row, header) {
@@ -150,6 +168,7 @@ impl Streams {
             accepted: is_accepting(self.role, *row, header),
             credited: is_crediting(header),
         };
+        self.taker = payload_taker(*row, header);
         *row = acknowledged(windows, header);
         self.reading = Some(header);
         Ok(effect)
@@ -160,6 +179,7 @@ impl Streams {
         requires kind { is_of_stream header ≡ true }
         requires opening { syn header ≡ true }
         ensures done { IfOk result (λ effect. (role : Role) (past : List Item) → AreAnswered role past
+            → bytes_left (arrivals past) ≡ 0
             → Keeps role past (table_of self.old) → HeadDone role past header effect (table_of self.new)) }
         ensures refused { IfErr result (λ refused. (role : Role) (past : List Item) → AreAnswered role past
             → Keeps role past (table_of self.old) → IsHeadRefused role past header refused) }
@@ -172,6 +192,7 @@ impl Streams {
         }
         if !self.has_room() {
             self.reading = None;
+            self.taker = None;
             return Ok(NO_EFFECT);
         }
         let windows = match charge(OPENED, header) {
@@ -184,6 +205,7 @@ impl Streams {
         }
         self.remote += 1;
         self.reading = Some(header);
+        self.taker = Some(header.stream);
         Ok(Effect {
             opened: true,
             accepted: false,

@@ -18,10 +18,10 @@ use crate::arrivals::{append_header, take_frame, take_payload, take_tail};
 use crate::event::{ActRefused, Event, Fault, Role};
 use crate::heads::HeadRefused;
 use crate::sending::{append_data, append_frame, put_frame};
-use crate::streams::{Row, Streams};
+use crate::streams::Streams;
 use bytes::Bytes;
 use std::alloc::{AllocError, Global};
-use std::collections::BTreeMap;
+use std::collections::HashMap;
 use std::marker::Model;
 use yamux_frames::{Cut, Cutter, FrameKind, Header};
 
@@ -63,11 +63,12 @@ impl Session {
         Session {
             streams: Streams {
                 role,
-                rows: BTreeMap::new(alloc),
+                rows: HashMap::new(alloc),
                 own: 0,
                 remote: 0,
                 next: if role == Role::Client { 1 } else { 2 },
                 reading: None,
+                taker: None,
                 local_go_away: false,
                 remote_go_away: false,
             },
@@ -200,14 +201,14 @@ impl Session {
         if self.failed {
             return Err(ActRefused::Failed);
         }
+        let coming = self.streams.coming(stream, self.cutter.bytes_left());
         let Some(row) = self.streams.rows.get_mut(&stream) else {
             return Err(ActRefused::NoStream);
         };
-        let count = count.min(row.untaken as usize) as u32;
+        let count = count.min(row.untaken(coming) as usize) as u32;
         let owed = row.owed.saturating_add(count);
         if row.finished || owed < GIVE_BACK_FROM {
             row.owed = owed;
-            row.untaken -= count;
             return Ok(());
         }
         if append_frame(&mut self.output, FrameKind::Window, 0, stream, owed).is_err() {
@@ -215,7 +216,6 @@ impl Session {
         }
         row.window = row.window.saturating_add(owed);
         row.owed = 0;
-        row.untaken -= count;
         Ok(())
     }
 
@@ -232,7 +232,7 @@ impl Session {
         if self.failed {
             return Err(ActRefused::Failed);
         }
-        let Some(row) = self.streams.row(stream) else {
+        let Some(row) = self.streams.rows.get_mut(&stream) else {
             return Err(ActRefused::NoStream);
         };
         if row.closed {
@@ -244,11 +244,7 @@ impl Session {
         if row.finished {
             self.streams.forget(stream);
         } else {
-            let row = Row {
-                closed: true,
-                ..row
-            };
-            self.streams.replace(stream, row);
+            row.closed = true;
         }
         Ok(())
     }
@@ -435,7 +431,7 @@ impl Session {
                 Ok(used)
             }
             Ok((used, Cut::Part { last, .. })) => {
-                take_payload(&mut self.streams, told, piece, at, at + used)?;
+                take_payload(&self.streams, told, piece, at, at + used)?;
                 if last {
                     take_tail(&mut self.streams, told)?;
                 }
@@ -460,7 +456,13 @@ impl Session {
         ensures kept { OnErr result (self.new ≡ self.old) }
     {
         told.push(Event::Fault(fault))?;
-        append_frame(&mut self.output, FrameKind::GoAway, 0, 0, Header::PROTOCOL_ERROR)?;
+        append_frame(
+            &mut self.output,
+            FrameKind::GoAway,
+            0,
+            0,
+            Header::PROTOCOL_ERROR,
+        )?;
         self.failed = true;
         Ok(())
     }

@@ -1,19 +1,18 @@
 //! The live streams of a session, with their windows, and what acts of this end do to them.
 
 ghost use Rattle.std.specs.Prelude.{◌≡◌, ℕ, ◌<◌, ◌-◌, ◌+◌, List, ◌∷◌, ◌||◌, ◌&&◌, Some, None, IfOk, IfErr, OnErr, OnOk, IsSome, IfSome, IfNone, is_some, ◌==◌, ◌^◌, true, false, if◌then◌else◌, nat_lt, not};
-ghost use Rattle.std.specs.Ordering.{nat_cmp};
-ghost use Rattle.std.specs.BTreeMap as tree;
 ghost use Rattle.yamux_session.specs.History.{Item, is_own, is_remote, is_update, syn, ack, fin, rst};
 ghost use Rattle.yamux_session.specs.History.Item.{Came};
 ghost use Rattle.yamux_frames.specs.Frames.Arrival.{Head, Tail};
 ghost use Rattle.yamux_session.specs.Faults.{fault_at};
 ghost use Rattle.yamux_session.specs.Acts.{open_credit, start_refusal, AreAnswered};
 ghost use Rattle.yamux_session.specs.Keeps.{Keeps};
-ghost use Rattle.yamux_session.specs.Table.{table_of, Rewrites, Opens};
+ghost use Rattle.yamux_session.specs.Windows.{initial_window};
+ghost use Rattle.yamux_session.specs.Table.{table_of, row_at, is_taker, Rewrites, Forgets, Opens};
 
 use crate::event::{ActRefused, Fault, Role};
 use std::alloc::AllocError;
-use std::collections::BTreeMap;
+use std::collections::HashMap;
 use yamux_frames::Header;
 
 /// The window that each direction of a stream starts with.
@@ -27,12 +26,10 @@ const LIVE_LIMIT: usize = 256;
 pub struct Row {
     /// What may still be written.
     pub credit: u32,
-    /// What the other end may still send.
+    /// What the other end may still announce: a head spends all the data of its frame at once.
     pub window: u32,
     /// What was taken and not yet given back.
     pub owed: u32,
-    /// What arrived and wasn't taken.
-    pub untaken: u32,
     /// The other end's direction has ended.
     pub finished: bool,
     /// This end's direction is closed.
@@ -46,17 +43,31 @@ pub const OPENED: Row = Row {
     credit: INITIAL_WINDOW,
     window: INITIAL_WINDOW,
     owed: 0,
-    untaken: 0,
     finished: false,
     closed: false,
     accepted: false,
 };
 
+impl Row {
+    /// What arrived and wasn't taken, where so much of a payload is still to come for the stream: what the first window
+    /// has left beside the window, what is owed, and what is to come. It isn't counted, which spares each part of a
+    /// payload a look at the table.
+    pub fn untaken(&self, coming: u32) -> u32
+        ensures { result ≡ initial_window - self.now.window - self.now.owed - coming }
+    {
+        INITIAL_WINDOW
+            .saturating_sub(self.window)
+            .saturating_sub(self.owed)
+            .saturating_sub(coming)
+    }
+}
+
 /// The live streams, by number.
 #[derive(Debug, Drop)]
 pub struct Streams {
     pub role: Role,
-    pub rows: BTreeMap<u32, Row>,
+    /// Not in order, since nobody goes over them: a look costs as much whether one stream is live or all are.
+    pub rows: HashMap<u32, Row>,
     /// How many of them this end has opened.
     pub own: usize,
     /// How many of them the other end has opened.
@@ -65,6 +76,8 @@ pub struct Streams {
     pub next: u64,
     /// The header of the frame that is being read, where it is for a live stream.
     pub reading: Option<Header>,
+    /// The stream that takes the payload of that frame: it is live, and its other end's direction hasn't ended.
+    pub taker: Option<u32>,
     /// This end has said that it goes away.
     pub local_go_away: bool,
     /// The other end has.
@@ -91,22 +104,22 @@ pub fn is_remote_number(role: Role, number: u32) -> bool
     }
 }
 
+/// One less, where the condition holds.
+fn one_less_if(count: usize, condition: bool) -> usize
+    ensures { result ≡ count - (if condition then 1 else 0) }
+{
+    if condition {
+        return count.saturating_sub(1);
+    }
+    count
+}
+
 impl Streams {
     /// The windows of a stream, where it is live.
     pub fn row(&self, number: u32) -> Option<Row>
-        ensures { result ≡ tree.get nat_cmp self.now.rows number }
+        ensures { result ≡ row_at self.now.rows.entries number }
     {
         self.rows.get(&number).copied()
-    }
-
-    /// Puts other windows of a live stream in the place of those that it has.
-    pub fn replace(&mut self, number: u32, row: Row)
-        requires { IsSome (tree.get nat_cmp self.old.rows number) }
-        ensures { Rewrites (table_of self.old) number (Some row) self.old.own self.old.remote (table_of self.new) }
-    {
-        if let Some(old) = self.rows.get_mut(&number) {
-            *old = row;
-        }
     }
 
     /// Gives windows to a stream that becomes live.
@@ -123,17 +136,40 @@ impl Streams {
 
     /// Forgets a stream, which is live no more.
     pub fn forget(&mut self, number: u32)
-        ensures { Rewrites (table_of self.old) number None
-            (self.old.own - (if is_own self.old.role number then 1 else 0))
-            (self.old.remote - (if is_remote self.old.role number then 1 else 0)) (table_of self.new) }
+        ensures { Forgets (table_of self.old) number (table_of self.new) }
     {
         self.rows.remove(&number);
-        if is_own_number(self.role, number) {
-            self.own = self.own.saturating_sub(1);
+        // What is still to come of its payload is skipped.
+        self.taker = self.other_taker(number);
+        self.own = one_less_if(self.own, is_own_number(self.role, number));
+        self.remote = one_less_if(self.remote, is_remote_number(self.role, number));
+    }
+
+    /// Whether the payload that is being read is the stream's.
+    fn is_taker(&self, number: u32) -> bool
+        ensures { result ≡ is_taker self.now.taker number }
+    {
+        match self.taker {
+            Some(taker) => taker == number,
+            None => false,
         }
-        if is_remote_number(self.role, number) {
-            self.remote = self.remote.saturating_sub(1);
+    }
+
+    /// The stream that takes the payload that is being read, unless it is this one.
+    fn other_taker(&self, number: u32) -> Option<u32>
+        ensures { result ≡ (if is_taker self.now.taker number then None else self.now.taker) }
+    {
+        if self.is_taker(number) {
+            return None;
         }
+        self.taker
+    }
+
+    /// What is still to come for a stream of the payload that is being read, of which so much is left.
+    pub fn coming(&self, number: u32, left: u32) -> u32
+        ensures { result ≡ (if is_taker self.now.taker number then left else 0) }
+    {
+        if self.is_taker(number) { left } else { 0 }
     }
 
     /// Whether the other end may open a stream: fewer than 256 of its streams are live, and this end hasn't gone away.

@@ -155,7 +155,7 @@ window_open : (role : Role) (past : List Item) (n : ℕ) (row : Option Row) → 
 window_open role past n None off on going all_taken whole = absurd (let e : false ≡ true = sym off ∙ on in cc)
 window_open role past n (Some s) at on going all_taken whole =
     let window = at.1.window in
-    let untaken = at.1.untaken in
+    let bound = at.1.bound in
     let taken = taken_is role past n in
     let few = owed_few role past n going in
     omega arith

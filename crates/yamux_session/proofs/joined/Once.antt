@@ -168,7 +168,7 @@ row_holds : (role : Role) (n : ℕ) (past : List Item) (row : Option Row) → Is
 row_holds role n past None off on = absurd (let e : true ≡ false = sym on ∙ off in cc)
 row_holds role n past (Some s) at on = record {
   written = let sum = at.1.credit in omega arith;
-  given = let sum = at.1.window in let bound = at.1.bound in omega arith;
+  given = let sum = at.1.window in let rest = at.1.untaken in let bound = at.1.bound in omega arith;
 }
 
 written_now : (role : Role) (n : ℕ) (past : List Item) (x : Item) → AreAnswered role (x ∷ past) → is_live role (x ∷ past) n ≡ false → written_length n past x ≡ 0

@@ -62,7 +62,7 @@ live_small role (x ∷ past) n answered frames on =
 -- what is given back
 owed_small : (role : Role) (past : List Item) (n : ℕ) (row : Option Row) → IsRowAt role past n row → is_live role past n ≡ true → owed role past n ≤ 262144
 owed_small role past n None off on = absurd (let e : true ≡ false = sym on ∙ off in cc)
-owed_small role past n (Some s) at on = let bound = at.1.bound in let e = at.1.owed_is in omega arith
+owed_small role past n (Some s) at on = let rest = at.1.untaken in let bound = at.1.bound in let e = at.1.owed_is in omega arith
 
 given_small : (role : Role) (past : List Item) (n count : ℕ) → AreAnswered role past → HasNoFault role past → AreFrames (arrivals past) → IsAnswered role past (Taken n count)
     → given_back role n past (Did (Taken n count)) < 4294967296

@@ -23,6 +23,6 @@ returns-clause-ok c = λ role past fed sent stands.
     let some = some_of c.row.result (c.is_none.ensures ∙ ap not c.if-is_none.false) in
     let found = sym c.row.ensures ∙ some.1 in
     did role past fed sent (Reset c.args.stream) _ _ at (a_stream role past (table_of c.self.inside.streams) c.args.stream some.0 at.table found)
-    (forgotten role past (Reset c.args.stream) c.args.stream some.0 (table_of c.self.inside.streams) (table_of c.forget.new.self) at.answered at.table found c.forget.ensures (λ k. refl) (reset_ends role past c.args.stream) refl refl)
+    (forgotten role past (Reset c.args.stream) c.args.stream some.0 (table_of c.self.inside.streams) (table_of c.forget.new.self) at.answered at.table found c.forget.ensures (λ k. refl) (reset_ends role past c.args.stream) (λ m. refl) refl refl)
     refl c.if-self.false
     (on_ok c.append_frame.result c.append_frame.ensures.ok (c.is_err.ensures.negation ∙ ap not c.if-is_err.false))

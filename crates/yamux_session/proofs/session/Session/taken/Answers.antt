@@ -1,11 +1,12 @@
-use Rattle.std.proofs.Common.{◌≡◌, ◌<◌, ℕ, ◌+◌, ◌-◌, ◌≤◌, ◌++◌, List, Some, not, min, refl, sym, ap, ◌∙◌, subst, arith}
+use Rattle.std.proofs.Common.{◌≡◌, ◌<◌, ℕ, ◌+◌, ◌≤◌, ◌++◌, List, Some, not, min, refl, sym, ap, ◌∙◌, subst, arith}
+use Rattle.yamux_session.specs.History.{arrivals}
 use Rattle.yamux_session.specs.History.Act.{Taken}
 use Rattle.yamux_session.specs.History.Item.{Did}
 use Rattle.yamux_session.specs.Windows.{given_back, given_of, untaken}
 use Rattle.yamux_session.specs.Table.{table_of}
 use Rattle.yamux_session.specs.State.{State, Stands}
 use Rattle.yamux_session.proofs.Written.{rewritten, looked_at, as_before}
-use Rattle.yamux_session.proofs.Refusals.{no_stream, a_stream, on_ok, on_err, row_of, untaken_is}
+use Rattle.yamux_session.proofs.Refusals.{no_stream, a_stream, on_ok, on_err, row_of, coming_is, untaken_is}
 use Rattle.yamux_session.proofs.Keeping.{did, replaced, quiet, taking, giving, none_finished, none_few, all_given, nothing_sent, given_sent, as_counted}
 use Rattle.yamux_session.proofs.session.Session.taken.Goals as goal
 
@@ -21,11 +22,14 @@ returns-then-row-clause-ok c = λ role past fed sent stands.
     let k : ℕ = c.min-count.result in
     let found = sym c.in-Some.ensures.value in
     let row = row_of role past (table_of c.self.inside.streams) n (Some c.in-Some.row.now) at.table found in
+    let rest = row.1.untaken in
     let bound = row.1.bound in
+    let come = c.coming-coming.ensures ∙ coming_is role past (table_of c.self.inside.streams) n c.bytes_left.result at.table (c.bytes_left.ensures fed (arrivals past) at.frames) in
     let there = untaken_is role past n c.in-Some.row.now row.1 in
+    let here = c.untaken.ensures in
     let least = c.min-count.ensures in
     let size : k ≡ min c.args.count (untaken role past n) = omega arith in
-    let fits : k ≤ c.in-Some.row.now.untaken = omega arith in
+    let fits : k ≤ untaken role past n = omega arith in
     let sum : c.saturating_add-owed.result ≡ c.in-Some.row.now.owed + k = (let e = c.saturating_add-owed.ensures in omega arith) in
     let none : given_of c.in-Some.row.now.finished (c.in-Some.row.now.owed + k) ≡ 0 = elim c.then-row.branch [
       | goal.then-row-via-then-row w ↦ none_finished c.in-Some.row.now.finished (c.in-Some.row.now.owed + k) w.if-row.true
@@ -33,10 +37,10 @@ returns-then-row-clause-ok c = λ role past fed sent stands.
     ] in
     as_counted role past fed sent n k _ _ size
     (did role past fed sent (Taken n k) _ _ at (a_stream role past (table_of c.self.inside.streams) n c.in-Some.row.now at.table found, omega arith)
-    (replaced role past (Taken n k) n c.in-Some.row.now (record c.in-Some.row.now { owed = c.saturating_add-owed.result; untaken = c.in-Some.row.now.untaken - k }) (table_of c.self.inside.streams) _ at.table found
-    (rewritten c.self.inside.streams c.get_mut.follows.lender n c.in-Some.row.now (record c.in-Some.row.now { owed = c.saturating_add-owed.result; untaken = c.in-Some.row.now.untaken - k }) found c.get_mut.follows.holds)
-    (taking role past n k 0 c.in-Some.row.now (record c.in-Some.row.now { owed = c.saturating_add-owed.result; untaken = c.in-Some.row.now.untaken - k }) row.1 none (omega arith) fits (omega arith) (omega arith) (omega arith) refl refl refl refl)
-    (λ m. refl) (quiet _) refl refl)
+    (replaced role past (Taken n k) n c.in-Some.row.now (record c.in-Some.row.now { owed = c.saturating_add-owed.result }) (table_of c.self.inside.streams) _ at.table found
+    (rewritten c.self.inside.streams c.get_mut.follows.lender n c.in-Some.row.now (record c.in-Some.row.now { owed = c.saturating_add-owed.result }) found c.get_mut.follows.holds)
+    (taking role past n k 0 c.in-Some.row.now (record c.in-Some.row.now { owed = c.saturating_add-owed.result }) row.1 none (omega arith) fits (omega arith) (omega arith) refl refl refl refl)
+    (λ m. refl) (quiet _) (λ m. refl) refl refl)
     refl c.if-self.false (nothing_sent role past n k c.self.inside.output.items (giving role past n k 0 c.in-Some.row.now row.1 none)))
 
 pub returns-then-is_err-clause-refused : goal.returns-then-is_err-clause-refused
@@ -52,21 +56,24 @@ returns-clause-ok c = λ role past fed sent stands.
     let g : ℕ = c.saturating_add-owed.result in
     let found = sym c.in-Some.ensures.value in
     let row = row_of role past (table_of c.self.inside.streams) n (Some c.in-Some.row.now) at.table found in
+    let rest = row.1.untaken in
     let bound = row.1.bound in
+    let come = c.coming-coming.ensures ∙ coming_is role past (table_of c.self.inside.streams) n c.bytes_left.result at.table (c.bytes_left.ensures fed (arrivals past) at.frames) in
     let there = untaken_is role past n c.in-Some.row.now row.1 in
+    let here = c.untaken.ensures in
     let least = c.min-count.ensures in
     let size : k ≡ min c.args.count (untaken role past n) = omega arith in
-    let fits : k ≤ c.in-Some.row.now.untaken = omega arith in
+    let fits : k ≤ untaken role past n = omega arith in
     let sum : g ≡ c.in-Some.row.now.owed + k = (let e = c.saturating_add-owed.ensures in omega arith) in
     let wide : c.saturating_add-row.result ≡ c.in-Some.row.now.window + g = (let e = c.saturating_add-row.ensures in omega arith) in
     let many : 131072 ≤ g = c.if-owed-lt-GIVE_BACK_FROM.false in
     let all : given_of c.in-Some.row.now.finished (c.in-Some.row.now.owed + k) ≡ g = all_given c.in-Some.row.now.finished (c.in-Some.row.now.owed + k) c.if-row.false (omega arith) ∙ sym sum in
     as_counted role past fed sent n k _ _ size
     (did role past fed sent (Taken n k) _ _ at (a_stream role past (table_of c.self.inside.streams) n c.in-Some.row.now at.table found, omega arith)
-    (replaced role past (Taken n k) n c.in-Some.row.now (record c.in-Some.row.now { window = c.saturating_add-row.result; owed = 0; untaken = c.in-Some.row.now.untaken - k }) (table_of c.self.inside.streams) _ at.table found
-    (rewritten c.self.inside.streams c.get_mut.follows.lender n c.in-Some.row.now (record c.in-Some.row.now { window = c.saturating_add-row.result; owed = 0; untaken = c.in-Some.row.now.untaken - k }) found c.get_mut.follows.holds)
-    (taking role past n k g c.in-Some.row.now (record c.in-Some.row.now { window = c.saturating_add-row.result; owed = 0; untaken = c.in-Some.row.now.untaken - k }) row.1 all (omega arith) fits wide (omega arith) (omega arith) refl refl refl refl)
-    (λ m. refl) (quiet _) refl refl)
+    (replaced role past (Taken n k) n c.in-Some.row.now (record c.in-Some.row.now { window = c.saturating_add-row.result; owed = 0 }) (table_of c.self.inside.streams) _ at.table found
+    (rewritten c.self.inside.streams c.get_mut.follows.lender n c.in-Some.row.now (record c.in-Some.row.now { window = c.saturating_add-row.result; owed = 0 }) found c.get_mut.follows.holds)
+    (taking role past n k g c.in-Some.row.now (record c.in-Some.row.now { window = c.saturating_add-row.result; owed = 0 }) row.1 all (omega arith) fits wide (omega arith) refl refl refl refl)
+    (λ m. refl) (quiet _) (λ m. refl) refl refl)
     refl c.if-self.false
     (on_ok c.append_frame.result c.append_frame.ensures.ok (c.is_err.ensures.negation ∙ ap not c.if-is_err.false) ∙ ap (λ (t : List ℕ). c.self.inside.output.items ++ t) (given_sent role past n k g (giving role past n k g c.in-Some.row.now row.1 all) many)))
 
@@ -78,11 +85,14 @@ returns-then-is_err-clause-memory c = λ why role past fed sent stands.
     let g : ℕ = c.saturating_add-owed.result in
     let found = sym c.in-Some.ensures.value in
     let row = row_of role past (table_of c.self.inside.streams) n (Some c.in-Some.row.now) at.table found in
+    let rest = row.1.untaken in
     let bound = row.1.bound in
+    let come = c.coming-coming.ensures ∙ coming_is role past (table_of c.self.inside.streams) n c.bytes_left.result at.table (c.bytes_left.ensures fed (arrivals past) at.frames) in
     let there = untaken_is role past n c.in-Some.row.now row.1 in
+    let here = c.untaken.ensures in
     let least = c.min-count.ensures in
     let size : k ≡ min c.args.count (untaken role past n) = omega arith in
-    let fits : k ≤ c.in-Some.row.now.untaken = omega arith in
+    let fits : k ≤ untaken role past n = omega arith in
     let sum : g ≡ c.in-Some.row.now.owed + k = (let e = c.saturating_add-owed.ensures in omega arith) in
     let many : 131072 ≤ g = c.if-owed-lt-GIVE_BACK_FROM.false in
     let all : given_of c.in-Some.row.now.finished (c.in-Some.row.now.owed + k) ≡ g = all_given c.in-Some.row.now.finished (c.in-Some.row.now.owed + k) c.if-row.false (omega arith) ∙ sym sum in

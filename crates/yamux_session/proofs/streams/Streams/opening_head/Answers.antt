@@ -20,8 +20,8 @@ returns-then-is_some-clause-refused c = λ role past answered keeps.
     keeps (sym c.row.ensures ∙ found.1)
 
 pub returns-then-not-has_room-clause-done : goal.returns-then-not-has_room-clause-done
-returns-then-not-has_room-clause-done c = λ role past answered keeps.
-    opening_refused role past c.args.header (table_of c.args.self.now) c.requires.kind c.requires.opening (stays_there c.args.header c.requires.kind)
+returns-then-not-has_room-clause-done c = λ role past answered between keeps.
+    opening_refused role past c.args.header (table_of c.args.self.now) between c.requires.kind c.requires.opening (stays_there c.args.header c.requires.kind)
     (ap (λ r. Rattle.yamux_session.specs.History.is_remote r c.args.header.stream) (sym keeps.role_is) ∙ sym c.is_remote_number.ensures ∙ c.if-not-is_remote_number.false)
     keeps (sym c.row.ensures ∙ none_of c.row.result (sym c.is_some.ensures ∙ c.if-is_some.false)) (sym c.has_room.ensures ∙ c.if-not-has_room.true)
 
@@ -41,12 +41,12 @@ returns-in-Err-add-clause-refused c = λ role past answered keeps.
     )
 
 pub returns-clause-done : goal.returns-clause-done
-returns-clause-done c = λ role past answered keeps.
+returns-clause-done c = λ role past answered between keeps.
     let h : Header = c.args.header in
-    let new : Table = table_of (record c.add.new.self { remote = c.add.new.self.remote + 1; reading = Some h }) in
-    let done = opening_done role past h (table_of c.args.self.now) new c.requires.kind c.requires.opening (stays_there h c.requires.kind)
+    let new : Table = table_of (record c.add.new.self { remote = c.add.new.self.remote + 1; reading = Some h; taker = Some h.stream }) in
+    let done = opening_done role past h (table_of c.args.self.now) new between c.requires.kind c.requires.opening (stays_there h c.requires.kind)
     (ap (λ r. Rattle.yamux_session.specs.History.is_remote r h.stream) (sym keeps.role_is) ∙ sym c.is_remote_number.ensures ∙ c.if-not-is_remote_number.false)
     keeps (sym c.row.ensures ∙ none_of c.row.result (sym c.is_some.ensures ∙ c.if-is_some.false)) (sym c.has_room.ensures ∙ c.if-not-has_room.false) c.in-Ok.ensures.good
     (λ n. c.in-Ok-add.ensures.ok.row_is n ∙ ap (λ (r : Row). cond (h.stream == n) (Some r) (row_at c.args.self.now.rows.entries n)) c.in-Ok.ensures.windows)
-    (ap (λ (t : Table). record t { remote = t.remote + 1; reading = Some h }) c.in-Ok-add.ensures.ok.rest) in
+    (ap (λ (t : Table). record t { remote = t.remote + 1; reading = Some h; taker = Some h.stream }) c.in-Ok-add.ensures.ok.rest) in
     subst (λ b. HeadDone role past h (record { opened = true; accepted = false; credited = b }) new) (sym c.is_crediting.ensures) done
