@@ -4,6 +4,8 @@ pub mod Streaming
 pub mod Sent
 pub mod Read
 pub mod Rows
+pub mod HandlerRows
 pub mod Outcomes
 pub mod Written
+pub mod SentRead
 pub mod Lengths

@@ -1,5 +1,5 @@
 -- Messages of identify: their key, merging, and that one stands for its bytes.
-use Rattle.std.proofs.Common.{◌≡◌, ◌≢◌, ◌⊎◌, ℕ, List, Option, Some, None, Result, Ok, Err, refl, sym, ap, subst, ◌∙◌, inl, inr, arith}
+use Rattle.std.proofs.Common.{◌≡◌, ◌≢◌, ◌⊎◌, ◌≤◌, ℕ, List, Option, Some, None, Result, Ok, Err, refl, sym, ap, subst, ◌∙◌, inl, inr, arith}
 use Rattle.std.specs.Prelude.{IfOk, IfErr, IsSome}
 use Rattle.std.specs.Global.{Vec}
 use Rattle.std.specs.Option.{option_or}
@@ -15,7 +15,7 @@ use Rattle.peer_ids.proofs.OneKey.{one_key, key_or_fault}
 use Rattle.identify_h.specs.declared.fault.IdentifyFault.{IdentifyFault}
 use Rattle.identify_h.specs.declared.fault.IdentifyFault.TheVariants.{Failed, TooLong, TooMany, Wire, OtherKey, Cut, OutOfMemory}
 use Rattle.identify_h.specs.Faults.{of_key_fault}
-use Rattle.identify_h.specs.Messages.{Message, IsKeyOf, Says, Spells, IsOtherKey, IsKeySpelt, RefusesKeyOf, Refuses, OneMessage, newer}
+use Rattle.identify_h.specs.Messages.{Message, IsKeyOf, Says, Spells, IsOtherKey, IsKeySpelt, RefusesKeyOf, HasText, Refuses, HasBadKey, OneMessage, newer}
 use Rattle.identify_h.specs.Parts.{text}
 
 pub refused_key : (peer spelling : List ℕ) (fault : KeyFault) → RefusesKey spelling fault → RefusesKeyOf peer spelling (of_key_fault fault)
@@ -34,7 +34,7 @@ refused_at_key peer bytes spelling fields OutOfMemory message is refused = (
   fields,
   message,
   subst IsKeySpelt (sym is) refused,
-  (1, omega arith, omega arith, subst (λ (b : Option (List ℕ)). IsSome b) (sym is) refl),
+  inl (1, omega arith, omega arith, subst (λ (b : Option (List ℕ)). IsSome b) (sym is) refl),
 )
 refused_at_key peer bytes spelling fields Failed message is refused = absurd refused
 refused_at_key peer bytes spelling fields TooLong message is refused = absurd refused
@@ -48,6 +48,12 @@ is_spelt peer None None is = tt
 is_spelt peer None (Some key) is = absurd is
 is_spelt peer (Some bytes) None is = absurd is
 is_spelt peer (Some bytes) (Some key) is = (key, is.0)
+
+-- memory is refused for a text
+pub text_refused : (peer bytes : List ℕ) (fields : List Entry) (number : ℕ) (part : Option (List ℕ)) → 4 ≤ number → number ≤ 6 → IsMessage bytes fields
+    → IsKeySpelt (last_body 1 fields) → part ≡ last_body number fields → HasText part → Refuses peer bytes OutOfMemory
+text_refused peer bytes fields number part least most message spelt is text =
+    (fields, message, spelt, inr (number, least, most, subst HasText is text))
 
 -- ---- one message
 
@@ -128,6 +134,11 @@ pub only_wire : (peer bytes : List ℕ) (r : Result Message IdentifyFault) → I
 only_wire peer bytes (Ok n) ok err fault faulty = absurd (message_or_fault bytes ok.0 fault ok.1 faulty)
 only_wire peer bytes (Err e) ok err fault faulty = ap Err (wire_alone peer bytes e fault faulty err)
 
+not_spelt : (bytes : List ℕ) (fields : List Entry) → IsMessage bytes fields → HasBadKey bytes → IsKeySpelt (last_body 1 fields) → ⊥
+not_spelt bytes fields message bad spelt =
+    let same = one_message bytes bad.0 fields bad.1 message in
+    bad.2.2 (subst IsKeySpelt (sym (ap (last_body 1) same) ∙ bad.2.1) spelt)
+
 pub only_key : (peer bytes : List ℕ) (r : Result Message IdentifyFault) → IfOk r (Spells peer bytes) → IfErr r (Refuses peer bytes)
     → Refuses peer bytes OtherKey → (r ≡ Err OtherKey) ⊎ (r ≡ Err OutOfMemory)
 only_key peer bytes (Ok m) ok err refused = absurd (message_or_refused peer bytes m OtherKey (λ e. cc) ok refused)
@@ -138,6 +149,18 @@ only_key peer bytes (Err Failed) ok err refused = absurd err
 only_key peer bytes (Err TooLong) ok err refused = absurd err
 only_key peer bytes (Err TooMany) ok err refused = absurd err
 only_key peer bytes (Err Cut) ok err refused = absurd err
+
+-- a key that isn't well spelt is refused, whatever else wants memory
+pub only_bad_key : (peer bytes : List ℕ) (r : Result Message IdentifyFault) → IfOk r (Spells peer bytes) → IfErr r (Refuses peer bytes)
+    → HasBadKey bytes → r ≡ Err OtherKey
+only_bad_key peer bytes (Ok m) ok err bad = absurd (not_spelt bytes ok.0 ok.1 bad (is_spelt peer (last_body 1 ok.0) m.key ok.2.key))
+only_bad_key peer bytes (Err Wire) ok err bad = absurd (message_or_fault bytes bad.0 err.0 bad.1 err.1)
+only_bad_key peer bytes (Err OtherKey) ok err bad = refl
+only_bad_key peer bytes (Err OutOfMemory) ok err bad = absurd (not_spelt bytes err.0 err.1 bad err.2)
+only_bad_key peer bytes (Err Failed) ok err bad = absurd err
+only_bad_key peer bytes (Err TooLong) ok err bad = absurd err
+only_bad_key peer bytes (Err TooMany) ok err bad = absurd err
+only_bad_key peer bytes (Err Cut) ok err bad = absurd err
 
 -- ---- merging
 

@@ -1,13 +1,23 @@
 -- The definitions at worked bytes.
-use Rattle.std.proofs.Common.{◌≡◌, ℕ, ◌+◌, ◌*◌, ◌<◌, ◌≤◌, zero, suc, List, [], ◌∷◌, ◌++◌, length, replicate, refl, subst, inl, inr, arith}
+use Rattle.std.proofs.Common.{◌≡◌, ℕ, ◌+◌, ◌*◌, ◌<◌, ◌≤◌, zero, suc, List, [], ◌∷◌, ◌++◌, length, replicate, None, true, false, refl, sym, ap, ◌∙◌, subst, inl, inr, arith}
+use Rattle.std.specs.Prelude.{IsSome, is_some, slice_index}
 use Rattle.varint_proto.specs.Varint.{shortest, shortest_within}
 use Rattle.varint_proto.specs.Varint.{BeginsShortest, BeginsWide}
-use Rattle.varint_proto.specs.Message.{entry, Bytes, Begins}
+use Rattle.varint_proto.specs.Message.{Entry, entry, Bytes, Varint, Begins, IsMessage, last_body}
+use Rattle.varint_proto.proofs.OneReading.{one_message}
+use Rattle.peer_ids.specs.declared.kind.KeyType.TheVariants.{Ed25519}
+use Rattle.peer_ids.specs.Key.{Key}
+use Rattle.peer_ids.specs.PeerId.{id_of}
+use Rattle.peer_ids.specs.ReadsKey.{SpellsKey}
+use Rattle.peer_ids.proofs.OneKey.{key_or_fault}
+use Rattle.peer_ids.proofs.Written.{canonical_spells, canonical_ed25519}
 use Rattle.varint_proto.specs.declared.fault.WireFault.TheVariants as wire
 use Rattle.varint_proto.specs.Incoming.{Frames}
 use Rattle.peer_ids.specs.declared.fault.KeyFault.TheVariants as keys
-use Rattle.identify_h.specs.Streams.{Lead}
-use Rattle.identify_h.specs.Rows.{key_field, MessageRows, MergeRows, StreamRows}
+use Rattle.identify_h.specs.declared.fault.IdentifyFault.TheVariants.{TooMany, OutOfMemory}
+use Rattle.identify_h.specs.Messages.{IsKeySpelt, HasText, HasField, Refuses}
+use Rattle.identify_h.specs.Streams.{Lead, HasFault}
+use Rattle.identify_h.specs.Rows.{key_field, key_id, MessageRows, FieldRows, MemoryRows, MergeRows, StreamRows, FaultRows}
 
 one_wide : (n : ℕ) (rest : List ℕ) → n < 128 → BeginsWide (n ∷ rest) n rest
 one_wide n rest lt = (n ∷ [], record { ends = lt; within = omega arith; fits = omega arith; value = omega arith }, refl)
@@ -20,7 +30,7 @@ framed_row : (limit : ℕ) (body rest : List ℕ) → length body ≤ limit → 
 framed_row limit body rest le lt = record { begins = one_short (length body) (body ++ rest) lt; allowed = le }
 
 pub merge_rows : MergeRows
-merge_rows = record { agent_alone = refl; empty_entry = refl; all_of_it = refl; nothing_of_it = refl; each_of_the_push = refl }
+merge_rows = record { agent_alone = refl; empty_entry = refl; all_of_it = refl; nothing_of_it = refl; each_of_the_push = refl; empty_observed = refl }
 
 abc : List ℕ
 abc = 97 ∷ 98 ∷ 99 ∷ []
@@ -103,6 +113,177 @@ message_rows = record {
   );
 }
 
+field_7 : Begins (58 ∷ 1 ∷ 97 ∷ []) (entry 7 (Bytes (97 ∷ []))) []
+field_7 = short_field 7 58 97 [] refl (omega arith) (omega arith)
+
+-- a field of a number below 16 that holds nothing
+empty_field : (number tag : ℕ) (rest : List ℕ) → tag ≡ 8 * number + 2 → 8 ≤ tag → tag < 128 → Begins (tag ∷ 0 ∷ rest) (entry number (Bytes [])) rest
+empty_field number tag rest is least lt = (
+  tag ∷ 0 ∷ [],
+  record { value = 0 ∷ []; fits = (omega arith, omega arith); tag = subst (λ k. BeginsWide (tag ∷ 0 ∷ []) k (0 ∷ [])) is (one_wide tag _ lt); content = one_wide 0 _ (omega arith) },
+  refl,
+)
+
+version_1 : Begins (40 ∷ 1 ∷ []) (entry 5 (Varint 1)) []
+version_1 = (
+  40 ∷ 1 ∷ [],
+  record {
+    value = 1 ∷ [];
+    fits = (omega arith, omega arith);
+    tag = one_wide 40 _ (omega arith);
+    content = record { ends = omega arith; within = omega arith; fits = omega arith; value = omega arith };
+  },
+  refl,
+)
+
+the_key : Key
+the_key = record { kind = Ed25519; body = replicate 32 7 }
+
+spells_key : SpellsKey key_message the_key
+unfolding the_key
+spells_key = subst (λ (t : List ℕ). SpellsKey t (record { kind = Ed25519; body = replicate 32 7 })) (canonical_ed25519 (replicate 32 7) refl) (canonical_spells (record { kind = Ed25519; body = replicate 32 7 }) refl)
+
+whole_key_field : Begins key_field (entry 1 (Bytes key_message)) []
+whole_key_field = (key_field, record { value = 36 ∷ key_message; fits = (omega arith, omega arith); tag = one_wide 10 _ (omega arith); content = one_wide 36 _ (omega arith) }, refl)
+
+pub field_rows : FieldRows
+unfolding the_key shortest shortest_within
+field_rows = record {
+  other_type = (
+    entry 5 (Varint 1) ∷ [],
+    ([], version_1, refl),
+    record { key = tt; listen = refl; protocols = refl; observed = refl; version = refl; agent = refl },
+  );
+  number_7 = (
+    entry 7 (Bytes (97 ∷ [])) ∷ [],
+    ([], field_7, refl),
+    record { key = tt; listen = refl; protocols = refl; observed = refl; version = refl; agent = refl },
+  );
+  empty_agent = (
+    entry 6 (Bytes []) ∷ [],
+    ([], empty_field 6 50 [] refl (omega arith) (omega arith), refl),
+    record { key = tt; listen = refl; protocols = refl; observed = refl; version = refl; agent = refl },
+  );
+  falling = (
+    entry 6 (Bytes (120 ∷ [])) ∷ entry 5 (Bytes (97 ∷ [])) ∷ entry 4 (Bytes (98 ∷ [])) ∷ [],
+    (
+      42 ∷ 1 ∷ 97 ∷ 34 ∷ 1 ∷ 98 ∷ [],
+      short_field 6 50 120 _ refl (omega arith) (omega arith),
+      (
+        34 ∷ 1 ∷ 98 ∷ [],
+        short_field 5 42 97 _ refl (omega arith) (omega arith),
+        ([], short_field 4 34 98 _ refl (omega arith) (omega arith), refl),
+      ),
+    ),
+    record { key = tt; listen = refl; protocols = refl; observed = refl; version = refl; agent = refl },
+  );
+  interleaved = (
+    entry 3 (Bytes (47 ∷ [])) ∷ entry 2 (Bytes (5 ∷ [])) ∷ entry 3 (Bytes (46 ∷ [])) ∷ entry 2 (Bytes (4 ∷ [])) ∷ [],
+    (
+      18 ∷ 1 ∷ 5 ∷ 26 ∷ 1 ∷ 46 ∷ 18 ∷ 1 ∷ 4 ∷ [],
+      short_field 3 26 47 _ refl (omega arith) (omega arith),
+      (
+        26 ∷ 1 ∷ 46 ∷ 18 ∷ 1 ∷ 4 ∷ [],
+        short_field 2 18 5 _ refl (omega arith) (omega arith),
+        (18 ∷ 1 ∷ 4 ∷ [], short_field 3 26 46 _ refl (omega arith) (omega arith), ([], short_field 2 18 4 _ refl (omega arith) (omega arith), refl)),
+      ),
+    ),
+    record { key = tt; listen = refl; protocols = refl; observed = refl; version = refl; agent = refl },
+  );
+  own_key = (
+    entry 1 (Bytes key_message) ∷ [],
+    ([], whole_key_field, refl),
+    record { key = (spells_key, id_is); listen = refl; protocols = refl; observed = refl; version = refl; agent = refl },
+  );
+  key_of_another = (
+    entry 1 (Bytes key_message) ∷ [],
+    ([], whole_key_field, refl),
+    (key_message, refl, inr (the_key, spells_key, λ e. let seventh : 7 ≡ 9 = ap (λ (t : List ℕ). slice_index t 6) (sym id_is ∙ e) in cc)),
+  );
+}
+  where
+    id_is : id_of the_key ≡ key_id
+    id_is = refl
+
+-- a list that isn't there asks for no memory
+no_list : (fields : List Entry) → last_body 1 fields ≡ None → last_body 2 fields ≡ None → last_body 3 fields ≡ None
+    → (number : ℕ) → 1 ≤ number → number ≤ 3 → IsSome (last_body number fields) → ⊥
+no_list fields a b c zero least most some = omega arith
+no_list fields a b c (suc zero) least most some = let never : false ≡ true = ap is_some (sym a) ∙ some in cc
+no_list fields a b c (suc (suc zero)) least most some = let never : false ≡ true = ap is_some (sym b) ∙ some in cc
+no_list fields a b c (suc (suc (suc zero))) least most some = let never : false ≡ true = ap is_some (sym c) ∙ some in cc
+no_list fields a b c (suc (suc (suc (suc number)))) least most some = omega arith
+
+-- nor does a text that isn't there, or is empty
+no_text : (fields : List Entry) → (HasText (last_body 4 fields) → ⊥) → (HasText (last_body 5 fields) → ⊥) → (HasText (last_body 6 fields) → ⊥)
+    → (number : ℕ) → 4 ≤ number → number ≤ 6 → HasText (last_body number fields) → ⊥
+no_text fields a b c (suc (suc (suc (suc zero)))) least most some = a some
+no_text fields a b c (suc (suc (suc (suc (suc zero))))) least most some = b some
+no_text fields a b c (suc (suc (suc (suc (suc (suc zero)))))) least most some = c some
+no_text fields a b c zero least most some = omega arith
+no_text fields a b c (suc zero) least most some = omega arith
+no_text fields a b c (suc (suc zero)) least most some = omega arith
+no_text fields a b c (suc (suc (suc zero))) least most some = omega arith
+no_text fields a b c (suc (suc (suc (suc (suc (suc (suc number))))))) least most some = omega arith
+
+no_memory : (fields : List Entry) → last_body 1 fields ≡ None → last_body 2 fields ≡ None → last_body 3 fields ≡ None
+    → (HasText (last_body 4 fields) → ⊥) → (HasText (last_body 5 fields) → ⊥) → (HasText (last_body 6 fields) → ⊥) → HasField fields → ⊥
+no_memory fields a b c d e f (inl list) = no_list fields a b c list.0 list.1 list.2 list.3
+no_memory fields a b c d e f (inr text) = no_text fields d e f text.0 text.1 text.2 text.3
+
+-- the fields of these bytes are these
+memory_at : (peer bytes : List ℕ) (fields : List Entry) → IsMessage bytes fields → Refuses peer bytes OutOfMemory → IsKeySpelt (last_body 1 fields) × HasField fields
+memory_at peer bytes fields message refused =
+    let same = one_message bytes refused.0 fields refused.1 message in
+    subst (λ (t : List Entry). IsKeySpelt (last_body 1 t) × HasField t) same (refused.2, refused.3)
+
+pub memory_rows : MemoryRows
+memory_rows = record {
+  version = (
+    entry 5 (Bytes (97 ∷ [])) ∷ [],
+    ([], short_field 5 42 97 [] refl (omega arith) (omega arith), refl),
+    tt,
+    inr (5, omega arith, omega arith, omega arith),
+  );
+  empty_entry = (entry 2 (Bytes []) ∷ [], ([], empty_field 2 18 [] refl (omega arith) (omega arith), refl), tt, inl (2, omega arith, omega arith, refl));
+  empty_agent = λ refused.
+      no_memory (entry 6 (Bytes []) ∷ []) refl refl refl (λ h. h) (λ h. h) (λ h. omega arith)
+      (memory_at [] (50 ∷ 0 ∷ []) (entry 6 (Bytes []) ∷ []) ([], empty_field 6 50 [] refl (omega arith) (omega arith), refl) refused).1;
+  no_field = λ refused. no_memory [] refl refl refl (λ h. h) (λ h. h) (λ h. h) (memory_at [] [] [] refl refused).1;
+  bad_key = λ refused.
+      let spelt = (memory_at [] (10 ∷ 0 ∷ 42 ∷ 1 ∷ 97 ∷ []) (entry 1 (Bytes []) ∷ entry 5 (Bytes (97 ∷ [])) ∷ [])
+      (42 ∷ 1 ∷ 97 ∷ [], empty_field 1 10 _ refl (omega arith) (omega arith), ([], short_field 5 42 97 [] refl (omega arith) (omega arith), refl)) refused).0 in
+      key_or_fault [] spelt.0 keys.NoType (λ e. cc) spelt.1 ([], refl, refl);
+}
+
+-- ten messages that are empty, and then these bytes
+empties : (n : ℕ) (rest : List ℕ) → Lead 16384 (replicate n 0 ++ rest) (replicate n []) rest
+empties zero rest = refl
+empties (suc n) rest = (replicate n 0 ++ rest, framed_row 16384 [] (replicate n 0 ++ rest) (omega arith) (omega arith), empties n rest)
+
+eleventh : (b : ℕ) (rest : List ℕ) → HasFault (replicate 10 0 ++ b ∷ rest) TooMany
+eleventh b rest = (replicate 10 [], b ∷ rest, record { few = omega arith; lead = empties 10 (b ∷ rest) }, (refl, omega arith))
+
+pub fault_rows : FaultRows
+fault_rows = record {
+  cut_behind_bad = (
+    (8 ∷ []) ∷ [],
+    5 ∷ 42 ∷ [],
+    record { few = omega arith; lead = (5 ∷ 42 ∷ [], framed_row 16384 (8 ∷ []) _ (omega arith) (omega arith), refl) },
+    inr (omega arith, inr (5, 42 ∷ [], record { begins = one_short 5 _ (omega arith); allowed = omega arith }, omega arith)),
+    inr (omega arith),
+  );
+  eleventh_begun = eleventh 1 [];
+  eleventh_longer = eleventh 1 (8 ∷ []);
+  eleventh_bad = eleventh 128 (0 ∷ []);
+  together = (
+    (8 ∷ []) ∷ [],
+    128 ∷ 128 ∷ 1 ∷ [],
+    record { few = omega arith; lead = (128 ∷ 128 ∷ 1 ∷ [], framed_row 16384 (8 ∷ []) _ (omega arith) (omega arith), refl) },
+    (omega arith, (16384, [], (128 ∷ 128 ∷ 1 ∷ [], record { ends = (omega arith, (omega arith, omega arith)); within = omega arith; shortest = λ _. omega arith; value = refl }, refl), omega arith)),
+  );
+}
+
 pub stream_rows : StreamRows
 stream_rows = record {
   two_messages = (
@@ -119,7 +300,7 @@ stream_rows = record {
     ),
   );
   ten_empty = (replicate 10 [], record { few = omega arith; lead = empties 10 [] }, omega arith, ([], refl, record { key = tt; listen = refl; protocols = refl; observed = refl; version = refl; agent = refl }));
-  eleven = (replicate 10 [], 0 ∷ [], record { few = omega arith; lead = empties 10 (0 ∷ []) }, (refl, omega arith));
+  eleven = eleventh 0 [];
   too_long = ([], 129 ∷ 128 ∷ 1 ∷ [], record { few = omega arith; lead = refl }, (omega arith, (16385, [], (129 ∷ 128 ∷ 1 ∷ [], record { ends = (omega arith, (omega arith, omega arith)); within = omega arith; shortest = λ _. omega arith; value = refl }, refl), omega arith)));
   bad_length = ([], 128 ∷ 0 ∷ [], record { few = omega arith; lead = refl }, (omega arith, (wire.NotShortest, (2, omega arith, record { ends = (omega arith, omega arith); within = omega arith; several = omega arith; zero = refl }))));
   before_any = ([], [], record { few = omega arith; lead = refl }, inl refl, inl refl);
@@ -131,7 +312,3 @@ stream_rows = record {
     (wire.Cut, ([], 8 ∷ [], refl, inr (8, [], one_wide 8 _ (omega arith), ((omega arith, omega arith), inl (inl refl, (tt, omega arith)))))),
   );
 }
-  where
-    empties : (n : ℕ) (rest : List ℕ) → Lead 16384 (replicate n 0 ++ rest) (replicate n []) rest
-    empties zero rest = refl
-    empties (suc n) rest = (replicate n 0 ++ rest, framed_row 16384 [] (replicate n 0 ++ rest) (omega arith) (omega arith), empties n rest)

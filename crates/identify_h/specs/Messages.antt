@@ -58,9 +58,16 @@ RefusesKeyOf peer spelling OtherKey = IsOtherKey peer spelling
 RefusesKeyOf peer spelling OutOfMemory = IsKeySpelt (Some spelling)
 RefusesKeyOf peer spelling fault = ⊥
 
--- there is a field to keep
+-- a text is there that isn't empty
+abbrev pub HasText : Option (List ℕ) → Type 0
+HasText None = ⊥
+HasText (Some bytes) = 0 < length bytes
+
+-- there is a field that asks for memory: a key, an entry of a list, or a text that isn't empty
 abbrev pub HasField : List Entry → Type 0
-HasField fields = (number : ℕ) × (1 ≤ number) × (number ≤ 6) × IsSome (last_body number fields)
+HasField fields =
+    ((number : ℕ) × (1 ≤ number) × (number ≤ 3) × IsSome (last_body number fields))
+    ⊎ ((number : ℕ) × (4 ≤ number) × (number ≤ 6) × HasText (last_body number fields))
 
 -- Why bytes aren't read. Memory is asked for where they are a message, for a field that is kept; of the key it is known
 -- then that it is well spelt
@@ -72,6 +79,12 @@ Refuses peer bytes OtherKey =
 Refuses peer bytes OutOfMemory =
     (fields : List Entry) × IsMessage bytes fields × IsKeySpelt (last_body 1 fields) × HasField fields
 Refuses peer bytes fault = ⊥
+
+-- the message has a key that isn't well spelt
+abbrev pub HasBadKey : List ℕ → Type 0
+HasBadKey bytes =
+    (fields : List Entry) × IsMessage bytes fields
+    × ((spelling : List ℕ) × (last_body 1 fields ≡ Some spelling) × ¬ IsKeySpelt (Some spelling))
 
 -- ---- writing
 

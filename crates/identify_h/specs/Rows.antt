@@ -1,10 +1,13 @@
 -- Worked rows of the definitions (libp2p identify 1.0.0; the limits are this project's profile).
-use Rattle.std.specs.Prelude.{◌≡◌, ℕ, List, [], ◌∷◌, ◌++◌, Some, None, replicate}
+use Rattle.std.specs.Prelude.{◌≡◌, ◌↔◌, ℕ, List, [], ◌∷◌, ◌++◌, Some, None, true, false, replicate, take, drop}
+use Rattle.handlers.specs.Calls.{Take, Give, End, ToTake, ToGive, ToEnd}
 use Rattle.peer_ids.specs.declared.kind.KeyType.TheVariants.{Ed25519}
 use Rattle.peer_ids.specs.PeerId.{id_of}
 use Rattle.identify_h.specs.Messages.{Message, Spells, Refuses, written, merged}
-use Rattle.identify_h.specs.declared.fault.IdentifyFault.TheVariants.{TooLong, TooMany, Wire, OtherKey, Cut}
-use Rattle.identify_h.specs.Sending.{framed}
+use Rattle.identify_h.specs.declared.fault.IdentifyFault.TheVariants.{Failed, TooLong, TooMany, Wire, OtherKey, Cut, OutOfMemory}
+use Rattle.identify_h.specs.Faults.{number_of}
+use Rattle.identify_h.specs.Sending.{framed, sending, SendStep, SendFails}
+use Rattle.identify_h.specs.Reading.{Reader, ReadStep, ReadFails}
 use Rattle.identify_h.specs.Streams.{HasFault, EndFails, Reads}
 
 -- a message that says nothing, and one with a version `abc` and an agent `x`
@@ -70,6 +73,33 @@ pub record MergeRows : Type 0 where
   pub all_of_it : merged named full ≡ full
   pub nothing_of_it : merged full nothing ≡ full
   pub each_of_the_push : merged full other ≡ other
+  -- an empty text that is there counts
+  pub empty_observed : merged full (record nothing { observed = Some [] }) ≡ record full { observed = Some [] }
+
+-- Which fields are read, in which order
+pub record FieldRows : Type 0 where
+  -- a number that is known, of another wire type, is no empty version
+  pub other_type : Spells [] (40 ∷ 1 ∷ []) nothing
+  pub number_7 : Spells [] (58 ∷ 1 ∷ 97 ∷ []) nothing
+  pub empty_agent : Spells [] (50 ∷ 0 ∷ []) (record nothing { agent = Some [] })
+  pub falling : Spells [] (50 ∷ 1 ∷ 120 ∷ 42 ∷ 1 ∷ 97 ∷ 34 ∷ 1 ∷ 98 ∷ [])
+      (record nothing { observed = Some (98 ∷ []); version = Some (97 ∷ []); agent = Some (120 ∷ []) })
+  -- each list keeps the order of its entries
+  pub interleaved : Spells [] (26 ∷ 1 ∷ 47 ∷ 18 ∷ 1 ∷ 5 ∷ 26 ∷ 1 ∷ 46 ∷ 18 ∷ 1 ∷ 4 ∷ [])
+      (record nothing { listen = (5 ∷ []) ∷ (4 ∷ []) ∷ []; protocols = (47 ∷ []) ∷ (46 ∷ []) ∷ [] })
+  pub own_key : Spells key_id key_field
+      (record nothing { key = Some (record { kind = Ed25519; body = replicate 32 7 }) })
+  -- that key, read of a peer whose key has another byte
+  pub key_of_another : Refuses (0 ∷ 36 ∷ 8 ∷ 1 ∷ 18 ∷ 32 ∷ replicate 32 9) key_field OtherKey
+
+-- Where memory is asked for
+pub record MemoryRows : Type 0 where
+  pub version : Refuses [] (42 ∷ 1 ∷ 97 ∷ []) OutOfMemory
+  pub empty_entry : Refuses [] (18 ∷ 0 ∷ []) OutOfMemory
+  pub empty_agent : ¬ Refuses [] (50 ∷ 0 ∷ []) OutOfMemory
+  pub no_field : ¬ Refuses [] [] OutOfMemory
+  -- a key that isn't well spelt, and a version behind it
+  pub bad_key : ¬ Refuses [] (10 ∷ 0 ∷ 42 ∷ 1 ∷ 97 ∷ []) OutOfMemory
 
 pub record StreamRows : Type 0 where
   pub two_messages : Reads [] (5 ∷ 42 ∷ 3 ∷ 97 ∷ 98 ∷ 99 ∷ 3 ∷ 50 ∷ 1 ∷ 120 ∷ []) named
@@ -80,3 +110,61 @@ pub record StreamRows : Type 0 where
   pub before_any : EndFails [] [] Cut
   pub within_one : EndFails [] (5 ∷ 42 ∷ []) Cut
   pub joined_badly : EndFails [] (1 ∷ 8 ∷ []) Wire
+
+-- Which fault comes first
+pub record FaultRows : Type 0 where
+  -- a stream that ends within its second message is cut, whatever the first says
+  pub cut_behind_bad : EndFails [] (1 ∷ 8 ∷ 5 ∷ 42 ∷ []) Cut
+  -- an eleventh message is too many once its length has begun, be it whole or not
+  pub eleventh_begun : HasFault (replicate 10 0 ++ 1 ∷ []) TooMany
+  pub eleventh_longer : HasFault (replicate 10 0 ++ 1 ∷ 8 ∷ []) TooMany
+  pub eleventh_bad : HasFault (replicate 10 0 ++ 128 ∷ 0 ∷ []) TooMany
+  -- a body of 16384 bytes is too long behind one of a byte
+  pub together : HasFault (1 ∷ 8 ∷ 128 ∷ 128 ∷ 1 ∷ []) TooLong
+
+pub record NumberRows : Type 0 where
+  pub failed : number_of Failed ≡ 1
+  pub too_long : number_of TooLong ≡ 2
+  pub too_many : number_of TooMany ≡ 3
+  pub wire : number_of Wire ≡ 4
+  pub other_key : number_of OtherKey ≡ 5
+  pub cut : number_of Cut ≡ 6
+  pub out_of_memory : number_of OutOfMemory ≡ 7
+
+-- The end that sends: what comes changes nothing of what is sent, nor does the end of it
+pub record SendRows : Type 0 where
+  pub takes_nothing : (message : List ℕ) → SendStep (sending message) (Take []) (sending message)
+  pub ends_before_all : (message : List ℕ)
+      → SendStep (sending message) End (record (sending message) { ended = true })
+  pub gives_behind_the_end : (message : List ℕ) (room : ℕ)
+      → SendStep (record (sending message) { ended = true }) (Give room (take room message))
+      (record (sending (drop room message)) { ended = true })
+  pub take_behind_the_end : (message : List ℕ) (n : ℕ)
+      → SendFails (record (sending message) { ended = true }) (ToTake []) n ↔ (n ≡ 1)
+  pub second_end : (message : List ℕ) (n : ℕ)
+      → SendFails (record (sending message) { ended = true }) ToEnd n ↔ (n ≡ 1)
+  pub give_behind_a_fault : (n : ℕ) → SendFails (record (sending (1 ∷ [])) { failed = true }) (ToGive 1) n ↔ (n ≡ 1)
+  pub want_of_memory : (n : ℕ) → SendFails (sending (1 ∷ [])) (ToGive 1) n ↔ (n ≡ 7)
+  pub no_room : (n : ℕ) → ¬ SendFails (sending (1 ∷ [])) (ToGive 0) n
+
+-- a reader that has read one empty message up to its end
+abbrev pub at_end : Reader
+at_end = record {
+  peer = [];
+  count = 1;
+  joined = [];
+  next = record { limit = 16384; spelling = []; expected = None; body = []; room = 0; failed = false };
+  message = Some nothing;
+  failed = false;
+}
+
+-- The end that reads, behind its end
+pub record ReadRows : Type 0 where
+  pub takes_nothing : ReadStep (record at_end { message = None }) (Take []) (record at_end { message = None })
+  pub take_behind_the_end : (n : ℕ) → ReadFails at_end (ToTake (0 ∷ [])) n ↔ (n ≡ 1)
+  pub second_end : (n : ℕ) → ReadFails at_end ToEnd n ↔ (n ≡ 1)
+  pub give_behind_the_end : (n : ℕ) → ¬ ReadFails at_end (ToGive 1) n
+  pub take_behind_a_fault : (n : ℕ)
+      → ReadFails (record at_end { message = None; failed = true }) (ToTake []) n ↔ (n ≡ 1)
+  pub give_behind_a_fault : (n : ℕ)
+      → ReadFails (record at_end { message = None; failed = true }) (ToGive 0) n ↔ (n ≡ 1)

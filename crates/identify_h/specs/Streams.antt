@@ -6,8 +6,8 @@ use Rattle.varint_proto.specs.Incoming.{Announces, Frames, ReadsFramed}
 use Rattle.varint_proto.specs.declared.fault.IncomingRefused.TheVariants as incoming
 use Rattle.identify_h.specs.declared.fault.IdentifyFault.{IdentifyFault}
 use Rattle.identify_h.specs.declared.fault.IdentifyFault.TheVariants.{TooLong, TooMany, Wire, Cut, OutOfMemory}
-use Rattle.identify_h.specs.Sending.{most_bytes}
-use Rattle.identify_h.specs.Messages.{Message, Spells, Refuses}
+use Rattle.identify_h.specs.Sending.{most_bytes, framed}
+use Rattle.identify_h.specs.Messages.{Message, Spells, Refuses, HasKeyOf, written}
 
 -- how many messages a stream has at most
 abbrev pub most_messages : ℕ
@@ -98,3 +98,12 @@ pub record SomeOutcome : Type 0 where
   pub end : (peer input : List ℕ) → GoesOn input
       → ((m : Message) × Reads peer input m)
       ⊎ ((fault : IdentifyFault) × (fault ≢ OutOfMemory) × EndFails peer input fault)
+
+-- A fault stays, whatever comes behind it
+abbrev pub FaultsStay : Type 0
+FaultsStay = (input more : List ℕ) (fault : IdentifyFault) → HasFault input fault → HasFault (input ++ more) fault
+
+-- A message that is written and sent behind its length is one stream, which says it
+abbrev pub SentIsRead : Type 0
+SentIsRead = (peer : List ℕ) (m : Message) → HasKeyOf peer m.key → length (written m) ≤ most_bytes
+    → Reads peer (framed (written m)) m

@@ -6,7 +6,7 @@ ghost use Rattle.std.specs.List.{flat_map};
 ghost use Rattle.varint_proto.specs.declared.fault.WireFault.{WireFault};
 ghost use Rattle.varint_proto.specs.Message.{FaultIn, shortest_field, entry, Bytes, IsTag};
 ghost use Rattle.peer_ids.specs.PeerId.{canonical_of};
-ghost use Rattle.identify_h.specs.Messages.{Message, IsKeyOf, RefusesKeyOf, Spells, Refuses, written, body_if, bodies_of, merged, newer_list};
+ghost use Rattle.identify_h.specs.Messages.{Message, IsKeyOf, RefusesKeyOf, Spells, Refuses, HasBadKey, written, body_if, bodies_of, merged, newer_list};
 ghost use Rattle.identify_h.specs.Parts.{texts, text};
 
 use crate::fault::IdentifyFault;
@@ -141,6 +141,8 @@ impl Identify {
         ensures only_wire { (fault : WireFault) → FaultIn bytes.now fault → result ≡ Err IdentifyFault.Wire }
         ensures only_key { Refuses peer bytes.now IdentifyFault.OtherKey
             → (result ≡ Err IdentifyFault.OtherKey) ⊎ (result ≡ Err IdentifyFault.OutOfMemory) }
+        // Memory is asked for a key that is well spelt, so its want never stands for one that isn't.
+        ensures only_bad_key { HasBadKey bytes.now → result ≡ Err IdentifyFault.OtherKey }
     {
         Identify::read_in(alloc, bytes, peer)
     }

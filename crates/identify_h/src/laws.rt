@@ -4,10 +4,10 @@ ghost use Rattle.std.specs.Prelude.{◌≡◌, ◌↔◌, ◌<◌, ℕ, Bool, Li
 ghost use mathlib.Core.List.{IsPrefix};
 ghost use Rattle.handlers.specs.Calls.{HandlerCall, Give, Arises, EndsAs, taken, given};
 ghost use Rattle.identify_h.specs.Messages.{OneMessage, WrittenIsRead};
-ghost use Rattle.identify_h.specs.Streams.{Reads, OneOutcome, SomeOutcome};
+ghost use Rattle.identify_h.specs.Streams.{Reads, OneOutcome, SomeOutcome, FaultsStay, SentIsRead};
 ghost use Rattle.identify_h.specs.Reading.{Reader, IsFresh};
 ghost use Rattle.identify_h.specs.Sending.{Sending, sending};
-ghost use Rattle.identify_h.specs.Rows.{MessageRows, MergeRows, StreamRows};
+ghost use Rattle.identify_h.specs.Rows.{MessageRows, FieldRows, MemoryRows, MergeRows, StreamRows, FaultRows, NumberRows, SendRows, ReadRows};
 
 use crate::reader::IdentifyIn;
 use crate::writer::IdentifyOut;
@@ -16,8 +16,14 @@ use handlers::Handler;
 /// The definitions say of worked inputs what the specification and the profile say.
 pub fn worked_rows()
     ensures messages { MessageRows }
+    ensures fields { FieldRows }
+    ensures memory { MemoryRows }
     ensures merging { MergeRows }
     ensures streams { StreamRows }
+    ensures faults { FaultRows }
+    ensures numbers { NumberRows }
+    ensures sending { SendRows }
+    ensures reading { ReadRows }
 {}
 
 /// Bytes spell one message.
@@ -30,6 +36,11 @@ pub fn written_is_read()
     ensures { WrittenIsRead }
 {}
 
+/// What is sent is read: a written message behind its length is one stream that says it.
+pub fn sent_is_read()
+    ensures { SentIsRead }
+{}
+
 /// An input has one first fault or none; a whole stream has one message, or one fault at its end.
 pub fn one_outcome()
     ensures { OneOutcome }
@@ -40,8 +51,15 @@ pub fn some_outcome()
     ensures { SomeOutcome }
 {}
 
-/// A reader is finished exactly where the end has come; then the whole stream says what it has read. It gives nothing.
+/// A fault stays, whatever comes behind it: it doesn't depend on how the input is cut.
+pub fn faults_stay()
+    ensures { FaultsStay }
+{}
+
+/// A reader is finished exactly where the end has come; then the whole stream says what it has read. It gives nothing,
+/// and is closed from the start.
 pub fn identify_is_read()
+    ensures closed { (reader : Reader) → ⟦<IdentifyIn as Handler>⟧.is_closed reader ≡ true }
     ensures finished { (peer : List ℕ) (calls : List HandlerCall) (ended : Bool) (made reader : Reader)
         → IsFresh peer made → EndsAs calls ended → Arises ⟦<IdentifyIn as Handler>⟧.steps made calls reader
         → (⟦<IdentifyIn as Handler>⟧.is_finished reader ≡ true) ↔ (ended ≡ true) }

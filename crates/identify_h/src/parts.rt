@@ -3,6 +3,7 @@
 ghost use Rattle.std.specs.Prelude.{◌≡◌, ℕ, List, Option, Some, None, IsSome, IfOk, IfErr, OnErr};
 ghost use Rattle.std.specs.Option.{option_copied, option_map};
 ghost use Rattle.varint_proto.specs.Message.{Entry, IsMessage, FaultIn, last_body, all_bodies};
+ghost use Rattle.identify_h.specs.Messages.{HasText};
 ghost use Rattle.identify_h.specs.Parts.{AreLast, texts, text};
 
 use crate::fault::IdentifyFault;
@@ -59,13 +60,17 @@ pub fn bodies(alloc: Global, bytes: &[u8], number: u32) -> Result<Vec<Vec<u8>>, 
     Ok(list)
 }
 
-/// A copy of a part that is there.
+/// A copy of a part that is there. An empty one takes no memory.
 pub fn owned(alloc: Global, part: Option<&[u8]>) -> Result<Option<Vec<u8>>, AllocError>
     ensures copy { IfOk result (λ copy. text copy ≡ option_copied part.entry) }
-    ensures memory { OnErr result (IsSome (option_copied part.entry)) }
+    ensures memory { OnErr result (HasText (option_copied part.entry)) }
 {
     match part {
         None => Ok(None),
-        Some(bytes) => Ok(Some(Vec::from_slice(alloc, bytes)?)),
+        Some(bytes) => {
+            let mut copy = Vec::new(alloc);
+            copy.extend_from_slice(bytes)?;
+            Ok(Some(copy))
+        }
     }
 }

@@ -222,7 +222,8 @@ impl Handler for IdentifyIn {
         ensures step { OnOk result (ReadStep self.old (Take bytes.now) self.new) }
         ensures fault { IfErr result (λ fault. ReadFails self.old (ToTake bytes.now) fault.number) }
         ensures over { is_over self.old ≡ true → IsErr result × (self.new ≡ self.old) }
-        ensures fails { OnErr result (is_over self.old ≡ false → self.new.failed ≡ true) }
+        ensures fails { OnErr result (is_over self.old ≡ false
+            → (self.new.failed ≡ true) × (self.new.message ≡ None)) }
     {
         if self.failed || self.message.is_some() {
             return Err(failing(IdentifyFault::Failed));
@@ -241,7 +242,8 @@ impl Handler for IdentifyIn {
         ensures step { OnOk result (ReadStep self.old End self.new) }
         ensures fault { IfErr result (λ fault. ReadFails self.old ToEnd fault.number) }
         ensures over { is_over self.old ≡ true → IsErr result × (self.new ≡ self.old) }
-        ensures fails { OnErr result (is_over self.old ≡ false → self.new.failed ≡ true) }
+        ensures fails { OnErr result (is_over self.old ≡ false
+            → (self.new.failed ≡ true) × (self.new.message ≡ None)) }
     {
         if self.failed || self.message.is_some() {
             return Err(failing(IdentifyFault::Failed));

@@ -245,5 +245,127 @@ fn a_push_leaves_what_it_does_not_name(rt: HostRuntime) -> Result<(), Fail> {
     let merged = merged.merged_with(other);
     assert_eq!(rt; merged.agent.as_deref(), Some(&b"y"[..]));
     assert_eq!(rt; merged.listen.first().map(|bytes| bytes.len()), Some(0));
+    let mut empty = nothing(alloc);
+    empty.agent = Some(copy(alloc, &[])?);
+    let merged = merged.merged_with(empty);
+    assert_eq!(rt; merged.agent.as_deref(), Some(&[][..]));
+    Ok(())
+}
+
+#[test]
+fn a_body_of_200_bytes_is_sent_and_read(rt: HostRuntime) -> Result<(), Fail> {
+    let alloc = rt.alloc();
+    let peer = peer_of(alloc, 1)?;
+    let mut said = nothing(alloc);
+    said.agent = Some(vec![in alloc; 7u8; 197]?);
+    let mut sender = IdentifyOut::new(alloc, &said)?;
+    let stream = sender.give(1000)?;
+    assert_eq!(rt; stream.len(), 202);
+    assert!(rt; sender.closed() && sender.finished());
+    for size in [1, 64, 1000] {
+        let mut reader = IdentifyIn::new(alloc, peer);
+        assert_eq!(rt; read(&mut reader, &stream, size), None, "pieces of {size}");
+        let Ok(message) = reader.into_message() else {
+            return Err(Fail::from("a message"));
+        };
+        assert_eq!(rt;
+            message.write()?.as_slice(),
+            said.write()?.as_slice(),
+            "pieces of {size}"
+        );
+    }
+    Ok(())
+}
+
+#[test]
+fn lists_keep_their_order(rt: HostRuntime) -> Result<(), Fail> {
+    let alloc = rt.alloc();
+    let peer = peer_of(alloc, 1)?;
+    let mixed = [
+        0x1a, 1, 0x63, 0x12, 1, 3, 0x1a, 1, 0x62, 0x12, 0, 0x1a, 1, 0x61, 0x12, 1, 1,
+    ];
+    let sorted = [
+        0x12, 1, 3, 0x12, 0, 0x12, 1, 1, 0x1a, 1, 0x63, 0x1a, 1, 0x62, 0x1a, 1, 0x61,
+    ];
+    let message = Identify::read(alloc, &mixed, peer)?;
+    assert_eq!(rt; message.listen.len(), 3);
+    assert_eq!(rt; message.protocols.len(), 3);
+    assert_eq!(rt; message.write()?.as_slice(), &sorted[..]);
+    Ok(())
+}
+
+#[test]
+fn ten_messages_may_have_fields(rt: HostRuntime) -> Result<(), Fail> {
+    let alloc = rt.alloc();
+    let peer = peer_of(alloc, 1)?;
+    let mut stream = Vec::new(alloc);
+    for agent in 0..10u8 {
+        stream.extend_from_slice(&[3, 0x32, 1, agent])?;
+    }
+    let mut reader = IdentifyIn::new(alloc, peer);
+    assert_eq!(rt; read(&mut reader, &stream, 7), None);
+    let Ok(message) = reader.into_message() else {
+        return Err(Fail::from("a message"));
+    };
+    assert_eq!(rt; message.agent.as_deref(), Some(&[9][..]));
+    stream.push(3)?;
+    let mut reader = IdentifyIn::new(alloc, peer);
+    assert_eq!(rt;
+        read(&mut reader, &stream, 7),
+        Some(IdentifyFault::TooMany as u8)
+    );
+    Ok(())
+}
+
+#[test]
+fn a_reader_stays_at_its_end(rt: HostRuntime) -> Result<(), Fail> {
+    let alloc = rt.alloc();
+    let mut reader = IdentifyIn::new(alloc, peer_of(alloc, 1)?);
+    assert_eq!(rt; read(&mut reader, &ONE, 64), None);
+    for _ in 0..2 {
+        assert_eq!(rt; reader.take(&[]).err().map(|fault| fault.number), Some(1));
+        assert_eq!(rt; reader.end().err().map(|fault| fault.number), Some(1));
+        assert_eq!(rt; reader.give(1000)?.len(), 0);
+        assert!(rt; reader.closed() && reader.finished());
+    }
+    assert!(rt; reader.into_message().is_ok());
+    Ok(())
+}
+
+#[test]
+fn a_sender_gives_on_behind_the_end(rt: HostRuntime) -> Result<(), Fail> {
+    let alloc = rt.alloc();
+    let mut said = nothing(alloc);
+    said.agent = Some(copy(alloc, b"x")?);
+    let mut sender = IdentifyOut::new(alloc, &said)?;
+    assert!(rt; sender.take(&[]).is_ok());
+    assert_eq!(rt; sender.give(1)?.as_slice(), &[3][..]);
+    assert!(rt; sender.end().is_ok());
+    assert!(rt; !sender.closed() && !sender.finished());
+    assert_eq!(rt; sender.give(1000)?.as_slice(), &[0x32, 1, 0x78][..]);
+    assert!(rt; sender.closed() && sender.finished());
+    assert_eq!(rt; sender.give(1000)?.len(), 0);
+    Ok(())
+}
+
+#[test]
+fn numbers_and_sentences_of_faults(rt: HostRuntime) -> Result<(), Fail> {
+    let faults = [
+        (IdentifyFault::Failed, 1, "identify failed or ended before"),
+        (IdentifyFault::TooLong, 2, "the messages are too long"),
+        (IdentifyFault::TooMany, 3, "there are too many messages"),
+        (IdentifyFault::Wire, 4, "a message is badly spelt"),
+        (
+            IdentifyFault::OtherKey,
+            5,
+            "the key is not that of the peer",
+        ),
+        (IdentifyFault::Cut, 6, "the stream ended within a message"),
+        (IdentifyFault::OutOfMemory, 7, "out of memory"),
+    ];
+    for (fault, number, sentence) in faults {
+        assert_eq!(rt; fault as u8, number);
+        assert_eq!(rt; format!(in rt.alloc(); "{fault}")?.as_str(), sentence);
+    }
     Ok(())
 }
