@@ -1,6 +1,6 @@
 -- The calls of a handler, and what it was handed by them (this project's profile; libp2p connections, "Opening new
 -- streams over a connection": what a protocol's handler is given is its stream).
-use Rattle.std.specs.Prelude.{◌≡◌, ℕ, ◌+◌, Bool, true, false, List, [], ◌∷◌, ◌++◌, length}
+use Rattle.std.specs.Prelude.{◌≡◌, ℕ, Bool, true, false, List, [], ◌∷◌, ◌++◌}
 
 -- a call that was answered Ok: bytes were handed over; with so much room these bytes were given; the end was said
 pub data HandlerCall : Type 0 where
@@ -54,11 +54,3 @@ pub record WasHanded {H : Type 0} (step : H → HandlerCall → H → Type 0)
   pub arises : Arises step made calls value
   pub joined : taken calls ≡ bytes
   pub ends : EndsAs calls ended
-
--- the last call asked for bytes, and left so much of its room
-pub record AskedLast (calls : List HandlerCall) (left : ℕ) : Type 0 where
-  pub before : List HandlerCall
-  pub room : ℕ
-  pub bytes : List ℕ
-  pub calls_are : calls ≡ before ++ Give room bytes ∷ []
-  pub left_is : length bytes + left ≡ room

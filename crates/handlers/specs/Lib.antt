@@ -1,3 +1,4 @@
 -- cited by public clauses and laws
 pub mod Calls
 pub mod Names
+pub mod Rows

@@ -3,12 +3,15 @@
 ghost use Rattle.std.specs.Prelude.{◌≡◌, ℕ, Bool, List, ◌++◌};
 ghost use Rattle.handlers.specs.Calls.{HandlerCall, Arises, EndsAs, WasHanded, taken};
 ghost use Rattle.handlers.specs.Names.{NameRows};
+ghost use Rattle.handlers.specs.Rows.{JoinedRows, EndRows};
 
 use crate::handler::Handler;
 
-/// The definition of a name says of worked names what it is to say.
+/// The definitions say of worked names and calls what they are to say.
 pub fn worked_rows()
-    ensures { NameRows }
+    ensures names { NameRows }
+    ensures joined { JoinedRows }
+    ensures ends { EndRows }
 {}
 
 /// Calls that are made in turn are made as one list.

@@ -1,3 +1,4 @@
 pub mod Prefixes
 pub mod Echoing
 pub mod Rounding
+pub mod Rows

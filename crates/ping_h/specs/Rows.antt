@@ -1,6 +1,9 @@
--- Worked rows of the definitions (libp2p ping 1.0.0).
-use Rattle.std.specs.Prelude.{◌≡◌, [], ◌∷◌, ◌++◌, false, replicate}
-use Rattle.ping_h.specs.Echoes.{whole_rounds, whole}
+-- Worked rows of the definitions (libp2p ping 1.0.0; what stands behind the end and the numbers of faults are this
+-- project's profile).
+use Rattle.std.specs.Prelude.{◌≡◌, ℕ, [], ◌∷◌, ◌++◌, Bool, true, false, replicate}
+use Rattle.handlers.specs.Calls.{Take, Give, End, ToTake, ToGive, ToEnd}
+use Rattle.ping_h.specs.Echoes.{Echo, EchoStep, EchoFails, fresh, whole_rounds, whole}
+use Rattle.ping_h.specs.Rounds.{Round, RoundStep, RoundFails, round}
 
 -- 31 bytes are no round, 32 are one, 33 one and 64 two
 pub record RoundRows : Type 0 where
@@ -13,3 +16,57 @@ pub record RoundRows : Type 0 where
 pub record OwedRows : Type 0 where
   pub some : whole (record { owed = replicate 40 7; begun = 8; ended = false; failed = false }) ≡ 32
   pub none : whole (record { owed = replicate 8 7; begun = 8; ended = false; failed = false }) ≡ 0
+
+-- an echo of a round, behind the end or not
+abbrev pub echo_of_one : Bool → Echo
+echo_of_one ended = record { owed = replicate 32 7; begun = 0; ended = ended; failed = false }
+
+-- 31 bytes of a round have come
+abbrev pub echo_within : Echo
+echo_within = record { owed = replicate 31 7; begun = 31; ended = false; failed = false }
+
+abbrev pub failed_echo : Echo
+failed_echo = record { owed = []; begun = 0; ended = false; failed = true }
+
+-- what is answered: an empty piece, the end between rounds, and behind it what is owed
+pub record EchoStepRows : Type 0 where
+  pub empty : EchoStep fresh (Take []) fresh
+  pub round : EchoStep echo_within (Take (7 ∷ [])) (echo_of_one false)
+  pub end : EchoStep (echo_of_one false) End (echo_of_one true)
+  pub given : EchoStep (echo_of_one true) (Give 64 (replicate 32 7)) (record fresh { ended = true })
+
+-- what is refused, and by which number
+pub record EchoFaultRows : Type 0 where
+  pub cut : EchoFails echo_within ToEnd 3
+  pub memory : EchoFails fresh (ToTake (7 ∷ [])) 4
+  pub no_memory : ¬ EchoFails fresh (ToTake []) 4
+  pub none_between : ¬ EchoFails (echo_of_one false) ToEnd 3
+  pub behind_the_end : EchoFails (echo_of_one true) (ToTake []) 1
+  pub second_end : EchoFails (echo_of_one true) ToEnd 1
+  pub failed : EchoFails failed_echo (ToGive 0) 1
+
+-- a round whose ping, of two bytes here, was sent and has come back
+abbrev pub whole_round : Bool → Round
+whole_round ended = record { unsent = []; awaited = []; ended = ended; failed = false }
+
+abbrev pub failed_round : Round
+failed_round = record { unsent = []; awaited = []; ended = false; failed = true }
+
+-- what is answered: an empty piece, the echo in parts, the end behind it
+pub record RoundStepRows : Type 0 where
+  pub empty : RoundStep (round (1 ∷ 2 ∷ [])) (Take []) (round (1 ∷ 2 ∷ []))
+  pub part : RoundStep (round (1 ∷ 2 ∷ [])) (Take (1 ∷ [])) (record (round (1 ∷ 2 ∷ [])) { awaited = 2 ∷ [] })
+  pub nothing_more : RoundStep (whole_round false) (Take []) (whole_round false)
+  pub end : RoundStep (whole_round false) End (whole_round true)
+  pub given : RoundStep (whole_round true) (Give 64 []) (whole_round true)
+
+-- what is refused, and by which number
+pub record RoundFaultRows : Type 0 where
+  pub wrong : RoundFails (round (1 ∷ 2 ∷ [])) (ToTake (2 ∷ [])) 2
+  pub longer : RoundFails (whole_round false) (ToTake (1 ∷ [])) 2
+  pub cut : RoundFails (record (round (1 ∷ 2 ∷ [])) { awaited = 2 ∷ [] }) ToEnd 3
+  pub memory : RoundFails (round (1 ∷ 2 ∷ [])) (ToGive 1) 4
+  pub no_memory : ¬ RoundFails (round (1 ∷ 2 ∷ [])) (ToGive 0) 4
+  pub behind_the_end : RoundFails (whole_round true) (ToTake []) 1
+  pub second_end : RoundFails (whole_round true) ToEnd 1
+  pub failed : RoundFails failed_round (ToGive 0) 1

@@ -5,7 +5,7 @@ ghost use mathlib.Core.List.{IsPrefix};
 ghost use Rattle.handlers.specs.Calls.{HandlerCall, Give, Arises, EndsAs, taken, given};
 ghost use Rattle.ping_h.specs.Echoes.{Echo, fresh, whole_rounds};
 ghost use Rattle.ping_h.specs.Rounds.{Round, round};
-ghost use Rattle.ping_h.specs.Rows.{OwedRows, RoundRows};
+ghost use Rattle.ping_h.specs.Rows.{OwedRows, RoundRows, EchoStepRows, EchoFaultRows, RoundStepRows, RoundFaultRows};
 
 use crate::echo::PingEcho;
 use crate::round::PingOut;
@@ -15,6 +15,10 @@ use handlers::Handler;
 pub fn worked_rows()
     ensures rounds { RoundRows }
     ensures owed { OwedRows }
+    ensures echo_steps { EchoStepRows }
+    ensures echo_faults { EchoFaultRows }
+    ensures round_steps { RoundStepRows }
+    ensures round_faults { RoundFaultRows }
 {}
 
 /// What an echo gave is a first part of the whole rounds that it was handed.
@@ -30,9 +34,12 @@ pub fn echo_gives_all()
         → length bytes < room → given calls ++ bytes ≡ whole_rounds (taken calls) }
 {}
 
-/// An echo is finished exactly where the end came and all that it was handed was given back.
+/// An echo is closed, and finished, exactly where the end came and all that it was handed was given back.
 pub fn echo_finishes()
-    ensures { (calls : List HandlerCall) (ended : Bool) (echo : Echo) → EndsAs calls ended
+    ensures closed { (calls : List HandlerCall) (ended : Bool) (echo : Echo) → EndsAs calls ended
+        → Arises ⟦<PingEcho as Handler>⟧.steps fresh calls echo
+        → (⟦<PingEcho as Handler>⟧.is_closed echo ≡ true) ↔ ((ended ≡ true) × (given calls ≡ taken calls)) }
+    ensures finished { (calls : List HandlerCall) (ended : Bool) (echo : Echo) → EndsAs calls ended
         → Arises ⟦<PingEcho as Handler>⟧.steps fresh calls echo
         → (⟦<PingEcho as Handler>⟧.is_finished echo ≡ true) ↔ ((ended ≡ true)
         × (given calls ≡ taken calls)) }

@@ -48,6 +48,10 @@ fn an_echo_gives_whole_rounds_back(rt: HostRuntime) -> Result<(), Fail> {
             None,
             "pieces of {size}, room {room}"
         );
+        assert!(rt;
+            !echo.finished() || given.len() == input.len(),
+            "pieces of {size}"
+        );
         for _ in 0..64 {
             let more = echo.give(1)?;
             given.extend_from_slice(&more)?;
@@ -59,6 +63,18 @@ fn an_echo_gives_whole_rounds_back(rt: HostRuntime) -> Result<(), Fail> {
         );
         assert!(rt; echo.closed() && echo.finished());
     }
+    Ok(())
+}
+
+#[test]
+fn a_long_input_is_echoed(rt: HostRuntime) -> Result<(), Fail> {
+    let mut echo = PingEcho::new(rt.alloc());
+    let input = vec![in rt.alloc(); 7u8; 3200]?;
+    assert!(rt; echo.take(&input).is_ok());
+    assert!(rt; echo.end().is_ok());
+    assert_eq!(rt; echo.give(2000)?.len(), 2000);
+    assert_eq!(rt; echo.give(2000)?.len(), 1200);
+    assert!(rt; echo.finished());
     Ok(())
 }
 
@@ -81,8 +97,10 @@ fn an_echo_is_cut_within_a_round(rt: HostRuntime) -> Result<(), Fail> {
 #[test]
 fn nothing_is_taken_behind_the_end(rt: HostRuntime) -> Result<(), Fail> {
     let mut echo = PingEcho::new(rt.alloc());
+    assert!(rt; !echo.closed());
     assert!(rt; echo.take(&PING).is_ok());
     assert!(rt; echo.end().is_ok());
+    assert!(rt; !echo.closed());
     assert_eq!(rt; echo.take(&[1]).err().map(|fault| fault.number), Some(1));
     assert_eq!(rt; echo.end().err().map(|fault| fault.number), Some(1));
     assert_eq!(rt; echo.give(64)?.as_slice(), PING.as_slice());
@@ -103,7 +121,11 @@ fn a_ping_that_comes_back_is_finished(rt: HostRuntime) -> Result<(), Fail> {
             assert!(rt; out.take(piece).is_ok(), "pieces of {size}");
         }
         assert!(rt; out.closed() && !out.finished());
+        assert!(rt; out.take(&[]).is_ok());
         assert!(rt; out.end().is_ok());
+        assert!(rt; out.finished());
+        assert_eq!(rt; out.take(&[]).err().map(|fault| fault.number), Some(1));
+        assert_eq!(rt; out.end().err().map(|fault| fault.number), Some(1));
         assert!(rt; out.finished());
         assert_eq!(rt; out.give(64)?.len(), 0);
     }
