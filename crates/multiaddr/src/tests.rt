@@ -147,7 +147,11 @@ fn faults_of_bytes(rt: HostRuntime) -> Result<(), Fail> {
         (&long_name, AddrFault::BadValue),
     ];
     for (bytes, fault) in rows {
-        assert_eq!(rt; Multiaddr::read(rt.alloc(), bytes).err(), Some(fault));
+        assert_eq!(rt;
+            Multiaddr::read(rt.alloc(), bytes).err(),
+            Some(fault),
+            "{bytes:?}"
+        );
     }
     Ok(())
 }
@@ -174,8 +178,8 @@ fn an_opaque_part_hides_peer_and_socket(rt: HostRuntime) -> Result<(), Fail> {
         let Ok(address) = Multiaddr::read(rt.alloc(), bytes) else {
             return Err("an address with an opaque part".into());
         };
-        assert_eq!(rt; address.peer(), None);
-        assert_eq!(rt; address.socket(), None);
+        assert_eq!(rt; address.peer(), None, "{bytes:?}");
+        assert_eq!(rt; address.socket(), None, "{bytes:?}");
     }
     Ok(())
 }

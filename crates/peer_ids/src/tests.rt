@@ -42,10 +42,10 @@ fn ids_of_ed25519_keys(rt: HostRuntime) -> Result<(), Fail> {
     ];
     for (front, fill, text) in rows {
         let id = PeerId::of_key(&key_of(&rt, front, fill, 32)?);
-        assert_eq!(rt; id.to_text(rt.alloc())?.as_str(), text);
-        assert_eq!(rt; format!(in rt.alloc(); "{id}")?.as_str(), text);
-        assert_eq!(rt; PeerId::from_text(text), Ok(id));
-        assert_eq!(rt; text.parse::<PeerId>(), Ok(id));
+        assert_eq!(rt; id.to_text(rt.alloc())?.as_str(), text, "{front:?}");
+        assert_eq!(rt; format!(in rt.alloc(); "{id}")?.as_str(), text, "{front:?}");
+        assert_eq!(rt; PeerId::from_text(text), Ok(id), "{front:?}");
+        assert_eq!(rt; text.parse::<PeerId>(), Ok(id), "{front:?}");
         let copy: Result<PeerId, _> = id.clone();
         assert_eq!(rt; copy, Ok(id));
         assert_eq!(rt; PeerId::from_bytes(id.as_bytes()), Ok(id));
@@ -103,8 +103,8 @@ fn faults_of_keys(rt: HostRuntime) -> Result<(), Fail> {
     ];
     for (bytes, fault) in rows {
         match PublicKey::read(rt.alloc(), bytes) {
-            Ok(_) => assert!(rt; false, "bytes were read as a key"),
-            Err(found) => assert_eq!(rt; found, fault),
+            Ok(_) => assert!(rt; false, "{bytes:?} were read as a key"),
+            Err(found) => assert_eq!(rt; found, fault, "{bytes:?}"),
         }
     }
     Ok(())
@@ -233,7 +233,11 @@ fn faults_of_bytes(rt: HostRuntime) {
         &identity_of_43,
     ];
     for bytes in rows {
-        assert_eq!(rt; PeerId::from_bytes(bytes), Err(IdFault::BadHash));
+        assert_eq!(rt;
+            PeerId::from_bytes(bytes),
+            Err(IdFault::BadHash),
+            "{bytes:?}"
+        );
     }
     assert!(rt; PeerId::from_bytes(&[0x00, 0x00]).is_ok());
 }

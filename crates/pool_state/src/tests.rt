@@ -42,8 +42,8 @@ fn row(conn: u32, role: ConnSide, phase: Phase, peer: Option<PeerId>) -> Row {
 /// Makes the calls in turn. Each is answered as `reply` says beforehand, and as the table says.
 fn run(rt: &impl Abort, pool: &mut Pool, script: &[(Call, Reply)]) {
     for (call, reply) in script {
-        assert_eq!(rt; pool.reply(*call), *reply);
-        assert_eq!(rt; pool.apply(*call), *reply);
+        assert_eq!(rt; pool.reply(*call), *reply, "reply to {call:?}");
+        assert_eq!(rt; pool.apply(*call), *reply, "{call:?}");
     }
 }
 
@@ -397,8 +397,8 @@ fn a_commit_is_the_rest_of_a_call(rt: HostRuntime) -> Result<(), Fail> {
     ];
     for (call, reply) in calls {
         other.commit(&call, &reply);
-        assert_eq!(rt; pool.apply(call), reply);
-        assert!(rt; other.show() == pool.show());
+        assert_eq!(rt; pool.apply(call), reply, "{call:?}");
+        assert!(rt; other.show() == pool.show(), "behind {call:?}");
     }
     assert_eq!(rt; pool.show().front, u64::MAX);
     assert_eq!(rt; pool.show().conns.len(), 1);

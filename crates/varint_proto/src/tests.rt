@@ -46,7 +46,7 @@ fn reads_multiformats_varints(rt: HostRuntime) {
         (&[0x7f, 0x80], Ok(Some((127, 1)))),
     ];
     for (bytes, outcome) in rows {
-        assert_eq!(rt; read_varint(bytes), outcome);
+        assert_eq!(rt; read_varint(bytes), outcome, "{bytes:?}");
     }
 }
 
@@ -95,7 +95,7 @@ fn reads_fields_of_every_wire_type(rt: HostRuntime) -> Result<(), Fail> {
         },
     ];
     for field in expected {
-        assert_eq!(rt; fields.next(), Ok(Some(field)));
+        assert_eq!(rt; fields.next(), Ok(Some(field)), "field {}", field.number);
     }
     assert_eq!(rt; fields.next(), Ok(None));
     Ok(())
@@ -123,8 +123,8 @@ fn faults_of_messages(rt: HostRuntime) -> Result<(), Fail> {
     ];
     for (bytes, count, fault) in rows {
         let (found, ended) = numbers(&rt, bytes)?;
-        assert_eq!(rt; found.len(), count);
-        assert_eq!(rt; ended, fault);
+        assert_eq!(rt; found.len(), count, "{bytes:?}");
+        assert_eq!(rt; ended, fault, "{bytes:?}");
     }
     Ok(())
 }

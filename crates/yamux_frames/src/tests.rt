@@ -73,8 +73,8 @@ fn codes_of_go_away(rt: HostRuntime) {
 #[test]
 fn headers_are_read_and_written(rt: HostRuntime) {
     for (bytes, header) in headers() {
-        assert_eq!(rt; Header::read(&bytes), Ok(header));
-        assert_eq!(rt; header.write(), bytes);
+        assert_eq!(rt; Header::read(&bytes), Ok(header), "{bytes:?}");
+        assert_eq!(rt; header.write(), bytes, "{header:?}");
     }
 }
 
