@@ -8,7 +8,6 @@ use Rattle.pool_state.specs.declared.call.Reply.TheVariants.{Refused}
 use Rattle.pool_state.specs.declared.call.Refusal.{Refusal}
 use Rattle.pool_state.specs.declared.call.Refusal.TheVariants.{Spent}
 use Rattle.pool_state.specs.declared.limits.Config.{Config}
-use Rattle.pool_state.specs.declared.listing.Listing.{Listing}
 use Rattle.pool_state.specs.Parts.{Peer, has}
 use Rattle.pool_state.specs.Table.{has_conn, may_refuse, number_of}
 use Rattle.pool_state.specs.History.{Entry, entry, stands, is_blocked, is_allowed, next_number}
@@ -25,9 +24,9 @@ made calls replies = []
 abbrev pub IsLowest : Refusal → List (Refusal × Bool) → Type 0
 IsLowest why refusals = AllByRecursion (λ other. other.1 ≡ true → number_of why ≤ number_of other.0) refusals
 
--- The listing keeps to all limits, and lists no peer twice. It shows the connections that were admitted and aren't gone,
--- and the peers that were blocked and allowed. A further call is refused for the reason with the lowest number of those
--- that hold.
+-- The listing keeps to all limits, and lists no peer twice. It shows the connections that were admitted and aren't
+-- gone, and the peers that were blocked and allowed. A further call is refused for the reason with the lowest number of
+-- those that hold.
 pub record IsTold (config : Config) (calls : List Call) (last : Call) (told : Told) : Type 0 where
   pub bounded : IsBounded config told.listing
   pub blocked_once : IsEachOnce told.listing.blocked.items

@@ -1,27 +1,25 @@
 -- Two sessions talk, and one takes all that came.
 use Rattle.std.proofs.Common.{◌≡◌, ℕ, ◌+◌, ◌-◌, ◌<◌, ◌≤◌, min, ◌==◌, cond, Bool, true, false, ◌&&◌, not, List, [], ◌∷◌, ◌++◌, map, Option, Some, None, refl, sym, ap, ◌∙◌, subst, arith}
 use Rattle.std.specs.Prelude.{IfSome}
-use Rattle.std.specs.List.{concat}
 use Rattle.std.proofs.lemmas.List.{append-nil}
 use Rattle.yamux_frames.specs.Frames.{Reads}
 use Rattle.yamux_session.specs.declared.event.Role.{Role}
 use Rattle.yamux_session.specs.declared.event.Role.TheVariants.{Client, Server}
 use Rattle.yamux_session.specs.declared.event.ActRefused.TheVariants.{NoStream}
-use Rattle.yamux_session.specs.History.{Item, Act, arrivals}
+use Rattle.yamux_session.specs.History.{Item, arrivals}
 use Rattle.yamux_session.specs.History.Item.{Came, Did}
-use Rattle.yamux_session.specs.History.Act.{Start, Write, Taken}
+use Rattle.yamux_session.specs.History.Act.{Start, Taken}
 use Rattle.yamux_session.specs.Openings.{is_live, closed, finished}
-use Rattle.yamux_session.specs.Windows.{credit, untaken, receiving_window}
-use Rattle.yamux_session.specs.Events.{Told, events}
-use Rattle.yamux_session.specs.Output.{output}
-use Rattle.yamux_session.specs.Data.{inbound, written}
-use Rattle.yamux_session.specs.Acts.{open_credit, stream_refusal}
+use Rattle.yamux_session.specs.Windows.{credit, untaken}
+use Rattle.yamux_session.specs.Events.{Told}
+use Rattle.yamux_session.specs.Data.{written}
+use Rattle.yamux_session.specs.Acts.{open_credit}
 use Rattle.yamux_session.specs.Limits.{UntakenLimit}
-use Rattle.yamux_session.specs.Seen.{Seen, seen, just_opened, all_heard, AgreesOn, TellsFrom, EventsTell, ActsDo, Windows, windows, ActsMove}
+use Rattle.yamux_session.specs.Seen.{Seen, seen, just_opened, all_heard, AgreesOn, EventsTell, ActsDo, Windows, windows, ActsMove}
 use Rattle.yamux_session.specs.State.{State, Stands, Whenever, Adds}
 use Rattle.yamux_session.specs.Joined.{End, at_first, IsOnTheWay, NothingIsLost, NothingStandsStill, Balance}
 use Rattle.yamux_session.specs.Tied.{AreJoined, ActGoesOn}
-use Rattle.both_heard.specs.Heard.{end, writes, IsJoined, Asks, Hears, HearsOn}
+use Rattle.both_heard.specs.Heard.{end, writes, Asks, Hears, HearsOn}
 use Rattle.both_heard.proofs.Heard.{Takes}
 use Rattle.session_told.specs.Flow.{unheard, HasWindow}
 use Rattle.session_told.proofs.Owner.{own, chosen, opened, written_next}

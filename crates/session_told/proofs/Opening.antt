@@ -1,5 +1,5 @@
 -- How many streams a session opens.
-use Rattle.std.proofs.Common.{◌≡◌, ◌≢◌, ℕ, ◌+◌, ◌*◌, ◌%◌, ◌<◌, ◌≤◌, ◌==◌, nat_lt, cond, Bool, true, false, not, ◌&&◌, ◌||◌, List, [], ◌∷◌, ◌++◌, length, Option, Some, None, Result, Ok, Err, refl, sym, ap, ◌∙◌, subst, arith, eq-eqb}
+use Rattle.std.proofs.Common.{◌≡◌, ◌≢◌, ℕ, ◌+◌, ◌*◌, ◌%◌, ◌<◌, ◌≤◌, ◌==◌, nat_lt, cond, Bool, true, false, not, ◌&&◌, ◌||◌, List, [], ◌∷◌, ◌++◌, length, Option, Some, None, refl, sym, ap, ◌∙◌, subst, arith}
 use Rattle.std.specs.List.{filter}
 use Rattle.std.proofs.lemmas.Bool.Decides.{nat_tests}
 use Rattle.std.proofs.Math.Nat.{add-mul-mod_self_left}
@@ -8,7 +8,7 @@ use Rattle.yamux_session.specs.declared.event.Role.TheVariants.{Client, Server}
 use Rattle.yamux_session.specs.declared.event.ActRefused.{ActRefused}
 use Rattle.yamux_session.specs.declared.event.ActRefused.TheVariants.{NoStream, GoneAway, StreamsExhausted, StreamsFull, OutOfMemory}
 use Rattle.yamux_session.specs.History.{Item, is_own}
-use Rattle.yamux_session.specs.History.Item.{Came, Did}
+use Rattle.yamux_session.specs.History.Item.{Did}
 use Rattle.yamux_session.specs.History.Act.{Start, Reset}
 use Rattle.yamux_session.specs.Openings.{live, is_live, contains}
 use Rattle.yamux_session.specs.Acts.{IsRefusedFor, OneRefusal, first_own, next_own, own_count, remote_go_away, start_refusal, stream_refusal}

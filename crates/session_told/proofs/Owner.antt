@@ -1,7 +1,6 @@
 -- What the owner of a session knows of a stream.
-use Rattle.std.proofs.Common.{◌≡◌, ℕ, ◌≤◌, ◌+◌, ◌-◌, min, ◌==◌, cond, Bool, true, false, ◌&&◌, not, List, [], ◌∷◌, ◌++◌, map, length, take, sum_by, Option, Some, None, is_some, Result, Ok, Err, IfOk, IfErr, OnOk, OnErr, refl, sym, ap, ◌∙◌, subst, arith, length-append}
+use Rattle.std.proofs.Common.{◌≡◌, ℕ, ◌≤◌, ◌-◌, min, ◌==◌, cond, Bool, true, false, ◌&&◌, not, List, [], ◌∷◌, ◌++◌, map, length, take, sum_by, Option, Some, None, is_some, Result, Ok, Err, IfOk, IfErr, OnOk, OnErr, refl, sym, ap, ◌∙◌, subst, arith, length-append}
 use Rattle.std.specs.List.{AllByRecursion, concat}
-use Rattle.std.proofs.lemmas.List.{length-take-le}
 use Rattle.std.proofs.lemmas.List.Sums.{sum_by-cons}
 use Rattle.std.proofs.lemmas.Bool.Decides.{nat_tests}
 use Rattle.yamux_frames.specs.Frames.{Arrival}
@@ -13,13 +12,12 @@ use Rattle.yamux_session.specs.declared.event.ActRefused.TheVariants.{NoStream, 
 use Rattle.yamux_session.specs.History.{Item, Act}
 use Rattle.yamux_session.specs.History.Item.{Came, Did}
 use Rattle.yamux_session.specs.History.Act.{Start, Write, Close, Reset}
-use Rattle.yamux_session.specs.Openings.{is_live, closed, finished}
+use Rattle.yamux_session.specs.Openings.{is_live, closed}
 use Rattle.yamux_session.specs.Windows.{credit}
-use Rattle.yamux_session.specs.Faults.{HasNoFault}
 use Rattle.yamux_session.specs.Events.{Told, events}
 use Rattle.yamux_session.specs.Acts.{IsRefusedFor, OneRefusal, stream_refusal, direction_refusal, open_credit}
 use Rattle.yamux_session.specs.Arrives.{tellings}
-use Rattle.yamux_session.specs.Seen.{Seen, seen, just_opened, hears, all_heard, AgreesOn, TellsFrom, EventsTell, does, ActsDo, Windows, windows, IsQuiet, CreditIsTold, moves, ActsMove}
+use Rattle.yamux_session.specs.Seen.{Seen, seen, just_opened, hears, all_heard, AgreesOn, TellsFrom, EventsTell, ActsDo, Windows, windows, IsQuiet, CreditIsTold, ActsMove}
 use Rattle.yamux_session.specs.State.{State, Stands, Whenever, Adds, AddsWrite, Feeds}
 use Rattle.session_told.specs.Known.{IsAnswered, IsDone, EndKnown}
 

@@ -1,5 +1,5 @@
 -- Whole runs of a session.
-use Rattle.std.proofs.Common.{◌≡◌, ◌≢◌, ℕ, List, [], ◌∷◌}
+use Rattle.std.proofs.Common.{ℕ, List, [], ◌∷◌}
 use Rattle.yamux_session.specs.declared.event.Role.{Role}
 use Rattle.yamux_session.specs.declared.calls.Act.{Act}
 use Rattle.yamux_session.specs.declared.calls.ActAnswer.{ActAnswer}

@@ -1,5 +1,5 @@
 -- Two sessions of one role, fed the same bytes in different pieces.
-use Rattle.std.proofs.Common.{◌≡◌, ℕ, ◌+◌, ◌≤◌, Bool, true, false, true≢false, List, [], ◌∷◌, ◌++◌, map, length, take, Option, Some, None, Result, Ok, Err, IfOk, IfErr, OnOk, OnErr, refl, sym, ap, ◌∙◌, subst, append_assoc, length-append, arith}
+use Rattle.std.proofs.Common.{◌≡◌, ℕ, ◌+◌, Bool, true, false, true≢false, List, [], ◌∷◌, ◌++◌, map, length, take, Option, None, Result, Ok, Err, IfOk, IfErr, OnOk, OnErr, refl, sym, ap, ◌∙◌, subst, append_assoc, length-append, arith}
 use Rattle.std.proofs.lemmas.List.{append-nil, take-append-le}
 use Rattle.std.proofs.lemmas.List.Concat.{flat_map-append}
 use Rattle.std.proofs.Math.Seq.{take-append-add}
@@ -8,11 +8,11 @@ use Rattle.yamux_session.specs.declared.event.Role.{Role}
 use Rattle.yamux_session.specs.declared.event.Event.{Event}
 use Rattle.yamux_session.specs.declared.event.ActRefused.{ActRefused}
 use Rattle.yamux_session.specs.declared.event.ActRefused.TheVariants.{Failed, OutOfMemory}
-use Rattle.yamux_session.specs.History.{Item, Act, arrivals}
-use Rattle.yamux_session.specs.History.Item.{Came, Did}
+use Rattle.yamux_session.specs.History.{Item, arrivals}
+use Rattle.yamux_session.specs.History.Item.{Came}
 use Rattle.yamux_session.specs.History.Act.{Start}
 use Rattle.yamux_session.specs.Events.{Told, events}
-use Rattle.yamux_session.specs.Acts.{IsRefusedFor, OneRefusal, start_refusal, next_own}
+use Rattle.yamux_session.specs.Acts.{IsRefusedFor, OneRefusal, start_refusal}
 use Rattle.yamux_session.specs.Arrives.{telling, tellings}
 use Rattle.yamux_session.specs.State.{State, Stands, Whenever, Adds, EndsWith, Led, Feeds}
 use Rattle.yamux_session.specs.OneOutcome.{OneOutcome}

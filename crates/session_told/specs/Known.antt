@@ -1,10 +1,9 @@
 -- What the owner of a session knows of a stream, from the events that it was told.
 -- Source: hashicorp yamux, "Flag Field" and "Flow Control", as a caller of a session.
-use Rattle.std.specs.Prelude.{◌≡◌, ℕ, ◌≤◌, ◌-◌, Bool, true, false, List, length, take, Option, Some, None, Result, Ok, Err, IfOk, IfErr, OnOk, is_some}
+use Rattle.std.specs.Prelude.{◌≡◌, ℕ, ◌≤◌, ◌-◌, true, false, List, length, take, Some, Result, Err, IfOk, IfErr, OnOk, is_some}
 use Rattle.std.specs.List.{AllByRecursion}
 use Rattle.yamux_session.specs.declared.event.ActRefused.{ActRefused}
 use Rattle.yamux_session.specs.declared.event.ActRefused.TheVariants.{NoStream, OutOfMemory}
-use Rattle.yamux_session.specs.Events.{Told}
 use Rattle.yamux_session.specs.Arrives.{tellings}
 use Rattle.yamux_session.specs.Seen.{Seen, just_opened, all_heard, IsQuiet}
 use Rattle.session_told.specs.declared.known.Known.{Known}
@@ -12,7 +11,8 @@ use Rattle.session_told.specs.declared.known.Shut.{Shut}
 
 -- what the owner has heard of the stream: it was opened, so much was let through, and this was told
 abbrev pub heard : List ℕ → Known → Seen
-heard first known = all_heard known.stream (record just_opened { sent = take known.wrote first }) (tellings known.told.items)
+heard first known =
+    all_heard known.stream (record just_opened { sent = take known.wrote first }) (tellings known.told.items)
 
 -- the events say nothing of the stream's windows
 abbrev pub IsStill : Known → Type 0
@@ -40,9 +40,9 @@ IsDone result = IfErr result (λ why. why ≡ OutOfMemory)
 abbrev pub heard_open : Shut → Seen
 heard_open shut = all_heard shut.stream just_opened (tellings shut.told.items)
 
--- Of a session that hasn't failed: once the events say that the stream isn't live, nothing can be done on it. While they
--- say that it is, it may be closed. That ends it where they say that the other end's direction has ended, and else it
--- may still be reset.
+-- Of a session that hasn't failed: once the events say that the stream isn't live, nothing can be done on it. While
+-- they say that it is, it may be closed. That ends it where they say that the other end's direction has ended, and else
+-- it may still be reset.
 pub record EndKnown (heard : Seen) (closed reset : Result (Unit {0}) ActRefused) : Type 0 where
   pub gone : heard.live ≡ false → (closed ≡ Err NoStream) × (reset ≡ Err NoStream)
   pub shut : heard.live ≡ true → IsDone closed

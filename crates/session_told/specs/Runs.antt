@@ -6,7 +6,7 @@ use Rattle.yamux_session.specs.declared.event.ActRefused.TheVariants.{OutOfMemor
 use Rattle.yamux_session.specs.declared.calls.Act.{Act}
 use Rattle.yamux_session.specs.declared.calls.ActAnswer.{ActAnswer}
 use Rattle.yamux_session.specs.declared.calls.ActAnswer.TheVariants.{Refused}
-use Rattle.yamux_session.specs.History.{Item, is_own, is_remote}
+use Rattle.yamux_session.specs.History.{is_own, is_remote}
 use Rattle.yamux_session.specs.Openings.{live}
 use Rattle.yamux_session.specs.Windows.{untaken}
 use Rattle.yamux_session.specs.Runs.{Point, AnswersAll, AreSame, output_at_point}

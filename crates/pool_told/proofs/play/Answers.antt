@@ -1,10 +1,9 @@
-use Rattle.std.proofs.Common.{◌≡◌, ◌≢◌, ℕ, ◌+◌, List, [], ◌∷◌, ◌++◌, length, take, refl, sym, ap, ◌∙◌, subst, arith, rules}
+use Rattle.std.proofs.Common.{◌≡◌, ◌≢◌, ℕ, ◌+◌, List, [], ◌∷◌, ◌++◌, length, take, sym, ap, ◌∙◌, subst, arith, rules}
 use Rattle.std.proofs.lemmas.List.{take_more, take_all, length-take-le, length-append}
 use Rattle.pool_state.specs.declared.call.Call.{Call}
 use Rattle.pool_state.specs.declared.call.Reply.{Reply}
 use Rattle.pool_state.specs.declared.call.Reply.TheVariants.{Refused}
 use Rattle.pool_state.specs.declared.call.Refusal.TheVariants.{Spent}
-use Rattle.pool_state.specs.declared.limits.Config.{Config}
 use Rattle.pool_state.specs.declared.pool.Pool.{Pool}
 use Rattle.pool_state.specs.History.{Entry, entry}
 use Rattle.pool_state.specs.At.{Stands}

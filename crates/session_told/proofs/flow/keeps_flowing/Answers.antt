@@ -1,4 +1,4 @@
-use Rattle.std.proofs.Common.{List, ℕ, Option, take, sym, ap, subst}
+use Rattle.std.proofs.Common.{List, ℕ, Option, take, ap, subst}
 use Rattle.yamux_session.specs.Events.{Told}
 use Rattle.yamux_session.specs.Arrives.{tellings}
 use Rattle.yamux_session.specs.State.{State}

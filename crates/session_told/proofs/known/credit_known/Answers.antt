@@ -1,5 +1,4 @@
-use Rattle.std.proofs.Common.{◌≡◌, ◌≤◌, ℕ, ◌-◌, min, List, [], ◌∷◌, length, take, Some, Option, Result, sym, ap, ◌∙◌, subst, arith, true, false}
-use Rattle.std.specs.List.{AllByRecursion}
+use Rattle.std.proofs.Common.{◌≡◌, ℕ, ◌-◌, min, List, [], ◌∷◌, length, take, Some, Option, Result, ap, ◌∙◌, arith, false}
 use Rattle.std.proofs.lemmas.List.{length-take-le}
 use Rattle.yamux_session.specs.declared.event.Role.TheVariants.{Client}
 use Rattle.yamux_session.specs.History.Item.{Did}
@@ -8,7 +7,7 @@ use Rattle.yamux_session.specs.declared.event.ActRefused.{ActRefused}
 use Rattle.yamux_session.specs.Events.{Told}
 use Rattle.yamux_session.specs.Arrives.{tellings}
 use Rattle.yamux_session.specs.Seen.{Windows}
-use Rattle.session_told.proofs.Owner.{IsTold, IsWritten, is_told, opened_windows, was_going, is_known}
+use Rattle.session_told.proofs.Owner.{IsWritten, is_told, opened_windows, was_going, is_known}
 use Rattle.session_told.proofs.known.credit_known.Goals as goal
 
 pub returns : goal.returns

@@ -1,4 +1,4 @@
-use Rattle.std.proofs.Common.{◌≡◌, List, ℕ, ◌++◌, Result, sym, ap, ◌∙◌, subst}
+use Rattle.std.proofs.Common.{List, ℕ, ◌++◌, Result, sym, ap, ◌∙◌, subst}
 use Rattle.std.proofs.lemmas.List.Concat.{flat_map-append}
 use Rattle.yamux_session.specs.declared.event.Event.{Event}
 use Rattle.yamux_session.specs.declared.event.ActRefused.{ActRefused}
