@@ -1,5 +1,5 @@
--- The identify message (libp2p identify 1.0.0, "The Identify Message"; Protocol Buffers, "Encoding": of a field that may
--- stand once the last counts). That texts and addresses are kept as bytes, and that a key must be that of the
+-- The identify message (libp2p identify 1.0.0, "The Identify Message"; Protocol Buffers, "Encoding": of a field that
+-- may stand once the last counts). That texts and addresses are kept as bytes, and that a key must be that of the
 -- connection's peer, is this project's profile.
 use Rattle.std.specs.Prelude.{◌≡◌, ◌≢◌, ◌⊎◌, ℕ, ◌≤◌, ◌<◌, ◌^◌, List, [], ◌∷◌, ◌++◌, map, length, Option, Some, None, IsSome}
 use Rattle.std.specs.List.{flat_map}

@@ -84,7 +84,8 @@ EndFails peer input fault =
 
 -- an input has one first fault or none; a whole stream one message, or one fault at its end
 pub record OneOutcome : Type 0 where
-  pub fault : (input : List ℕ) (fault other : IdentifyFault) → HasFault input fault → HasFault input other → fault ≡ other
+  pub fault : (input : List ℕ) (fault other : IdentifyFault) → HasFault input fault → HasFault input other
+      → fault ≡ other
   pub goes : (input : List ℕ) (fault : IdentifyFault) → GoesOn input → ¬ HasFault input fault
   pub message : (peer input : List ℕ) (m n : Message) → Reads peer input m → Reads peer input n → m ≡ n
   pub end : (peer input : List ℕ) (fault other : IdentifyFault) → fault ≢ OutOfMemory → other ≢ OutOfMemory

@@ -65,7 +65,8 @@ fn own_key(alloc: Global, bytes: &[u8], peer: PeerId) -> Result<PublicKey, Ident
 /// Appends the field where it is there.
 fn write_if(body: &mut Vec<u8>, number: u32, part: &Option<Vec<u8>>) -> Result<(), AllocError>
     requires { IsTag (8 * number + 2) }
-    ensures { OnOk result (body.new.items ≡ body.old.items ++ flat_map shortest_field (body_if number (text part.now))) }
+    ensures { OnOk result (body.new.items
+        ≡ body.old.items ++ flat_map shortest_field (body_if number (text part.now))) }
 {
     match part {
         None => Ok(()),
@@ -76,7 +77,8 @@ fn write_if(body: &mut Vec<u8>, number: u32, part: &Option<Vec<u8>>) -> Result<(
 /// Appends a field for each entry.
 fn write_all(body: &mut Vec<u8>, number: u32, list: &[Vec<u8>]) -> Result<(), AllocError>
     requires { IsTag (8 * number + 2) }
-    ensures { OnOk result (body.new.items ≡ body.old.items ++ flat_map shortest_field (bodies_of number (texts list.now))) }
+    ensures { OnOk result (body.new.items
+        ≡ body.old.items ++ flat_map shortest_field (bodies_of number (texts list.now))) }
 {
     for bytes in list {
         write_body(body, number, bytes)?;

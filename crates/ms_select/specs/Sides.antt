@@ -89,7 +89,8 @@ StandsWith None x input used taken = Unit {0}
 StandsWith (Some Going) x input used taken =
     (texts : List (List ℕ)) × (rest : List ℕ) × Hears x input taken texts rest × ReadsFramed longest rest (Ok None)
     × (used ≡ length input)
-StandsWith (Some (Agreed index)) x input used taken = Comes x.role x.names input (Ok (Agreed index)) used (taken ++ x.pending)
+StandsWith (Some (Agreed index)) x input used taken =
+    Comes x.role x.names input (Ok (Agreed index)) used (taken ++ x.pending)
 StandsWith (Some NoneLeft) x input used taken = Comes x.role x.names input (Ok NoneLeft) used (taken ++ x.pending)
 
 -- The side is what it comes to by this whole input, of which it has used so many bytes, where `taken` is what was taken
