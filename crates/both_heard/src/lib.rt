@@ -39,7 +39,7 @@ pub struct Talk {
 }
 
 /// A new client opens a stream and writes on it. Answers the stream, and how many of the bytes were let through.
-fn ask(client: &mut Session, question: &[u8]) -> Result<(u32, usize), ActRefused>
+pub fn ask(client: &mut Session, question: &[u8]) -> Result<(u32, usize), ActRefused>
     ensures { IfOk result (λ asked. Stands Client [] [] [] client.old
         → Asks asked.0 (take asked.1 question.now) client.new) }
 {
@@ -50,7 +50,7 @@ fn ask(client: &mut Session, question: &[u8]) -> Result<(u32, usize), ActRefused
 }
 
 /// A session is fed what the other has sent.
-fn hear(session: &mut Session, piece: &[u8]) -> Result<Vec<Event>, ActRefused>
+pub fn hear(session: &mut Session, piece: &[u8]) -> Result<Vec<Event>, ActRefused>
     ensures { IfOk result (λ told. Hears session.old piece.now (tellings told.items) session.new) }
 {
     sessions_stay_joined();

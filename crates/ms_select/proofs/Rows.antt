@@ -1,8 +1,8 @@
 -- The definitions of messages and talks at worked bytes.
-use Rattle.std.proofs.Common.{◌≡◌, ◌≢◌, ℕ, ◌+◌, ◌<◌, ◌≤◌, List, [], ◌∷◌, length, get_or, Option, Some, None, Ok, Err, refl, ap, sym, subst, ◌∙◌, inl, inr, arith, lit<}
+use Rattle.std.proofs.Common.{◌≡◌, ◌≢◌, ℕ, ◌+◌, ◌<◌, ◌≤◌, List, [], ◌∷◌, replicate, length, get_or, Option, Some, None, Ok, Err, refl, ap, append-nil, sym, subst, ◌∙◌, inl, inr, arith, lit<}
 use Rattle.std.specs.Prelude.{unwrap_or}
 use Rattle.std.specs.List.{All}
-use Rattle.std.proofs.lemmas.List.{length-append, nil_from_length}
+use Rattle.std.proofs.lemmas.List.{length-append, length-replicate, nil_from_length}
 use Rattle.std.proofs.lemmas.List.Elements.{All-nil, All-cons}
 use Rattle.varint_proto.specs.declared.fault.WireFault.TheVariants.{NotShortest}
 use Rattle.varint_proto.specs.Varint.{IsSpelling, BeginsShortest, shortest, shortest_within}
@@ -10,7 +10,7 @@ use Rattle.ms_select.specs.declared.fault.SelectFault.TheVariants.{BadLength}
 use Rattle.ms_select.specs.Messages.{header, na, message, spelled, IsShort, ReadsMessage}
 use Rattle.ms_select.specs.Listening.{choice}
 use Rattle.ms_select.specs.Sides.{EndsLength}
-use Rattle.ms_select.specs.Rows.{x, y, header_bytes, x_bytes, y_bytes, MessageRows, ChoiceRows, ListenRows, DialRows, SendRows, MemoryRows}
+use Rattle.ms_select.specs.Rows.{x, y, header_bytes, x_bytes, y_bytes, MessageRows, NameRows, ChoiceRows, ListenRows, DialRows, SendRows, MemoryRows}
 
 -- a length of one byte
 one_byte : (n : ℕ) (rest : List ℕ) → n < 128 → BeginsShortest (n ∷ rest) n rest
@@ -34,6 +34,8 @@ message_rows = record {
   length_of_two_bytes = refl;
   text = (7 ∷ [], record { parts = refl; short = lit< tt });
   empty_text = ([], record { parts = refl; short = lit< tt });
+  newline_within = ([], record { parts = refl; short = lit< tt });
+  longest_text = ([], record { parts = sym (append-nil (message (replicate 1023 97))); short = omega (arith, length-replicate {A = ℕ} 1023 97) });
   nothing = inl (tt, omega arith);
   in_the_length = inl ((omega arith, tt), omega arith);
   shortest_length = inr (1, [], one_byte 1 [] (omega arith), (omega arith, omega arith), omega arith);
@@ -43,6 +45,16 @@ message_rows = record {
   length_1025 = inr (1025, [], two_bytes 129 [] (omega arith) (omega arith), inr (omega arith));
   badly_spelt = inl (NotShortest, (2, omega arith, record { ends = (omega arith, omega arith); within = omega arith; several = omega arith; zero = refl }));
   no_newline = (2, 97 ∷ 98 ∷ [], one_byte 2 (97 ∷ 98 ∷ []) (omega arith), (omega arith, omega arith), omega arith, omega arith);
+}
+
+pub name_rows : NameRows
+name_rows = record {
+  one_byte = (omega arith, omega arith);
+  newline = (omega arith, omega arith);
+  largest_byte = (omega arith, omega arith);
+  longest = (omega (arith, length-replicate {A = ℕ} 1023 97), omega (arith, length-replicate {A = ℕ} 1023 97));
+  empty = λ h. omega (arith, h.0);
+  one_too_long = λ h. omega (arith, h.1, length-replicate {A = ℕ} 1024 97);
 }
 
 pub choice_rows : ChoiceRows

@@ -5,7 +5,7 @@ use Rattle.ms_select.specs.declared.answer.Answer.TheVariants.{Going, Agreed, No
 use Rattle.ms_select.specs.declared.fault.SelectFault.TheVariants.{BadLength, NoNewline, BadHeader, NotProposed}
 use Rattle.ms_select.specs.declared.verdict.Role.TheVariants.{Dialer, Listener}
 use Rattle.ms_select.specs.Messages.{header, na, ls, message, ReadsMessage}
-use Rattle.ms_select.specs.Listening.{choice, Listens}
+use Rattle.ms_select.specs.Listening.{IsName, choice, Listens}
 use Rattle.ms_select.specs.Dialing.{Dials, MaySend}
 use Rattle.ms_select.specs.Sides.{EndsLength, RunsOut}
 
@@ -34,6 +34,8 @@ pub record MessageRows : Type 0 where
   pub length_of_two_bytes : message (replicate 127 97) ≡ 128 ∷ 1 ∷ (replicate 127 97 ++ 10 ∷ [])
   pub text : ReadsMessage (x_bytes ++ 7 ∷ []) (Ok (Some x))
   pub empty_text : ReadsMessage (1 ∷ 10 ∷ []) (Ok (Some []))
+  pub newline_within : ReadsMessage (3 ∷ 97 ∷ 10 ∷ 10 ∷ []) (Ok (Some (97 ∷ 10 ∷ [])))
+  pub longest_text : ReadsMessage (message (replicate 1023 97)) (Ok (Some (replicate 1023 97)))
   pub nothing : ReadsMessage [] (Ok None)
   pub in_the_length : ReadsMessage (128 ∷ []) (Ok None)
   pub shortest_length : ReadsMessage (1 ∷ []) (Ok None)
@@ -43,6 +45,15 @@ pub record MessageRows : Type 0 where
   pub length_1025 : ReadsMessage (129 ∷ 8 ∷ []) (Err BadLength)
   pub badly_spelt : ReadsMessage (131 ∷ 0 ∷ []) (Err BadLength)
   pub no_newline : ReadsMessage (2 ∷ 97 ∷ 98 ∷ []) (Err NoNewline)
+
+-- A name that a side may have: from 1 to 1023 bytes, of any value
+pub record NameRows : Type 0 where
+  pub one_byte : IsName (97 ∷ [])
+  pub newline : IsName (97 ∷ 10 ∷ 98 ∷ [])
+  pub largest_byte : IsName (255 ∷ [])
+  pub longest : IsName (replicate 1023 97)
+  pub empty : ¬ IsName []
+  pub one_too_long : ¬ IsName (replicate 1024 97)
 
 -- The least index of a name, which reserved texts never are
 pub record ChoiceRows : Type 0 where

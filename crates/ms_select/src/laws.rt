@@ -6,11 +6,12 @@ ghost use Rattle.ms_select.specs.Dialing.{OneDialer, SomeDialer};
 ghost use Rattle.ms_select.specs.Joined.{OneName};
 ghost use Rattle.ms_select.specs.Sides.{AnswersAsDefined};
 ghost use Rattle.ms_select.specs.Laws.{DecisionStays, FaultStays, NothingBehind, AskedAll};
-ghost use Rattle.ms_select.specs.Rows.{MessageRows, ChoiceRows, ListenRows, DialRows, SendRows, MemoryRows};
+ghost use Rattle.ms_select.specs.Rows.{MessageRows, NameRows, ChoiceRows, ListenRows, DialRows, SendRows, MemoryRows};
 
 /// The definitions say of worked bytes what the standard and this project's profile say.
 pub fn worked_rows()
     ensures messages { MessageRows }
+    ensures names { NameRows }
     ensures choices { ChoiceRows }
     ensures listener { ListenRows }
     ensures dialer { DialRows }

@@ -128,9 +128,9 @@ fn replays<R: AllocGlobal + Abort>(
     }
     assert!(rt; fits);
     let ran = run(rt, words.as_slice(), script.as_bytes());
-    assert_eq!(rt; std::str::from_utf8(&ran.output), Ok(lines));
-    assert_eq!(rt; std::str::from_utf8(&ran.faults), Ok(fault));
-    assert_eq!(rt; ran.status, status);
+    assert_eq!(rt; std::str::from_utf8(&ran.output), Ok(lines), "{script}");
+    assert_eq!(rt; std::str::from_utf8(&ran.faults), Ok(fault), "{script}");
+    assert_eq!(rt; ran.status, status, "{script}");
 }
 
 #[test]
@@ -338,11 +338,11 @@ fn help_and_version_are_good(rt: HostRuntime) {
         &["replay", "--help"],
         &["--version"],
     ];
-    for words in rows {
+    for (row, words) in rows.iter().enumerate() {
         let ran = run(&rt, words, b"");
-        assert_eq!(rt; ran.status, 0);
-        assert!(rt; !ran.output.is_empty());
-        assert!(rt; ran.faults.is_empty());
+        assert_eq!(rt; ran.status, 0, "row {row}");
+        assert!(rt; !ran.output.is_empty(), "row {row}");
+        assert!(rt; ran.faults.is_empty(), "row {row}");
     }
     let told = run(&rt, &["id", "--help"], b"").output;
     let usage = b"Usage: node id <HEX>";
@@ -374,11 +374,11 @@ fn bad_command_lines(rt: HostRuntime) {
         &["fly"],
         &["id", "--fast", "00"],
     ];
-    for words in rows {
+    for (row, words) in rows.iter().enumerate() {
         let ran = run(&rt, words, b"");
-        assert_eq!(rt; ran.status, 2);
-        assert!(rt; ran.output.is_empty());
-        assert!(rt; !ran.faults.is_empty());
+        assert_eq!(rt; ran.status, 2, "row {row}");
+        assert!(rt; ran.output.is_empty(), "row {row}");
+        assert!(rt; !ran.faults.is_empty(), "row {row}");
     }
 }
 
@@ -413,7 +413,7 @@ impl Write for Unflushed {
 #[test]
 fn a_failing_flush_is_status_1(rt: HostRuntime) {
     let rows: [&[&str]; 3] = [&["id", ZERO_KEY], &["--help"], &["replay"]];
-    for words in rows {
+    for (row, words) in rows.iter().enumerate() {
         let status = node(
             &rt,
             words,
@@ -421,16 +421,16 @@ fn a_failing_flush_is_status_1(rt: HostRuntime) {
             &mut Unflushed,
             &mut Closed,
         );
-        assert_eq!(rt; status, 1);
+        assert_eq!(rt; status, 1, "row {row}");
     }
 }
 
 #[test]
 fn a_failing_write_is_status_1(rt: HostRuntime) {
     let rows: [&[&str]; 3] = [&["id", ZERO_KEY], &["--help"], &["fly"]];
-    for words in rows {
+    for (row, words) in rows.iter().enumerate() {
         let status = node(&rt, words, &mut b"".as_slice(), &mut Closed, &mut Closed);
-        assert_eq!(rt; status, 1);
+        assert_eq!(rt; status, 1, "row {row}");
     }
 }
 
@@ -441,9 +441,13 @@ fn want_of_memory_is_told(rt: HostRuntime) {
         Ending::Hash(HashRefused::OutOfMemory),
         Ending::Addr(AddrFault::OutOfMemory),
     ];
-    for ending in endings {
+    for (row, ending) in endings.into_iter().enumerate() {
         let mut faults = Vec::new(rt.alloc());
-        assert_eq!(rt; status(Err(ending), &mut faults), 1);
-        assert_eq!(rt; faults.as_slice(), b"refused OutOfMemory\n".as_slice());
+        assert_eq!(rt; status(Err(ending), &mut faults), 1, "row {row}");
+        assert_eq!(rt;
+            faults.as_slice(),
+            b"refused OutOfMemory\n".as_slice(),
+            "row {row}"
+        );
     }
 }

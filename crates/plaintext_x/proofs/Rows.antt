@@ -25,6 +25,9 @@ use Rattle.plaintext_x.proofs.Steps.{faulty_in}
 one_byte : (n : ℕ) (rest : List ℕ) → n < 128 → BeginsShortest (n ∷ rest) n rest
 one_byte n rest lt = (n ∷ [], record { ends = lt; within = omega arith; shortest = λ h. absurd (omega arith); value = omega arith }, refl)
 
+wide : (n : ℕ) (rest : List ℕ) → n < 128 → BeginsWide (n ∷ rest) n rest
+wide n rest lt = (n ∷ [], record { ends = lt; within = omega arith; fits = omega arith; value = omega arith }, refl)
+
 framed : (body rest : List ℕ) → length body < 128 → Frames longest (length body ∷ (body ++ rest)) body rest
 framed body rest lt = record { begins = one_byte (length body) (body ++ rest) lt; allowed = omega arith }
 
@@ -43,12 +46,32 @@ key_entry : Entry
 key_entry = entry 2 (Bytes key_bytes)
 
 -- a body of these fields proves the key
-exchanged : (body rest : List ℕ) (fields : List Entry) → length body < 128 → IsMessage body fields → last_id fields ≡ Some id_bytes → joined_key fields ≡ key_bytes
+proven_by : (body rest : List ℕ) (fields : List Entry) → length body < 128 → IsMessage body fields → last_id fields ≡ Some id_bytes → SpellsKey (joined_key fields) short_key
     → Exchanges (length body ∷ (body ++ rest)) (Ok (Some short_key)) (1 + length body)
 unfolding shortest shortest_within
-exchanged body rest fields lt m i j =
-    let proves : SpellsExchange body short_key = (fields, m, record { spells = subst (λ (b : List ℕ). SpellsKey b short_key) (sym j) spells_key; id = i }) in
+proven_by body rest fields lt m i spells =
+    let proves : SpellsExchange body short_key = (fields, m, record { spells = spells; id = i }) in
     (body, rest, framed body rest lt, proves, omega (arith, length-append body rest))
+
+exchanged : (body rest : List ℕ) (fields : List Entry) → length body < 128 → IsMessage body fields → last_id fields ≡ Some id_bytes → joined_key fields ≡ key_bytes
+    → Exchanges (length body ∷ (body ++ rest)) (Ok (Some short_key)) (1 + length body)
+exchanged body rest fields lt m i j = proven_by body rest fields lt m i (subst (λ (b : List ℕ). SpellsKey b short_key) (sym j) spells_key)
+
+-- the key's type in two bytes, where one would do
+longer_key : List ℕ
+longer_key = 8 ∷ 130 ∷ 0 ∷ 18 ∷ 1 ∷ 5 ∷ []
+
+spells_longer : SpellsKey longer_key short_key
+unfolding longer_key
+spells_longer = (
+  entry 1 (Varint 2) ∷ entry 2 (Bytes (5 ∷ [])) ∷ [],
+  (
+    18 ∷ 1 ∷ 5 ∷ [],
+    (8 ∷ 130 ∷ 0 ∷ [], record { value = 130 ∷ 0 ∷ []; fits = (omega arith, omega arith); tag = wide 8 _ (omega arith); content = record { ends = (omega arith, omega arith); within = omega arith; fits = omega arith; value = refl } }, refl),
+    ([], (18 ∷ 1 ∷ 5 ∷ [], record { value = 1 ∷ 5 ∷ []; fits = (omega arith, omega arith); tag = wide 18 _ (omega arith); content = wide 1 _ (omega arith) }, refl), refl),
+  ),
+  record { kind = refl; body = refl; allowed = (omega arith, omega arith) },
+)
 
 -- a body that is refused
 refuses : (body : List ℕ) (fault : ExchangeFault) → length body < 128 → RefusesBody body fault → Exchanges (length body ∷ (body ++ [])) (Err fault) (1 + length body)
@@ -59,7 +82,7 @@ unfolding id_entry key_entry
 both_writable = (((omega arith, omega arith), omega arith), (((omega arith, omega arith), omega arith), tt))
 
 pub proof_rows : ProofRows
-unfolding id_entry key_entry shortest shortest_within
+unfolding id_entry key_entry longer_key shortest shortest_within
 proof_rows = record {
   id = refl;
   sent = refl;
@@ -69,6 +92,12 @@ proof_rows = record {
       (written (key_entry ∷ id_entry ∷ []) (both_writable.1.0, (both_writable.0, tt))) refl refl;
   last_id_counts = exchanged (10 ∷ 0 ∷ id_field ++ key_field) [] (entry 1 (Bytes []) ∷ id_entry ∷ key_entry ∷ []) (omega arith)
       (written (entry 1 (Bytes []) ∷ id_entry ∷ key_entry ∷ []) (((omega arith, omega arith), omega arith), both_writable)) refl refl;
+  key_is_read = proven_by (id_field ++ 18 ∷ 6 ∷ 8 ∷ 130 ∷ 0 ∷ 18 ∷ 1 ∷ 5 ∷ []) [] (id_entry ∷ entry 2 (Bytes (8 ∷ 130 ∷ 0 ∷ 18 ∷ 1 ∷ 5 ∷ [])) ∷ []) (omega arith)
+      (written (id_entry ∷ entry 2 (Bytes (8 ∷ 130 ∷ 0 ∷ 18 ∷ 1 ∷ 5 ∷ [])) ∷ []) (both_writable.0, (((omega arith, omega arith), omega arith), tt))) refl spells_longer;
+  unknown_field = exchanged (id_field ++ 26 ∷ 0 ∷ key_field) [] (id_entry ∷ entry 3 (Bytes []) ∷ key_entry ∷ []) (omega arith)
+      (written (id_entry ∷ entry 3 (Bytes []) ∷ key_entry ∷ []) (both_writable.0, (((omega arith, omega arith), omega arith), both_writable.1))) refl refl;
+  id_of_another_kind = exchanged (id_field ++ key_field ++ 8 ∷ 7 ∷ []) [] (id_entry ∷ key_entry ∷ entry 1 (Varint 7) ∷ []) (omega arith)
+      (written (id_entry ∷ key_entry ∷ entry 1 (Varint 7) ∷ []) (both_writable.0, (both_writable.1.0, (((omega arith, omega arith), omega arith), tt)))) refl refl;
   keys_are_joined = exchanged (id_field ++ 18 ∷ 2 ∷ 8 ∷ 2 ∷ 18 ∷ 3 ∷ 18 ∷ 1 ∷ 5 ∷ []) []
       (id_entry ∷ entry 2 (Bytes (8 ∷ 2 ∷ [])) ∷ entry 2 (Bytes (18 ∷ 1 ∷ 5 ∷ [])) ∷ []) (omega arith)
       (written (id_entry ∷ entry 2 (Bytes (8 ∷ 2 ∷ [])) ∷ entry 2 (Bytes (18 ∷ 1 ∷ 5 ∷ [])) ∷ [])
@@ -139,12 +168,9 @@ no_bytes = written (entry 1 (Varint 2) ∷ entry 2 (Bytes []) ∷ []) (((omega a
 with_key : (key : List ℕ) → length key < 128 → IsMessage (10 ∷ 0 ∷ 18 ∷ length key ∷ (key ++ [])) (entry 1 (Bytes []) ∷ entry 2 (Bytes key) ∷ [])
 with_key key lt = (
   18 ∷ length key ∷ (key ++ []),
-  (10 ∷ 0 ∷ [], record { value = 0 ∷ []; fits = (omega arith, omega arith); tag = small 10 _ (omega arith); content = small 0 _ (omega arith) }, refl),
-  ([], (18 ∷ length key ∷ key, record { value = length key ∷ key; fits = (omega arith, omega arith); tag = small 18 _ (omega arith); content = small (length key) key lt }, refl), refl),
+  (10 ∷ 0 ∷ [], record { value = 0 ∷ []; fits = (omega arith, omega arith); tag = wide 10 _ (omega arith); content = wide 0 _ (omega arith) }, refl),
+  ([], (18 ∷ length key ∷ key, record { value = length key ∷ key; fits = (omega arith, omega arith); tag = wide 18 _ (omega arith); content = wide (length key) key lt }, refl), refl),
 )
-  where
-    small : (n : ℕ) (rest : List ℕ) → n < 128 → BeginsWide (n ∷ rest) n rest
-    small n rest few = (n ∷ [], record { ends = few; within = omega arith; fits = omega arith; value = omega arith }, refl)
 
 pub refusal_rows : RefusalRows
 unfolding id_entry key_entry shortest shortest_within

@@ -31,6 +31,11 @@ pub record ProofRows : Type 0 where
   pub more_is_not_used : Exchanges (16 ∷ (id_field ++ key_field) ++ 7 ∷ []) (Ok (Some short_key)) 17
   pub other_order : Exchanges (16 ∷ (key_field ++ id_field)) (Ok (Some short_key)) 17
   pub last_id_counts : Exchanges (18 ∷ (10 ∷ 0 ∷ id_field ++ key_field)) (Ok (Some short_key)) 19
+  -- a key that isn't spelt as its own end would spell it, fields that this exchange doesn't know, and an id that is a
+  -- number
+  pub key_is_read : Exchanges (17 ∷ (id_field ++ 18 ∷ 6 ∷ 8 ∷ 130 ∷ 0 ∷ 18 ∷ 1 ∷ 5 ∷ [])) (Ok (Some short_key)) 18
+  pub unknown_field : Exchanges (18 ∷ (id_field ++ 26 ∷ 0 ∷ key_field)) (Ok (Some short_key)) 19
+  pub id_of_another_kind : Exchanges (18 ∷ (id_field ++ key_field ++ 8 ∷ 7 ∷ [])) (Ok (Some short_key)) 19
   pub keys_are_joined :
       Exchanges (18 ∷ (id_field
       ++ 18 ∷ 2 ∷ 8 ∷ 2 ∷ 18 ∷ 3 ∷ 18 ∷ 1 ∷ 5 ∷ [])) (Ok (Some short_key)) 19

@@ -59,16 +59,28 @@ fn writes_its_message_and_reads_it_however_it_is_cut(rt: HostRuntime) -> Result<
     {
         for size in [1, 7, 1024] {
             let mut exchange = fresh(&rt)?;
-            assert_eq!(rt; exchange.take_output().as_slice(), MESSAGE);
+            assert_eq!(rt; exchange.take_output().as_slice(), MESSAGE, "row {row}");
             assert_eq!(rt;
                 came(&mut exchange, *input, size),
                 Ok((*used, true)),
                 "row {row} in pieces of {size}"
             );
-            assert_eq!(rt; exchange.feed(b"more"), Ok((0, true)));
+            assert_eq!(rt;
+                exchange.feed(b"more"),
+                Ok((0, true)),
+                "row {row} in pieces of {size}"
+            );
             let proven = exchange.into_proven().ok().ok_or("a proof")?;
-            assert_eq!(rt; proven.peer().as_bytes(), ID);
-            assert_eq!(rt; proven.key().kind(), KeyType::Ed25519);
+            assert_eq!(rt;
+                proven.peer().as_bytes(),
+                ID,
+                "row {row} in pieces of {size}"
+            );
+            assert_eq!(rt;
+                proven.key().kind(),
+                KeyType::Ed25519,
+                "row {row} in pieces of {size}"
+            );
         }
     }
     Ok(())
@@ -100,8 +112,15 @@ fn faults_however_the_input_is_cut(rt: HostRuntime) -> Result<(), Fail> {
                 Err(*fault),
                 "row {row} in pieces of {size}"
             );
-            assert_eq!(rt; exchange.feed(*input), Err(ExchangeFault::Failed));
-            assert!(rt; exchange.into_proven().is_err());
+            assert_eq!(rt;
+                exchange.feed(*input),
+                Err(ExchangeFault::Failed),
+                "row {row} in pieces of {size}"
+            );
+            assert!(rt;
+                exchange.into_proven().is_err(),
+                "row {row} in pieces of {size}"
+            );
         }
     }
     Ok(())
@@ -160,10 +179,10 @@ fn numbers_and_texts_of_faults(rt: HostRuntime) -> Result<(), Fail> {
         (ExchangeFault::OutOfMemory, "out of memory"),
     ];
     for (index, (fault, text)) in faults.iter().enumerate() {
-        assert_eq!(rt; *fault as usize, index + 1);
+        assert_eq!(rt; *fault as usize, index + 1, "{text}");
         assert_eq!(rt; format!(in rt.alloc(); "{fault}")?.as_str(), *text);
         for (place, (other, _)) in faults.iter().enumerate() {
-            assert_eq!(rt; fault == other, index == place);
+            assert_eq!(rt; fault == other, index == place, "{text}, place {place}");
         }
     }
     Ok(())

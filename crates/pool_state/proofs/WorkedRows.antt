@@ -1,6 +1,10 @@
 -- Worked rows of pools, computed by the definitions.
-use Rattle.std.proofs.Common.{refl}
-use Rattle.pool_state.specs.Rows.{ConnectionRows, StreamRows, ListRows, RefusalRows, LimitRows}
+use Rattle.std.proofs.Common.{ℕ, ◌≤◌, List, [], ◌∷◌, replicate, refl, arith}
+use Rattle.std.specs.List.{All}
+use Rattle.std.proofs.lemmas.List.{length-replicate}
+use Rattle.std.proofs.lemmas.List.Elements.{All-nil, All-cons, All-head, All-tail, All-replicate}
+use Rattle.pool_state.specs.AgentName.{IsAgentName}
+use Rattle.pool_state.specs.Rows.{ConnectionRows, StreamRows, ListRows, RefusalRows, LimitRows, AgentRows}
 
 pub connection_rows : ConnectionRows
 connection_rows = record {
@@ -66,4 +70,38 @@ limit_rows = record {
   room_to_allow = refl;
   none_to_allow = refl;
   allowed_already = refl;
+}
+
+abbrev IsPrintable : ℕ → Type 0
+IsPrintable byte = (32 ≤ byte) × (byte ≤ 126)
+
+one_printable : (byte : ℕ) → IsPrintable byte → All IsPrintable (byte ∷ [])
+one_printable byte p = All-cons IsPrintable byte [] p (All-nil IsPrintable)
+
+first_of : (byte : ℕ) (rest : List ℕ) → IsAgentName (byte ∷ rest) → IsPrintable byte
+first_of byte rest name = All-head IsPrintable byte rest name.printable
+
+second_of : (byte next : ℕ) (rest : List ℕ) → IsAgentName (byte ∷ next ∷ rest) → IsPrintable next
+second_of byte next rest name = All-head IsPrintable next rest (All-tail IsPrintable byte (next ∷ rest) name.printable)
+
+pub agent_rows : AgentRows
+agent_rows = record {
+  space = record { some = omega arith; few = omega arith; printable = one_printable 32 (omega arith, omega arith) };
+  first_and_last = record {
+    some = omega arith;
+    few = omega arith;
+    printable = All-cons IsPrintable 32 (126 ∷ []) (omega arith, omega arith) (one_printable 126 (omega arith, omega arith));
+  };
+  longest = record {
+    some = omega (arith, length-replicate {A = ℕ} 64 126);
+    few = omega (arith, length-replicate {A = ℕ} 64 126);
+    printable = All-replicate IsPrintable 64 126 (omega arith, omega arith);
+  };
+  empty = λ name. omega (arith, name.some);
+  one_too_long = λ name. omega (arith, name.few, length-replicate {A = ℕ} 65 126);
+  below = λ name. omega (arith, (first_of 31 [] name).0);
+  above = λ name. omega (arith, (first_of 127 [] name).1);
+  no_ascii = λ name. omega (arith, (first_of 195 (169 ∷ []) name).1);
+  second = λ name. omega (arith, (second_of 97 31 [] name).0);
+  second_above = λ name. omega (arith, (second_of 97 128 [] name).1);
 }

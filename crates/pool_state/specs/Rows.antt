@@ -1,6 +1,6 @@
 -- Worked rows of pools: what the definitions say of these calls in turn, each limit at 1 and at its largest.
 -- Source: This project's profile of a swarm.
-use Rattle.std.specs.Prelude.{◌≡◌, ℕ, Bool, true, false, List, [], ◌∷◌, ◌++◌, map, Option, Some, None}
+use Rattle.std.specs.Prelude.{◌≡◌, ℕ, Bool, true, false, List, [], ◌∷◌, ◌++◌, map, replicate, Option, Some, None}
 use Rattle.std.specs.List.{range_with_len}
 use Rattle.std.proofs.Common.{refl}
 use Rattle.std.proofs.lemmas.Bool.{leb-true}
@@ -51,6 +51,7 @@ use Rattle.pool_state.specs.declared.row.ConnSide.{ConnSide}
 use Rattle.pool_state.specs.declared.row.ConnSide.TheVariants.{Dialer, Listener}
 use Rattle.pool_state.specs.declared.row.Phase.{Phase}
 use Rattle.pool_state.specs.declared.row.Phase.TheVariants as phase
+use Rattle.pool_state.specs.AgentName.{IsAgentName}
 use Rattle.pool_state.specs.Parts.{Peer, listing}
 use Rattle.pool_state.specs.History.{Entry, entry}
 use Rattle.pool_state.specs.Table.{may_refuse}
@@ -383,3 +384,16 @@ pub record LimitRows : Type 0 where
   pub room_to_allow : at_peers 63 (Allow first) ≡ (SelfPeer, false) ∷ (AllowFull, false) ∷ []
   pub none_to_allow : at_peers 64 (Allow first) ≡ (SelfPeer, false) ∷ (AllowFull, true) ∷ []
   pub allowed_already : at_peers 64 (Allow (67 ∷ [])) ≡ (SelfPeer, false) ∷ (AllowFull, false) ∷ []
+
+-- The name of an agent: from 1 to 64 bytes, each from the space to the tilde
+pub record AgentRows : Type 0 where
+  pub space : IsAgentName (32 ∷ [])
+  pub first_and_last : IsAgentName (32 ∷ 126 ∷ [])
+  pub longest : IsAgentName (replicate 64 126)
+  pub empty : ¬ IsAgentName []
+  pub one_too_long : ¬ IsAgentName (replicate 65 126)
+  pub below : ¬ IsAgentName (31 ∷ [])
+  pub above : ¬ IsAgentName (127 ∷ [])
+  pub no_ascii : ¬ IsAgentName (195 ∷ 169 ∷ [])
+  pub second : ¬ IsAgentName (97 ∷ 31 ∷ [])
+  pub second_above : ¬ IsAgentName (97 ∷ 128 ∷ [])

@@ -26,7 +26,7 @@ pub fed_stops : FeedGoesOn → (old new : State) (bytes : List ℕ) (told : List
 fed_stops goes old new bytes told are feeds role here there sent at front =
     let next : IsNext role here there bytes sent old = record { joined = at.joined; stands = at.stands; are_bytes = all_joined here.fed bytes at.are_bytes are; was_sent = front } in
     let behind = goes role here there bytes sent old new told next feeds in
-    record { next = behind.next; joined = behind.joined; fed = ([], append-nil behind.next.fed ∙ behind.fed); output_is = behind.stands.output }
+    record { next = behind.next; joined = behind.joined; came = behind.came; fed = ([], append-nil behind.next.fed ∙ behind.fed); output_is = behind.stands.output }
 
 pub out_stops : WantOfMemoryStops → (old new : State) (bytes : List ℕ) → AllByRecursion (λ b. b < 256) bytes → RunsOut old bytes new → Stops old bytes new
 out_stops memory old new bytes are runs role here there sent at front =

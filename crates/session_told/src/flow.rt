@@ -3,7 +3,7 @@
 ghost use Rattle.std.specs.Prelude.{IfOk};
 ghost use Rattle.session_told.specs.Flow.{KeepsFlowing};
 
-use crate::pair::{ask, hear};
+use both_heard::{ask, hear};
 use std::alloc::Global;
 use yamux_session::laws::{
     acts_tell, balance, events_tell, nothing_is_lost, nothing_stands_still, sessions_stay_joined,

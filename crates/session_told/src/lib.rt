@@ -6,7 +6,6 @@
 
 pub mod flow;
 pub mod known;
-mod pair;
 pub mod room;
 pub mod runs;
 pub mod stopping;

@@ -4,7 +4,7 @@ ghost use Rattle.std.specs.Prelude.{◌≡◌, ◌≢◌, ◌≤◌, None, Some,
 ghost use Rattle.yamux_session.specs.declared.event.ActRefused.TheVariants.{OutOfMemory, StreamsExhausted, StreamsFull};
 ghost use Rattle.session_told.specs.Room.{numbers};
 
-use crate::pair::hear;
+use both_heard::hear;
 use std::alloc::Global;
 use yamux_frames::laws::one_reading;
 use yamux_session::laws::{live_limit, one_refusal, room_for_more, sessions_stay_joined};

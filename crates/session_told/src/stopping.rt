@@ -3,7 +3,7 @@
 ghost use Rattle.std.specs.Prelude.{◌≡◌, false, IfOk};
 ghost use Rattle.session_told.specs.Stopping.{Stops};
 
-use crate::pair::{ask, hear};
+use both_heard::{ask, hear};
 use std::alloc::Global;
 use yamux_session::laws::sessions_stay_joined;
 use yamux_session::{ActRefused, Event, Role, Session};

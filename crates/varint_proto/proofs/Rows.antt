@@ -1,9 +1,9 @@
 -- The definitions at worked bytes.
-use Rattle.std.proofs.Common.{ℕ, ◌+◌, ◌^◌, ◌<◌, ◌≤◌, List, [], ◌∷◌, ◌++◌, replicate, refl, inl, inr, arith}
+use Rattle.std.proofs.Common.{ℕ, ◌+◌, ◌%◌, ◌^◌, ◌<◌, ◌≤◌, List, [], ◌∷◌, ◌++◌, replicate, refl, inl, inr, arith}
 use Rattle.std.proofs.lemmas.List.{length-replicate}
-use Rattle.varint_proto.specs.declared.fault.WireFault.TheVariants.{TooLong, NotShortest}
+use Rattle.varint_proto.specs.declared.fault.WireFault.TheVariants.{TooLong, NotShortest, BadWire}
 use Rattle.varint_proto.specs.Varint.{IsUnended, BeginsWide, BeginsShortest, shortest, shortest_within}
-use Rattle.varint_proto.specs.Message.{entry, Varint}
+use Rattle.varint_proto.specs.Message.{entry, Varint, IsTag, ValueFault, FieldFault}
 use Rattle.varint_proto.specs.Rows.{VarintRows, WideRows, FieldRows, FieldFaultRows, FramedRows}
 
 pub varint_rows : VarintRows
@@ -17,6 +17,7 @@ varint_rows = record {
   cut = ((omega arith, (omega arith, (omega arith, (omega arith, (omega arith, (omega arith, (omega arith, (omega arith, tt)))))))), omega arith);
   nine_unended = ((omega arith, (omega arith, (omega arith, (omega arith, (omega arith, (omega arith, (omega arith, (omega arith, (omega arith, tt))))))))), omega arith);
   not_shortest = (2, omega arith, record { ends = (omega arith, omega arith); within = omega arith; several = omega arith; zero = refl });
+  nine_not_shortest = (9, omega arith, record { ends = (omega arith, (omega arith, (omega arith, (omega arith, (omega arith, (omega arith, (omega arith, (omega arith, omega arith)))))))); within = omega arith; several = omega arith; zero = refl });
   written = refl;
   largest_written = refl;
 }
@@ -29,6 +30,11 @@ wide_rows = record {
   longer_than_needed = (129 ∷ 0 ∷ [], record { ends = (omega arith, omega arith); within = omega arith; fits = omega arith; value = refl }, refl);
   largest = (
     replicate 9 255 ++ 1 ∷ [],
+    record { ends = (omega arith, (omega arith, (omega arith, (omega arith, (omega arith, (omega arith, (omega arith, (omega arith, (omega arith, omega arith))))))))); within = omega arith; fits = omega arith; value = refl },
+    refl,
+  );
+  tenth_of_0 = (
+    replicate 9 128 ++ 0 ∷ [],
     record { ends = (omega arith, (omega arith, (omega arith, (omega arith, (omega arith, (omega arith, (omega arith, (omega arith, (omega arith, omega arith))))))))); within = omega arith; fits = omega arith; value = refl },
     refl,
   );
@@ -52,6 +58,11 @@ field_rows = record {
     record { value = 9 ∷ 8 ∷ 7 ∷ 6 ∷ []; fits = (omega arith, omega arith); tag = (253 ∷ 255 ∷ 255 ∷ 255 ∷ 15 ∷ [], record { ends = (omega arith, (omega arith, (omega arith, (omega arith, omega arith)))); within = omega arith; fits = omega arith; value = refl }, refl); content = (refl, refl) },
     refl,
   );
+  reserved_number = (
+    192 ∷ 163 ∷ 9 ∷ 7 ∷ [],
+    record { value = 7 ∷ []; fits = (omega arith, omega arith); tag = (192 ∷ 163 ∷ 9 ∷ [], record { ends = (omega arith, (omega arith, omega arith)); within = omega arith; fits = omega arith; value = refl }, refl); content = record { ends = omega arith; within = omega arith; fits = omega arith; value = refl } },
+    refl,
+  );
   two_fields = (
     18 ∷ 0 ∷ [],
     (8 ∷ 1 ∷ [], record { value = 1 ∷ []; fits = (omega arith, omega arith); tag = one_byte 8 _ (omega arith); content = record { ends = omega arith; within = omega arith; fits = omega arith; value = refl } }, refl),
@@ -61,6 +72,10 @@ field_rows = record {
   number_written = refl;
   body_written = refl;
 }
+
+-- a tag of one byte whose wire type is none that is read
+bad_wire : (tag : ℕ) → tag < 128 → IsTag tag → ValueFault (tag % 8) [] BadWire → FieldFault (tag ∷ []) BadWire
+bad_wire tag few fits wire = inr (tag, [], one_byte tag [] few, (fits, wire))
 
 pub fault_rows : FieldFaultRows
 fault_rows = record {
@@ -79,7 +94,10 @@ fault_rows = record {
     (131 ∷ 128 ∷ 128 ∷ 128 ∷ 16 ∷ [], record { ends = (omega arith, (omega arith, (omega arith, (omega arith, omega arith)))); within = omega arith; fits = omega arith; value = refl }, refl),
     inr (omega arith),
   );
-  group = inr (11, [], one_byte 11 _ (omega arith), ((omega arith, omega arith), (omega arith, omega arith, omega arith, omega arith)));
+  group = bad_wire 11 (omega arith) (omega arith, omega arith) (omega arith, omega arith, omega arith, omega arith);
+  end_of_group = bad_wire 12 (omega arith) (omega arith, omega arith) (omega arith, omega arith, omega arith, omega arith);
+  wire_type_6 = bad_wire 14 (omega arith) (omega arith, omega arith) (omega arith, omega arith, omega arith, omega arith);
+  wire_type_7 = bad_wire 15 (omega arith) (omega arith, omega arith) (omega arith, omega arith, omega arith, omega arith);
   varint_cut = inr (8, 128 ∷ [], one_byte 8 _ (omega arith), ((omega arith, omega arith), inl (inl refl, ((omega arith, tt), omega arith))));
   varint_too_long = inr (8, replicate 10 128, one_byte 8 _ (omega arith), ((omega arith, omega arith), (inl refl, (nine_unended 128 (omega arith), omega arith, omega arith))));
   eight_cut = inr (9, replicate 7 1, one_byte 9 _ (omega arith), ((omega arith, omega arith), inr (inl (refl, omega arith))));

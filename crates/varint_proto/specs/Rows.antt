@@ -17,6 +17,7 @@ pub record VarintRows : Type 0 where
   pub cut : ReadsShortest (replicate 8 128) (Ok None)
   pub nine_unended : ReadsShortest (replicate 9 128) (Err TooLong)
   pub not_shortest : ReadsShortest (128 ∷ 0 ∷ 1 ∷ []) (Err NotShortest)
+  pub nine_not_shortest : ReadsShortest (replicate 8 128 ++ 0 ∷ []) (Err NotShortest)
   pub written : shortest 300 ≡ 172 ∷ 2 ∷ []
   pub largest_written : shortest (2 ^ 64 - 1) ≡ replicate 9 255 ++ 1 ∷ []
 
@@ -24,6 +25,7 @@ pub record VarintRows : Type 0 where
 pub record WideRows : Type 0 where
   pub longer_than_needed : BeginsWide (129 ∷ 0 ∷ 7 ∷ []) 1 (7 ∷ [])
   pub largest : BeginsWide (replicate 9 255 ++ 1 ∷ []) (2 ^ 64 - 1) []
+  pub tenth_of_0 : BeginsWide (replicate 9 128 ++ 0 ∷ 7 ∷ []) 0 (7 ∷ [])
   pub cut : WideFault (replicate 9 128) Cut
   pub above_1_in_the_tenth : WideFault (replicate 9 128 ++ 2 ∷ []) TooLong
   pub ten_unended : WideFault (replicate 10 128) TooLong
@@ -38,6 +40,8 @@ pub record FieldRows : Type 0 where
       (5 ∷ [])
   pub largest_tag : Begins (253 ∷ 255 ∷ 255 ∷ 255 ∷ 15 ∷ 9 ∷ 8 ∷ 7 ∷ 6 ∷ [])
       (entry 536870911 (Fixed32 (9 ∷ 8 ∷ 7 ∷ 6 ∷ []))) []
+  -- a number that the standard reserves is read as any other
+  pub reserved_number : Begins (192 ∷ 163 ∷ 9 ∷ 7 ∷ []) (entry 19000 (Varint 7)) []
   pub two_fields : IsMessage (8 ∷ 1 ∷ 18 ∷ 0 ∷ []) (entry 1 (Varint 1) ∷ entry 2 (Bytes []) ∷ [])
   pub none : IsMessage [] []
   pub number_written : shortest_field (entry 1 (Varint 300)) ≡ 8 ∷ 172 ∷ 2 ∷ []
@@ -51,6 +55,9 @@ pub record FieldFaultRows : Type 0 where
   pub tag_of_33_bits : FieldFault (128 ∷ 128 ∷ 128 ∷ 128 ∷ 16 ∷ []) BadNumber
   pub number_before_a_group : FieldFault (131 ∷ 128 ∷ 128 ∷ 128 ∷ 16 ∷ []) BadNumber
   pub group : FieldFault (11 ∷ []) BadWire
+  pub end_of_group : FieldFault (12 ∷ []) BadWire
+  pub wire_type_6 : FieldFault (14 ∷ []) BadWire
+  pub wire_type_7 : FieldFault (15 ∷ []) BadWire
   pub varint_cut : FieldFault (8 ∷ 128 ∷ []) Cut
   pub varint_too_long : FieldFault (8 ∷ replicate 10 128) TooLong
   pub eight_cut : FieldFault (9 ∷ replicate 7 1) Cut

@@ -266,6 +266,9 @@ pub record AnswerRows : Type 0 where
       ≡ Told.Accepted 1 ∷ []
   pub ping_with_ack_answered : output Server (bare Ping 3 0 7)
       ≡ 0 ∷ 2 ∷ 0 ∷ 2 ∷ 0 ∷ 0 ∷ 0 ∷ 0 ∷ 0 ∷ 0 ∷ 0 ∷ 7 ∷ []
+  pub ping_of_no_flag : output Server (bare Ping 0 0 7) ≡ []
+  pub ping_without_syn : output Server (bare Ping 14 0 7) ≡ []
+  pub ping_opens_nothing : events Server (bare Ping 15 5 7) ≡ []
   pub gone_away_unanswered : output Server (bare GoAway 1 0 0) ≡ []
   pub leaving_sent : output Server (Did (Act.GoAway 258) ∷ [])
       ≡ 0 ∷ 3 ∷ 0 ∷ 0 ∷ 0 ∷ 0 ∷ 0 ∷ 0 ∷ 0 ∷ 0 ∷ 1 ∷ 2 ∷ []
@@ -328,3 +331,28 @@ pub record FlagRows : Type 0 where
   pub opened_and_reset_refused : output Server (in_order ((Did (Act.GoAway 2) ∷ []) ∷ bare Window 9 1 0 ∷ []))
       ≡ 0 ∷ 3 ∷ 0 ∷ 0 ∷ 0 ∷ 0 ∷ 0 ∷ 0 ∷ 0 ∷ 0 ∷ 0 ∷ 2 ∷ 0 ∷ 1 ∷ 0 ∷ 8 ∷ 0 ∷ 0 ∷ 0
       ∷ 1 ∷ 0 ∷ 0 ∷ 0 ∷ 0 ∷ []
+  pub opened_with_ack : events Server (bare Window 3 1 0) ≡ Told.Opened 1 ∷ []
+  pub opened_with_ack_accepted : output Server (bare Window 3 1 0)
+      ≡ 0 ∷ 1 ∷ 0 ∷ 2 ∷ 0 ∷ 0 ∷ 0 ∷ 1 ∷ 0 ∷ 0 ∷ 0 ∷ 0 ∷ []
+  pub data_with_ack_accepted : output Server (bare Payload 3 1 0)
+      ≡ 0 ∷ 1 ∷ 0 ∷ 2 ∷ 0 ∷ 0 ∷ 0 ∷ 1 ∷ 0 ∷ 0 ∷ 0 ∷ 0 ∷ []
+  pub opened_with_every_flag : events Server (bare Window 15 1 0) ≡ Told.Opened 1 ∷ Told.Reset 1 ∷ []
+  pub data_opens_and_ends : events Server (Came Tail ∷ Came (Byte 7) ∷ Came (header Payload 5 1 1) ∷ [])
+      ≡ Told.Opened 1 ∷ Told.Payload 1 7 ∷ Told.Ended 1 ∷ []
+  pub data_opens_and_resets : events Server (Came Tail ∷ Came (Byte 7) ∷ Came (header Payload 9 1 1) ∷ [])
+      ≡ Told.Opened 1 ∷ Told.Payload 1 7 ∷ Told.Reset 1 ∷ []
+  pub ended_by_its_opening : is_live Server (Did (Close 1) ∷ bare Payload 5 1 0) 1 ≡ false
+  pub reset_by_its_opening : is_live Server (bare Payload 9 1 0) 1 ≡ false
+  -- what ends a stream is measured against its windows, and so is what comes behind this end's close
+  pub much_data_of_the_end : events Server (in_order (bare Window 1 1 0 ∷ (Came (header Payload 4 1 262145) ∷ [])
+      ∷ [])) ≡ Told.Opened 1 ∷ Told.Fault WindowExceeded ∷ []
+  pub much_data_of_a_reset : events Server (in_order (bare Window 1 1 0 ∷ (Came (header Payload 8 1 262145) ∷ [])
+      ∷ [])) ≡ Told.Opened 1 ∷ Told.Fault WindowExceeded ∷ []
+  pub much_credit_of_a_reset : events Server (in_order (bare Window 1 1 0 ∷
+      (Came (header Window 8 1 4294967295) ∷ []) ∷ [])) ≡ Told.Opened 1 ∷ Told.Fault WindowTooLarge ∷ []
+  pub much_data_behind_the_close : events Server (in_order (bare Window 1 1 0 ∷ (Did (Close 1) ∷ []) ∷
+      (Came (header Payload 0 1 262145) ∷ []) ∷ [])) ≡ Told.Opened 1 ∷ Told.Fault WindowExceeded ∷ []
+  pub much_credit_behind_the_close : events Server (in_order (bare Window 1 1 0 ∷ (Did (Close 1) ∷ []) ∷
+      (Came (header Window 0 1 4294967295) ∷ []) ∷ [])) ≡ Told.Opened 1 ∷ Told.Fault WindowTooLarge ∷ []
+  pub much_data_opens_and_resets : events Server (Came (header Payload 9 1 262145) ∷ [])
+      ≡ Told.Fault WindowExceeded ∷ []

@@ -1,13 +1,14 @@
 -- Two sessions joined, as their calls leave them (hashicorp yamux, over pipes that deliver what was sent; what a
 -- session does that is out of memory is this project's profile).
-use Rattle.std.specs.Prelude.{◌≡◌, ℕ, ◌<◌, List, ◌∷◌, ◌++◌}
+use Rattle.std.specs.Prelude.{◌≡◌, ℕ, ◌<◌, List, ◌∷◌, ◌++◌, map}
 use Rattle.std.specs.List.{AllByRecursion}
 use mathlib.Core.List.{IsPrefix}
+use Rattle.yamux_frames.specs.Frames.{Arrival}
 use Rattle.yamux_session.specs.declared.event.Role.{Role}
 use Rattle.yamux_session.specs.declared.event.Role.TheVariants.{Client, Server}
 use Rattle.yamux_session.specs.declared.event.Event.{Event}
 use Rattle.yamux_session.specs.History.{Act}
-use Rattle.yamux_session.specs.History.Item.{Did}
+use Rattle.yamux_session.specs.History.Item.{Came, Did}
 use Rattle.yamux_session.specs.Output.{output}
 use Rattle.yamux_session.specs.State.{State, Stands, Feeds, RunsOut}
 use Rattle.yamux_session.specs.Joined.{End, Joined}
@@ -32,6 +33,7 @@ pub record IsNext (role : Role) (here there : End) (bytes sent : List ℕ) (sess
 pub record GoesOnBehind (role : Role) (here there : End) (bytes sent : List ℕ) (session : State) : Type 0 where
   pub next : End
   pub joined : AreJoined role next there
+  pub came : (more : List Arrival) × (next.items ≡ map Came more ++ here.items)
   pub fed : next.fed ≡ here.fed ++ bytes
   pub stands : Stands role next.items next.fed sent session
 
@@ -51,6 +53,7 @@ ActGoesOn = (role : Role) (here there : End) (act : Act) (sent : List ℕ) (new 
 pub record StopsWithin (role : Role) (here there : End) (bytes sent : List ℕ) (session : State) : Type 0 where
   pub next : End
   pub joined : AreJoined role next there
+  pub came : (more : List Arrival) × (next.items ≡ map Came more ++ here.items)
   pub fed : IsPrefix next.fed (here.fed ++ bytes)
   pub output_is : sent ++ session.pending ≡ output role next.items
 

@@ -57,13 +57,15 @@ not_first role [] none fault = fault
 not_first role (x ∷ past) none fault = let e = none.0 in let f = fault.0.1 in cc
 
 stands_by : (role : Role) (here next there : End) (now : List Item) (bytes sent : List ℕ) (told : List Told) (new : State) (failed : Bool)
-    → new.failed ≡ failed → AreJoined role next there → next.fed ≡ here.fed ++ bytes → now ≡ next.items
+    → new.failed ≡ failed → AreJoined role next there → next.fed ≡ here.fed ++ bytes
+    → ((more : List Arrival) × (next.items ≡ map Came more ++ here.items)) → now ≡ next.items
     → Led role here.items now here.fed bytes sent told new → GoesOnBehind role here there bytes sent new
-stands_by role here next there now bytes sent told new true failed joined fed same led =
+stands_by role here next there now bytes sent told new true failed joined fed came same led =
     absurd (not_first role now (subst (HasNoFault role) (sym same) (good role next there joined)) (led.fails failed).0)
-stands_by role here next there now bytes sent told new false goes joined fed same led = record {
+stands_by role here next there now bytes sent told new false goes joined fed came same led = record {
   next = next;
   joined = joined;
+  came = came;
   fed = fed;
   stands = subst (λ (bytes : List ℕ). Stands role next.items bytes sent new) (sym fed)
       (subst (λ (items : List Item). Stands role items (here.fed ++ bytes) sent new) same (led.goes_on goes));
@@ -74,7 +76,7 @@ feed_goes_on role here there bytes sent old new told at feeds =
     let led = feeds role here.items here.fed sent at.stands in
     let go = (going role here there at.joined).fed bytes at.are_bytes at.was_sent in
     let made = shape role here.items led.0 here.fed bytes sent (tellings told) new new.failed refl led.1 in
-    stands_by role here go.0 there led.0 bytes sent (tellings told) new new.failed refl go.3 go.1
+    stands_by role here go.0 there led.0 bytes sent (tellings told) new new.failed refl go.3 go.1 go.2
     (same_list role here go.0 there led.0 (here.fed ++ bytes) led.1.came.0 go.2.0 go.3 go.1 go.2.1 led.1.came.1 made) led.1
 
 -- ---- an act
@@ -107,6 +109,7 @@ want_of_memory_stops role here there bytes sent old new at runs =
     record {
       next = go.0;
       joined = go.3;
+      came = go.2;
       fed = (behind, ap (λ (t : List ℕ). t ++ behind) go.1 ∙ whole);
       output_is = come.output ∙ ap (output role) same;
     }

@@ -1,8 +1,11 @@
-use Rattle.ms_select.proofs.Rows.{message_rows, choice_rows, listen_rows, dial_rows, send_rows, memory_rows}
+use Rattle.ms_select.proofs.Rows.{message_rows, name_rows, choice_rows, listen_rows, dial_rows, send_rows, memory_rows}
 use Rattle.ms_select.proofs.laws.worked_rows.Goals as goal
 
 pub returns-clause-messages : goal.returns-clause-messages
 returns-clause-messages c = message_rows
+
+pub returns-clause-names : goal.returns-clause-names
+returns-clause-names c = name_rows
 
 pub returns-clause-choices : goal.returns-clause-choices
 returns-clause-choices c = choice_rows
