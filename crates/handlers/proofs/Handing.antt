@@ -1,5 +1,6 @@
 -- Lemmas on the calls of a handler.
 use Rattle.std.proofs.Common.{◌≡◌, ℕ, Bool, true, false, List, [], ◌∷◌, ◌++◌, refl, sym, ◌∙◌, ap, subst, append_assoc}
+use Rattle.std.proofs.lemmas.List.{append-nil}
 use Rattle.handlers.specs.Calls.{HandlerCall, Take, Give, End, Arises, WasHanded, EndsAs, GivesOnly, taken, given}
 
 pub taken-append : (xs ys : List HandlerCall) → taken (xs ++ ys) ≡ taken xs ++ taken ys
@@ -75,6 +76,33 @@ module _ {H : Type 0} (step : H → HandlerCall → H → Type 0) where
     sym one.joined ∙ ap taken same ∙ two.joined,
     one_end two.calls ended end (subst (λ (calls : List HandlerCall). EndsAs calls ended) same one.ends) two.ends,
   )
+
+  pub taken_on : (made value next : H) (bytes more : List ℕ) → WasHanded step made bytes false value → step value (Take more) next
+      → WasHanded step made (bytes ++ more) false next
+  taken_on made value next bytes more handed stepped = record {
+    calls = handed.calls ++ Take more ∷ [];
+    arises = one_more made handed.calls value (Take more) next handed.arises stepped;
+    joined = taken-append handed.calls (Take more ∷ []) ∙ ap (λ t. t ++ (more ++ [])) handed.joined ∙ ap (λ t. bytes ++ t) (append-nil more);
+    ends = ends_take handed.calls more handed.ends;
+  }
+
+  pub given_on : (made value next : H) (bytes : List ℕ) (ended : Bool) (room : ℕ) (more : List ℕ) → WasHanded step made bytes ended value
+      → step value (Give room more) next → WasHanded step made bytes ended next
+  given_on made value next bytes ended room more handed stepped = record {
+    calls = handed.calls ++ Give room more ∷ [];
+    arises = one_more made handed.calls value (Give room more) next handed.arises stepped;
+    joined = taken-append handed.calls (Give room more ∷ []) ∙ append-nil (taken handed.calls) ∙ handed.joined;
+    ends = ends_give handed.calls ended room more handed.ends;
+  }
+
+  pub ended_on : (made value next : H) (bytes : List ℕ) → WasHanded step made bytes false value → step value End next
+      → WasHanded step made bytes true next
+  ended_on made value next bytes handed stepped = record {
+    calls = handed.calls ++ End ∷ [];
+    arises = one_more made handed.calls value End next handed.arises stepped;
+    joined = taken-append handed.calls (End ∷ []) ∙ append-nil (taken handed.calls) ∙ handed.joined;
+    ends = ends_end handed.calls handed.ends;
+  }
 
 -- ---- a handler that notes the end
 

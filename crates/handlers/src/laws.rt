@@ -1,9 +1,9 @@
 //! What holds of every handler.
 
-ghost use Rattle.std.specs.Prelude.{◌≡◌, ℕ, Bool, List, ◌++◌};
-ghost use Rattle.handlers.specs.Calls.{HandlerCall, Arises, EndsAs, WasHanded, taken};
+ghost use Rattle.std.specs.Prelude.{◌≡◌, ℕ, Bool, true, false, List, ◌++◌};
+ghost use Rattle.handlers.specs.Calls.{HandlerCall, Take, Give, End, Arises, EndsAs, WasHanded, taken};
 ghost use Rattle.handlers.specs.Names.{NameRows};
-ghost use Rattle.handlers.specs.Rows.{JoinedRows, EndRows};
+ghost use Rattle.handlers.specs.Rows.{JoinedRows, EndRows, HandedRows};
 
 use crate::handler::Handler;
 
@@ -12,6 +12,7 @@ pub fn worked_rows()
     ensures names { NameRows }
     ensures joined { JoinedRows }
     ensures ends { EndRows }
+    ensures handed { HandedRows }
 {}
 
 /// Calls that are made in turn are made as one list.
@@ -32,4 +33,15 @@ pub fn one_handing<H: Handler>()
         (one : WasHanded H.steps made some ended value)
         (two : WasHanded H.steps made other end value) → one.calls ≡ two.calls
         → (some ≡ other) × (ended ≡ end) }
+{}
+
+/// What was handed grows with each call that is answered: by its bytes, by nothing, by the end.
+pub fn handed_on<H: Handler>()
+    ensures take { (made value next : H) (bytes more : List ℕ) → WasHanded H.steps made bytes false value
+        → H.steps value (Take more) next → WasHanded H.steps made (bytes ++ more) false next }
+    ensures give { (made value next : H) (bytes : List ℕ) (ended : Bool) (room : ℕ) (more : List ℕ)
+        → WasHanded H.steps made bytes ended value → H.steps value (Give room more) next
+        → WasHanded H.steps made bytes ended next }
+    ensures end { (made value next : H) (bytes : List ℕ) → WasHanded H.steps made bytes false value
+        → H.steps value End next → WasHanded H.steps made bytes true next }
 {}

@@ -4,6 +4,8 @@
 mod handler;
 pub mod laws;
 mod protocols;
+#[cfg(test)]
+mod tests;
 
 pub use handler::{Handler, HandlerFault};
 pub use protocols::Protocols;

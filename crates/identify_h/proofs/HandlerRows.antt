@@ -1,5 +1,5 @@
 -- The definitions of the handlers at worked values.
-use Rattle.std.proofs.Common.{◌≡◌, ◌↔◌, ℕ, ◌<◌, List, [], ◌∷◌, ◌++◌, None, true, false, refl, sym, ap, subst, ◌∙◌, arith}
+use Rattle.std.proofs.Common.{◌≡◌, ℕ, ◌<◌, List, None, true, false, refl, sym, ap, subst, ◌∙◌, arith}
 use Rattle.std.proofs.lemmas.List.{append-nil}
 use Rattle.identify_h.specs.declared.fault.IdentifyFault.TheVariants.{Failed}
 use Rattle.identify_h.specs.Faults.{number_of}
@@ -18,7 +18,11 @@ send_rows = record {
   second_end = λ message n. (λ h. h.0, λ e. (e, refl));
   give_behind_a_fault = λ n. (λ h. h.0, λ e. (e, λ going. absurd cc));
   want_of_memory = λ n. (λ h. h.0, λ e. (e, λ _. omega arith));
+  want_behind_the_end = λ n. (λ h. h.0, λ e. (e, λ _. omega arith));
   no_room = λ n h. let some : 0 < 0 = h.1 refl in omega arith;
+  nothing_unsent = λ n h. let some : 0 < 0 = h.1 refl in omega arith;
+  take_behind_a_fault = λ n. (λ h. h.0, λ e. (e, refl));
+  end_behind_a_fault = λ n. (λ h. h.0, λ e. (e, refl));
 }
 
 pub read_rows : ReadRows
@@ -32,6 +36,7 @@ read_rows = record {
   take_behind_the_end = λ n. (λ h. h.1 ∙ ap number_of (h.2 refl), λ e. (Failed, e, (λ _. refl), λ going. absurd cc));
   second_end = λ n. (λ h. h.1 ∙ ap number_of (h.2 refl), λ e. (Failed, e, (λ _. refl), λ going. absurd cc));
   give_behind_the_end = λ n h. let never : false ≡ true = h.1 in cc;
+  end_behind_a_fault = λ n. (λ h. h.1 ∙ ap number_of (h.2 refl), λ e. (Failed, e, (λ _. refl), λ going. absurd cc));
   take_behind_a_fault = λ n. (λ h. h.1 ∙ ap number_of (h.2 refl), λ e. (Failed, e, (λ _. refl), λ going. absurd cc));
   give_behind_a_fault = λ n. (λ h. h.0, λ e. (e, refl));
 }

@@ -9,3 +9,5 @@ pub mod Outcomes
 pub mod Written
 pub mod SentRead
 pub mod Lengths
+pub mod Refusing
+pub mod RoomRows

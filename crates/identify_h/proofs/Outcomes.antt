@@ -70,11 +70,11 @@ one_place (suc n) left input (b ∷ bodies) (c ∷ others) rest other few less x
 
 -- ---- where it ends
 
-framed_not : (left : ℕ) (rest : List ℕ) (r : Result (Option (List ℕ × List ℕ)) IncomingRefused) → ((x : List ℕ × List ℕ) → r ≢ Ok (Some x)) → ReadsFramed left rest r
+pub framed_not : (left : ℕ) (rest : List ℕ) (r : Result (Option (List ℕ × List ℕ)) IncomingRefused) → ((x : List ℕ × List ℕ) → r ≢ Ok (Some x)) → ReadsFramed left rest r
     → (body after : List ℕ) → Frames left rest body after → ⊥
 framed_not left rest r other reads body after frames = other (body, after) (one_framed left rest r (Ok (Some (body, after))) reads frames)
 
-stops_empty : (n left : ℕ) → Stops n left []
+pub stops_empty : (n left : ℕ) → Stops n left []
 stops_empty n left body after some frames = framed_not left [] (Ok None) (λ x e. cc) (inl (tt, omega arith)) body after frames
 
 stops_part : (n : ℕ) (bodies : List (List ℕ)) (rest : List ℕ) → IsPart bodies rest → Stops n (left_behind bodies) rest
@@ -91,7 +91,7 @@ stops_fault bodies rest OtherKey faulty body after some frames = absurd faulty
 stops_fault bodies rest Cut faulty body after some frames = absurd faulty
 stops_fault bodies rest OutOfMemory faulty body after some frames = absurd faulty
 
-there : (input : List ℕ) (bodies others : List (List ℕ)) (rest other : List ℕ) → Begins input bodies rest → Begins input others other
+pub there : (input : List ℕ) (bodies others : List (List ℕ)) (rest other : List ℕ) → Begins input bodies rest → Begins input others other
     → Stops (most_messages - length bodies) (left_behind bodies) rest → Stops (most_messages - length others) (left_behind others) other → Same bodies others rest other
 there input bodies others rest other a b p q = one_place most_messages most_bytes input bodies others rest other a.few b.few a.lead b.lead p q
 

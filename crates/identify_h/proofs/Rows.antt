@@ -22,11 +22,11 @@ use Rattle.identify_h.specs.Rows.{key_field, key_id, MessageRows, FieldRows, Mem
 one_wide : (n : ℕ) (rest : List ℕ) → n < 128 → BeginsWide (n ∷ rest) n rest
 one_wide n rest lt = (n ∷ [], record { ends = lt; within = omega arith; fits = omega arith; value = omega arith }, refl)
 
-one_short : (n : ℕ) (rest : List ℕ) → n < 128 → BeginsShortest (n ∷ rest) n rest
+pub one_short : (n : ℕ) (rest : List ℕ) → n < 128 → BeginsShortest (n ∷ rest) n rest
 one_short n rest lt = (n ∷ [], record { ends = lt; within = omega arith; shortest = λ h. absurd (omega arith); value = omega arith }, refl)
 
 -- a body of fewer than 128 bytes behind its length
-framed_row : (limit : ℕ) (body rest : List ℕ) → length body ≤ limit → length body < 128 → Frames limit (length body ∷ body ++ rest) body rest
+pub framed_row : (limit : ℕ) (body rest : List ℕ) → length body ≤ limit → length body < 128 → Frames limit (length body ∷ body ++ rest) body rest
 framed_row limit body rest le lt = record { begins = one_short (length body) (body ++ rest) lt; allowed = le }
 
 pub merge_rows : MergeRows
@@ -246,6 +246,37 @@ memory_rows = record {
     inr (5, omega arith, omega arith, omega arith),
   );
   empty_entry = (entry 2 (Bytes []) ∷ [], ([], empty_field 2 18 [] refl (omega arith) (omega arith), refl), tt, inl (2, omega arith, omega arith, refl));
+  key = (
+    entry 1 (Bytes key_message) ∷ [],
+    ([], whole_key_field, refl),
+    (the_key, spells_key),
+    inl (1, omega arith, omega arith, refl),
+  );
+  protocol = (entry 3 (Bytes []) ∷ [], ([], empty_field 3 26 [] refl (omega arith) (omega arith), refl), tt, inl (3, omega arith, omega arith, refl));
+  observed = (
+    entry 4 (Bytes (97 ∷ [])) ∷ [],
+    ([], short_field 4 34 97 [] refl (omega arith) (omega arith), refl),
+    tt,
+    inr (4, omega arith, omega arith, omega arith),
+  );
+  agent = (
+    entry 6 (Bytes (97 ∷ [])) ∷ [],
+    ([], short_field 6 50 97 [] refl (omega arith) (omega arith), refl),
+    tt,
+    inr (6, omega arith, omega arith, omega arith),
+  );
+  empty_observed = λ refused.
+      no_memory (entry 4 (Bytes []) ∷ []) refl refl refl (λ h. omega arith) (λ h. h) (λ h. h)
+      (memory_at [] (34 ∷ 0 ∷ []) (entry 4 (Bytes []) ∷ []) ([], empty_field 4 34 [] refl (omega arith) (omega arith), refl) refused).1;
+  empty_version = λ refused.
+      no_memory (entry 5 (Bytes []) ∷ []) refl refl refl (λ h. h) (λ h. omega arith) (λ h. h)
+      (memory_at [] (42 ∷ 0 ∷ []) (entry 5 (Bytes []) ∷ []) ([], empty_field 5 42 [] refl (omega arith) (omega arith), refl) refused).1;
+  number_7 = λ refused.
+      no_memory (entry 7 (Bytes (97 ∷ [])) ∷ []) refl refl refl (λ h. h) (λ h. h) (λ h. h)
+      (memory_at [] (58 ∷ 1 ∷ 97 ∷ []) (entry 7 (Bytes (97 ∷ [])) ∷ []) ([], field_7, refl) refused).1;
+  other_type = λ refused.
+      no_memory (entry 5 (Varint 1) ∷ []) refl refl refl (λ h. h) (λ h. h) (λ h. h)
+      (memory_at [] (40 ∷ 1 ∷ []) (entry 5 (Varint 1) ∷ []) ([], version_1, refl) refused).1;
   empty_agent = λ refused.
       no_memory (entry 6 (Bytes []) ∷ []) refl refl refl (λ h. h) (λ h. h) (λ h. omega arith)
       (memory_at [] (50 ∷ 0 ∷ []) (entry 6 (Bytes []) ∷ []) ([], empty_field 6 50 [] refl (omega arith) (omega arith), refl) refused).1;
@@ -257,7 +288,7 @@ memory_rows = record {
 }
 
 -- ten messages that are empty, and then these bytes
-empties : (n : ℕ) (rest : List ℕ) → Lead 16384 (replicate n 0 ++ rest) (replicate n []) rest
+pub empties : (n : ℕ) (rest : List ℕ) → Lead 16384 (replicate n 0 ++ rest) (replicate n []) rest
 empties zero rest = refl
 empties (suc n) rest = (replicate n 0 ++ rest, framed_row 16384 [] (replicate n 0 ++ rest) (omega arith) (omega arith), empties n rest)
 

@@ -8,7 +8,7 @@ use Rattle.identify_h.specs.declared.fault.IdentifyFault.TheVariants.{Failed, To
 use Rattle.identify_h.specs.Faults.{number_of}
 use Rattle.identify_h.specs.Sending.{framed, sending, SendStep, SendFails}
 use Rattle.identify_h.specs.Reading.{Reader, ReadStep, ReadFails}
-use Rattle.identify_h.specs.Streams.{HasFault, EndFails, Reads}
+use Rattle.identify_h.specs.Streams.{HasFault, TakeFails, EndFails, Reads}
 
 -- a message that says nothing, and one with a version `abc` and an agent `x`
 abbrev pub nothing : Message
@@ -96,7 +96,16 @@ pub record FieldRows : Type 0 where
 pub record MemoryRows : Type 0 where
   pub version : Refuses [] (42 ∷ 1 ∷ 97 ∷ []) OutOfMemory
   pub empty_entry : Refuses [] (18 ∷ 0 ∷ []) OutOfMemory
+  pub key : Refuses key_id key_field OutOfMemory
+  pub protocol : Refuses [] (26 ∷ 0 ∷ []) OutOfMemory
+  pub observed : Refuses [] (34 ∷ 1 ∷ 97 ∷ []) OutOfMemory
+  pub agent : Refuses [] (50 ∷ 1 ∷ 97 ∷ []) OutOfMemory
+  pub empty_observed : ¬ Refuses [] (34 ∷ 0 ∷ []) OutOfMemory
+  pub empty_version : ¬ Refuses [] (42 ∷ 0 ∷ []) OutOfMemory
   pub empty_agent : ¬ Refuses [] (50 ∷ 0 ∷ []) OutOfMemory
+  -- a field that isn't kept: of another number, or of another wire type
+  pub number_7 : ¬ Refuses [] (58 ∷ 1 ∷ 97 ∷ []) OutOfMemory
+  pub other_type : ¬ Refuses [] (40 ∷ 1 ∷ []) OutOfMemory
   pub no_field : ¬ Refuses [] [] OutOfMemory
   -- a key that isn't well spelt, and a version behind it
   pub bad_key : ¬ Refuses [] (10 ∷ 0 ∷ 42 ∷ 1 ∷ 97 ∷ []) OutOfMemory
@@ -122,6 +131,18 @@ pub record FaultRows : Type 0 where
   -- a body of 16384 bytes is too long behind one of a byte
   pub together : HasFault (1 ∷ 8 ∷ 128 ∷ 128 ∷ 1 ∷ []) TooLong
 
+-- Where a stream asks for memory: at the last byte of a length, once for each body that isn't empty
+pub record RoomRows : Type 0 where
+  pub first : TakeFails [] (1 ∷ []) OutOfMemory
+  pub second : TakeFails (1 ∷ 8 ∷ []) (3 ∷ []) OutOfMemory
+  pub within_a_piece : TakeFails [] (0 ∷ 3 ∷ 50 ∷ []) OutOfMemory
+  pub nothing_taken : ¬ TakeFails (1 ∷ []) [] OutOfMemory
+  pub empty_body : ¬ TakeFails [] (0 ∷ []) OutOfMemory
+  pub length_begun : ¬ TakeFails [] (128 ∷ []) OutOfMemory
+  pub body : ¬ TakeFails (1 ∷ []) (8 ∷ []) OutOfMemory
+  pub too_long : ¬ TakeFails [] (129 ∷ 128 ∷ 1 ∷ []) OutOfMemory
+  pub eleventh : ¬ TakeFails (replicate 10 0) (1 ∷ []) OutOfMemory
+
 pub record NumberRows : Type 0 where
   pub failed : number_of Failed ≡ 1
   pub too_long : number_of TooLong ≡ 2
@@ -145,7 +166,12 @@ pub record SendRows : Type 0 where
       → SendFails (record (sending message) { ended = true }) ToEnd n ↔ (n ≡ 1)
   pub give_behind_a_fault : (n : ℕ) → SendFails (record (sending (1 ∷ [])) { failed = true }) (ToGive 1) n ↔ (n ≡ 1)
   pub want_of_memory : (n : ℕ) → SendFails (sending (1 ∷ [])) (ToGive 1) n ↔ (n ≡ 7)
+  pub want_behind_the_end : (n : ℕ)
+      → SendFails (record (sending (1 ∷ [])) { ended = true }) (ToGive 1) n ↔ (n ≡ 7)
   pub no_room : (n : ℕ) → ¬ SendFails (sending (1 ∷ [])) (ToGive 0) n
+  pub nothing_unsent : (n : ℕ) → ¬ SendFails (sending []) (ToGive 64) n
+  pub take_behind_a_fault : (n : ℕ) → SendFails (record (sending []) { failed = true }) (ToTake []) n ↔ (n ≡ 1)
+  pub end_behind_a_fault : (n : ℕ) → SendFails (record (sending []) { failed = true }) ToEnd n ↔ (n ≡ 1)
 
 -- a reader that has read one empty message up to its end
 abbrev pub at_end : Reader
@@ -164,6 +190,7 @@ pub record ReadRows : Type 0 where
   pub take_behind_the_end : (n : ℕ) → ReadFails at_end (ToTake (0 ∷ [])) n ↔ (n ≡ 1)
   pub second_end : (n : ℕ) → ReadFails at_end ToEnd n ↔ (n ≡ 1)
   pub give_behind_the_end : (n : ℕ) → ¬ ReadFails at_end (ToGive 1) n
+  pub end_behind_a_fault : (n : ℕ) → ReadFails (record at_end { message = None; failed = true }) ToEnd n ↔ (n ≡ 1)
   pub take_behind_a_fault : (n : ℕ)
       → ReadFails (record at_end { message = None; failed = true }) (ToTake []) n ↔ (n ≡ 1)
   pub give_behind_a_fault : (n : ℕ)

@@ -2,12 +2,14 @@
 
 ghost use Rattle.std.specs.Prelude.{◌≡◌, ◌↔◌, ◌<◌, ℕ, Bool, List, [], ◌∷◌, ◌++◌, length, true, IfSome};
 ghost use mathlib.Core.List.{IsPrefix};
-ghost use Rattle.handlers.specs.Calls.{HandlerCall, Give, Arises, EndsAs, taken, given};
+ghost use Rattle.handlers.specs.Calls.{HandlerCall, Take, Give, End, ToTake, ToGive, ToEnd, Arises, EndsAs, taken, given};
+ghost use Rattle.identify_h.specs.declared.fault.IdentifyFault.TheVariants.{OutOfMemory};
+ghost use Rattle.identify_h.specs.Faults.{number_of};
 ghost use Rattle.identify_h.specs.Messages.{OneMessage, WrittenIsRead};
 ghost use Rattle.identify_h.specs.Streams.{Reads, OneOutcome, SomeOutcome, FaultsStay, SentIsRead};
-ghost use Rattle.identify_h.specs.Reading.{Reader, IsFresh};
+ghost use Rattle.identify_h.specs.Reading.{Reader, Stands, IsFresh};
 ghost use Rattle.identify_h.specs.Sending.{Sending, sending};
-ghost use Rattle.identify_h.specs.Rows.{MessageRows, FieldRows, MemoryRows, MergeRows, StreamRows, FaultRows, NumberRows, SendRows, ReadRows};
+ghost use Rattle.identify_h.specs.Rows.{MessageRows, FieldRows, MemoryRows, MergeRows, StreamRows, FaultRows, RoomRows, NumberRows, SendRows, ReadRows};
 
 use crate::reader::IdentifyIn;
 use crate::writer::IdentifyOut;
@@ -21,6 +23,7 @@ pub fn worked_rows()
     ensures merging { MergeRows }
     ensures streams { StreamRows }
     ensures faults { FaultRows }
+    ensures room { RoomRows }
     ensures numbers { NumberRows }
     ensures sending { SendRows }
     ensures reading { ReadRows }
@@ -85,4 +88,29 @@ pub fn identify_is_sent()
     ensures finished { (message : List ℕ) (calls : List HandlerCall) (out : Sending)
         → Arises ⟦<IdentifyOut as Handler>⟧.steps (sending message) calls out
         → (⟦<IdentifyOut as Handler>⟧.is_finished out ≡ true) ↔ (given calls ≡ message) }
+{}
+
+/// A call that a reader answers is refused for want of memory alone, and none where it is asked for bytes.
+pub fn reading_refuses()
+    ensures take { (input bytes : List ℕ) (old new : Reader) (n : ℕ) → Stands input old
+        → ⟦<IdentifyIn as Handler>⟧.steps old (Take bytes) new
+        → ⟦<IdentifyIn as Handler>⟧.fails old (ToTake bytes) n → n ≡ number_of OutOfMemory }
+    ensures end { (input : List ℕ) (old new : Reader) (n : ℕ) → Stands input old
+        → ⟦<IdentifyIn as Handler>⟧.steps old End new
+        → ⟦<IdentifyIn as Handler>⟧.fails old ToEnd n → n ≡ number_of OutOfMemory }
+    ensures give { (old new : Reader) (room : ℕ) (bytes : List ℕ) (n : ℕ)
+        → ⟦<IdentifyIn as Handler>⟧.steps old (Give room bytes) new
+        → ¬ ⟦<IdentifyIn as Handler>⟧.fails old (ToGive room) n }
+{}
+
+/// A call that a sender answers is refused for want of memory alone, and only where bytes are given.
+pub fn sending_refuses()
+    ensures take { (old new : Sending) (bytes : List ℕ) (n : ℕ) → ⟦<IdentifyOut as Handler>⟧.steps old (Take bytes) new
+        → ¬ ⟦<IdentifyOut as Handler>⟧.fails old (ToTake bytes) n }
+    ensures end { (old new : Sending) (n : ℕ) → ⟦<IdentifyOut as Handler>⟧.steps old End new
+        → ¬ ⟦<IdentifyOut as Handler>⟧.fails old ToEnd n }
+    ensures give { (old new : Sending) (room : ℕ) (bytes : List ℕ) (n : ℕ)
+        → ⟦<IdentifyOut as Handler>⟧.steps old (Give room bytes) new
+        → ⟦<IdentifyOut as Handler>⟧.fails old (ToGive room) n
+        → (n ≡ number_of OutOfMemory) × (0 < length bytes) }
 {}

@@ -369,3 +369,93 @@ fn numbers_and_sentences_of_faults(rt: HostRuntime) -> Result<(), Fail> {
     }
     Ok(())
 }
+
+/// Whether this is read back once it was sent, both in one piece.
+fn comes_back(alloc: Global, said: &Identify, peer: PeerId) -> Result<bool, Fail> {
+    let mut sender = IdentifyOut::new(alloc, said)?;
+    let stream = sender.give(usize::MAX)?;
+    let mut reader = IdentifyIn::new(alloc, peer);
+    if read(&mut reader, &stream, stream.len()).is_some() {
+        return Ok(false);
+    }
+    let Ok(message) = reader.into_message() else {
+        return Ok(false);
+    };
+    Ok(message.write()?.as_slice() == said.write()?.as_slice())
+}
+
+#[test]
+fn a_key_of_each_type_comes_back(rt: HostRuntime) -> Result<(), Fail> {
+    let alloc = rt.alloc();
+    let rows = [
+        (KeyType::Rsa, 294),
+        (KeyType::Ed25519, 32),
+        (KeyType::Secp256k1, 33),
+        (KeyType::Ecdsa, 4096),
+    ];
+    for (kind, len) in rows {
+        let Some(key) = PublicKey::new(kind, vec![in alloc; 7u8; len]?) else {
+            return Err(Fail::from("a key of this type"));
+        };
+        let peer = PeerId::of_key(&key);
+        let mut said = nothing(alloc);
+        said.key = Some(key);
+        assert!(rt; comes_back(alloc, &said, peer)?, "a key of {len} bytes");
+    }
+    Ok(())
+}
+
+#[test]
+fn texts_of_many_lengths_come_back(rt: HostRuntime) -> Result<(), Fail> {
+    let alloc = rt.alloc();
+    let peer = peer_of(alloc, 1)?;
+    // The last has 16381 bytes, with which the body has 16384.
+    for step in 0..=65usize {
+        let len = if step == 65 { 16381 } else { step * 250 };
+        let mut said = nothing(alloc);
+        let text = Some(vec![in alloc; 7u8; len]?);
+        match step % 3 {
+            0 => said.observed = text,
+            1 => said.version = text,
+            _ => said.agent = text,
+        }
+        assert!(rt; comes_back(alloc, &said, peer)?, "a text of {len} bytes");
+    }
+    Ok(())
+}
+
+#[test]
+fn lists_of_8192_entries_come_back(rt: HostRuntime) -> Result<(), Fail> {
+    let alloc = rt.alloc();
+    let peer = peer_of(alloc, 1)?;
+    // Each entry has two bytes, and so the body 16384.
+    for listens in [true, false] {
+        let mut said = nothing(alloc);
+        let mut list = Vec::new(alloc);
+        for _ in 0..8192 {
+            list.push(Vec::new(alloc))?;
+        }
+        if listens {
+            said.listen = list;
+        } else {
+            said.protocols = list;
+        }
+        assert!(rt; comes_back(alloc, &said, peer)?, "addresses: {listens}");
+    }
+    Ok(())
+}
+
+#[test]
+fn a_message_alone_has_no_limit(rt: HostRuntime) -> Result<(), Fail> {
+    let alloc = rt.alloc();
+    let said = most_of_it(alloc, vec![in alloc; 7u8; 100000]?)?;
+    let body = said.write()?;
+    // Three bytes of the length in place of the two that it has from 128 to 16383 bytes.
+    assert_eq!(rt; body.len(), 100074);
+    let back = Identify::read(alloc, &body, peer_of(alloc, 7)?)?;
+    assert_eq!(rt;
+        back.agent.as_deref().map(|agent| agent.len()),
+        Some(100000)
+    );
+    Ok(())
+}

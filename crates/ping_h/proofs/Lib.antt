@@ -2,3 +2,4 @@ pub mod Prefixes
 pub mod Echoing
 pub mod Rounding
 pub mod Rows
+pub mod Refusing

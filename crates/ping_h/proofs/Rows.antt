@@ -1,5 +1,5 @@
 -- The worked rows.
-use Rattle.std.proofs.Common.{◌≡◌, ℕ, [], ◌∷◌, ◌<◌, refl, arith}
+use Rattle.std.proofs.Common.{[], ◌∷◌, ◌<◌, refl, arith}
 use Rattle.ping_h.specs.Rows.{EchoStepRows, EchoFaultRows, RoundStepRows, RoundFaultRows}
 
 pub echo_steps : EchoStepRows
@@ -7,13 +7,18 @@ echo_steps = record { empty = (refl, refl); round = (refl, refl); end = (refl, r
 
 pub echo_faults : EchoFaultRows
 echo_faults = record {
-  cut = (refl, λ going. omega arith);
-  memory = (refl, λ going. omega arith);
-  no_memory = λ fails. omega (arith, fails.1 refl);
-  none_between = λ fails. omega (arith, fails.1 refl);
-  behind_the_end = (refl, λ going. absurd (cc going));
-  second_end = (refl, λ going. absurd (cc going));
-  failed = (refl, λ going. absurd (cc going));
+  cut = λ n. (λ h. h.0, λ e. (e, λ going. omega arith));
+  none_between = λ n h. let some : 0 < 0 = h.1 refl in omega arith;
+  memory = λ n. (λ h. h.0, λ e. (e, λ going. omega arith));
+  no_memory = λ n h. let some : 0 < 0 = h.1 refl in omega arith;
+  memory_to_give = λ n. (λ h. h.0, λ e. (e, λ going. omega arith));
+  no_room = λ n h. let some : 0 < 0 = h.1 refl in omega arith;
+  no_whole_round = λ n h. let some : 0 < 0 = h.1 refl in omega arith;
+  behind_the_end = λ n. (λ h. h.0, λ e. (e, λ going. absurd (cc going)));
+  second_end = λ n. (λ h. h.0, λ e. (e, λ going. absurd (cc going)));
+  take_behind_a_fault = λ n. (λ h. h.0, λ e. (e, λ going. absurd (cc going)));
+  end_behind_a_fault = λ n. (λ h. h.0, λ e. (e, λ going. absurd (cc going)));
+  give_behind_a_fault = λ n. (λ h. h.0, λ e. (e, λ going. absurd (cc going)));
 }
 
 pub round_steps : RoundStepRows
@@ -27,12 +32,18 @@ round_steps = record {
 
 pub round_faults : RoundFaultRows
 round_faults = record {
-  wrong = (refl, λ going prefix. cc prefix.1);
-  longer = (refl, λ going prefix. cc prefix.1);
-  cut = (refl, λ going. omega arith);
-  memory = (refl, λ going. omega arith);
-  no_memory = λ fails. omega (arith, fails.1 refl);
-  behind_the_end = (refl, λ going. absurd (cc going));
-  second_end = (refl, λ going. absurd (cc going));
-  failed = (refl, λ going. absurd (cc going));
+  wrong = λ n. (λ h. h.0, λ e. (e, λ going prefix. cc prefix.1));
+  longer = λ n. (λ h. h.0, λ e. (e, λ going prefix. cc prefix.1));
+  right = λ n h. h.1 refl (2 ∷ [], refl);
+  cut = λ n. (λ h. h.0, λ e. (e, λ going. omega arith));
+  none_behind_all = λ n h. let some : 0 < 0 = h.1 refl in omega arith;
+  memory = λ n. (λ h. h.0, λ e. (e, λ going. omega arith));
+  memory_behind_the_end = λ n. (λ h. h.0, λ e. (e, λ going. omega arith));
+  no_room = λ n h. let some : 0 < 0 = h.1 refl in omega arith;
+  nothing_unsent = λ n h. let some : 0 < 0 = h.1 refl in omega arith;
+  behind_the_end = λ n. (λ h. h.0, λ e. (e, λ going. absurd (cc going)));
+  second_end = λ n. (λ h. h.0, λ e. (e, λ going. absurd (cc going)));
+  take_behind_a_fault = λ n. (λ h. h.0, λ e. (e, λ going. absurd (cc going)));
+  end_behind_a_fault = λ n. (λ h. h.0, λ e. (e, λ going. absurd (cc going)));
+  give_behind_a_fault = λ n. (λ h. h.0, λ e. (e, λ going. absurd (cc going)));
 }

@@ -1,6 +1,6 @@
 -- Worked rows of the definitions (libp2p ping 1.0.0; what stands behind the end and the numbers of faults are this
 -- project's profile).
-use Rattle.std.specs.Prelude.{◌≡◌, ℕ, [], ◌∷◌, ◌++◌, Bool, true, false, replicate}
+use Rattle.std.specs.Prelude.{◌≡◌, ◌↔◌, ℕ, [], ◌∷◌, ◌++◌, Bool, true, false, replicate}
 use Rattle.handlers.specs.Calls.{Take, Give, End, ToTake, ToGive, ToEnd}
 use Rattle.ping_h.specs.Echoes.{Echo, EchoStep, EchoFails, fresh, whole_rounds, whole}
 use Rattle.ping_h.specs.Rounds.{Round, RoundStep, RoundFails, round}
@@ -35,15 +35,21 @@ pub record EchoStepRows : Type 0 where
   pub end : EchoStep (echo_of_one false) End (echo_of_one true)
   pub given : EchoStep (echo_of_one true) (Give 64 (replicate 32 7)) (record fresh { ended = true })
 
--- what is refused, and by which number
+-- What is refused, and by which number: that one alone. Memory is wanted for bytes that are held or given, behind the
+-- end too
 pub record EchoFaultRows : Type 0 where
-  pub cut : EchoFails echo_within ToEnd 3
-  pub memory : EchoFails fresh (ToTake (7 ∷ [])) 4
-  pub no_memory : ¬ EchoFails fresh (ToTake []) 4
-  pub none_between : ¬ EchoFails (echo_of_one false) ToEnd 3
-  pub behind_the_end : EchoFails (echo_of_one true) (ToTake []) 1
-  pub second_end : EchoFails (echo_of_one true) ToEnd 1
-  pub failed : EchoFails failed_echo (ToGive 0) 1
+  pub cut : (n : ℕ) → EchoFails echo_within ToEnd n ↔ (n ≡ 3)
+  pub none_between : (n : ℕ) → ¬ EchoFails (echo_of_one false) ToEnd n
+  pub memory : (n : ℕ) → EchoFails fresh (ToTake (7 ∷ [])) n ↔ (n ≡ 4)
+  pub no_memory : (n : ℕ) → ¬ EchoFails fresh (ToTake []) n
+  pub memory_to_give : (n : ℕ) → EchoFails (echo_of_one true) (ToGive 1) n ↔ (n ≡ 4)
+  pub no_room : (n : ℕ) → ¬ EchoFails (echo_of_one false) (ToGive 0) n
+  pub no_whole_round : (n : ℕ) → ¬ EchoFails echo_within (ToGive 64) n
+  pub behind_the_end : (n : ℕ) → EchoFails (echo_of_one true) (ToTake []) n ↔ (n ≡ 1)
+  pub second_end : (n : ℕ) → EchoFails (echo_of_one true) ToEnd n ↔ (n ≡ 1)
+  pub take_behind_a_fault : (n : ℕ) → EchoFails failed_echo (ToTake []) n ↔ (n ≡ 1)
+  pub end_behind_a_fault : (n : ℕ) → EchoFails failed_echo ToEnd n ↔ (n ≡ 1)
+  pub give_behind_a_fault : (n : ℕ) → EchoFails failed_echo (ToGive 0) n ↔ (n ≡ 1)
 
 -- a round whose ping, of two bytes here, was sent and has come back
 abbrev pub whole_round : Bool → Round
@@ -60,13 +66,20 @@ pub record RoundStepRows : Type 0 where
   pub end : RoundStep (whole_round false) End (whole_round true)
   pub given : RoundStep (whole_round true) (Give 64 []) (whole_round true)
 
--- what is refused, and by which number
+-- what is refused, and by which number: that one alone
 pub record RoundFaultRows : Type 0 where
-  pub wrong : RoundFails (round (1 ∷ 2 ∷ [])) (ToTake (2 ∷ [])) 2
-  pub longer : RoundFails (whole_round false) (ToTake (1 ∷ [])) 2
-  pub cut : RoundFails (record (round (1 ∷ 2 ∷ [])) { awaited = 2 ∷ [] }) ToEnd 3
-  pub memory : RoundFails (round (1 ∷ 2 ∷ [])) (ToGive 1) 4
-  pub no_memory : ¬ RoundFails (round (1 ∷ 2 ∷ [])) (ToGive 0) 4
-  pub behind_the_end : RoundFails (whole_round true) (ToTake []) 1
-  pub second_end : RoundFails (whole_round true) ToEnd 1
-  pub failed : RoundFails failed_round (ToGive 0) 1
+  pub wrong : (n : ℕ) → RoundFails (round (1 ∷ 2 ∷ [])) (ToTake (2 ∷ [])) n ↔ (n ≡ 2)
+  pub longer : (n : ℕ) → RoundFails (whole_round false) (ToTake (1 ∷ [])) n ↔ (n ≡ 2)
+  pub right : (n : ℕ) → ¬ RoundFails (round (1 ∷ 2 ∷ [])) (ToTake (1 ∷ [])) n
+  pub cut : (n : ℕ) → RoundFails (record (round (1 ∷ 2 ∷ [])) { awaited = 2 ∷ [] }) ToEnd n ↔ (n ≡ 3)
+  pub none_behind_all : (n : ℕ) → ¬ RoundFails (whole_round false) ToEnd n
+  pub memory : (n : ℕ) → RoundFails (round (1 ∷ 2 ∷ [])) (ToGive 1) n ↔ (n ≡ 4)
+  pub memory_behind_the_end : (n : ℕ)
+      → RoundFails (record (whole_round true) { unsent = 2 ∷ [] }) (ToGive 1) n ↔ (n ≡ 4)
+  pub no_room : (n : ℕ) → ¬ RoundFails (round (1 ∷ 2 ∷ [])) (ToGive 0) n
+  pub nothing_unsent : (n : ℕ) → ¬ RoundFails (whole_round false) (ToGive 64) n
+  pub behind_the_end : (n : ℕ) → RoundFails (whole_round true) (ToTake []) n ↔ (n ≡ 1)
+  pub second_end : (n : ℕ) → RoundFails (whole_round true) ToEnd n ↔ (n ≡ 1)
+  pub take_behind_a_fault : (n : ℕ) → RoundFails failed_round (ToTake []) n ↔ (n ≡ 1)
+  pub end_behind_a_fault : (n : ℕ) → RoundFails failed_round ToEnd n ↔ (n ≡ 1)
+  pub give_behind_a_fault : (n : ℕ) → RoundFails failed_round (ToGive 0) n ↔ (n ≡ 1)

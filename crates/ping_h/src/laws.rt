@@ -1,8 +1,10 @@
 //! What the handlers of a ping do, over whole lists of calls.
 
 ghost use Rattle.std.specs.Prelude.{◌≡◌, ◌↔◌, ◌<◌, ℕ, Bool, List, [], ◌∷◌, ◌++◌, length, true};
+ghost use Rattle.ping_h.specs.declared.fault.PingFault.TheVariants.{OutOfMemory};
+ghost use Rattle.ping_h.specs.Faults.{number_of};
 ghost use mathlib.Core.List.{IsPrefix};
-ghost use Rattle.handlers.specs.Calls.{HandlerCall, Give, Arises, EndsAs, taken, given};
+ghost use Rattle.handlers.specs.Calls.{HandlerCall, Take, Give, End, ToTake, ToGive, ToEnd, Arises, EndsAs, taken, given};
 ghost use Rattle.ping_h.specs.Echoes.{Echo, fresh, whole_rounds};
 ghost use Rattle.ping_h.specs.Rounds.{Round, round};
 ghost use Rattle.ping_h.specs.Rows.{OwedRows, RoundRows, EchoStepRows, EchoFaultRows, RoundStepRows, RoundFaultRows};
@@ -45,6 +47,18 @@ pub fn echo_finishes()
         × (given calls ≡ taken calls)) }
 {}
 
+/// A call that an echo answers is refused for want of memory alone, and only where bytes are held or given. So it has
+/// one outcome where memory is ample.
+pub fn echo_refuses()
+    ensures take { (old new : Echo) (bytes : List ℕ) (n : ℕ) → ⟦<PingEcho as Handler>⟧.steps old (Take bytes) new
+        → ⟦<PingEcho as Handler>⟧.fails old (ToTake bytes) n → (n ≡ number_of OutOfMemory) × (0 < length bytes) }
+    ensures give { (old new : Echo) (room : ℕ) (bytes : List ℕ) (n : ℕ)
+        → ⟦<PingEcho as Handler>⟧.steps old (Give room bytes) new
+        → ⟦<PingEcho as Handler>⟧.fails old (ToGive room) n → (n ≡ number_of OutOfMemory) × (0 < length bytes) }
+    ensures end { (old new : Echo) (n : ℕ) → ⟦<PingEcho as Handler>⟧.steps old End new
+        → ¬ ⟦<PingEcho as Handler>⟧.fails old ToEnd n }
+{}
+
 /// What a round sent is a first part of the ping, and all of it where the last call left room.
 pub fn ping_is_sent()
     ensures part { (ping : List ℕ) (calls : List HandlerCall) (out : Round)
@@ -62,4 +76,15 @@ pub fn ping_finishes()
     ensures finished { (ping : List ℕ) (calls : List HandlerCall) (ended : Bool) (out : Round) → EndsAs calls ended
         → Arises ⟦<PingOut as Handler>⟧.steps (round ping) calls out
         → (⟦<PingOut as Handler>⟧.is_finished out ≡ true) ↔ ((taken calls ≡ ping) × (ended ≡ true)) }
+{}
+
+/// A call that a round answers is refused for want of memory alone, and only where bytes are given.
+pub fn ping_refuses()
+    ensures take { (old new : Round) (bytes : List ℕ) (n : ℕ) → ⟦<PingOut as Handler>⟧.steps old (Take bytes) new
+        → ¬ ⟦<PingOut as Handler>⟧.fails old (ToTake bytes) n }
+    ensures give { (old new : Round) (room : ℕ) (bytes : List ℕ) (n : ℕ)
+        → ⟦<PingOut as Handler>⟧.steps old (Give room bytes) new
+        → ⟦<PingOut as Handler>⟧.fails old (ToGive room) n → (n ≡ number_of OutOfMemory) × (0 < length bytes) }
+    ensures end { (old new : Round) (n : ℕ) → ⟦<PingOut as Handler>⟧.steps old End new
+        → ¬ ⟦<PingOut as Handler>⟧.fails old ToEnd n }
 {}

@@ -68,12 +68,13 @@ fn an_echo_gives_whole_rounds_back(rt: HostRuntime) -> Result<(), Fail> {
 
 #[test]
 fn a_long_input_is_echoed(rt: HostRuntime) -> Result<(), Fail> {
+    // As many bytes as a stream may bring before any is given back.
     let mut echo = PingEcho::new(rt.alloc());
-    let input = vec![in rt.alloc(); 7u8; 3200]?;
+    let input = vec![in rt.alloc(); 7u8; 262144]?;
     assert!(rt; echo.take(&input).is_ok());
     assert!(rt; echo.end().is_ok());
     assert_eq!(rt; echo.give(2000)?.len(), 2000);
-    assert_eq!(rt; echo.give(2000)?.len(), 1200);
+    assert_eq!(rt; echo.give(usize::MAX)?.len(), 260144);
     assert!(rt; echo.finished());
     Ok(())
 }
@@ -128,6 +129,17 @@ fn a_ping_that_comes_back_is_finished(rt: HostRuntime) -> Result<(), Fail> {
         assert_eq!(rt; out.end().err().map(|fault| fault.number), Some(1));
         assert!(rt; out.finished());
         assert_eq!(rt; out.give(64)?.len(), 0);
+    }
+    Ok(())
+}
+
+#[test]
+fn a_ping_fills_each_room(rt: HostRuntime) -> Result<(), Fail> {
+    for room in 0..=34 {
+        let mut out = PingOut::new(rt.alloc(), PING);
+        let room = if room == 34 { usize::MAX } else { room };
+        let given = out.give(room)?;
+        assert_eq!(rt; given.as_slice(), &PING[..room.min(32)], "room {room}");
     }
     Ok(())
 }

@@ -1,4 +1,5 @@
 use Rattle.identify_h.proofs.Rows.{message_rows, field_rows, memory_rows, merge_rows, stream_rows, fault_rows}
+use Rattle.identify_h.proofs.RoomRows.{room_rows}
 use Rattle.identify_h.proofs.HandlerRows.{number_rows, send_rows, read_rows}
 use Rattle.identify_h.proofs.laws.worked_rows.Goals as goal
 
@@ -19,6 +20,9 @@ returns-clause-memory c = memory_rows
 
 pub returns-clause-faults : goal.returns-clause-faults
 returns-clause-faults c = fault_rows
+
+pub returns-clause-room : goal.returns-clause-room
+returns-clause-room c = room_rows
 
 pub returns-clause-numbers : goal.returns-clause-numbers
 returns-clause-numbers c = number_rows

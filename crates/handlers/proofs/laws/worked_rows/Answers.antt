@@ -1,0 +1,8 @@
+use Rattle.handlers.proofs.Rows.{end_rows, handed_rows}
+use Rattle.handlers.proofs.laws.worked_rows.Goals as goal
+
+pub returns-clause-ends : goal.returns-clause-ends
+returns-clause-ends c = end_rows
+
+pub returns-clause-handed : goal.returns-clause-handed
+returns-clause-handed c = handed_rows
