@@ -1,0 +1,5 @@
+pub mod Numbers
+pub mod Fields
+pub mod Framing
+pub mod Keyed
+pub mod Addressed

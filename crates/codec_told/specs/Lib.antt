@@ -1,0 +1,5 @@
+-- cited by public clauses and laws
+pub mod Varints
+pub mod Messages
+pub mod Keys
+pub mod Addresses

@@ -1,0 +1,47 @@
+//! Keys and ids that a caller reads and names.
+
+ghost use Rattle.std.specs.Prelude.{◌≡◌, ◌↔◌, IsTrue, Some, IfOk, string_bytes};
+ghost use Rattle.peer_ids.specs.Key.{Key};
+ghost use Rattle.peer_ids.specs.PeerId.{id_of};
+ghost use Rattle.peer_ids.specs.Base32.{id_text};
+ghost use Rattle.codec_told.specs.Keys.{IsOneKey};
+
+use peer_ids::laws::{ids_are_multihashes, one_key, one_text, some_key};
+use peer_ids::{KeyFault, PeerId, PublicKey};
+use std::alloc::{AllocError, Global};
+
+/// Reads a key: its bytes have one outcome.
+pub fn key_read(alloc: Global, bytes: &[u8]) -> Result<PublicKey, KeyFault>
+    ensures { IsOneKey bytes.now result }
+{
+    one_key();
+    some_key();
+    PublicKey::read(alloc, bytes)
+}
+
+/// Takes an id that is told in bytes: that of any key is taken.
+pub fn id_told(bytes: &[u8]) -> Option<PeerId>
+    ensures { (key : Key) → bytes.now ≡ id_of key → result ≡ Some (id_of key) }
+{
+    ids_are_multihashes();
+    PeerId::from_bytes(bytes).ok()
+}
+
+/// The text of an id, and whether another id has the same.
+#[derive(Drop)]
+pub struct Texts {
+    pub text: String,
+    pub same: bool,
+}
+
+/// Writes two ids: their texts are the same where the ids are.
+pub fn texts_of(alloc: Global, id: &PeerId, other: &PeerId) -> Result<Texts, AllocError>
+    ensures text { IfOk result (λ texts. string_bytes texts.text ≡ id_text id.now) }
+    ensures same { IfOk result (λ texts. IsTrue texts.same ↔ (id.now ≡ other.now)) }
+{
+    one_text();
+    let text = id.to_text(alloc)?;
+    let other = other.to_text(alloc)?;
+    let same = text.as_str() == other.as_str();
+    Ok(Texts { text, same })
+}
