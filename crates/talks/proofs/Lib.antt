@@ -1,0 +1,5 @@
+pub mod Outcomes
+pub mod Hearing
+pub mod Ends
+pub mod Rows
+pub mod Running

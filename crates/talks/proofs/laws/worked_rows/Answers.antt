@@ -1,0 +1,8 @@
+use Rattle.talks.proofs.Rows.{ask_rows, answer_rows}
+use Rattle.talks.proofs.laws.worked_rows.Goals as goal
+
+pub returns-clause-asks : goal.returns-clause-asks
+returns-clause-asks c = ask_rows
+
+pub returns-clause-answers : goal.returns-clause-answers
+returns-clause-answers c = answer_rows
