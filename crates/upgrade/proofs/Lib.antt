@@ -1,0 +1,10 @@
+pub mod Growing
+pub mod Opening
+pub mod Hearing
+pub mod Leading
+pub mod Outcomes
+pub mod Running
+pub mod Telling
+pub mod Staying
+pub mod Ends
+pub mod Rows

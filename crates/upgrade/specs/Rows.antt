@@ -1,0 +1,82 @@
+-- Worked rows of an upgrade (multistream-select 1.0; plaintext 2.0.0; the order of its parts is this project's
+-- profile): of an end that opened the connection and of one that took it, each with a key of one byte.
+use Rattle.std.specs.Prelude.{◌≡◌, ℕ, List, [], ◌∷◌, ◌++◌, codes, Some, None, Ok, Err}
+use Rattle.peer_ids.specs.Key.{Key}
+use Rattle.peer_ids.specs.declared.kind.KeyType.TheVariants.{Secp256k1}
+use Rattle.ms_select.specs.declared.fault.SelectFault.TheVariants.{BadHeader}
+use Rattle.ms_select.specs.Messages.{header, na, spelled}
+use Rattle.ms_select.specs.Rows.{x, x_bytes}
+use Rattle.plaintext_x.specs.declared.fault.ExchangeFault.TheVariants.{NoId}
+use Rattle.plaintext_x.specs.Exchange.{message_of}
+use Rattle.upgrade.specs.declared.role.ConnRole.TheVariants.{Dialer, Listener}
+use Rattle.upgrade.specs.declared.fault.UpgradeFault.TheVariants.{Select, NoneLeft, Exchange}
+use Rattle.upgrade.specs.Upgrades.{plaintext, yamux, Upgrades, ComesTo, RunsOut}
+
+-- the key of this end, and that of the other one
+abbrev pub own : Key
+own = record { kind = Secp256k1; body = 5 ∷ [] }
+
+abbrev pub other : Key
+other = record { kind = Secp256k1; body = 6 ∷ [] }
+
+-- the talks as both ends write them where they agree
+abbrev pub hello : List ℕ
+hello = spelled (header ∷ plaintext ∷ [])
+
+abbrev pub mux : List ℕ
+mux = spelled (header ∷ yamux ∷ [])
+
+-- what has come, and what has been written, where the exchange is done
+abbrev pub come : List ℕ
+come = hello ++ message_of other
+
+abbrev pub sent : List ℕ
+sent = hello ++ message_of own
+
+-- the bytes of both talks, and of this end's message
+pub record ByteRows : Type 0 where
+  pub hello_is : hello
+      ≡ 19 ∷ (codes "/multistream/1.0.0" ++ 10 ∷ 17 ∷ (codes "/plaintext/2.0.0" ++ 10 ∷ []))
+  pub mux_is : mux ≡ 19 ∷ (codes "/multistream/1.0.0" ++ 10 ∷ 13 ∷ (codes "/yamux/1.0.0" ++ 10 ∷ []))
+  pub message_is : message_of own
+      ≡ 16 ∷ 10 ∷ 7 ∷ 0 ∷ 5 ∷ 8 ∷ 2 ∷ 18 ∷ 1 ∷ 5 ∷ 18 ∷ 5 ∷ 8 ∷ 2 ∷ 18 ∷ 1 ∷ 5 ∷ []
+
+pub record DialerRows : Type 0 where
+  pub at_once : Upgrades Dialer own [] (Ok None) hello
+  pub in_exchange : Upgrades Dialer own hello (Ok None) (hello ++ message_of own)
+  pub in_second_talk : Upgrades Dialer own come (Ok None) (sent ++ mux)
+  pub up : Upgrades Dialer own (come ++ mux) (Ok (Some other)) (sent ++ mux)
+  -- the key is the other end's, and the bytes behind are the session's
+  pub not_its_own : ¬ Upgrades Dialer own (come ++ mux) (Ok (Some own)) (sent ++ mux)
+  pub data_behind : ComesTo Dialer own ((come ++ mux) ++ 7 ∷ []) (come ++ mux) (Ok (Some other)) (sent ++ mux)
+  -- faults of each part, each with what was written before it
+  pub other_header : Upgrades Dialer own x_bytes (Err (Select BadHeader)) hello
+  pub turned_down : Upgrades Dialer own (spelled (header ∷ na ∷ [])) (Err NoneLeft) hello
+  pub no_id : Upgrades Dialer own (hello ++ 0 ∷ []) (Err (Exchange NoId)) sent
+  pub other_header_then : Upgrades Dialer own (come ++ x_bytes) (Err (Select BadHeader)) (sent ++ mux)
+  pub turned_down_then : Upgrades Dialer own (come ++ spelled (header ∷ na ∷ [])) (Err NoneLeft) (sent ++ mux)
+  -- bytes behind a fault change nothing
+  pub turned_down_early : Upgrades Dialer own (spelled (header ∷ na ∷ []) ++ hello) (Err NoneLeft) hello
+
+pub record ListenerRows : Type 0 where
+  pub at_once : Upgrades Listener own [] (Ok None) (spelled (header ∷ []))
+  pub unknown : Upgrades Listener own (spelled (header ∷ x ∷ [])) (Ok None) (spelled (header ∷ na ∷ []))
+  pub in_exchange : Upgrades Listener own hello (Ok None) (hello ++ message_of own)
+  -- the header of the second talk is sent as soon as the key is proven, and its echo when it agrees
+  pub in_second_talk : Upgrades Listener own come (Ok None) (sent ++ spelled (header ∷ []))
+  pub unknown_then :
+      Upgrades Listener own (come ++ spelled (header ∷ x ∷ [])) (Ok None) (sent ++ spelled (header ∷ na ∷ []))
+  pub up : Upgrades Listener own (come ++ mux) (Ok (Some other)) (sent ++ mux)
+  pub data_behind : ComesTo Listener own ((come ++ mux) ++ 7 ∷ []) (come ++ mux) (Ok (Some other)) (sent ++ mux)
+  pub other_header : Upgrades Listener own x_bytes (Err (Select BadHeader)) (spelled (header ∷ []))
+  pub no_id : Upgrades Listener own (hello ++ 0 ∷ []) (Err (Exchange NoId)) sent
+  pub other_header_then : Upgrades Listener own (come ++ x_bytes) (Err (Select BadHeader)) (sent ++ spelled (header ∷ []))
+
+-- where memory may be refused: for the own message, for the length of a message, for the first bytes of a talk
+pub record MemoryRows : Type 0 where
+  pub at_once : RunsOut Dialer own [] []
+  pub message : RunsOut Dialer own hello hello
+  pub length_of_message : RunsOut Dialer own (hello ++ 16 ∷ []) sent
+  pub second_talk : RunsOut Dialer own come sent
+  -- with the whole output kept, no memory is asked for before a byte has come
+  pub nothing_asked : ¬ RunsOut Dialer own [] hello
