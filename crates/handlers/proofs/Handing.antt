@@ -77,6 +77,9 @@ module _ {H : Type 0} (step : H → HandlerCall → H → Type 0) where
     one_end two.calls ended end (subst (λ (calls : List HandlerCall). EndsAs calls ended) same one.ends) two.ends,
   )
 
+  pub just_made : (made : H) → WasHanded step made [] false made
+  just_made made = record { calls = []; arises = refl; joined = refl; ends = refl }
+
   pub taken_on : (made value next : H) (bytes more : List ℕ) → WasHanded step made bytes false value → step value (Take more) next
       → WasHanded step made (bytes ++ more) false next
   taken_on made value next bytes more handed stepped = record {

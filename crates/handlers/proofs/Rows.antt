@@ -24,15 +24,23 @@ notes made value [] came = append-nil made ∙ came
 notes made value (call ∷ calls) came =
     sym (append_assoc made (call ∷ []) calls) ∙ ap (λ t. t ++ calls) (sym came.1) ∙ notes came.0 value calls came.2
 
-comes : Arises Noting [] noted noted
-comes = (_, refl, (_, refl, (_, refl, (_, refl, refl))))
+comes : (made calls : List HandlerCall) → Arises Noting made calls (made ++ calls)
+comes made [] = sym (append-nil made)
+comes made (call ∷ calls) = (
+  made ++ call ∷ [],
+  refl,
+  subst (λ (t : List HandlerCall). Arises Noting (made ++ call ∷ []) calls t) (append_assoc made (call ∷ []) calls) (comes (made ++ call ∷ []) calls),
+)
 
 handed_all : WasHanded Noting [] (taken noted) true noted
-handed_all = record { calls = noted; arises = comes; joined = refl; ends = (refl, tt) }
+handed_all = record { calls = noted; arises = comes [] noted; joined = refl; ends = (refl, tt) }
 
 pub handed_rows : HandedRows
 handed_rows = record {
-  arises = comes;
+  arises = λ calls value. (
+    λ came. sym (notes [] value calls came),
+    λ is. subst (λ (t : List HandlerCall). Arises Noting [] calls t) (sym is) (comes [] calls),
+  );
   handed = λ bytes ended. (
     λ h. let same : h.calls ≡ noted = notes [] noted h.calls h.arises in (
       sym h.joined ∙ ap taken same,

@@ -1,6 +1,6 @@
 -- The calls of a handler, and what it was handed by them (this project's profile; libp2p connections, "Opening new
 -- streams over a connection": what a protocol's handler is given is its stream).
-use Rattle.std.specs.Prelude.{◌≡◌, ℕ, Bool, true, false, List, [], ◌∷◌, ◌++◌}
+use Rattle.std.specs.Prelude.{◌≡◌, ◌↔◌, ℕ, Bool, true, false, List, [], ◌∷◌, ◌++◌}
 
 -- a call that was answered Ok: bytes were handed over; with so much room these bytes were given; the end was said
 pub data HandlerCall : Type 0 where
@@ -54,3 +54,17 @@ pub record WasHanded {H : Type 0} (step : H → HandlerCall → H → Type 0)
   pub arises : Arises step made calls value
   pub joined : taken calls ≡ bytes
   pub ends : EndsAs calls ended
+
+-- nothing is answered any more, and each call is refused by this number
+pub record HasFailed {H : Type 0} (step : H → HandlerCall → H → Type 0) (fails : H → Asked → ℕ → Type 0)
+    (number : ℕ) (value : H) : Type 0 where
+  pub answers : (call : HandlerCall) (next : H) → ¬ step value call next
+  pub refuses : (asked : Asked) (n : ℕ) → fails value asked n ↔ (n ≡ number)
+
+-- nothing more may be handed over: neither bytes nor the end
+pub record HasEnded {H : Type 0} (step : H → HandlerCall → H → Type 0) (fails : H → Asked → ℕ → Type 0)
+    (number : ℕ) (value : H) : Type 0 where
+  pub takes : (bytes : List ℕ) (next : H) → ¬ step value (Take bytes) next
+  pub ends : (next : H) → ¬ step value End next
+  pub refuses : (bytes : List ℕ) (n : ℕ) → fails value (ToTake bytes) n ↔ (n ≡ number)
+  pub refuses_an_end : (n : ℕ) → fails value ToEnd n ↔ (n ≡ number)

@@ -2,10 +2,14 @@
 use Rattle.std.specs.Prelude.{◌≡◌, ◌↔◌, ℕ, Bool, List, [], ◌∷◌, ◌++◌, true, false}
 use Rattle.handlers.specs.Calls.{HandlerCall, Take, Give, End, taken, given, EndsAs, Arises, WasHanded}
 
+-- calls of each kind, on both sides of the end
+abbrev pub mixed : List HandlerCall
+mixed = Take (1 ∷ 2 ∷ []) ∷ Give 9 (3 ∷ []) ∷ Take (4 ∷ []) ∷ End ∷ Take (6 ∷ []) ∷ Give 9 (5 ∷ []) ∷ []
+
 -- what was handed over and what was given, in order
 pub record JoinedRows : Type 0 where
-  pub taken : taken (Take (1 ∷ 2 ∷ []) ∷ Give 9 (3 ∷ []) ∷ Take (4 ∷ []) ∷ End ∷ Give 9 (5 ∷ []) ∷ []) ≡ 1 ∷ 2 ∷ 4 ∷ []
-  pub given : given (Take (1 ∷ 2 ∷ []) ∷ Give 9 (3 ∷ []) ∷ Take (4 ∷ []) ∷ End ∷ Give 9 (5 ∷ []) ∷ []) ≡ 3 ∷ 5 ∷ []
+  pub taken : taken mixed ≡ 1 ∷ 2 ∷ 4 ∷ 6 ∷ []
+  pub given : given mixed ≡ 3 ∷ 5 ∷ []
 
 -- the end comes once, and nothing is handed over behind it
 pub record EndRows : Type 0 where
@@ -27,8 +31,8 @@ Noting calls call more = more ≡ calls ++ call ∷ []
 abbrev pub noted : List HandlerCall
 noted = Take (1 ∷ 2 ∷ []) ∷ Give 9 (3 ∷ []) ∷ Take (4 ∷ []) ∷ End ∷ []
 
--- it was handed what was taken, and the end, and nothing else
+-- it arises by the calls that it noted and by no others, and was handed what was taken, and the end, and nothing else
 pub record HandedRows : Type 0 where
-  pub arises : Arises Noting [] noted noted
+  pub arises : (calls value : List HandlerCall) → Arises Noting [] calls value ↔ (value ≡ calls)
   pub handed : (bytes : List ℕ) (ended : Bool) → WasHanded Noting [] bytes ended noted
       ↔ ((bytes ≡ 1 ∷ 2 ∷ 4 ∷ []) × (ended ≡ true))

@@ -1,6 +1,6 @@
 //! What holds of every handler.
 
-ghost use Rattle.std.specs.Prelude.{◌≡◌, ℕ, Bool, true, false, List, ◌++◌};
+ghost use Rattle.std.specs.Prelude.{◌≡◌, ℕ, Bool, true, false, List, [], ◌++◌};
 ghost use Rattle.handlers.specs.Calls.{HandlerCall, Take, Give, End, Arises, EndsAs, WasHanded, taken};
 ghost use Rattle.handlers.specs.Names.{NameRows};
 ghost use Rattle.handlers.specs.Rows.{JoinedRows, EndRows, HandedRows};
@@ -35,8 +35,10 @@ pub fn one_handing<H: Handler>()
         → (some ≡ other) × (ended ≡ end) }
 {}
 
-/// What was handed grows with each call that is answered: by its bytes, by nothing, by the end.
+/// What was just made was handed nothing, and that grows with each call that is answered: by its bytes, by nothing, by
+/// the end.
 pub fn handed_on<H: Handler>()
+    ensures made { (made : H) → WasHanded H.steps made [] false made }
     ensures take { (made value next : H) (bytes more : List ℕ) → WasHanded H.steps made bytes false value
         → H.steps value (Take more) next → WasHanded H.steps made (bytes ++ more) false next }
     ensures give { (made value next : H) (bytes : List ℕ) (ended : Bool) (room : ℕ) (more : List ℕ)

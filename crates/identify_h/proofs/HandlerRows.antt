@@ -7,7 +7,21 @@ use Rattle.identify_h.specs.Reading.{Stands}
 use Rattle.identify_h.specs.Rows.{at_end, NumberRows, SendRows, ReadRows}
 
 pub number_rows : NumberRows
-number_rows = record { failed = refl; too_long = refl; too_many = refl; wire = refl; other_key = refl; cut = refl; out_of_memory = refl }
+number_rows = record {
+  failed = refl;
+  too_long = refl;
+  too_many = refl;
+  wire = refl;
+  other_key = refl;
+  cut = refl;
+  out_of_memory = refl;
+  failed_before = refl;
+  bad_length = refl;
+  long_length = refl;
+  no_room = refl;
+  unread_key = refl;
+  no_room_for_a_key = refl;
+}
 
 pub send_rows : SendRows
 send_rows = record {

@@ -11,3 +11,4 @@ pub mod SentRead
 pub mod Lengths
 pub mod Refusing
 pub mod RoomRows
+pub mod Stopping

@@ -138,6 +138,10 @@ abbrev pub HasKeyOf : List ℕ → Option Key → Type 0
 HasKeyOf peer None = Unit {0}
 HasKeyOf peer (Some key) = (id_of key ≡ peer) × IsAllowed key.kind (length key.body)
 
+-- the key that bytes spell has the peer's id
+abbrev pub KeyIsThePeers : Type 0
+KeyIsThePeers = (peer bytes : List ℕ) (m : Message) → Spells peer bytes m → HasKeyOf peer m.key
+
 -- What is written is read back, with a key whose id is the peer's
 abbrev pub WrittenIsRead : Type 0
 WrittenIsRead = (peer : List ℕ) (m : Message) → HasKeyOf peer m.key → length (written m) < 2 ^ 64

@@ -5,7 +5,9 @@ use Rattle.peer_ids.specs.declared.kind.KeyType.TheVariants.{Ed25519}
 use Rattle.peer_ids.specs.PeerId.{id_of}
 use Rattle.identify_h.specs.Messages.{Message, Spells, Refuses, written, merged}
 use Rattle.identify_h.specs.declared.fault.IdentifyFault.TheVariants.{Failed, TooLong, TooMany, Wire, OtherKey, Cut, OutOfMemory}
-use Rattle.identify_h.specs.Faults.{number_of}
+use Rattle.varint_proto.specs.declared.fault.IncomingRefused.TheVariants as incoming
+use Rattle.peer_ids.specs.declared.fault.KeyFault.TheVariants as keys
+use Rattle.identify_h.specs.Faults.{number_of, of_key_fault, of_incoming}
 use Rattle.identify_h.specs.Sending.{framed, sending, SendStep, SendFails}
 use Rattle.identify_h.specs.Reading.{Reader, ReadStep, ReadFails}
 use Rattle.identify_h.specs.Streams.{HasFault, TakeFails, EndFails, Reads}
@@ -151,6 +153,13 @@ pub record NumberRows : Type 0 where
   pub other_key : number_of OtherKey ≡ 5
   pub cut : number_of Cut ≡ 6
   pub out_of_memory : number_of OutOfMemory ≡ 7
+  -- what a length that isn't read and a key that isn't read are called
+  pub failed_before : of_incoming incoming.Failed ≡ Failed
+  pub bad_length : of_incoming incoming.BadLength ≡ Wire
+  pub long_length : of_incoming incoming.TooLong ≡ TooLong
+  pub no_room : of_incoming incoming.OutOfMemory ≡ OutOfMemory
+  pub unread_key : of_key_fault keys.UnknownType ≡ OtherKey
+  pub no_room_for_a_key : of_key_fault keys.OutOfMemory ≡ OutOfMemory
 
 -- The end that sends: what comes changes nothing of what is sent, nor does the end of it
 pub record SendRows : Type 0 where

@@ -1,11 +1,12 @@
 //! What the message and its handlers do, over whole inputs and whole lists of calls.
 
-ghost use Rattle.std.specs.Prelude.{◌≡◌, ◌↔◌, ◌<◌, ℕ, Bool, List, [], ◌∷◌, ◌++◌, length, true, IfSome};
+ghost use Rattle.std.specs.Prelude.{◌≡◌, ◌↔◌, ◌<◌, ℕ, Bool, List, [], ◌∷◌, ◌++◌, length, true, false, IsSome, IfSome};
 ghost use mathlib.Core.List.{IsPrefix};
 ghost use Rattle.handlers.specs.Calls.{HandlerCall, Take, Give, End, ToTake, ToGive, ToEnd, Arises, EndsAs, taken, given};
-ghost use Rattle.identify_h.specs.declared.fault.IdentifyFault.TheVariants.{OutOfMemory};
+ghost use Rattle.handlers.specs.Calls.{HasFailed, HasEnded};
+ghost use Rattle.identify_h.specs.declared.fault.IdentifyFault.TheVariants.{Failed, OutOfMemory};
 ghost use Rattle.identify_h.specs.Faults.{number_of};
-ghost use Rattle.identify_h.specs.Messages.{OneMessage, WrittenIsRead};
+ghost use Rattle.identify_h.specs.Messages.{KeyIsThePeers, OneMessage, WrittenIsRead};
 ghost use Rattle.identify_h.specs.Streams.{Reads, OneOutcome, SomeOutcome, FaultsStay, SentIsRead};
 ghost use Rattle.identify_h.specs.Reading.{Reader, Stands, IsFresh};
 ghost use Rattle.identify_h.specs.Sending.{Sending, sending};
@@ -32,6 +33,11 @@ pub fn worked_rows()
 /// Bytes spell one message.
 pub fn one_message()
     ensures { OneMessage }
+{}
+
+/// A key that is read has the peer's id, and bytes that a key of its type may have.
+pub fn key_is_the_peers()
+    ensures { KeyIsThePeers }
 {}
 
 /// What is written is read back, with a key whose id is the one handed in.
@@ -113,4 +119,39 @@ pub fn sending_refuses()
         → ⟦<IdentifyOut as Handler>⟧.steps old (Give room bytes) new
         → ⟦<IdentifyOut as Handler>⟧.fails old (ToGive room) n
         → (n ≡ number_of OutOfMemory) × (0 < length bytes) }
+{}
+
+/// A reader that has not failed gives nothing whenever it is asked. After a fault it answers nothing, and once it has
+/// read its message it takes nothing. A fault doesn't finish it.
+pub fn reading_stops()
+    ensures give { (reader : Reader) (room : ℕ) → reader.failed ≡ false
+        → ⟦<IdentifyIn as Handler>⟧.steps reader (Give room []) reader }
+    ensures failed { (reader : Reader) → reader.failed ≡ true
+        → HasFailed ⟦<IdentifyIn as Handler>⟧.steps ⟦<IdentifyIn as Handler>⟧.fails (number_of Failed) reader }
+    ensures ended { (reader : Reader) → IsSome reader.message
+        → HasEnded ⟦<IdentifyIn as Handler>⟧.steps ⟦<IdentifyIn as Handler>⟧.fails (number_of Failed) reader }
+    ensures finished { (reader : Reader) → ⟦<IdentifyIn as Handler>⟧.is_finished (record reader { failed = true })
+        ≡ ⟦<IdentifyIn as Handler>⟧.is_finished reader }
+{}
+
+/// A sender that goes on answers each call, but for want of memory: whatever comes, what it is asked for, and the end.
+pub fn sending_answers()
+    ensures take { (out : Sending) (bytes : List ℕ) → out.failed ≡ false → out.ended ≡ false
+        → ⟦<IdentifyOut as Handler>⟧.steps out (Take bytes) out }
+    ensures give { (out : Sending) (room : ℕ) → out.failed ≡ false
+        → (bytes : List ℕ) × (next : Sending) × ⟦<IdentifyOut as Handler>⟧.steps out (Give room bytes) next }
+    ensures end { (out : Sending) → out.failed ≡ false → out.ended ≡ false
+        → (next : Sending) × ⟦<IdentifyOut as Handler>⟧.steps out End next }
+{}
+
+/// After a fault a sender answers nothing, and behind the end it takes nothing. A fault neither closes nor finishes it.
+pub fn sending_stops()
+    ensures failed { (out : Sending) → out.failed ≡ true
+        → HasFailed ⟦<IdentifyOut as Handler>⟧.steps ⟦<IdentifyOut as Handler>⟧.fails (number_of Failed) out }
+    ensures ended { (out : Sending) → out.ended ≡ true
+        → HasEnded ⟦<IdentifyOut as Handler>⟧.steps ⟦<IdentifyOut as Handler>⟧.fails (number_of Failed) out }
+    ensures closed { (out : Sending) → ⟦<IdentifyOut as Handler>⟧.is_closed (record out { failed = true })
+        ≡ ⟦<IdentifyOut as Handler>⟧.is_closed out }
+    ensures finished { (out : Sending) → ⟦<IdentifyOut as Handler>⟧.is_finished (record out { failed = true })
+        ≡ ⟦<IdentifyOut as Handler>⟧.is_finished out }
 {}

@@ -66,11 +66,11 @@ fn a_stream_is_read_however_cut(rt: HostRuntime) -> Result<(), Fail> {
     for size in [1, 7, 64] {
         for stream in [&TWO[..], &ONE[..]] {
             let mut reader = IdentifyIn::new(rt.alloc(), peer);
-            assert!(rt; reader.closed() && !reader.finished());
-            assert!(rt; reader.take(&[]).is_ok());
+            assert!(rt; reader.closed() && !reader.finished(), "pieces of {size}");
+            assert!(rt; reader.take(&[]).is_ok(), "pieces of {size}");
             assert_eq!(rt; read(&mut reader, stream, size), None, "pieces of {size}");
-            assert!(rt; reader.finished());
-            assert_eq!(rt; reader.give(64)?.len(), 0);
+            assert!(rt; reader.finished(), "pieces of {size}");
+            assert_eq!(rt; reader.give(64)?.len(), 0, "pieces of {size}");
             let Ok(message) = reader.into_message() else {
                 return Err(Fail::from("a message"));
             };
@@ -84,8 +84,14 @@ fn a_stream_is_read_however_cut(rt: HostRuntime) -> Result<(), Fail> {
                 Some(&b"x"[..]),
                 "pieces of {size}"
             );
-            assert!(rt; message.key.is_none() && message.observed.is_none());
-            assert!(rt; message.listen.is_empty() && message.protocols.is_empty());
+            assert!(rt;
+                message.key.is_none() && message.observed.is_none(),
+                "pieces of {size}"
+            );
+            assert!(rt;
+                message.listen.is_empty() && message.protocols.is_empty(),
+                "pieces of {size}"
+            );
         }
     }
     Ok(())
@@ -112,11 +118,29 @@ fn faults_come_where_they_stand(rt: HostRuntime) -> Result<(), Fail> {
             let mut reader = IdentifyIn::new(alloc, peer);
             let number = read(&mut reader, stream, size);
             assert_eq!(rt; number, Some(*fault as u8), "row {index}, pieces of {size}");
-            assert_eq!(rt; reader.take(&[0]).err().map(|fault| fault.number), Some(1));
-            assert_eq!(rt; reader.end().err().map(|fault| fault.number), Some(1));
-            assert_eq!(rt; reader.give(1).err().map(|fault| fault.number), Some(1));
-            assert!(rt; !reader.finished() && reader.closed());
-            assert!(rt; reader.into_message().is_err());
+            assert_eq!(rt;
+                reader.take(&[0]).err().map(|fault| fault.number),
+                Some(1),
+                "row {index}, pieces of {size}"
+            );
+            assert_eq!(rt;
+                reader.end().err().map(|fault| fault.number),
+                Some(1),
+                "row {index}, pieces of {size}"
+            );
+            assert_eq!(rt;
+                reader.give(1).err().map(|fault| fault.number),
+                Some(1),
+                "row {index}, pieces of {size}"
+            );
+            assert!(rt;
+                !reader.finished() && reader.closed(),
+                "row {index}, pieces of {size}"
+            );
+            assert!(rt;
+                reader.into_message().is_err(),
+                "row {index}, pieces of {size}"
+            );
         }
     }
     Ok(())
@@ -163,14 +187,15 @@ fn ten_messages_may_be_empty(rt: HostRuntime) -> Result<(), Fail> {
 #[test]
 fn what_is_written_is_read_back(rt: HostRuntime) -> Result<(), Fail> {
     let alloc = rt.alloc();
-    let said = most_of_it(alloc, copy(alloc, b"node/0.1.0")?)?;
+    let mut said = most_of_it(alloc, copy(alloc, b"node/0.1.0")?)?;
+    said.version = Some(copy(alloc, b"ipfs/0.1.0")?);
     let body = said.write()?;
     let peer = peer_of(alloc, 7)?;
     let back = Identify::read(alloc, &body, peer)?;
     assert_eq!(rt; back.write()?.as_slice(), body.as_slice());
     assert_eq!(rt; back.listen.len(), 2);
     assert_eq!(rt; back.observed.as_deref(), Some(&[6, 0, 80][..]));
-    assert!(rt; back.version.is_none());
+    assert_eq!(rt; back.version.as_deref(), Some(&b"ipfs/0.1.0"[..]));
     let other = Identify::read(alloc, &body, peer_of(alloc, 8)?);
     assert!(rt; matches!(other, Err(IdentifyFault::OtherKey)));
     Ok(())
@@ -184,18 +209,26 @@ fn a_message_is_sent_and_what_comes_is_dropped(rt: HostRuntime) -> Result<(), Fa
     said.agent = Some(copy(alloc, b"x")?);
     for room in [1, 7, 64] {
         let mut sender = IdentifyOut::new(alloc, &said)?;
-        assert!(rt; !sender.closed() && !sender.finished());
-        assert_eq!(rt; sender.give(0)?.len(), 0);
-        assert!(rt; sender.take(&[1, 2, 3]).is_ok());
+        assert!(rt; !sender.closed() && !sender.finished(), "room {room}");
+        assert_eq!(rt; sender.give(0)?.len(), 0, "room {room}");
+        assert!(rt; sender.take(&[1, 2, 3]).is_ok(), "room {room}");
         let mut given = Vec::new(alloc);
         for _ in 0..9 {
             given.extend_from_slice(&sender.give(room)?)?;
         }
         assert_eq!(rt; given.as_slice(), &ONE[..], "room {room}");
-        assert!(rt; sender.closed() && sender.finished());
-        assert!(rt; sender.end().is_ok());
-        assert_eq!(rt; sender.end().err().map(|fault| fault.number), Some(1));
-        assert_eq!(rt; sender.take(&[1]).err().map(|fault| fault.number), Some(1));
+        assert!(rt; sender.closed() && sender.finished(), "room {room}");
+        assert!(rt; sender.end().is_ok(), "room {room}");
+        assert_eq!(rt;
+            sender.end().err().map(|fault| fault.number),
+            Some(1),
+            "room {room}"
+        );
+        assert_eq!(rt;
+            sender.take(&[1]).err().map(|fault| fault.number),
+            Some(1),
+            "room {room}"
+        );
     }
     Ok(())
 }
@@ -259,7 +292,10 @@ fn a_body_of_200_bytes_is_sent_and_read(rt: HostRuntime) -> Result<(), Fail> {
     let mut said = nothing(alloc);
     said.agent = Some(vec![in alloc; 7u8; 197]?);
     let mut sender = IdentifyOut::new(alloc, &said)?;
-    let stream = sender.give(1000)?;
+    let mut stream = Vec::new(alloc);
+    for _ in 0..4 {
+        stream.extend_from_slice(&sender.give(64)?)?;
+    }
     assert_eq!(rt; stream.len(), 202);
     assert!(rt; sender.closed() && sender.finished());
     for size in [1, 64, 1000] {
@@ -318,15 +354,41 @@ fn ten_messages_may_have_fields(rt: HostRuntime) -> Result<(), Fail> {
 }
 
 #[test]
+fn two_long_messages_are_read(rt: HostRuntime) -> Result<(), Fail> {
+    let alloc = rt.alloc();
+    // An agent of 8189 bytes, with which the body has 8192.
+    let mut message = copy(alloc, &[0x80, 0x40, 0x32, 0xfd, 0x3f])?;
+    message.extend_from_slice(&vec![in alloc; 7u8; 8189]?)?;
+    let mut reader = IdentifyIn::new(alloc, peer_of(alloc, 1)?);
+    for index in 0..2 {
+        assert!(rt; reader.take(&message).is_ok(), "message {index}");
+    }
+    assert!(rt; reader.end().is_ok());
+    let Ok(said) = reader.into_message() else {
+        return Err(Fail::from("a message"));
+    };
+    assert_eq!(rt; said.agent.as_deref().map(|agent| agent.len()), Some(8189));
+    Ok(())
+}
+
+#[test]
 fn a_reader_stays_at_its_end(rt: HostRuntime) -> Result<(), Fail> {
     let alloc = rt.alloc();
     let mut reader = IdentifyIn::new(alloc, peer_of(alloc, 1)?);
     assert_eq!(rt; read(&mut reader, &ONE, 64), None);
-    for _ in 0..2 {
-        assert_eq!(rt; reader.take(&[]).err().map(|fault| fault.number), Some(1));
-        assert_eq!(rt; reader.end().err().map(|fault| fault.number), Some(1));
-        assert_eq!(rt; reader.give(1000)?.len(), 0);
-        assert!(rt; reader.closed() && reader.finished());
+    for turn in 0..2 {
+        assert_eq!(rt;
+            reader.take(&[]).err().map(|fault| fault.number),
+            Some(1),
+            "turn {turn}"
+        );
+        assert_eq!(rt;
+            reader.end().err().map(|fault| fault.number),
+            Some(1),
+            "turn {turn}"
+        );
+        assert_eq!(rt; reader.give(1000)?.len(), 0, "turn {turn}");
+        assert!(rt; reader.closed() && reader.finished(), "turn {turn}");
     }
     assert!(rt; reader.into_message().is_ok());
     Ok(())
@@ -364,8 +426,12 @@ fn numbers_and_sentences_of_faults(rt: HostRuntime) -> Result<(), Fail> {
         (IdentifyFault::OutOfMemory, 7, "out of memory"),
     ];
     for (fault, number, sentence) in faults {
-        assert_eq!(rt; fault as u8, number);
-        assert_eq!(rt; format!(in rt.alloc(); "{fault}")?.as_str(), sentence);
+        assert_eq!(rt; fault as u8, number, "{sentence}");
+        assert_eq!(rt;
+            format!(in rt.alloc(); "{fault}")?.as_str(),
+            sentence,
+            "fault {number}"
+        );
     }
     Ok(())
 }

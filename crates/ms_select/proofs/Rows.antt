@@ -1,15 +1,20 @@
 -- The definitions of messages and talks at worked bytes.
-use Rattle.std.proofs.Common.{◌≡◌, ◌≢◌, ℕ, ◌+◌, ◌<◌, ◌≤◌, List, [], ◌∷◌, replicate, length, get_or, Option, Some, None, Ok, Err, refl, ap, append-nil, sym, subst, ◌∙◌, inl, inr, arith, lit<}
+use Rattle.std.proofs.Common.{◌≡◌, ◌≢◌, ℕ, zero, suc, ◌+◌, ◌<◌, ◌≤◌, List, [], ◌∷◌, ◌++◌, take, append_assoc, replicate, length, get_or, Option, Some, None, Ok, Err, refl, ap, append-nil, sym, subst, ◌∙◌, inl, inr, arith, lit<}
 use Rattle.std.specs.Prelude.{unwrap_or}
 use Rattle.std.specs.List.{All}
 use Rattle.std.proofs.lemmas.List.{length-append, length-replicate, nil_from_length}
+use Rattle.varint_proto.proofs.Front.{one_begins}
 use Rattle.std.proofs.lemmas.List.Elements.{All-nil, All-cons}
 use Rattle.varint_proto.specs.declared.fault.WireFault.TheVariants.{NotShortest}
 use Rattle.varint_proto.specs.Varint.{IsSpelling, BeginsShortest, shortest, shortest_within}
 use Rattle.ms_select.specs.declared.fault.SelectFault.TheVariants.{BadLength}
+use Rattle.ms_select.specs.declared.answer.Answer.TheVariants.{Going}
 use Rattle.ms_select.specs.Messages.{header, na, message, spelled, IsShort, ReadsMessage}
-use Rattle.ms_select.specs.Listening.{choice}
+use Rattle.ms_select.specs.Listening.{choice, Listens}
+use Rattle.ms_select.specs.Dialing.{Dials}
 use Rattle.ms_select.specs.Sides.{EndsLength}
+use Rattle.ms_select.proofs.Reading.{one_message}
+use Rattle.ms_select.proofs.Readings.{one_listener_of, one_dialer_of}
 use Rattle.ms_select.specs.Rows.{x, y, header_bytes, x_bytes, y_bytes, MessageRows, NameRows, ChoiceRows, ListenRows, DialRows, SendRows, MemoryRows}
 
 -- a length of one byte
@@ -149,6 +154,8 @@ dial_rows = record {
     refl,
     refl,
   );
+  proposed_na = (header ∷ na ∷ [], [], record { parts = refl; refusals = (refl, one_na) }, record { all = refl; none = λ e. absurd (omega (arith, ap length e)) }, refl, refl);
+  proposed_header = ([], header, [], record { parts = refl; refusals = (refl, no_na) }, record { short = lit< tt; place = refl; proposed = refl; other = λ e. cc }, refl, refl);
   bad_length = (header ∷ [], 0 ∷ [], record { answered = record { parts = refl; refusals = (refl, no_na) }; left = omega arith }, inl no_length, refl, refl);
 }
 
@@ -163,11 +170,44 @@ no_length_yet (texts, rest, len, parts, begins) =
     let spelling : IsSpelling [] = subst IsSpelling none begins.1.ends in
     spelling
 
+no_length_within : EndsLength (3 ∷ 47 ∷ []) → ⊥
+unfolding message
+no_length_within ([], rest, len, parts, begins) =
+    let here : BeginsShortest (3 ∷ 47 ∷ []) len [] = subst (λ (b : List ℕ). BeginsShortest b len []) (sym parts) begins in
+    let same = one_begins (3 ∷ 47 ∷ []) len 3 [] (47 ∷ []) here (one_byte 3 (47 ∷ []) (omega arith)) in
+    omega (arith, ap length same.1)
+no_length_within (text ∷ texts, rest, len, parts, begins) =
+    let all = append_assoc (message text) (spelled texts) rest in
+    let first = length-append (message text) (spelled texts ++ rest) in
+    let spelt = length-append (shortest (length text + 1)) (text ++ 10 ∷ []) in
+    let size : 2 ≡ length (message text) + length (spelled texts ++ rest) = ap length (parts ∙ all) ∙ first in
+    let short : length text < 1024 = omega (arith, size, spelt, length-append text (10 ∷ [])) in
+    let read : ReadsMessage (3 ∷ 47 ∷ []) (Ok (Some text)) = (spelled texts ++ rest, record { parts = parts ∙ all; short = short }) in
+    let same = one_message (3 ∷ 47 ∷ []) (Ok (Some text)) (Ok None) read message_rows.in_the_text in cc
+
+-- behind a header no length is 0
+listener_hides : (n : ℕ) → n < 1
+    → Listens (y ∷ []) (header_bytes ++ take (n + 1) (0 ∷ [])) (Ok Going) (length (header_bytes ++ take (n + 1) (0 ∷ []))) header_bytes → ⊥
+listener_hides zero lt going =
+    let same = one_listener_of (y ∷ []) (header_bytes ++ 0 ∷ []) (Ok Going) (Err BadLength) 21 21 header_bytes header_bytes going listen_rows.bad_length in
+    let wrong = same.0 in cc
+listener_hides (suc n) lt going = absurd (omega arith)
+
+dialer_hides : (n : ℕ) → n < 1
+    → Dials (x ∷ y ∷ []) (header_bytes ++ take (n + 1) (0 ∷ [])) (Ok Going) (length (header_bytes ++ take (n + 1) (0 ∷ []))) (header_bytes ++ x_bytes) → ⊥
+dialer_hides zero lt going =
+    let same = one_dialer_of (x ∷ y ∷ []) (header_bytes ++ 0 ∷ []) (Ok Going) (Err BadLength) 21 21 (header_bytes ++ x_bytes) (header_bytes ++ x_bytes) going dial_rows.bad_length in
+    let wrong = same.0 in cc
+dialer_hides (suc n) lt going = absurd (omega arith)
+
 pub memory_rows : MemoryRows
 unfolding message shortest shortest_within
 memory_rows = record {
   length_alone = (header ∷ [], 3 ∷ [], 3, refl, one_byte 3 [] (omega arith));
   nothing = no_length_yet;
+  in_the_text = no_length_within;
+  fault_of_a_listener = λ r. listener_hides r.n r.within r.behind;
+  fault_of_a_dialer = λ r. dialer_hides r.n r.within r.behind;
   listener = record {
     n = 0;
     within = omega arith;

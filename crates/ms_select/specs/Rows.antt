@@ -90,6 +90,10 @@ pub record DialRows : Type 0 where
   pub header_again : Dials (x ∷ y ∷ []) (header_bytes ++ header_bytes) (Err NotProposed) 40 (header_bytes ++ x_bytes)
   pub refused_name : Dials (x ∷ y ∷ []) (header_bytes ++ na_bytes ++ x_bytes) (Err NotProposed) 28
       (header_bytes ++ x_bytes ++ y_bytes)
+  -- na refuses a name that is na itself, and a name may be the header
+  pub proposed_na : Dials (na ∷ []) (header_bytes ++ na_bytes) (Ok NoneLeft) 24 (header_bytes ++ na_bytes)
+  pub proposed_header : Dials (header ∷ []) (header_bytes ++ header_bytes) (Ok (Agreed 0)) 40
+      (header_bytes ++ header_bytes)
   pub bad_length : Dials (x ∷ y ∷ []) (header_bytes ++ 0 ∷ []) (Err BadLength) 21 (header_bytes ++ x_bytes)
 
 -- Whether more may be sent
@@ -104,5 +108,9 @@ pub record SendRows : Type 0 where
 pub record MemoryRows : Type 0 where
   pub length_alone : EndsLength (header_bytes ++ 3 ∷ [])
   pub nothing : ¬ EndsLength []
+  pub in_the_text : ¬ EndsLength (3 ∷ 47 ∷ [])
   pub listener : RunsOut Listener (y ∷ []) header_bytes [] (19 ∷ 47 ∷ [])
   pub dialer : RunsOut Dialer (x ∷ y ∷ []) (header_bytes ++ x_bytes) header_bytes (3 ∷ 47 ∷ [])
+  -- the byte that would ask for memory is a fault
+  pub fault_of_a_listener : ¬ RunsOut Listener (y ∷ []) header_bytes header_bytes (0 ∷ [])
+  pub fault_of_a_dialer : ¬ RunsOut Dialer (x ∷ y ∷ []) (header_bytes ++ x_bytes) header_bytes (0 ∷ [])

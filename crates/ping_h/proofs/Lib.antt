@@ -3,3 +3,4 @@ pub mod Echoing
 pub mod Rounding
 pub mod Rows
 pub mod Refusing
+pub mod Stopping

@@ -1,10 +1,11 @@
 //! What the handlers of a ping do, over whole lists of calls.
 
-ghost use Rattle.std.specs.Prelude.{◌≡◌, ◌↔◌, ◌<◌, ℕ, Bool, List, [], ◌∷◌, ◌++◌, length, true};
-ghost use Rattle.ping_h.specs.declared.fault.PingFault.TheVariants.{OutOfMemory};
+ghost use Rattle.std.specs.Prelude.{◌≡◌, ◌↔◌, ◌<◌, ℕ, Bool, List, [], ◌∷◌, ◌++◌, length, true, false};
+ghost use Rattle.ping_h.specs.declared.fault.PingFault.TheVariants.{Failed, OutOfMemory};
 ghost use Rattle.ping_h.specs.Faults.{number_of};
 ghost use mathlib.Core.List.{IsPrefix};
 ghost use Rattle.handlers.specs.Calls.{HandlerCall, Take, Give, End, ToTake, ToGive, ToEnd, Arises, EndsAs, taken, given};
+ghost use Rattle.handlers.specs.Calls.{HasFailed, HasEnded};
 ghost use Rattle.ping_h.specs.Echoes.{Echo, fresh, whole_rounds};
 ghost use Rattle.ping_h.specs.Rounds.{Round, round};
 ghost use Rattle.ping_h.specs.Rows.{OwedRows, RoundRows, EchoStepRows, EchoFaultRows, RoundStepRows, RoundFaultRows};
@@ -59,6 +60,29 @@ pub fn echo_refuses()
         → ¬ ⟦<PingEcho as Handler>⟧.fails old ToEnd n }
 {}
 
+/// An echo that goes on answers each call, but for want of memory: what comes, what it is asked for, and the end between
+/// rounds.
+pub fn echo_answers()
+    ensures take { (echo : Echo) (bytes : List ℕ) → echo.failed ≡ false → echo.ended ≡ false
+        → (next : Echo) × ⟦<PingEcho as Handler>⟧.steps echo (Take bytes) next }
+    ensures give { (echo : Echo) (room : ℕ) → echo.failed ≡ false
+        → (bytes : List ℕ) × (next : Echo) × ⟦<PingEcho as Handler>⟧.steps echo (Give room bytes) next }
+    ensures end { (echo : Echo) → echo.failed ≡ false → echo.ended ≡ false → echo.begun ≡ 0
+        → (next : Echo) × ⟦<PingEcho as Handler>⟧.steps echo End next }
+{}
+
+/// After a fault an echo answers nothing, and behind the end it takes nothing. A fault neither closes nor finishes it.
+pub fn echo_stops()
+    ensures failed { (echo : Echo) → echo.failed ≡ true
+        → HasFailed ⟦<PingEcho as Handler>⟧.steps ⟦<PingEcho as Handler>⟧.fails (number_of Failed) echo }
+    ensures ended { (echo : Echo) → echo.ended ≡ true
+        → HasEnded ⟦<PingEcho as Handler>⟧.steps ⟦<PingEcho as Handler>⟧.fails (number_of Failed) echo }
+    ensures closed { (echo : Echo) → ⟦<PingEcho as Handler>⟧.is_closed (record echo { failed = true })
+        ≡ ⟦<PingEcho as Handler>⟧.is_closed echo }
+    ensures finished { (echo : Echo) → ⟦<PingEcho as Handler>⟧.is_finished (record echo { failed = true })
+        ≡ ⟦<PingEcho as Handler>⟧.is_finished echo }
+{}
+
 /// What a round sent is a first part of the ping, and all of it where the last call left room.
 pub fn ping_is_sent()
     ensures part { (ping : List ℕ) (calls : List HandlerCall) (out : Round)
@@ -87,4 +111,27 @@ pub fn ping_refuses()
         → ⟦<PingOut as Handler>⟧.fails old (ToGive room) n → (n ≡ number_of OutOfMemory) × (0 < length bytes) }
     ensures end { (old new : Round) (n : ℕ) → ⟦<PingOut as Handler>⟧.steps old End new
         → ¬ ⟦<PingOut as Handler>⟧.fails old ToEnd n }
+{}
+
+/// A round that goes on answers each call, but for want of memory: what is awaited next, what it is asked for, and the
+/// end behind the whole echo.
+pub fn ping_answers()
+    ensures take { (out : Round) (bytes : List ℕ) → out.failed ≡ false → out.ended ≡ false
+        → IsPrefix bytes out.awaited → (next : Round) × ⟦<PingOut as Handler>⟧.steps out (Take bytes) next }
+    ensures give { (out : Round) (room : ℕ) → out.failed ≡ false
+        → (bytes : List ℕ) × (next : Round) × ⟦<PingOut as Handler>⟧.steps out (Give room bytes) next }
+    ensures end { (out : Round) → out.failed ≡ false → out.ended ≡ false → out.awaited ≡ []
+        → (next : Round) × ⟦<PingOut as Handler>⟧.steps out End next }
+{}
+
+/// After a fault a round answers nothing, and behind the end it takes nothing. A fault neither closes nor finishes it.
+pub fn ping_stops()
+    ensures failed { (out : Round) → out.failed ≡ true
+        → HasFailed ⟦<PingOut as Handler>⟧.steps ⟦<PingOut as Handler>⟧.fails (number_of Failed) out }
+    ensures ended { (out : Round) → out.ended ≡ true
+        → HasEnded ⟦<PingOut as Handler>⟧.steps ⟦<PingOut as Handler>⟧.fails (number_of Failed) out }
+    ensures closed { (out : Round) → ⟦<PingOut as Handler>⟧.is_closed (record out { failed = true })
+        ≡ ⟦<PingOut as Handler>⟧.is_closed out }
+    ensures finished { (out : Round) → ⟦<PingOut as Handler>⟧.is_finished (record out { failed = true })
+        ≡ ⟦<PingOut as Handler>⟧.is_finished out }
 {}

@@ -39,7 +39,7 @@ fn serve<H: Handler>(
 fn an_echo_gives_whole_rounds_back(rt: HostRuntime) -> Result<(), Fail> {
     for (size, room) in [(64, 64), (1, 64), (7, 64), (1, 1), (64, 0)] {
         let mut echo = PingEcho::new(rt.alloc());
-        assert!(rt; echo.take(&[]).is_ok());
+        assert!(rt; echo.take(&[]).is_ok(), "pieces of {size}, room {room}");
         let mut input = PING.to_vec(rt.alloc())?;
         input.extend_from_slice(&OTHER)?;
         let mut given = Vec::new(rt.alloc());
@@ -50,7 +50,7 @@ fn an_echo_gives_whole_rounds_back(rt: HostRuntime) -> Result<(), Fail> {
         );
         assert!(rt;
             !echo.finished() || given.len() == input.len(),
-            "pieces of {size}"
+            "pieces of {size}, room {room}"
         );
         for _ in 0..64 {
             let more = echo.give(1)?;
@@ -61,7 +61,10 @@ fn an_echo_gives_whole_rounds_back(rt: HostRuntime) -> Result<(), Fail> {
             input.as_slice(),
             "pieces of {size}, room {room}"
         );
-        assert!(rt; echo.closed() && echo.finished());
+        assert!(rt;
+            echo.closed() && echo.finished(),
+            "pieces of {size}, room {room}"
+        );
     }
     Ok(())
 }
@@ -71,7 +74,13 @@ fn a_long_input_is_echoed(rt: HostRuntime) -> Result<(), Fail> {
     // As many bytes as a stream may bring before any is given back.
     let mut echo = PingEcho::new(rt.alloc());
     let input = vec![in rt.alloc(); 7u8; 262144]?;
-    assert!(rt; echo.take(&input).is_ok());
+    for piece in input.chunks(131072) {
+        assert!(rt;
+            echo.take(piece).is_ok(),
+            "a piece of {} bytes",
+            piece.len()
+        );
+    }
     assert!(rt; echo.end().is_ok());
     assert_eq!(rt; echo.give(2000)?.len(), 2000);
     assert_eq!(rt; echo.give(usize::MAX)?.len(), 260144);
@@ -86,11 +95,23 @@ fn an_echo_is_cut_within_a_round(rt: HostRuntime) -> Result<(), Fail> {
         let mut given = Vec::new(rt.alloc());
         let fault = serve(&mut echo, &mut given, &PING[..31], size, 64);
         assert_eq!(rt; fault, Some(PingFault::Cut as u8), "pieces of {size}");
-        assert_eq!(rt; given.len(), 0);
-        assert_eq!(rt; echo.give(64).err().map(|fault| fault.number), Some(1));
-        assert_eq!(rt; echo.take(&[1]).err().map(|fault| fault.number), Some(1));
-        assert_eq!(rt; echo.end().err().map(|fault| fault.number), Some(1));
-        assert!(rt; !echo.finished());
+        assert_eq!(rt; given.len(), 0, "pieces of {size}");
+        assert_eq!(rt;
+            echo.give(64).err().map(|fault| fault.number),
+            Some(1),
+            "pieces of {size}"
+        );
+        assert_eq!(rt;
+            echo.take(&[1]).err().map(|fault| fault.number),
+            Some(1),
+            "pieces of {size}"
+        );
+        assert_eq!(rt;
+            echo.end().err().map(|fault| fault.number),
+            Some(1),
+            "pieces of {size}"
+        );
+        assert!(rt; !echo.finished(), "pieces of {size}");
     }
     Ok(())
 }
@@ -113,22 +134,30 @@ fn nothing_is_taken_behind_the_end(rt: HostRuntime) -> Result<(), Fail> {
 fn a_ping_that_comes_back_is_finished(rt: HostRuntime) -> Result<(), Fail> {
     for size in [32, 1, 7] {
         let mut out = PingOut::new(rt.alloc(), PING);
-        assert_eq!(rt; out.give(0)?.len(), 0);
-        assert_eq!(rt; out.give(1)?.as_slice(), &PING[..1]);
-        assert_eq!(rt; out.give(64)?.as_slice(), &PING[1..]);
-        assert_eq!(rt; out.give(64)?.len(), 0);
-        assert!(rt; !out.closed());
+        assert_eq!(rt; out.give(0)?.len(), 0, "pieces of {size}");
+        assert_eq!(rt; out.give(1)?.as_slice(), &PING[..1], "pieces of {size}");
+        assert_eq!(rt; out.give(64)?.as_slice(), &PING[1..], "pieces of {size}");
+        assert_eq!(rt; out.give(64)?.len(), 0, "pieces of {size}");
+        assert!(rt; !out.closed(), "pieces of {size}");
         for piece in PING.chunks(size) {
             assert!(rt; out.take(piece).is_ok(), "pieces of {size}");
         }
-        assert!(rt; out.closed() && !out.finished());
-        assert!(rt; out.take(&[]).is_ok());
-        assert!(rt; out.end().is_ok());
-        assert!(rt; out.finished());
-        assert_eq!(rt; out.take(&[]).err().map(|fault| fault.number), Some(1));
-        assert_eq!(rt; out.end().err().map(|fault| fault.number), Some(1));
-        assert!(rt; out.finished());
-        assert_eq!(rt; out.give(64)?.len(), 0);
+        assert!(rt; out.closed() && !out.finished(), "pieces of {size}");
+        assert!(rt; out.take(&[]).is_ok(), "pieces of {size}");
+        assert!(rt; out.end().is_ok(), "pieces of {size}");
+        assert!(rt; out.finished(), "pieces of {size}");
+        assert_eq!(rt;
+            out.take(&[]).err().map(|fault| fault.number),
+            Some(1),
+            "pieces of {size}"
+        );
+        assert_eq!(rt;
+            out.end().err().map(|fault| fault.number),
+            Some(1),
+            "pieces of {size}"
+        );
+        assert!(rt; out.finished(), "pieces of {size}");
+        assert_eq!(rt; out.give(64)?.len(), 0, "pieces of {size}");
     }
     Ok(())
 }
@@ -138,8 +167,13 @@ fn a_ping_fills_each_room(rt: HostRuntime) -> Result<(), Fail> {
     for room in 0..=34 {
         let mut out = PingOut::new(rt.alloc(), PING);
         let room = if room == 34 { usize::MAX } else { room };
-        let given = out.give(room)?;
+        let mut given = out.give(room)?;
         assert_eq!(rt; given.as_slice(), &PING[..room.min(32)], "room {room}");
+        for _ in 0..32 {
+            given.extend_from_slice(&out.give(room)?)?;
+        }
+        let all = if room == 0 { 0 } else { 32 };
+        assert_eq!(rt; given.as_slice(), &PING[..all], "room {room}");
     }
     Ok(())
 }
@@ -164,8 +198,17 @@ fn another_echo_is_refused(rt: HostRuntime) -> Result<(), Fail> {
                 "{} bytes in pieces of {size}",
                 bytes.len()
             );
-            assert_eq!(rt; out.give(64).err().map(|fault| fault.number), Some(1));
-            assert!(rt; !out.finished());
+            assert_eq!(rt;
+                out.give(64).err().map(|fault| fault.number),
+                Some(1),
+                "{} bytes in pieces of {size}",
+                bytes.len()
+            );
+            assert!(rt;
+                !out.finished(),
+                "{} bytes in pieces of {size}",
+                bytes.len()
+            );
         }
     }
     Ok(())
@@ -180,8 +223,12 @@ fn numbers_and_sentences_of_faults(rt: HostRuntime) -> Result<(), Fail> {
         (PingFault::OutOfMemory, 4, "out of memory"),
     ];
     for (fault, number, sentence) in faults {
-        assert_eq!(rt; fault as u8, number);
-        assert_eq!(rt; format!(in rt.alloc(); "{fault}")?.as_str(), sentence);
+        assert_eq!(rt; fault as u8, number, "{sentence}");
+        assert_eq!(rt;
+            format!(in rt.alloc(); "{fault}")?.as_str(),
+            sentence,
+            "fault {number}"
+        );
     }
     Ok(())
 }

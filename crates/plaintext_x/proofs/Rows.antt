@@ -1,5 +1,5 @@
 -- The definitions of an exchange at worked bytes.
-use Rattle.std.proofs.Common.{◌≡◌, ℕ, ◌+◌, ◌*◌, ◌%◌, ◌<◌, ◌≤◌, List, [], ◌∷◌, ◌++◌, length, Some, Ok, Err, refl, sym, subst, inl, inr, arith}
+use Rattle.std.proofs.Common.{◌≡◌, ℕ, ◌+◌, ◌*◌, ◌%◌, ◌<◌, ◌≤◌, List, [], ◌∷◌, ◌++◌, length, Some, Ok, Err, refl, sym, ap, subst, inl, inr, arith}
 use Rattle.std.specs.Prelude.{IsSome}
 use Rattle.std.specs.List.{AllByRecursion, flat_map}
 use Rattle.std.proofs.lemmas.List.{length-append}
@@ -17,7 +17,7 @@ use Rattle.peer_ids.specs.ReadsKey.{SpellsKey}
 use Rattle.peer_ids.proofs.Written.{canonical_spells}
 use Rattle.plaintext_x.specs.declared.fault.ExchangeFault.{ExchangeFault}
 use Rattle.plaintext_x.specs.declared.fault.ExchangeFault.TheVariants.{Wire, NoId, NoKey, BadKey, Differs}
-use Rattle.plaintext_x.specs.Exchange.{SpellsExchange, RefusesBody, Exchanges, AsksMemory, longest, last_id, joined_key}
+use Rattle.plaintext_x.specs.Exchange.{SpellsExchange, RefusesBody, Exchanges, AsksMemory, longest, last_id, last_key, joined_key}
 use Rattle.plaintext_x.specs.Rows.{short_key, key_bytes, id_bytes, id_field, key_field, ProofRows, WaitingRows, RefusalRows}
 use Rattle.plaintext_x.proofs.Steps.{faulty_in}
 
@@ -119,6 +119,26 @@ asks_nothing (inr h) =
     let some : IsSome (last_id []) = subst (λ (fields : List Entry). IsSome (last_id fields)) none h.3.2.0 in
     absurd cc
 
+-- behind the length nothing is asked for until the message is whole
+asks_no_part : AsksMemory (16 ∷ 10 ∷ []) → ⊥
+asks_no_part (inl h) =
+    let same = one_begins (16 ∷ 10 ∷ []) h.0 16 [] (10 ∷ []) h.1.begins (one_byte 16 (10 ∷ []) (omega arith)) in omega (arith, ap length same.1)
+asks_no_part (inr h) =
+    let same = one_begins (16 ∷ 10 ∷ []) (length h.0) 16 (h.0 ++ h.1) (10 ∷ []) h.2.begins (one_byte 16 (10 ∷ []) (omega arith)) in
+    omega (arith, same.0, ap length same.1, length-append h.0 h.1)
+
+-- a message without an id or without a key asks for nothing
+asks_for_both : (body : List ℕ) (fields : List Entry) → length body < 128 → IsMessage body fields
+    → ¬ (IsSome (last_id fields) × IsSome (last_key fields)) → 0 < length body → AsksMemory (length body ∷ (body ++ [])) → ⊥
+asks_for_both body fields lt message lacks some (inl h) =
+    let same = one_begins (length body ∷ (body ++ [])) h.0 (length body) [] (body ++ []) h.1.begins (one_byte (length body) (body ++ []) lt) in
+    omega (arith, some, ap length same.1, length-append body [])
+asks_for_both body fields lt message lacks some (inr h) =
+    let bodies : h.0 ≡ body = (one_frame longest (length body ∷ (body ++ [])) h.0 body h.1 [] h.2 (framed body [] lt)).0 in
+    let here : IsMessage body h.3.0 = subst (λ (b : List ℕ). IsMessage b h.3.0) bodies h.3.1 in
+    let same : h.3.0 ≡ fields = one_message body h.3.0 fields here message in
+    lacks (subst (λ (list : List Entry). IsSome (last_id list) × IsSome (last_key list)) same h.3.2)
+
 pub waiting_rows : WaitingRows
 unfolding id_entry key_entry shortest shortest_within
 waiting_rows = record {
@@ -144,6 +164,9 @@ waiting_rows = record {
     ),
   );
   nothing_for_no_message = asks_nothing;
+  nothing_within_the_message = asks_no_part;
+  nothing_for_an_id_alone = asks_for_both id_field (id_entry ∷ []) (omega arith) (written (id_entry ∷ []) (both_writable.0, tt)) (λ both. absurd (let none = both.1 in cc)) (omega arith);
+  nothing_for_a_key_alone = asks_for_both key_field (key_entry ∷ []) (omega arith) (written (key_entry ∷ []) both_writable.1) (λ both. absurd (let none = both.0 in cc)) (omega arith);
 }
 
 number_0 : FaultIn (0 ∷ []) wire.BadNumber
@@ -208,6 +231,11 @@ refusal_rows = record {
     entry 1 (Bytes []) ∷ entry 2 (Bytes (8 ∷ 2 ∷ 18 ∷ 0 ∷ [])) ∷ [],
     with_key (8 ∷ 2 ∷ 18 ∷ 0 ∷ []) (omega arith),
     (refl, refl, keys.BadLength, (λ e. cc), (entry 1 (Varint 2) ∷ entry 2 (Bytes []) ∷ [], no_bytes, (Secp256k1, [], refl, refl, (λ h. omega (arith, h.0))))),
+  );
+  last_id_is_another = refuses (id_field ++ 10 ∷ 0 ∷ key_field) Differs (omega arith) (
+    id_entry ∷ entry 1 (Bytes []) ∷ key_entry ∷ [],
+    written (id_entry ∷ entry 1 (Bytes []) ∷ key_entry ∷ []) (both_writable.0, (((omega arith, omega arith), omega arith), both_writable.1)),
+    ([], short_key, refl, spells_key, (λ e. cc)),
   );
   other_id = refuses (10 ∷ 0 ∷ key_field) Differs (omega arith) (
     entry 1 (Bytes []) ∷ key_entry ∷ [],

@@ -50,6 +50,10 @@ pub record WaitingRows : Type 0 where
   pub asks_for_the_key : AsksMemory (16 ∷ (id_field ++ key_field))
   pub asks_for_an_unread_key : AsksMemory (4 ∷ 10 ∷ 0 ∷ 18 ∷ 0 ∷ [])
   pub nothing_for_no_message : ¬ AsksMemory (0 ∷ [])
+  pub nothing_within_the_message : ¬ AsksMemory (16 ∷ 10 ∷ [])
+  -- so want of memory stands neither for NoKey nor for NoId
+  pub nothing_for_an_id_alone : ¬ AsksMemory (9 ∷ id_field)
+  pub nothing_for_a_key_alone : ¬ AsksMemory (7 ∷ key_field)
 
 -- Each refusal
 pub record RefusalRows : Type 0 where
@@ -65,4 +69,5 @@ pub record RefusalRows : Type 0 where
   pub empty_key : Exchanges (4 ∷ 10 ∷ 0 ∷ 18 ∷ 0 ∷ []) (Err BadKey) 5
   pub key_without_data : Exchanges (6 ∷ 10 ∷ 0 ∷ 18 ∷ 2 ∷ 8 ∷ 2 ∷ []) (Err BadKey) 7
   pub data_of_no_bytes : Exchanges (8 ∷ 10 ∷ 0 ∷ 18 ∷ 4 ∷ 8 ∷ 2 ∷ 18 ∷ 0 ∷ []) (Err BadKey) 9
+  pub last_id_is_another : Exchanges (18 ∷ (id_field ++ 10 ∷ 0 ∷ key_field)) (Err Differs) 19
   pub other_id : Exchanges (9 ∷ 10 ∷ 0 ∷ key_field) (Err Differs) 10

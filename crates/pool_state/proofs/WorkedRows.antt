@@ -1,10 +1,10 @@
 -- Worked rows of pools, computed by the definitions.
-use Rattle.std.proofs.Common.{ℕ, ◌≤◌, List, [], ◌∷◌, replicate, refl, arith}
+use Rattle.std.proofs.Common.{ℕ, ◌≤◌, List, [], ◌∷◌, refl, arith}
 use Rattle.std.specs.List.{All}
 use Rattle.std.proofs.lemmas.List.{length-replicate}
 use Rattle.std.proofs.lemmas.List.Elements.{All-nil, All-cons, All-head, All-tail, All-replicate}
 use Rattle.pool_state.specs.AgentName.{IsAgentName}
-use Rattle.pool_state.specs.Rows.{ConnectionRows, StreamRows, ListRows, RefusalRows, LimitRows, AgentRows}
+use Rattle.pool_state.specs.Rows.{ConnectionRows, StreamRows, ListRows, RefusalRows, LimitRows, AddedRows, AgentRows}
 
 pub connection_rows : ConnectionRows
 connection_rows = record {
@@ -61,6 +61,9 @@ limit_rows = record {
   room_for_another = refl;
   room_beside_itself = refl;
   none_beside_others = refl;
+  closing_of_a_peer = refl;
+  closing_beside = refl;
+  closing_of_a_side = refl;
   room_for_a_stream = refl;
   none_for_a_stream = refl;
   streams_that_are_done = refl;
@@ -70,6 +73,25 @@ limit_rows = record {
   room_to_allow = refl;
   none_to_allow = refl;
   allowed_already = refl;
+}
+
+pub added_rows : AddedRows
+added_rows = record {
+  another_number = refl;
+  no_number = refl;
+  refused_number = refl;
+  full_table = refl;
+  room_in_the_table = refl;
+  full_list = refl;
+  listed_already = refl;
+  last_front = refl;
+  most_streams = refl;
+  no_such_protocol = refl;
+  stays_closing = refl;
+  refused_ask = refl;
+  closes_none = refl;
+  each_of_its_number = refl;
+  all_of_its_number = refl;
 }
 
 abbrev IsPrintable : ℕ → Type 0

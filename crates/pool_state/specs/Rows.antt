@@ -56,6 +56,8 @@ use Rattle.pool_state.specs.Parts.{Peer, listing}
 use Rattle.pool_state.specs.History.{Entry, entry}
 use Rattle.pool_state.specs.Table.{may_refuse}
 use Rattle.pool_state.specs.Shown.{Shown, reply_after}
+use Rattle.pool_state.specs.At.{number_after}
+use Rattle.pool_state.specs.Added.{more, more_at, with_row, with_peer, row_after, rows_after}
 
 -- THE CAST
 
@@ -326,6 +328,10 @@ pub record RefusalRows : Type 0 where
 abbrev pub rows : ℕ → ConnSide → Option Peer → List Row
 rows count s p = map (λ n. row n s phase.Pending p) (range_with_len 1 count)
 
+-- the same rows, closing
+abbrev pub closing : List Row → List Row
+closing table = map (λ (row : Row). record row { phase = phase.Closing }) table
+
 -- a live connection with so many streams asked for and done
 abbrev pub busy : List ℕ → List ℕ → List Row
 busy asked done = counting (row 1 Listener phase.Live (Some first)) asked done ∷ []
@@ -374,6 +380,11 @@ pub record LimitRows : Type 0 where
   pub room_beside_itself : at_rows (rows 8 Dialer (Some first)) (Settle 8 first) ≡ settle_refusals false
   pub none_beside_others : at_rows (row 9 Listener phase.Pending None ∷ rows 8 Dialer (Some first)) (Settle 9 first)
       ≡ settle_refusals true
+  -- one that is closing stands in the way until it is gone
+  pub closing_of_a_peer : at_rows (closing (rows 8 Dialer (Some first))) (Dial (Some first)) ≡ dial_refusals true
+  pub closing_beside : at_rows (row 9 Listener phase.Pending None ∷ closing (rows 8 Dialer (Some first)))
+      (Settle 9 first) ≡ settle_refusals true
+  pub closing_of_a_side : at_rows (closing (rows 256 Listener None)) Accept ≡ admission_refusals true true
   pub room_for_a_stream : at_rows (busy (60 ∷ 2 ∷ 1 ∷ []) (0 ∷ 0 ∷ 0 ∷ [])) (Ask 1 0) ≡ ask_refusals false
   pub none_for_a_stream : at_rows (busy (60 ∷ 3 ∷ 1 ∷ []) (0 ∷ 0 ∷ 0 ∷ [])) (Ask 1 0) ≡ ask_refusals true
   pub streams_that_are_done : at_rows (busy (90 ∷ 3 ∷ 1 ∷ []) (30 ∷ 1 ∷ 0 ∷ [])) (Ask 1 0)
@@ -384,6 +395,38 @@ pub record LimitRows : Type 0 where
   pub room_to_allow : at_peers 63 (Allow first) ≡ (SelfPeer, false) ∷ (AllowFull, false) ∷ []
   pub none_to_allow : at_peers 64 (Allow first) ≡ (SelfPeer, false) ∷ (AllowFull, true) ∷ []
   pub allowed_already : at_peers 64 (Allow (67 ∷ [])) ≡ (SelfPeer, false) ∷ (AllowFull, false) ∷ []
+
+-- two rows of one number, which no legal history shows
+abbrev pub twins : ConnSide → ConnSide → List ℕ → List Row
+twins s t asked =
+    counting (row 1 s phase.Live None) asked (0 ∷ 0 ∷ 0 ∷ []) ∷ counting (row 1 t phase.Live None) asked (0 ∷ 0 ∷ 0 ∷ [])
+    ∷ []
+
+abbrev pub last_count : ℕ
+last_count = 18446744073709551615
+
+-- What a listing and a number become by replies that no legal history has there
+pub record AddedRows : Type 0 where
+  pub another_number : number_after 1 (reply.Conn 7) ≡ 8
+  pub no_number : number_after 7 reply.Done ≡ 7
+  pub refused_number : number_after 7 (refused Full) ≡ 7
+  pub full_table : with_row (rows 256 Listener None) (row 300 Dialer phase.Live None) ≡ rows 256 Listener None
+  pub room_in_the_table : with_row (rows 1 Listener None) (row 300 Dialer phase.Live None)
+      ≡ row 1 Listener phase.Pending None ∷ row 300 Dialer phase.Live None ∷ []
+  pub full_list : with_peer (crowd 64) first ≡ crowd 64
+  pub listed_already : with_peer (crowd 2) (4 ∷ []) ≡ crowd 2
+  pub last_front : more last_count ≡ last_count
+  pub most_streams : more_at (5 ∷ last_count ∷ 7 ∷ []) 1 ≡ 5 ∷ last_count ∷ 7 ∷ []
+  pub no_such_protocol : more_at (5 ∷ 6 ∷ 7 ∷ []) 3 ≡ 5 ∷ 6 ∷ 7 ∷ []
+  pub stays_closing : row_after (Settle 1 second) reply.Done (row 1 Listener phase.Closing (Some first))
+      ≡ row 1 Listener phase.Closing (Some second)
+  pub refused_ask : row_after (Ask 1 0) (refused Full) (row 1 Listener phase.Live None)
+      ≡ row 1 Listener phase.Live None
+  pub closes_none : row_after (Disallow first) (reply.Count 0) (row 1 Listener phase.Live (Some first))
+      ≡ row 1 Listener phase.Live (Some first)
+  pub each_of_its_number : rows_after (Ask 1 2) reply.Done (twins Dialer Listener (0 ∷ 0 ∷ 0 ∷ []))
+      ≡ twins Dialer Listener (0 ∷ 0 ∷ 1 ∷ [])
+  pub all_of_its_number : rows_after (Gone 1) reply.Done (twins Dialer Listener (0 ∷ 0 ∷ 0 ∷ [])) ≡ []
 
 -- The name of an agent: from 1 to 64 bytes, each from the space to the tilde
 pub record AgentRows : Type 0 where

@@ -14,7 +14,7 @@ ghost use Rattle.pool_state.specs.Shown.{Shown, IsLegal, ShowsHistory, reply_aft
 ghost use Rattle.pool_state.specs.Added.{added};
 ghost use Rattle.pool_state.specs.Bounded.{IsBounded, refusal_numbers};
 ghost use Rattle.pool_state.specs.Ordered.{IsEachOnce, KeepsOrder};
-ghost use Rattle.pool_state.specs.Rows.{AgentRows, ConnectionRows, LimitRows, ListRows, RefusalRows, StreamRows};
+ghost use Rattle.pool_state.specs.Rows.{AddedRows, AgentRows, ConnectionRows, LimitRows, ListRows, RefusalRows, StreamRows};
 
 /// What a legal history shows keeps to the limits.
 pub fn bounded()
@@ -77,5 +77,6 @@ pub fn worked_rows()
     ensures lists { ListRows }
     ensures refusals { RefusalRows }
     ensures limits { LimitRows }
+    ensures added { AddedRows }
     ensures agents { AgentRows }
 {}

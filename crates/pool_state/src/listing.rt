@@ -1,8 +1,9 @@
 //! What a pool shows.
 
-ghost use Rattle.std.specs.Prelude.{◌≡◌, [], map};
+ghost use Rattle.std.specs.Prelude.{◌≡◌, ◌==◌, false, [], map};
 ghost use Rattle.pool_state.specs.Parts.{listing, has};
 ghost use Rattle.pool_state.specs.Added.{fresh, row_after, rows_after, with_row, with_peer, without_peer, added};
+ghost use Rattle.pool_state.specs.declared.row.Row.{Row};
 
 use crate::call::{Call, Reply};
 use crate::row::{ConnSide, Row, is_same};
@@ -36,6 +37,18 @@ fn change(rows: &mut [Row], call: &Call, reply: &Reply)
     }
 }
 
+/// The same of a call that leaves the rows of other numbers alone: these need not follow it.
+fn change_one(rows: &mut [Row], conn: u32, call: &Call, reply: &Reply)
+    requires { (row : Row) → (row.conn == conn) ≡ false → row_after call.now reply.now row ≡ row }
+    ensures { rows.new ≡ map (row_after call.now reply.now) rows.old }
+{
+    for row in rows.iter_mut() {
+        if row.conn == conn {
+            row.follow(call, reply);
+        }
+    }
+}
+
 fn change_rows(rows: &mut ArrayVec<Row, 256>, call: &Call, reply: &Reply)
     ensures { rows.new.items ≡ rows_after call.now reply.now rows.old.items }
 {
@@ -50,6 +63,10 @@ fn change_rows(rows: &mut ArrayVec<Row, 256>, call: &Call, reply: &Reply)
             let _full = rows.try_push(Row::fresh(*conn, ConnSide::Listener, None));
         }
         (Call::Gone(conn), Reply::Done) => rows.retain(|row| row.conn != *conn),
+        (
+            Call::Settle(conn, _) | Call::Ask(conn, _) | Call::Done(conn, _) | Call::Note(conn, _),
+            Reply::Done,
+        ) => change_one(rows.as_mut_slice(), *conn, call, reply),
         _ => change(rows.as_mut_slice(), call, reply),
     }
 }

@@ -1,9 +1,10 @@
 -- The definitions at worked bytes.
-use Rattle.std.proofs.Common.{ℕ, ◌+◌, ◌%◌, ◌^◌, ◌<◌, ◌≤◌, List, [], ◌∷◌, ◌++◌, replicate, refl, inl, inr, arith}
-use Rattle.std.proofs.lemmas.List.{length-replicate}
+use Rattle.std.proofs.Common.{◌≡◌, ℕ, ◌+◌, ◌-◌, ◌%◌, ◌^◌, ◌<◌, ◌≤◌, List, [], ◌∷◌, ◌++◌, replicate, refl, sym, ◌∙◌, ap, subst, length, inl, inr, arith}
+use Rattle.std.proofs.lemmas.List.{length-replicate, append-nil}
 use Rattle.varint_proto.specs.declared.fault.WireFault.TheVariants.{TooLong, NotShortest, BadWire}
-use Rattle.varint_proto.specs.Varint.{IsUnended, BeginsWide, BeginsShortest, shortest, shortest_within}
+use Rattle.varint_proto.specs.Varint.{IsSpelling, IsUnended, BeginsWide, BeginsShortest, shortest, shortest_within}
 use Rattle.varint_proto.specs.Message.{entry, Varint, IsTag, ValueFault, FieldFault}
+use Rattle.varint_proto.proofs.Front.{one_begins}
 use Rattle.varint_proto.specs.Rows.{VarintRows, WideRows, FieldRows, FieldFaultRows, FramedRows}
 
 pub varint_rows : VarintRows
@@ -70,6 +71,8 @@ field_rows = record {
   );
   none = refl;
   number_written = refl;
+  largest_writable = ((omega arith, omega arith), omega arith);
+  bytes_writable = ((omega arith, omega arith), omega (arith, length-replicate {A = ℕ} 300 7));
   body_written = refl;
 }
 
@@ -104,6 +107,12 @@ fault_rows = record {
   length_cut = inr (18, 128 ∷ [], one_byte 18 _ (omega arith), ((omega arith, omega arith), inl (inr refl, ((omega arith, tt), omega arith))));
   length_too_long = inr (18, replicate 10 128, one_byte 18 _ (omega arith), ((omega arith, omega arith), (inr refl, (nine_unended 128 (omega arith), omega arith, omega arith))));
   body_cut = inr (18, 2 ∷ 0 ∷ [], one_byte 18 _ (omega arith), ((omega arith, omega arith), inr (inr (inl (refl, (2, 0 ∷ [], one_byte 2 _ (omega arith), omega arith))))));
+  longest_body_cut = inr (
+    18,
+    replicate 9 255 ++ 1 ∷ [],
+    one_byte 18 _ (omega arith),
+    ((omega arith, omega arith), inr (inr (inl (refl, (2 ^ 64 - 1, [], wide_rows.largest, omega arith))))),
+  );
   four_cut = inr (13, replicate 3 1, one_byte 13 _ (omega arith), ((omega arith, omega arith), inr (inr (inr (refl, omega arith)))));
   behind_a_field = (
     entry 1 (Varint 1) ∷ [],
@@ -120,6 +129,13 @@ short_length n rest lt = (n ∷ [], record { ends = lt; within = omega arith; sh
 three_hundred : (rest : List ℕ) → BeginsShortest (172 ∷ 2 ∷ rest) 300 rest
 three_hundred rest = (172 ∷ 2 ∷ [], record { ends = (omega arith, omega arith); within = omega arith; shortest = λ _. omega arith; value = refl }, refl)
 
+-- a byte whose top bit is set spells nothing alone
+unspelt : (n : ℕ) → ¬ BeginsShortest (172 ∷ []) n []
+unspelt n begins =
+    let whole : begins.0 ≡ 172 ∷ [] = sym (append-nil begins.0) ∙ sym begins.2 in
+    let low : 172 < 128 = subst IsSpelling whole begins.1.ends in
+    omega arith
+
 pub framed_rows : FramedRows
 framed_rows = record {
   empty = record { begins = short_length 0 _ (omega arith); allowed = omega arith };
@@ -132,4 +148,8 @@ framed_rows = record {
   cut_in_the_body = inr (300, replicate 299 7, record { begins = three_hundred _; allowed = omega arith }, omega (arith, length-replicate {A = ℕ} 299 7));
   asks = (300, record { begins = three_hundred _; allowed = omega arith }, omega arith);
   room_is_there = λ asks. omega (arith, asks.1.allowed, asks.2);
+  length_begun = λ asks. unspelt asks.0 asks.1.begins;
+  behind_the_length = λ asks.
+      let same = one_begins (172 ∷ 2 ∷ 7 ∷ []) asks.0 300 [] (7 ∷ []) asks.1.begins (three_hundred (7 ∷ [])) in omega (arith, ap length same.1);
+  past_the_limit = λ asks. let same = one_begins (3 ∷ []) asks.0 3 [] [] asks.1.begins (short_length 3 [] (omega arith)) in omega (arith, asks.1.allowed, same.0);
 }

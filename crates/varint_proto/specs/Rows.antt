@@ -3,7 +3,7 @@ use Rattle.std.specs.Prelude.{◌≡◌, ◌-◌, ◌^◌, List, [], ◌∷◌, 
 use Rattle.varint_proto.specs.declared.fault.WireFault.TheVariants.{TooLong, NotShortest, Cut, BadNumber, BadWire}
 use Rattle.varint_proto.specs.declared.fault.IncomingRefused.TheVariants as incoming
 use Rattle.varint_proto.specs.Varint.{ReadsShortest, BeginsWide, WideFault, shortest}
-use Rattle.varint_proto.specs.Message.{Entry, entry, Varint, Fixed64, Bytes, Fixed32, Begins, FieldFault, IsMessage}
+use Rattle.varint_proto.specs.Message.{Entry, entry, Varint, Fixed64, Bytes, Fixed32, Begins, FieldFault, IsMessage, IsWritable}
 use Rattle.varint_proto.specs.Message.{FaultIn, all_varints, all_bodies, last_varint, last_body, shortest_field}
 use Rattle.varint_proto.specs.Incoming.{ReadsFramed, AsksMemory}
 
@@ -45,6 +45,9 @@ pub record FieldRows : Type 0 where
   pub two_fields : IsMessage (8 ∷ 1 ∷ 18 ∷ 0 ∷ []) (entry 1 (Varint 1) ∷ entry 2 (Bytes []) ∷ [])
   pub none : IsMessage [] []
   pub number_written : shortest_field (entry 1 (Varint 300)) ≡ 8 ∷ 172 ∷ 2 ∷ []
+  -- the largest number and the largest field that are written
+  pub largest_writable : IsWritable (entry 536870911 (Varint (2 ^ 64 - 1)))
+  pub bytes_writable : IsWritable (entry 1 (Bytes (replicate 300 7)))
   pub body_written : shortest_field (entry 2 (Bytes (97 ∷ 98 ∷ []))) ≡ 18 ∷ 2 ∷ 97 ∷ 98 ∷ []
 
 -- What keeps bytes from beginning with a field
@@ -64,6 +67,8 @@ pub record FieldFaultRows : Type 0 where
   pub length_cut : FieldFault (18 ∷ 128 ∷ []) Cut
   pub length_too_long : FieldFault (18 ∷ replicate 10 128) TooLong
   pub body_cut : FieldFault (18 ∷ 2 ∷ 0 ∷ []) Cut
+  -- a body whose length no bytes can have is cut too
+  pub longest_body_cut : FieldFault (18 ∷ replicate 9 255 ++ 1 ∷ []) Cut
   pub four_cut : FieldFault (13 ∷ replicate 3 1) Cut
   pub behind_a_field : FaultIn (8 ∷ 1 ∷ 11 ∷ []) BadWire
 
@@ -94,3 +99,7 @@ pub record FramedRows : Type 0 where
   pub cut_in_the_body : ReadsFramed 300 (172 ∷ 2 ∷ replicate 299 7) (Ok None)
   pub asks : AsksMemory 300 299 (172 ∷ 2 ∷ [])
   pub room_is_there : ¬ AsksMemory 300 300 (172 ∷ 2 ∷ [])
+  -- nothing is asked for within a length, behind it, and for one that is too long
+  pub length_begun : ¬ AsksMemory 300 0 (172 ∷ [])
+  pub behind_the_length : ¬ AsksMemory 300 0 (172 ∷ 2 ∷ 7 ∷ [])
+  pub past_the_limit : ¬ AsksMemory 2 0 (3 ∷ [])

@@ -1,6 +1,6 @@
 -- Worked rows of sessions, computed by the definitions.
-use Rattle.std.proofs.Common.{refl, arith}
-use Rattle.yamux_session.specs.Rows.{OpeningRows, EndingRows, WindowRows, AnswerRows, FlagRows}
+use Rattle.std.proofs.Common.{◌<◌, refl, arith}
+use Rattle.yamux_session.specs.Rows.{OpeningRows, EndingRows, WindowRows, AnswerRows, FlagRows, GrowthRows}
 
 pub opening_rows : OpeningRows
 opening_rows = record {
@@ -187,4 +187,14 @@ flag_rows = record {
   much_data_behind_the_close = refl;
   much_credit_behind_the_close = refl;
   much_data_opens_and_resets = refl;
+}
+
+pub growth_rows : GrowthRows
+growth_rows = record {
+  opening_told = let some : 0 < 1 = omega arith in some;
+  unknown_untold = λ more. let none : 0 < 0 = more in omega arith;
+  ping_untold = λ more. let none : 0 < 0 = more in omega arith;
+  ping_sent = let some : 0 < 12 = omega arith in some;
+  unknown_unsent = λ more. let none : 0 < 0 = more in omega arith;
+  answer_unsent = λ more. let none : 0 < 0 = more in omega arith;
 }

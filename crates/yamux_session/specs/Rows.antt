@@ -14,9 +14,9 @@ use Rattle.yamux_session.specs.History.Act.{Start, Write, Taken, Close, Reset}
 use Rattle.yamux_session.specs.Openings.{live, is_live}
 use Rattle.yamux_session.specs.Windows.{credit, receiving_window, untaken}
 use Rattle.yamux_session.specs.Acts.{IsPiece, frames_length, open_credit, next_own, start_refusal, stream_refusal, direction_refusal}
-use Rattle.yamux_session.specs.Events.{events}
+use Rattle.yamux_session.specs.Events.{events, TellsMore}
 use Rattle.yamux_session.specs.Data.{inbound}
-use Rattle.yamux_session.specs.Output.{output}
+use Rattle.yamux_session.specs.Output.{output, SendsMore}
 use Rattle.yamux_session.specs.Events.{Told}
 use Rattle.std.specs.List.{AllByRecursion}
 use Rattle.yamux_session.specs.declared.event.Event.TheVariants as event
@@ -356,3 +356,12 @@ pub record FlagRows : Type 0 where
       (Came (header Window 0 1 4294967295) ∷ []) ∷ [])) ≡ Told.Opened 1 ∷ Told.Fault WindowTooLarge ∷ []
   pub much_data_opens_and_resets : events Server (Came (header Payload 9 1 262145) ∷ [])
       ≡ Told.Fault WindowExceeded ∷ []
+
+-- What tells and sends more than was told and sent before: nothing else can want memory
+pub record GrowthRows : Type 0 where
+  pub opening_told : TellsMore Server [] (bare Window 1 1 0)
+  pub unknown_untold : ¬ TellsMore Server [] (bare Window 0 9 5)
+  pub ping_untold : ¬ TellsMore Server [] (bare Ping 1 0 7)
+  pub ping_sent : SendsMore Server [] (bare Ping 1 0 7)
+  pub unknown_unsent : ¬ SendsMore Server [] (bare Window 0 9 5)
+  pub answer_unsent : ¬ SendsMore Server [] (bare Ping 2 0 7)

@@ -9,7 +9,7 @@ ghost use Rattle.yamux_session.specs.Joined.{AllBeforeTheEnd, Balance, BothGoOn,
 ghost use Rattle.yamux_session.specs.OneOutcome.{OneOutcome};
 ghost use Rattle.yamux_session.specs.Runs.{OneCall, RunIsLegal};
 ghost use Rattle.yamux_session.specs.Tied.{ActGoesOn, FeedGoesOn, WantOfMemoryStops};
-ghost use Rattle.yamux_session.specs.Rows.{AnswerRows, EndingRows, FlagRows, OpeningRows, WindowRows};
+ghost use Rattle.yamux_session.specs.Rows.{AnswerRows, EndingRows, FlagRows, GrowthRows, OpeningRows, WindowRows};
 
 /// The definitions say of worked histories what the specification says.
 pub fn worked_rows()
@@ -18,6 +18,7 @@ pub fn worked_rows()
     ensures windows { WindowRows }
     ensures answers { AnswerRows }
     ensures flags { FlagRows }
+    ensures growth { GrowthRows }
 {}
 
 /// At most 256 streams of each end are live.
