@@ -7,7 +7,7 @@ use Rattle.multiaddr.specs.declared.fault.AddrFault.TheVariants.{Empty, UnknownP
 use Rattle.multiaddr.specs.Part.{Part, Address, SpellsAddress, AddressFault, RefusesAddress, bytes_of, spelling}
 use Rattle.multiaddr.specs.Text.{ReadsParts, TextFault, RefusesText}
 use Rattle.multiaddr.specs.Laws.{OneReading, OneTextReading}
-use Rattle.codec_told.specs.Addresses.{Comes, Answers, IsOneAddress}
+use Rattle.codec_told.specs.Addresses.{Comes, IsOneAddress}
 
 module _ {A : Type 0} (Spells : A → Type 0) (Faulty : AddrFault → Type 0) (out : A → List ℕ) (one : (a b : A) → Spells a → Spells b → a ≡ b)
     (one_fault : (f g : AddrFault) → Faulty f → Faulty g → f ≡ g) (either : (a : A) (f : AddrFault) → Spells a → ¬ Faulty f)

@@ -1,15 +1,15 @@
 -- What a caller knows of keys and of the texts of ids.
-use Rattle.std.proofs.Common.{◌≡◌, ◌≢◌, ◌⊎◌, inl, inr, ℕ, true≢false, List, Some, Result, Ok, Err, sym, ap, ◌∙◌, subst}
+use Rattle.std.proofs.Common.{◌≡◌, ◌≢◌, ◌⊎◌, inl, inr, ℕ, true≢false, List, length, Some, Result, Ok, Err, sym, ap, ◌∙◌, subst}
 use Rattle.std.specs.Prelude.{◌↔◌, IfOk, IsOk}
 use Rattle.std.specs.Result.{result_ok}
 use Rattle.peer_ids.specs.declared.fault.KeyFault.{KeyFault}
 use Rattle.peer_ids.specs.declared.fault.KeyFault.TheVariants.{OutOfMemory}
-use Rattle.peer_ids.specs.Key.{Key}
+use Rattle.peer_ids.specs.Key.{Key, IsAllowed}
 use Rattle.peer_ids.specs.ReadsKey.{SpellsKey, RefusesKey}
 use Rattle.peer_ids.specs.Base32.{IsIdText}
 use Rattle.peer_ids.specs.declared.fault.IdFault.{IdFault}
-use Rattle.peer_ids.specs.PeerId.{id_of, IsMultihash}
-use Rattle.peer_ids.specs.Laws.{OneKey, SomeKey, IdsAreMultihashes, OneText}
+use Rattle.peer_ids.specs.PeerId.{canonical_of, id_of, IsMultihash}
+use Rattle.peer_ids.specs.Laws.{OneKey, SomeKey, CanonicalIsRead, IdsAreMultihashes, OneText}
 use Rattle.codec_told.specs.Keys.{Comes, IsOneKey}
 
 module _ (one : OneKey) (bytes : List ℕ) where
@@ -42,3 +42,21 @@ pub taken : IdsAreMultihashes → (bytes : List ℕ) (r : Result (List ℕ) IdFa
 taken law bytes (Ok id) key is found exact = ap (λ (xs : List ℕ). Some xs) (found ∙ is)
 taken law bytes (Err fault) key is found exact =
     absurd (true≢false (sym (exact.1 (subst (λ (xs : List ℕ). IsMultihash xs) (sym is) (law key)))))
+
+-- ---- a key whose message is read
+
+-- what the reading of a canonical message answers
+abbrev pub IsReadAs : Key → Result Key KeyFault → Type 0
+IsReadAs key r = (r ≡ Ok key) ⊎ (r ≡ Err OutOfMemory)
+
+pub key_back : CanonicalIsRead → (key : Key) → IsAllowed key.kind (length key.body) → (message : List ℕ) → message ≡ canonical_of key → (r : Result Key KeyFault)
+    → ((key : Key) → SpellsKey message key → IsReadAs key r) → IsReadAs key r
+key_back law key allowed message is r only = only key (subst (λ (t : List ℕ). SpellsKey t key) (sym is) (law key allowed))
+
+pub read_same : (read key : Key) → IsReadAs key (Ok read) → read ≡ key
+read_same read key (inl is) = cc
+read_same read key (inr is) = absurd (cc)
+
+pub wanting : (fault : KeyFault) (key : Key) → IsReadAs key (Err fault) → fault ≡ OutOfMemory
+wanting fault key (inl is) = absurd (cc)
+wanting fault key (inr is) = cc

@@ -3,3 +3,8 @@ pub mod Fields
 pub mod Framing
 pub mod Keyed
 pub mod Addressed
+pub mod Printed
+pub mod Negotiated
+pub mod Joined
+pub mod Cut
+pub mod Exchanged

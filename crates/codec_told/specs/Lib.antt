@@ -3,3 +3,5 @@ pub mod Varints
 pub mod Messages
 pub mod Keys
 pub mod Addresses
+pub mod Negotiations
+pub mod Exchanges

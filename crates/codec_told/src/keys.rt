@@ -1,13 +1,13 @@
 //! Keys and ids that a caller reads and names.
 
-ghost use Rattle.std.specs.Prelude.{◌≡◌, ◌↔◌, IsTrue, Some, IfOk, string_bytes};
-ghost use Rattle.peer_ids.specs.Key.{Key};
+ghost use Rattle.std.specs.Prelude.{◌≡◌, ◌↔◌, IsTrue, IsSome, Some, IfOk, IfErr, IfSome, string_bytes, vec_len};
+ghost use Rattle.peer_ids.specs.Key.{Key, IsAllowed};
 ghost use Rattle.peer_ids.specs.PeerId.{id_of};
 ghost use Rattle.peer_ids.specs.Base32.{id_text};
 ghost use Rattle.codec_told.specs.Keys.{IsOneKey};
 
-use peer_ids::laws::{ids_are_multihashes, one_key, one_text, some_key};
-use peer_ids::{KeyFault, PeerId, PublicKey};
+use peer_ids::laws::{canonical_is_read, ids_are_multihashes, one_key, one_text, some_key};
+use peer_ids::{KeyFault, KeyType, PeerId, PublicKey};
 use std::alloc::{AllocError, Global};
 
 /// Reads a key: its bytes have one outcome.
@@ -17,6 +17,22 @@ pub fn key_read(alloc: Global, bytes: &[u8]) -> Result<PublicKey, KeyFault>
     one_key();
     some_key();
     PublicKey::read(alloc, bytes)
+}
+
+/// Makes a key of this type and this data, where that is allowed, and reads the message that it writes: it is the same
+/// key, and only memory may be wanting.
+pub fn key_back(alloc: Global, kind: KeyType, body: Vec<u8>) -> Result<Option<PublicKey>, KeyFault>
+    ensures some { IfOk result (λ read. IsSome read ↔ IsAllowed kind (vec_len body)) }
+    ensures back { IfOk result (λ read. IfSome read (λ key. (key.kind ≡ kind) × (key.body ≡ body.items))) }
+    ensures fault { IfErr result (λ why. why ≡ KeyFault.OutOfMemory) }
+{
+    canonical_is_read();
+    let Some(key) = PublicKey::new(kind, body) else {
+        return Ok(None);
+    };
+    let message = key.canonical()?;
+    let read = PublicKey::read(alloc, &message)?;
+    Ok(Some(read))
 }
 
 /// Takes an id that is told in bytes: that of any key is taken.

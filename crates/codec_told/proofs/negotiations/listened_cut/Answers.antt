@@ -1,0 +1,18 @@
+use Rattle.std.proofs.Common.{◌≡◌, ℕ, List, [], ◌++◌, sym, ap, ◌∙◌}
+use Rattle.std.proofs.lemmas.List.{append-nil}
+use Rattle.ms_select.specs.Listening.{Listens}
+use Rattle.codec_told.proofs.Cut.{alike, texts}
+use Rattle.codec_told.proofs.negotiations.listened_cut.Goals as goal
+
+pub returns : goal.returns
+returns c =
+    let names : List (List ℕ) = texts c.args.names.now in
+    let bytes : List ℕ = c.args.bytes.now in
+    let front : List ℕ = c.split_at.result.0.now in
+    let behind : List ℕ = c.split_at.result.1.now in
+    let parts : front ++ (behind ++ []) ≡ bytes ++ [] =
+    ap (λ (t : List ℕ). front ++ t) (append-nil behind) ∙ sym c.split_at.ensures.by_index.0 ∙ sym (append-nil bytes) in
+    alike (Listens names) c.args.names.now (bytes ++ []) (c.one_listener.ensures names (bytes ++ [])) (front ++ (behind ++ [])) parts
+    c.listen.result c.listen-2.result
+    (record { ok = c.listen.ensures.outcome; err = c.listen.ensures.fault; bad = c.listen.ensures.bad_length })
+    (record { ok = c.listen-2.ensures.outcome; err = c.listen-2.ensures.fault; bad = c.listen-2.ensures.bad_length })
