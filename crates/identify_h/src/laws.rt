@@ -2,7 +2,8 @@
 
 ghost use Rattle.std.specs.Prelude.{◌≡◌, ◌↔◌, ◌<◌, ℕ, Bool, List, [], ◌∷◌, ◌++◌, length, true, false, IsSome, IfSome};
 ghost use mathlib.Core.List.{IsPrefix};
-ghost use Rattle.handlers.specs.Calls.{HandlerCall, Take, Give, End, ToTake, ToGive, ToEnd, Arises, EndsAs, taken, given};
+ghost use Rattle.handlers.specs.Calls.{HandlerCall, Take, Give, End, ToTake};
+ghost use Rattle.handlers.specs.Calls.{ToGive, ToEnd, Arises, EndsAs, taken, given};
 ghost use Rattle.handlers.specs.Calls.{HasFailed, HasEnded};
 ghost use Rattle.identify_h.specs.declared.fault.IdentifyFault.TheVariants.{Failed, OutOfMemory};
 ghost use Rattle.identify_h.specs.Faults.{number_of};
@@ -10,7 +11,8 @@ ghost use Rattle.identify_h.specs.Messages.{KeyIsThePeers, OneMessage, WrittenIs
 ghost use Rattle.identify_h.specs.Streams.{Reads, OneOutcome, SomeOutcome, FaultsStay, SentIsRead};
 ghost use Rattle.identify_h.specs.Reading.{Reader, Stands, IsFresh};
 ghost use Rattle.identify_h.specs.Sending.{Sending, sending};
-ghost use Rattle.identify_h.specs.Rows.{MessageRows, FieldRows, MemoryRows, MergeRows, StreamRows, FaultRows, RoomRows, NumberRows, SendRows, ReadRows};
+ghost use Rattle.identify_h.specs.Rows.{MessageRows, FieldRows, MemoryRows, MergeRows, StreamRows};
+ghost use Rattle.identify_h.specs.Rows.{FaultRows, RoomRows, NumberRows, SendRows, ReadRows};
 
 use crate::reader::IdentifyIn;
 use crate::writer::IdentifyOut;

@@ -4,7 +4,8 @@ ghost use Rattle.std.specs.Prelude.{◌≡◌, ◌↔◌, ◌<◌, ℕ, Bool, Li
 ghost use Rattle.ping_h.specs.declared.fault.PingFault.TheVariants.{Failed, OutOfMemory};
 ghost use Rattle.ping_h.specs.Faults.{number_of};
 ghost use mathlib.Core.List.{IsPrefix};
-ghost use Rattle.handlers.specs.Calls.{HandlerCall, Take, Give, End, ToTake, ToGive, ToEnd, Arises, EndsAs, taken, given};
+ghost use Rattle.handlers.specs.Calls.{HandlerCall, Take, Give, End, ToTake};
+ghost use Rattle.handlers.specs.Calls.{ToGive, ToEnd, Arises, EndsAs, taken, given};
 ghost use Rattle.handlers.specs.Calls.{HasFailed, HasEnded};
 ghost use Rattle.ping_h.specs.Echoes.{Echo, fresh, whole_rounds};
 ghost use Rattle.ping_h.specs.Rounds.{Round, round};
