@@ -1,7 +1,7 @@
 -- What a caller knows of a message behind its length.
-use Rattle.std.proofs.Common.{◌≡◌, ℕ, ◌<◌, ◌≤◌, Bool, true, false, true≢false, List, [], ◌∷◌, ◌++◌, length, take, drop, get_or, take-append-drop, Option, Some, None, Result, Ok, Err, refl, sym, ap, ◌∙◌, subst, arith}
+use Rattle.std.proofs.Common.{◌≡◌, ℕ, ◌+◌, ◌<◌, ◌≤◌, Bool, true, false, true≢false, List, [], ◌∷◌, ◌++◌, length, take, drop, get_or, take-append-drop, Option, Some, None, Result, Ok, Err, refl, sym, ap, ◌∙◌, subst, arith}
 use Rattle.std.specs.Prelude.{IsTrue, ◌↔◌}
-use Rattle.std.proofs.lemmas.List.{append-nil, take_all}
+use Rattle.std.proofs.lemmas.List.{append-nil, take_more}
 use Rattle.varint_proto.specs.declared.fault.IncomingRefused.{IncomingRefused}
 use Rattle.varint_proto.specs.Varint.{shortest, IsSpelling}
 use Rattle.varint_proto.specs.Incoming.{Arriving, Stands, IsWhole, whole_at, ReadsFramed, OneFramed, SomeFramed, FramedStays, FramedEnds, FramedIsRead, StandsRead}
@@ -19,14 +19,20 @@ early one some stays limit bytes (Err why) reads more =
     let last = some limit (bytes ++ more) in
     (last.0, last.1, one limit (bytes ++ more) last.0 (Err why) last.1 (stays.fault limit bytes more why reads))
 
--- what was fed of the bytes, and whether the message is whole, is what is read of them
-pub fed_reads : StandsRead → FramedStays → (x : Arriving) (bytes : List ℕ) (used : ℕ) (whole : Bool) → Stands (take used bytes) x → (IsTrue whole ↔ IsWhole x)
-    → (whole ≡ false → used ≡ length bytes) → ReadsFramed x.limit bytes (Ok (whole_at whole x.body (drop used bytes)))
-fed_reads read stays x bytes used true stands is all =
-    subst (λ (xs : List ℕ). ReadsFramed x.limit xs (Ok (Some (x.body, drop used bytes)))) (take-append-drop used bytes)
-    (stays.whole x.limit (take used bytes) (drop used bytes) x.body [] (read.whole x (take used bytes) stands (is.0 refl)))
-fed_reads read stays x bytes used false stands is all =
-    subst (λ (xs : List ℕ). ReadsFramed x.limit xs (Ok None)) (take_all used bytes (omega (arith, all refl))) (read.partial x (take used bytes) stands (λ whole. true≢false (sym (is.1 whole))))
+-- ---- a length that is fed byte by byte
+
+-- where it stands, and whether it is whole, is what is read of what was fed
+pub fed_reads : StandsRead → (x : Arriving) (input : List ℕ) (whole : Bool) → Stands input x → (IsTrue whole ↔ ((x.failed ≡ false) × IsWhole x))
+    → ReadsFramed x.limit input (Ok (whole_at whole x.body []))
+fed_reads read x input true stands is = read.whole x input stands (is.0 refl).1
+fed_reads read x input false stands is = read.partial x input stands (λ whole. true≢false (sym (is.1 (stands.going, whole))))
+
+-- what the next byte refuses is refused of all of them
+pub fed_fault : FramedStays → (limit : ℕ) (bytes : List ℕ) (used : ℕ) (why : IncomingRefused) → used < length bytes → ReadsFramed limit (take used bytes ++ get_or bytes used 0 ∷ []) (Err why)
+    → ReadsFramed limit bytes (Err why)
+fed_fault stays limit bytes used why within reads =
+    let there : ReadsFramed limit (take (used + 1) bytes) (Err why) = subst (λ (xs : List ℕ). ReadsFramed limit xs (Err why)) (sym (take_more bytes used 0 within)) reads in
+    subst (λ (xs : List ℕ). ReadsFramed limit xs (Err why)) (take-append-drop (used + 1) bytes) (stays.fault limit (take (used + 1) bytes) (drop (used + 1) bytes) why there)
 
 -- ---- a body that was sent behind its length
 

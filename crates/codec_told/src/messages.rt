@@ -1,7 +1,8 @@
 //! Messages that a caller reads and writes.
 
-ghost use Rattle.std.specs.Prelude.{◌≡◌, ◌≢◌, ◌^◌, ◌<◌, true, false, ℕ, List, length, drop, Some, Ok, Err, IfOk, IfErr};
-ghost use Rattle.varint_proto.specs.Incoming.{whole_at};
+ghost use Rattle.std.specs.Prelude.{◌≡◌, ◌≢◌, ◌^◌, ◌<◌, true, false, ℕ, List, [], length, take, drop};
+ghost use Rattle.std.specs.Prelude.{Some, None, Ok, Err, IfOk, IfErr};
+ghost use Rattle.varint_proto.specs.Incoming.{ReadsFramed, whole_at};
 ghost use Rattle.varint_proto.specs.Message.{Begins, entry, Varint, Bytes};
 ghost use Rattle.codec_told.specs.Messages.{IsCount, IsCounted, IsFramedEarly};
 
@@ -99,9 +100,30 @@ pub fn fed_early(alloc: Global, limit: usize, bytes: &[u8]) -> Result<Fed, Incom
     one_framed();
     some_framed();
     framed_stays();
-    stands_read();
     let mut incoming = Incoming::new(alloc, limit);
     let (used, whole) = incoming.feed(bytes)?;
+    Ok(Fed {
+        incoming,
+        used,
+        whole,
+    })
+}
+
+/// Feeds a new message the bytes of its length, one by one, and none of those behind it.
+pub fn length_fed(alloc: Global, limit: usize, bytes: &[u8]) -> Result<Fed, IncomingRefused>
+    ensures reads { IfOk result (λ fed. ReadsFramed limit (take fed.used bytes.now)
+        (Ok (whole_at fed.whole fed.incoming.body []))) }
+    ensures all { IfOk result (λ fed. fed.incoming.expected ≡ None → fed.used ≡ length bytes.now) }
+    ensures fault { IfErr result (λ why. why ≢ IncomingRefused.OutOfMemory → ReadsFramed limit bytes.now (Err why)) }
+{
+    framed_stays();
+    stands_read();
+    let mut incoming = Incoming::new(alloc, limit);
+    let mut used = 0;
+    'bytes: while used < bytes.len() && incoming.announced().is_none() {
+        used += incoming.feed_length(&[bytes[used]])?;
+    }
+    let whole = incoming.is_whole();
     Ok(Fed {
         incoming,
         used,

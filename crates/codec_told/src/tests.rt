@@ -4,7 +4,7 @@ use multiaddr::AddrFault;
 use peer_ids::{KeyFault, KeyType, PeerId, PublicKey};
 use plaintext_x::ExchangeFault;
 use std::test::*;
-use varint_proto::WireFault;
+use varint_proto::{IncomingRefused, WireFault};
 
 #[test]
 fn numbers_are_read(rt: HostRuntime) -> Result<(), Fail> {
@@ -56,6 +56,32 @@ fn messages_are_heard(rt: HostRuntime) -> Result<(), Fail> {
     assert!(rt; !sent.before);
     assert!(rt; sent.behind);
     assert_eq!(rt; sent.incoming.body(), b"seven".as_slice());
+    Ok(())
+}
+
+#[test]
+fn lengths_are_heard(rt: HostRuntime) -> Result<(), Fail> {
+    for (row, (bytes, used, announced, whole)) in [
+        (&[][..], 0, None, false),
+        (&[172], 1, None, false),
+        (&[172, 2, 5, 6], 2, Some(300), false),
+        (&[2, 5, 6, 7], 1, Some(2), false),
+        (&[0, 7], 1, Some(0), true),
+    ]
+    .iter()
+    .enumerate()
+    {
+        let fed = messages::length_fed(rt.alloc(), 300, *bytes)
+            .ok()
+            .ok_or("ample memory")?;
+        assert_eq!(rt; fed.used, *used, "row {row}");
+        assert_eq!(rt; fed.incoming.announced(), *announced, "row {row}");
+        assert_eq!(rt; fed.whole, *whole, "row {row}");
+    }
+    let long = messages::length_fed(rt.alloc(), 299, &[172, 2]);
+    assert_eq!(rt; long.err(), Some(IncomingRefused::TooLong));
+    let spelt = messages::length_fed(rt.alloc(), 300, &[172, 0, 7]);
+    assert_eq!(rt; spelt.err(), Some(IncomingRefused::BadLength));
     Ok(())
 }
 

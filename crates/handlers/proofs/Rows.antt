@@ -1,8 +1,9 @@
 -- The worked rows of calls.
-use Rattle.std.proofs.Common.{◌≡◌, ℕ, Bool, true, List, [], ◌∷◌, ◌++◌, refl, sym, ◌∙◌, ap, subst, append_assoc}
+use Rattle.std.proofs.Common.{◌≡◌, ◌≢◌, ◌⊎◌, ◌↔◌, inl, inr, ℕ, Bool, true, List, [], ◌∷◌, ◌++◌, refl, sym, ◌∙◌, ap, subst, append_assoc}
 use Rattle.std.proofs.lemmas.List.{append-nil}
-use Rattle.handlers.specs.Calls.{HandlerCall, Arises, WasHanded, EndsAs, taken}
-use Rattle.handlers.specs.Rows.{Noting, noted, EndRows, HandedRows}
+use Rattle.handlers.specs.Calls.{HandlerCall, Take, Give, End, Asked, ToTake, ToGive, ToEnd}
+use Rattle.handlers.specs.Calls.{Arises, WasHanded, EndsAs, HasFailed, HasEnded, taken}
+use Rattle.handlers.specs.Rows.{Noting, noted, EndRows, HandedRows, Answers, Refuses, RefusesOthers, RefusesTwice, StopRows}
 use Rattle.handlers.proofs.Handing.{one_end}
 
 pub end_rows : EndRows
@@ -10,11 +11,11 @@ end_rows = record {
   none = refl;
   last = (refl, tt);
   not_said = λ e. cc e;
-  taken_behind = λ h. h.1;
+  taken_behind = λ bytes h. h.1;
   twice = λ h. h.1;
   said_early = λ h. cc h.0;
   behind_giving = (refl, tt);
-  taken_behind_giving = λ h. h.1;
+  taken_behind_giving = λ room gave bytes h. h.1;
   twice_behind_giving = λ h. h.1;
 }
 
@@ -49,4 +50,58 @@ handed_rows = record {
     λ h. subst (λ (t : List ℕ). WasHanded Noting [] t ended noted) (sym h.0)
         (subst (λ (b : Bool). WasHanded Noting [] (taken noted) b noted) (sym h.1) handed_all),
   );
+}
+
+-- ---- what has failed, and what has ended
+
+not_at_one : (call other : HandlerCall) (next : ℕ) → ¬ Answers call 1 other next
+not_at_one call other next step = let never : ◌≡◌ {A = ℕ} 1 0 = step.0 in cc
+
+-- what is refused by 9 too isn't refused by 8 alone
+nine : (asked : Asked) (n : ℕ) → n ≡ 9 → RefusesTwice asked 1 asked n ↔ (n ≡ 8) → ⊥
+nine asked n is h = let other : n ≡ 8 = h.0 (inr (refl, is)) in let never : ◌≡◌ {A = ℕ} 9 8 = sym is ∙ other in cc
+
+-- what is refused, and what isn't so named
+by_others : (kept asked : Asked) (n : ℕ) → asked ≢ kept → RefusesOthers kept 0 asked n ↔ (n ≡ 7)
+by_others kept asked n other = (λ h. h.0, λ e. (e, other))
+
+by_none_twice : (twice asked : Asked) (n : ℕ) → asked ≢ twice → RefusesTwice twice 0 asked n ↔ (n ≡ 7)
+by_none_twice twice asked n other = (of, λ e. inl e)
+  where
+    of : RefusesTwice twice 0 asked n → n ≡ 7
+    of (inl e) = e
+    of (inr h) = absurd (other h.0)
+
+pub stop_rows : StopRows
+stop_rows = record {
+  failed = λ call. record { answers = not_at_one call; refuses = λ asked n. (λ e. e, λ e. e) };
+  failed_by_one = λ call n h. (h.refuses ToEnd n).1 refl;
+  answers = λ call h. h.answers call 1 (refl, refl, refl);
+  unrefused = λ call asked h. ((h.refuses asked 8).1 refl).1 refl;
+  refused_twice = λ call asked h. nine asked 9 refl (h.refuses asked 9);
+  gives = λ room bytes. record {
+    takes = λ more next step. cc step.1;
+    ends = λ next step. cc step.1;
+    refuses = λ more n. by_others (ToGive room) (ToTake more) n (λ e. cc);
+    refuses_an_end = λ n. by_others (ToGive room) ToEnd n (λ e. cc);
+  };
+  fails_to_give = λ room bytes. record {
+    takes = λ more next step. cc step.1;
+    ends = λ next step. cc step.1;
+    refuses = λ more n. by_none_twice (ToGive room) (ToTake more) n (λ e. cc);
+    refuses_an_end = λ n. by_none_twice (ToGive room) ToEnd n (λ e. cc);
+  };
+  ended_by_one = λ room bytes n h. (h.refuses_an_end n).1 refl;
+  ended = λ call. record {
+    takes = λ bytes next. not_at_one call _ next;
+    ends = λ next. not_at_one call _ next;
+    refuses = λ bytes n. (λ e. e, λ e. e);
+    refuses_an_end = λ n. (λ e. e, λ e. e);
+  };
+  takes = λ bytes h. h.takes bytes 1 (refl, refl, refl);
+  ends = λ h. h.ends 1 (refl, refl, refl);
+  unrefused_bytes = λ call bytes h. ((h.refuses bytes 8).1 refl).1 refl;
+  unrefused_end = λ call h. ((h.refuses_an_end 8).1 refl).1 refl;
+  bytes_refused_twice = λ call bytes h. nine (ToTake bytes) 9 refl (h.refuses bytes 9);
+  end_refused_twice = λ call h. nine ToEnd 9 refl (h.refuses_an_end 9);
 }

@@ -3,7 +3,7 @@
 ghost use Rattle.std.specs.Prelude.{◌≡◌, ℕ, Bool, true, false, List, [], ◌++◌};
 ghost use Rattle.handlers.specs.Calls.{HandlerCall, Take, Give, End, Arises, EndsAs, WasHanded, taken};
 ghost use Rattle.handlers.specs.Names.{NameRows};
-ghost use Rattle.handlers.specs.Rows.{JoinedRows, EndRows, HandedRows};
+ghost use Rattle.handlers.specs.Rows.{JoinedRows, EndRows, HandedRows, StopRows};
 
 use crate::handler::Handler;
 
@@ -13,6 +13,7 @@ pub fn worked_rows()
     ensures joined { JoinedRows }
     ensures ends { EndRows }
     ensures handed { HandedRows }
+    ensures stops { StopRows }
 {}
 
 /// Calls that are made in turn are made as one list.

@@ -12,3 +12,4 @@ pub mod Lengths
 pub mod Refusing
 pub mod RoomRows
 pub mod Stopping
+pub mod OneWay

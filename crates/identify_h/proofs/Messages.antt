@@ -134,7 +134,7 @@ pub only_wire : (peer bytes : List ℕ) (r : Result Message IdentifyFault) → I
 only_wire peer bytes (Ok n) ok err fault faulty = absurd (message_or_fault bytes ok.0 fault ok.1 faulty)
 only_wire peer bytes (Err e) ok err fault faulty = ap Err (wire_alone peer bytes e fault faulty err)
 
-not_spelt : (bytes : List ℕ) (fields : List Entry) → IsMessage bytes fields → HasBadKey bytes → IsKeySpelt (last_body 1 fields) → ⊥
+pub not_spelt : (bytes : List ℕ) (fields : List Entry) → IsMessage bytes fields → HasBadKey bytes → IsKeySpelt (last_body 1 fields) → ⊥
 not_spelt bytes fields message bad spelt =
     let same = one_message bytes bad.0 fields bad.1 message in
     bad.2.2 (subst IsKeySpelt (sym (ap (last_body 1) same) ∙ bad.2.1) spelt)

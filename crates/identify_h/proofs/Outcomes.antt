@@ -1,5 +1,5 @@
 -- A stream has one outcome, and some outcome.
-use Rattle.std.proofs.Common.{◌≡◌, ◌≢◌, ◌⊎◌, ℕ, zero, suc, ◌+◌, ◌-◌, ◌<◌, ◌≤◌, ◌==◌, Bool, true, false, List, [], ◌∷◌, ◌++◌, length, Option, Some, None, Result, Ok, Err, refl, sym, ap, subst, ◌∙◌, inl, inr, arith}
+use Rattle.std.proofs.Common.{◌≡◌, ◌≢◌, ◌⊎◌, ◌↔◌, ℕ, zero, suc, ◌+◌, ◌-◌, ◌<◌, ◌≤◌, ◌==◌, Bool, true, false, List, [], ◌∷◌, ◌++◌, length, Option, Some, None, Result, Ok, Err, refl, sym, ap, subst, ◌∙◌, inl, inr, arith}
 use Rattle.std.specs.List.{concat}
 use Rattle.std.proofs.lemmas.Bool.{eqb-true, eq-eqb}
 use Rattle.std.proofs.lemmas.List.{length-append}
@@ -77,7 +77,7 @@ framed_not left rest r other reads body after frames = other (body, after) (one_
 pub stops_empty : (n left : ℕ) → Stops n left []
 stops_empty n left body after some frames = framed_not left [] (Ok None) (λ x e. cc) (inl (tt, omega arith)) body after frames
 
-stops_part : (n : ℕ) (bodies : List (List ℕ)) (rest : List ℕ) → IsPart bodies rest → Stops n (left_behind bodies) rest
+pub stops_part : (n : ℕ) (bodies : List (List ℕ)) (rest : List ℕ) → IsPart bodies rest → Stops n (left_behind bodies) rest
 stops_part n bodies rest (inl none) body after some frames =
     subst (λ (t : List ℕ). Stops n (left_behind bodies) t) (sym none) (stops_empty n (left_behind bodies)) body after some frames
 stops_part n bodies rest (inr part) body after some frames = framed_not (left_behind bodies) rest (Ok None) (λ x e. cc) part.1 body after frames
@@ -391,5 +391,31 @@ one_end peer input fault other a b p q = by (how_fails peer input fault p) (how_
     by (inr x) (inl y) = absurd (cut_or_whole peer input x.bodies y.1 x.begins x.some)
     by (inr x) (inr y) = one_refused peer (concat x.bodies) fault other a b x.refused (refused_same peer input x.bodies y.bodies other x.begins y.begins y.refused)
 
+-- ---- whole messages
+
+read_joined : (peer input : List ℕ) (bodies : List (List ℕ)) → Begins input bodies [] → 0 < length bodies → (m : Message)
+    → Reads peer input m ↔ Spells peer (concat bodies) m
+read_joined peer input bodies begins some m = (
+  λ reads. subst (λ (t : List (List ℕ)). Spells peer (concat t) m) (sym (whole_same input bodies reads.0 begins reads.1)) reads.3,
+  λ spells. (bodies, begins, some, spells),
+)
+
+fails_joined : (peer input : List ℕ) (bodies : List (List ℕ)) → Begins input bodies [] → 0 < length bodies → (fault : IdentifyFault)
+    → EndFails peer input fault ↔ Refuses peer (concat bodies) fault
+fails_joined peer input bodies begins some Cut = (λ cut. cut_or_whole peer input bodies cut begins some, λ never. absurd never)
+fails_joined peer input bodies begins some Wire = (λ f. refused_same peer input bodies f.0 Wire begins f.1 f.3, λ r. (bodies, begins, some, r))
+fails_joined peer input bodies begins some OtherKey = (λ f. refused_same peer input bodies f.0 OtherKey begins f.1 f.3, λ r. (bodies, begins, some, r))
+fails_joined peer input bodies begins some OutOfMemory = (λ f. refused_same peer input bodies f.0 OutOfMemory begins f.1 f.3, λ r. (bodies, begins, some, r))
+fails_joined peer input bodies begins some Failed = (λ f. refused_same peer input bodies f.0 Failed begins f.1 f.3, λ r. (bodies, begins, some, r))
+fails_joined peer input bodies begins some TooLong = (λ f. refused_same peer input bodies f.0 TooLong begins f.1 f.3, λ r. (bodies, begins, some, r))
+fails_joined peer input bodies begins some TooMany = (λ f. refused_same peer input bodies f.0 TooMany begins f.1 f.3, λ r. (bodies, begins, some, r))
+
 pub one_outcome : OneOutcome
-one_outcome = record { fault = one_fault; goes = goes_or_fault; message = one_read; end = one_end; either = read_or_fails }
+one_outcome = record {
+  fault = one_fault;
+  goes = goes_or_fault;
+  message = one_read;
+  end = one_end;
+  either = read_or_fails;
+  whole = λ peer input bodies begins some. (read_joined peer input bodies begins some, fails_joined peer input bodies begins some);
+}

@@ -100,6 +100,8 @@ room_rows = record {
       (record { few = omega arith; lead = ([], framed_row 16384 (8 ∷ []) [] (omega arith) (omega arith), refl) })
       tt (omega arith) (one_byte (1 ∷ []) 8 fails);
   too_long = λ fails. too_long_at fails.0 fails.1 fails.2 fails.3;
+  too_long_together = λ fails.
+      one_outcome.goes (1 ∷ 8 ∷ 128 ∷ 128 ∷ 1 ∷ []) TooLong (asks_goes _ (one_byte (1 ∷ 8 ∷ 128 ∷ 128 ∷ []) 1 fails)) fault_rows.together;
   eleventh = λ fails.
       one_outcome.goes (replicate 10 0 ++ 1 ∷ []) TooMany (asks_goes _ (one_byte (replicate 10 0) 1 fails)) fault_rows.eleventh_begun;
 }

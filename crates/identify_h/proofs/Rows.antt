@@ -1,10 +1,10 @@
 -- The definitions at worked bytes.
-use Rattle.std.proofs.Common.{◌≡◌, ℕ, ◌+◌, ◌*◌, ◌<◌, ◌≤◌, zero, suc, List, [], ◌∷◌, ◌++◌, length, replicate, None, true, false, refl, sym, ap, ◌∙◌, subst, inl, inr, arith}
+use Rattle.std.proofs.Common.{◌≡◌, ℕ, ◌+◌, ◌*◌, ◌<◌, ◌≤◌, zero, suc, List, [], ◌∷◌, ◌++◌, length, replicate, Some, None, true, false, refl, sym, ap, ◌∙◌, subst, inl, inr, arith}
 use Rattle.std.specs.Prelude.{IsSome, is_some, slice_index}
 use Rattle.varint_proto.specs.Varint.{shortest, shortest_within}
 use Rattle.varint_proto.specs.Varint.{BeginsShortest, BeginsWide}
 use Rattle.varint_proto.specs.Message.{Entry, entry, Bytes, Varint, Begins, IsMessage, last_body}
-use Rattle.varint_proto.proofs.OneReading.{one_message}
+use Rattle.varint_proto.proofs.OneReading.{one_message, message_or_fault}
 use Rattle.peer_ids.specs.declared.kind.KeyType.TheVariants.{Ed25519}
 use Rattle.peer_ids.specs.Key.{Key}
 use Rattle.peer_ids.specs.PeerId.{id_of}
@@ -17,7 +17,8 @@ use Rattle.peer_ids.specs.declared.fault.KeyFault.TheVariants as keys
 use Rattle.identify_h.specs.declared.fault.IdentifyFault.TheVariants.{TooMany, OutOfMemory}
 use Rattle.identify_h.specs.Messages.{IsKeySpelt, HasText, HasField, Refuses}
 use Rattle.identify_h.specs.Streams.{Lead, HasFault}
-use Rattle.identify_h.specs.Rows.{key_field, key_id, MessageRows, FieldRows, MemoryRows, MergeRows, StreamRows, FaultRows}
+use Rattle.identify_h.proofs.Messages.{not_spelt}
+use Rattle.identify_h.specs.Rows.{key_field, key_id, MessageRows, FieldRows, MemoryRows, BadKeyRows, MergeRows, StreamRows, FaultRows}
 
 one_wide : (n : ℕ) (rest : List ℕ) → n < 128 → BeginsWide (n ∷ rest) n rest
 one_wide n rest lt = (n ∷ [], record { ends = lt; within = omega arith; fits = omega arith; value = omega arith }, refl)
@@ -285,6 +286,37 @@ memory_rows = record {
       let spelt = (memory_at [] (10 ∷ 0 ∷ 42 ∷ 1 ∷ 97 ∷ []) (entry 1 (Bytes []) ∷ entry 5 (Bytes (97 ∷ [])) ∷ [])
       (42 ∷ 1 ∷ 97 ∷ [], empty_field 1 10 _ refl (omega arith) (omega arith), ([], short_field 5 42 97 [] refl (omega arith) (omega arith), refl)) refused).0 in
       key_or_fault [] spelt.0 keys.NoType (λ e. cc) spelt.1 ([], refl, refl);
+}
+
+-- ---- keys that aren't well spelt
+
+no_spelling : ¬ IsKeySpelt (Some [])
+no_spelling spelt = key_or_fault [] spelt.0 keys.NoType (λ e. cc) spelt.1 ([], refl, refl)
+
+cut_spelling : ¬ IsKeySpelt (Some (8 ∷ []))
+cut_spelling spelt = key_or_fault (8 ∷ []) spelt.0 keys.Wire (λ e. cc) spelt.1 message_rows.badly_spelt
+
+pub bad_key_rows : BadKeyRows
+bad_key_rows = record {
+  empty = (entry 1 (Bytes []) ∷ [], ([], empty_key, refl), ([], refl, no_spelling));
+  cut = (entry 1 (Bytes (8 ∷ [])) ∷ [], ([], short_field 1 10 8 _ refl (omega arith) (omega arith), refl), (8 ∷ [], refl, cut_spelling));
+  behind_another = (
+    entry 1 (Bytes key_message) ∷ entry 1 (Bytes []) ∷ [],
+    (
+      10 ∷ 0 ∷ [],
+      (key_field, record { value = 36 ∷ key_message; fits = (omega arith, omega arith); tag = one_wide 10 _ (omega arith); content = one_wide 36 _ (omega arith) }, refl),
+      ([], empty_key, refl),
+    ),
+    ([], refl, no_spelling),
+  );
+  before_a_version = (
+    entry 1 (Bytes []) ∷ entry 5 (Bytes (97 ∷ [])) ∷ [],
+    (42 ∷ 1 ∷ 97 ∷ [], empty_field 1 10 _ refl (omega arith) (omega arith), ([], short_field 5 42 97 [] refl (omega arith) (omega arith), refl)),
+    ([], refl, no_spelling),
+  );
+  well_spelt = λ bad. not_spelt key_field (entry 1 (Bytes key_message) ∷ []) ([], whole_key_field, refl) bad (the_key, spells_key);
+  no_key = λ bad. not_spelt [] [] refl bad tt;
+  no_message = λ bad. message_or_fault (8 ∷ []) bad.0 message_rows.badly_spelt.0 bad.1 message_rows.badly_spelt.1;
 }
 
 -- ten messages that are empty, and then these bytes

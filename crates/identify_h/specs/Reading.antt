@@ -1,5 +1,5 @@
 -- The end that asks, and the one that is pushed to (libp2p identify 1.0.0; this project's profile).
-use Rattle.std.specs.Prelude.{◌≡◌, ℕ, List, [], ◌++◌, length, Bool, true, false, ◌||◌, Option, Some, None, is_some}
+use Rattle.std.specs.Prelude.{◌≡◌, ◌↔◌, ℕ, List, [], ◌++◌, length, Bool, true, false, ◌||◌, Option, Some, None, is_some}
 use Rattle.std.specs.List.{concat}
 use Rattle.varint_proto.specs.Incoming as framed
 use Rattle.varint_proto.specs.Incoming.{Arriving, IsWhole}
@@ -71,3 +71,10 @@ ReadFails r ToEnd n =
     (fault : IdentifyFault) × (n ≡ number_of fault)
     × (is_over r ≡ true → fault ≡ Failed)
     × (is_over r ≡ false → Whenever r (λ input. EndFails r.peer input fault))
+
+-- No call tells two readers apart: they stand behind the same inputs
+pub record Alike (r s : Reader) : Type 0 where
+  pub peer : r.peer ≡ s.peer
+  pub message : r.message ≡ s.message
+  pub failed : r.failed ≡ s.failed
+  pub stands : (input : List ℕ) → Stands input r ↔ Stands input s

@@ -3,7 +3,7 @@ use Rattle.std.specs.Prelude.{◌≡◌, ◌↔◌, ℕ, List, [], ◌∷◌, �
 use Rattle.handlers.specs.Calls.{Take, Give, End, ToTake, ToGive, ToEnd}
 use Rattle.peer_ids.specs.declared.kind.KeyType.TheVariants.{Ed25519}
 use Rattle.peer_ids.specs.PeerId.{id_of}
-use Rattle.identify_h.specs.Messages.{Message, Spells, Refuses, written, merged}
+use Rattle.identify_h.specs.Messages.{Message, Spells, Refuses, HasBadKey, written, merged}
 use Rattle.identify_h.specs.declared.fault.IdentifyFault.TheVariants.{Failed, TooLong, TooMany, Wire, OtherKey, Cut, OutOfMemory}
 use Rattle.varint_proto.specs.declared.fault.IncomingRefused.TheVariants as incoming
 use Rattle.peer_ids.specs.declared.fault.KeyFault.TheVariants as keys
@@ -112,6 +112,17 @@ pub record MemoryRows : Type 0 where
   -- a key that isn't well spelt, and a version behind it
   pub bad_key : ¬ Refuses [] (10 ∷ 0 ∷ 42 ∷ 1 ∷ 97 ∷ []) OutOfMemory
 
+-- Which messages have a key that isn't well spelt: the last, be it empty or cut, whatever stands beside it; a key of
+-- another peer is well spelt
+pub record BadKeyRows : Type 0 where
+  pub empty : HasBadKey (10 ∷ 0 ∷ [])
+  pub cut : HasBadKey (10 ∷ 1 ∷ 8 ∷ [])
+  pub behind_another : HasBadKey (key_field ++ 10 ∷ 0 ∷ [])
+  pub before_a_version : HasBadKey (10 ∷ 0 ∷ 42 ∷ 1 ∷ 97 ∷ [])
+  pub well_spelt : ¬ HasBadKey key_field
+  pub no_key : ¬ HasBadKey []
+  pub no_message : ¬ HasBadKey (8 ∷ [])
+
 pub record StreamRows : Type 0 where
   pub two_messages : Reads [] (5 ∷ 42 ∷ 3 ∷ 97 ∷ 98 ∷ 99 ∷ 3 ∷ 50 ∷ 1 ∷ 120 ∷ []) named
   pub ten_empty : Reads [] (replicate 10 0) nothing
@@ -143,6 +154,8 @@ pub record RoomRows : Type 0 where
   pub length_begun : ¬ TakeFails [] (128 ∷ []) OutOfMemory
   pub body : ¬ TakeFails (1 ∷ []) (8 ∷ []) OutOfMemory
   pub too_long : ¬ TakeFails [] (129 ∷ 128 ∷ 1 ∷ []) OutOfMemory
+  -- nor for a body that is too long behind those before it alone
+  pub too_long_together : ¬ TakeFails (1 ∷ 8 ∷ 128 ∷ 128 ∷ []) (1 ∷ []) OutOfMemory
   pub eleventh : ¬ TakeFails (replicate 10 0) (1 ∷ []) OutOfMemory
 
 pub record NumberRows : Type 0 where

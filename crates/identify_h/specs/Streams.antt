@@ -1,6 +1,6 @@
 -- An identify stream (libp2p identify 1.0.0: the message stands behind its length, and may be sent in several; how many
 -- there may be, how long they are together, and which fault comes first is this project's profile).
-use Rattle.std.specs.Prelude.{◌≡◌, ◌≢◌, ◌⊎◌, ℕ, ◌-◌, ◌<◌, ◌≤◌, List, [], ◌∷◌, ◌++◌, length, take, None, Ok, Err}
+use Rattle.std.specs.Prelude.{◌≡◌, ◌≢◌, ◌⊎◌, ◌↔◌, ℕ, ◌-◌, ◌<◌, ◌≤◌, List, [], ◌∷◌, ◌++◌, length, take, None, Ok, Err}
 use Rattle.std.specs.List.{concat}
 use Rattle.varint_proto.specs.Incoming.{Announces, Frames, ReadsFramed}
 use Rattle.varint_proto.specs.declared.fault.IncomingRefused.TheVariants as incoming
@@ -92,6 +92,10 @@ pub record OneOutcome : Type 0 where
       → EndFails peer input fault → EndFails peer input other → fault ≡ other
   pub either : (peer input : List ℕ) (m : Message) (fault : IdentifyFault) → fault ≢ OutOfMemory
       → Reads peer input m → ¬ EndFails peer input fault
+  -- behind whole messages the end comes to what their bodies, joined, come to as one message
+  pub whole : (peer input : List ℕ) (bodies : List (List ℕ)) → Begins input bodies [] → 0 < length bodies
+      → ((m : Message) → Reads peer input m ↔ Spells peer (concat bodies) m)
+      × ((fault : IdentifyFault) → EndFails peer input fault ↔ Refuses peer (concat bodies) fault)
 
 -- each input goes on or has a fault, and where it goes on its end gives a message or has a fault
 pub record SomeOutcome : Type 0 where

@@ -2,16 +2,16 @@
 
 ghost use Rattle.std.specs.Prelude.{◌≡◌, ◌↔◌, ◌<◌, ℕ, Bool, List, [], ◌∷◌, ◌++◌, length, true, false, IsSome, IfSome};
 ghost use mathlib.Core.List.{IsPrefix};
-ghost use Rattle.handlers.specs.Calls.{HandlerCall, Take, Give, End, ToTake};
+ghost use Rattle.handlers.specs.Calls.{HandlerCall, Take, Give, End, Asked, ToTake};
 ghost use Rattle.handlers.specs.Calls.{ToGive, ToEnd, Arises, EndsAs, taken, given};
 ghost use Rattle.handlers.specs.Calls.{HasFailed, HasEnded};
 ghost use Rattle.identify_h.specs.declared.fault.IdentifyFault.TheVariants.{Failed, OutOfMemory};
 ghost use Rattle.identify_h.specs.Faults.{number_of};
 ghost use Rattle.identify_h.specs.Messages.{KeyIsThePeers, OneMessage, WrittenIsRead};
 ghost use Rattle.identify_h.specs.Streams.{Reads, OneOutcome, SomeOutcome, FaultsStay, SentIsRead};
-ghost use Rattle.identify_h.specs.Reading.{Reader, Stands, IsFresh};
+ghost use Rattle.identify_h.specs.Reading.{Reader, Stands, IsFresh, Alike};
 ghost use Rattle.identify_h.specs.Sending.{Sending, sending};
-ghost use Rattle.identify_h.specs.Rows.{MessageRows, FieldRows, MemoryRows, MergeRows, StreamRows};
+ghost use Rattle.identify_h.specs.Rows.{MessageRows, FieldRows, MemoryRows, BadKeyRows, MergeRows, StreamRows};
 ghost use Rattle.identify_h.specs.Rows.{FaultRows, RoomRows, NumberRows, SendRows, ReadRows};
 
 use crate::reader::IdentifyIn;
@@ -23,6 +23,7 @@ pub fn worked_rows()
     ensures messages { MessageRows }
     ensures fields { FieldRows }
     ensures memory { MemoryRows }
+    ensures bad_keys { BadKeyRows }
     ensures merging { MergeRows }
     ensures streams { StreamRows }
     ensures faults { FaultRows }
@@ -111,6 +112,21 @@ pub fn reading_refuses()
         → ¬ ⟦<IdentifyIn as Handler>⟧.fails old (ToGive room) n }
 {}
 
+/// What a call of a reader leads to is determined: behind the same bytes two readers are alike, the end reads one
+/// message, and nothing is given. What is alike fails alike.
+pub fn reading_answers_one_way()
+    ensures take { (input bytes : List ℕ) (old new other : Reader) → Stands input old
+        → ⟦<IdentifyIn as Handler>⟧.steps old (Take bytes) new
+        → ⟦<IdentifyIn as Handler>⟧.steps old (Take bytes) other → Alike new other }
+    ensures end { (input : List ℕ) (old new other : Reader) → Stands input old
+        → ⟦<IdentifyIn as Handler>⟧.steps old End new → ⟦<IdentifyIn as Handler>⟧.steps old End other → new ≡ other }
+    ensures give { (old new other : Reader) (room : ℕ) (bytes more : List ℕ)
+        → ⟦<IdentifyIn as Handler>⟧.steps old (Give room bytes) new
+        → ⟦<IdentifyIn as Handler>⟧.steps old (Give room more) other → (bytes ≡ more) × (new ≡ other) }
+    ensures alike { (one other : Reader) (asked : Asked) (n : ℕ) → Alike one other
+        → ⟦<IdentifyIn as Handler>⟧.fails one asked n → ⟦<IdentifyIn as Handler>⟧.fails other asked n }
+{}
+
 /// A call that a sender answers is refused for want of memory alone, and only where bytes are given.
 pub fn sending_refuses()
     ensures take { (old new : Sending) (bytes : List ℕ) (n : ℕ) → ⟦<IdentifyOut as Handler>⟧.steps old (Take bytes) new
@@ -144,6 +160,16 @@ pub fn sending_answers()
         → (bytes : List ℕ) × (next : Sending) × ⟦<IdentifyOut as Handler>⟧.steps out (Give room bytes) next }
     ensures end { (out : Sending) → out.failed ≡ false → out.ended ≡ false
         → (next : Sending) × ⟦<IdentifyOut as Handler>⟧.steps out End next }
+{}
+
+/// What a call of a sender leads to is determined, and so is what is given.
+pub fn sending_answers_one_way()
+    ensures next { (old : Sending) (call : HandlerCall) (new other : Sending)
+        → ⟦<IdentifyOut as Handler>⟧.steps old call new
+        → ⟦<IdentifyOut as Handler>⟧.steps old call other → new ≡ other }
+    ensures given { (old : Sending) (room : ℕ) (bytes more : List ℕ) (new other : Sending)
+        → ⟦<IdentifyOut as Handler>⟧.steps old (Give room bytes) new
+        → ⟦<IdentifyOut as Handler>⟧.steps old (Give room more) other → (bytes ≡ more) × (new ≡ other) }
 {}
 
 /// After a fault a sender answers nothing, and behind the end it takes nothing. A fault neither closes nor finishes it.

@@ -73,7 +73,7 @@ gives_all calls room bytes f came less =
 
 -- ---- the end
 
-ended_as : (calls : List HandlerCall) (ended : Bool) (f : Echo) → EndsAs calls ended → Arises EchoStep fresh calls f → f.ended ≡ ended
+pub ended_as : (calls : List HandlerCall) (ended : Bool) (f : Echo) → EndsAs calls ended → Arises EchoStep fresh calls f → f.ended ≡ ended
 ended_as calls ended f ends came =
     noted_as EchoStep (λ (e : Echo). e.ended) (λ e g bytes step. ap (λ (h : Echo). h.ended) step.1)
     (λ e g room bytes step. ap (λ (h : Echo). h.ended) step.2) (λ e g step. ap (λ (h : Echo). h.ended) step.2) fresh f calls ended refl ends came

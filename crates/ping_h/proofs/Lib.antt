@@ -4,3 +4,4 @@ pub mod Rounding
 pub mod Rows
 pub mod Refusing
 pub mod Stopping
+pub mod Coming

@@ -67,7 +67,7 @@ closes ping calls s came =
 
 -- ---- the end
 
-ended_as : (ping : List ℕ) (calls : List HandlerCall) (ended : Bool) (s : Round) → EndsAs calls ended → Arises RoundStep (round ping) calls s
+pub ended_as : (ping : List ℕ) (calls : List HandlerCall) (ended : Bool) (s : Round) → EndsAs calls ended → Arises RoundStep (round ping) calls s
     → s.ended ≡ ended
 ended_as ping calls ended s ends came =
     noted_as RoundStep (λ (r : Round). r.ended) (λ r t bytes step. ap (λ (u : Round). u.ended) step.2)

@@ -17,7 +17,7 @@ second_holds : (a b : Bool) → b ≡ true → (a || b) ≡ true
 second_holds true b h = refl
 second_holds false b h = h
 
-neither : (a b : Bool) → a ≡ false → b ≡ false → (a || b) ≡ false
+pub neither : (a b : Bool) → a ≡ false → b ≡ false → (a || b) ≡ false
 neither a b h k = rw (h, k) refl
 
 not_both : (b : Bool) → b ≡ true → b ≡ false → ⊥

@@ -1,7 +1,7 @@
 //! What the handlers of a ping do, over whole lists of calls.
 
-ghost use Rattle.std.specs.Prelude.{◌≡◌, ◌↔◌, ◌<◌, ℕ, Bool, List, [], ◌∷◌, ◌++◌, length, true, false};
-ghost use Rattle.ping_h.specs.declared.fault.PingFault.TheVariants.{Failed, OutOfMemory};
+ghost use Rattle.std.specs.Prelude.{◌≡◌, ◌≢◌, ◌↔◌, ◌<◌, ◌≤◌, ◌%◌, ℕ, Bool, List, [], ◌∷◌, ◌++◌, length, true, false};
+ghost use Rattle.ping_h.specs.declared.fault.PingFault.TheVariants.{Failed, WrongEcho, Cut, OutOfMemory};
 ghost use Rattle.ping_h.specs.Faults.{number_of};
 ghost use mathlib.Core.List.{IsPrefix};
 ghost use Rattle.handlers.specs.Calls.{HandlerCall, Take, Give, End, ToTake};
@@ -49,6 +49,29 @@ pub fn echo_finishes()
         × (given calls ≡ taken calls)) }
 {}
 
+/// An end behind whole rounds is answered, and the echo is finished once it was asked with room for all of them. Within
+/// a round an end is Cut, and nothing else.
+pub fn echo_is_cut()
+    ensures whole { (calls : List HandlerCall) (echo : Echo) → EndsAs calls false
+        → Arises ⟦<PingEcho as Handler>⟧.steps fresh calls echo → length (taken calls) % 32 ≡ 0
+        → (next : Echo) × ⟦<PingEcho as Handler>⟧.steps echo End next
+        × ((room : ℕ) (bytes : List ℕ) (last : Echo) → length (taken calls) ≤ room
+        → ⟦<PingEcho as Handler>⟧.steps next (Give room bytes) last → ⟦<PingEcho as Handler>⟧.is_finished last ≡ true) }
+    ensures cut { (calls : List HandlerCall) (echo : Echo) → EndsAs calls false
+        → Arises ⟦<PingEcho as Handler>⟧.steps fresh calls echo → 0 < length (taken calls) % 32
+        → ((n : ℕ) → ⟦<PingEcho as Handler>⟧.fails echo ToEnd n ↔ (n ≡ number_of Cut))
+        × ((next : Echo) → ¬ ⟦<PingEcho as Handler>⟧.steps echo End next) }
+{}
+
+/// What a call of an echo leads to is determined, and so is what is given.
+pub fn echo_answers_one_way()
+    ensures next { (old : Echo) (call : HandlerCall) (new other : Echo) → ⟦<PingEcho as Handler>⟧.steps old call new
+        → ⟦<PingEcho as Handler>⟧.steps old call other → new ≡ other }
+    ensures given { (old : Echo) (room : ℕ) (bytes more : List ℕ) (new other : Echo)
+        → ⟦<PingEcho as Handler>⟧.steps old (Give room bytes) new
+        → ⟦<PingEcho as Handler>⟧.steps old (Give room more) other → (bytes ≡ more) × (new ≡ other) }
+{}
+
 /// A call that an echo answers is refused for want of memory alone, and only where bytes are held or given. So it has
 /// one outcome where memory is ample.
 pub fn echo_refuses()
@@ -61,8 +84,8 @@ pub fn echo_refuses()
         → ¬ ⟦<PingEcho as Handler>⟧.fails old ToEnd n }
 {}
 
-/// An echo that goes on answers each call, but for want of memory: what comes, what it is asked for, and the end between
-/// rounds.
+/// An echo that goes on answers each call, but for want of memory: what comes, what it is asked for, and the end
+/// between rounds.
 pub fn echo_answers()
     ensures take { (echo : Echo) (bytes : List ℕ) → echo.failed ≡ false → echo.ended ≡ false
         → (next : Echo) × ⟦<PingEcho as Handler>⟧.steps echo (Take bytes) next }
@@ -101,6 +124,37 @@ pub fn ping_finishes()
     ensures finished { (ping : List ℕ) (calls : List HandlerCall) (ended : Bool) (out : Round) → EndsAs calls ended
         → Arises ⟦<PingOut as Handler>⟧.steps (round ping) calls out
         → (⟦<PingOut as Handler>⟧.is_finished out ≡ true) ↔ ((taken calls ≡ ping) × (ended ≡ true)) }
+{}
+
+/// Bytes that go on with the ping are taken, and behind all of them the end finishes the round. Others are a WrongEcho,
+/// and an end before all came back is Cut: that alone.
+pub fn ping_is_compared()
+    ensures part { (ping : List ℕ) (calls : List HandlerCall) (out : Round) → EndsAs calls false
+        → Arises ⟦<PingOut as Handler>⟧.steps (round ping) calls out
+        → (bytes : List ℕ) → IsPrefix (taken calls ++ bytes) ping
+        → (next : Round) × ⟦<PingOut as Handler>⟧.steps out (Take bytes) next }
+    ensures whole { (ping : List ℕ) (calls : List HandlerCall) (out : Round) → EndsAs calls false
+        → Arises ⟦<PingOut as Handler>⟧.steps (round ping) calls out → taken calls ≡ ping
+        → (next : Round) × ⟦<PingOut as Handler>⟧.steps out End next
+        × (⟦<PingOut as Handler>⟧.is_finished next ≡ true) }
+    ensures wrong { (ping : List ℕ) (calls : List HandlerCall) (out : Round) → EndsAs calls false
+        → Arises ⟦<PingOut as Handler>⟧.steps (round ping) calls out
+        → (bytes : List ℕ) → ¬ IsPrefix (taken calls ++ bytes) ping
+        → ((n : ℕ) → ⟦<PingOut as Handler>⟧.fails out (ToTake bytes) n ↔ (n ≡ number_of WrongEcho))
+        × ((next : Round) → ¬ ⟦<PingOut as Handler>⟧.steps out (Take bytes) next) }
+    ensures cut { (ping : List ℕ) (calls : List HandlerCall) (out : Round) → EndsAs calls false
+        → Arises ⟦<PingOut as Handler>⟧.steps (round ping) calls out → taken calls ≢ ping
+        → ((n : ℕ) → ⟦<PingOut as Handler>⟧.fails out ToEnd n ↔ (n ≡ number_of Cut))
+        × ((next : Round) → ¬ ⟦<PingOut as Handler>⟧.steps out End next) }
+{}
+
+/// What a call of a round leads to is determined, and so is what is given.
+pub fn ping_answers_one_way()
+    ensures next { (old : Round) (call : HandlerCall) (new other : Round) → ⟦<PingOut as Handler>⟧.steps old call new
+        → ⟦<PingOut as Handler>⟧.steps old call other → new ≡ other }
+    ensures given { (old : Round) (room : ℕ) (bytes more : List ℕ) (new other : Round)
+        → ⟦<PingOut as Handler>⟧.steps old (Give room bytes) new
+        → ⟦<PingOut as Handler>⟧.steps old (Give room more) other → (bytes ≡ more) × (new ≡ other) }
 {}
 
 /// A call that a round answers is refused for want of memory alone, and only where bytes are given.

@@ -1,4 +1,4 @@
-use Rattle.handlers.proofs.Rows.{end_rows, handed_rows}
+use Rattle.handlers.proofs.Rows.{end_rows, handed_rows, stop_rows}
 use Rattle.handlers.proofs.laws.worked_rows.Goals as goal
 
 pub returns-clause-ends : goal.returns-clause-ends
@@ -6,3 +6,6 @@ returns-clause-ends c = end_rows
 
 pub returns-clause-handed : goal.returns-clause-handed
 returns-clause-handed c = handed_rows
+
+pub returns-clause-stops : goal.returns-clause-stops
+returns-clause-stops c = stop_rows

@@ -1,4 +1,4 @@
-use Rattle.identify_h.proofs.Rows.{message_rows, field_rows, memory_rows, merge_rows, stream_rows, fault_rows}
+use Rattle.identify_h.proofs.Rows.{message_rows, field_rows, memory_rows, bad_key_rows, merge_rows, stream_rows, fault_rows}
 use Rattle.identify_h.proofs.RoomRows.{room_rows}
 use Rattle.identify_h.proofs.HandlerRows.{number_rows, send_rows, read_rows}
 use Rattle.identify_h.proofs.laws.worked_rows.Goals as goal
@@ -32,3 +32,6 @@ returns-clause-sending c = send_rows
 
 pub returns-clause-reading : goal.returns-clause-reading
 returns-clause-reading c = read_rows
+
+pub returns-clause-bad_keys : goal.returns-clause-bad_keys
+returns-clause-bad_keys c = bad_key_rows
