@@ -102,6 +102,8 @@ listen_rows = record {
   other_header = ([], y_bytes, record { parts = refl; short = All-nil IsShort; undecided = tt }, inr (y, ([], record { parts = refl; short = lit< tt }), (λ e. cc), refl), refl, refl);
   no_header = ([], 0 ∷ [], record { parts = refl; short = All-nil IsShort; undecided = tt }, inl no_length, refl, refl);
   bad_length = (header ∷ [], 0 ∷ [], record { parts = refl; short = short_header; undecided = (refl, none_chosen) }, no_length, refl, refl);
+  no_newline_at_once = ([], 2 ∷ 97 ∷ 98 ∷ [], record { parts = refl; short = All-nil IsShort; undecided = tt }, inl message_rows.no_newline, refl, refl);
+  no_newline = (header ∷ [], 2 ∷ 97 ∷ 98 ∷ [], record { parts = refl; short = short_header; undecided = (refl, none_chosen) }, message_rows.no_newline, refl, refl);
 }
 
 no_na : All (λ t. t ≡ na) []
@@ -157,6 +159,8 @@ dial_rows = record {
   proposed_na = (header ∷ na ∷ [], [], record { parts = refl; refusals = (refl, one_na) }, record { all = refl; none = λ e. absurd (omega (arith, ap length e)) }, refl, refl);
   proposed_header = ([], header, [], record { parts = refl; refusals = (refl, no_na) }, record { short = lit< tt; place = refl; proposed = refl; other = λ e. cc }, refl, refl);
   bad_length = (header ∷ [], 0 ∷ [], record { answered = record { parts = refl; refusals = (refl, no_na) }; left = omega arith }, inl no_length, refl, refl);
+  no_newline_at_once = ([], 2 ∷ 97 ∷ 98 ∷ [], record { answered = record { parts = refl; refusals = tt }; left = omega arith }, inl message_rows.no_newline, refl, refl);
+  no_newline = (header ∷ [], 2 ∷ 97 ∷ 98 ∷ [], record { answered = record { parts = refl; refusals = (refl, no_na) }; left = omega arith }, inl message_rows.no_newline, refl, refl);
 }
 
 pub send_rows : SendRows
@@ -170,20 +174,27 @@ no_length_yet (texts, rest, len, parts, begins) =
     let spelling : IsSpelling [] = subst IsSpelling none begins.1.ends in
     spelling
 
-no_length_within : EndsLength (3 ∷ 47 ∷ []) → ⊥
+-- behind a length of one byte a byte of the text stands
+no_length_within : (b : ℕ) → 1 < b → b < 128 → EndsLength (b ∷ 47 ∷ []) → ⊥
 unfolding message
-no_length_within ([], rest, len, parts, begins) =
-    let here : BeginsShortest (3 ∷ 47 ∷ []) len [] = subst (λ (b : List ℕ). BeginsShortest b len []) (sym parts) begins in
-    let same = one_begins (3 ∷ 47 ∷ []) len 3 [] (47 ∷ []) here (one_byte 3 (47 ∷ []) (omega arith)) in
+no_length_within b some lt ([], rest, len, parts, begins) =
+    let here : BeginsShortest (b ∷ 47 ∷ []) len [] = subst (λ (t : List ℕ). BeginsShortest t len []) (sym parts) begins in
+    let same = one_begins (b ∷ 47 ∷ []) len b [] (47 ∷ []) here (one_byte b (47 ∷ []) lt) in
     omega (arith, ap length same.1)
-no_length_within (text ∷ texts, rest, len, parts, begins) =
+no_length_within b some lt (text ∷ texts, rest, len, parts, begins) =
     let all = append_assoc (message text) (spelled texts) rest in
     let first = length-append (message text) (spelled texts ++ rest) in
     let spelt = length-append (shortest (length text + 1)) (text ++ 10 ∷ []) in
     let size : 2 ≡ length (message text) + length (spelled texts ++ rest) = ap length (parts ∙ all) ∙ first in
     let short : length text < 1024 = omega (arith, size, spelt, length-append text (10 ∷ [])) in
-    let read : ReadsMessage (3 ∷ 47 ∷ []) (Ok (Some text)) = (spelled texts ++ rest, record { parts = parts ∙ all; short = short }) in
-    let same = one_message (3 ∷ 47 ∷ []) (Ok (Some text)) (Ok None) read message_rows.in_the_text in cc
+    let read : ReadsMessage (b ∷ 47 ∷ []) (Ok (Some text)) = (spelled texts ++ rest, record { parts = parts ∙ all; short = short }) in
+    let waits : ReadsMessage (b ∷ 47 ∷ []) (Ok None) = inr (b, 47 ∷ [], one_byte b (47 ∷ []) lt, (omega (arith, some), omega (arith, lt)), some) in
+    let same = one_message (b ∷ 47 ∷ []) (Ok (Some text)) (Ok None) read waits in cc
+
+-- a byte of the first text asks for nothing
+pub text_asks_nothing : (n : ℕ) → n < 1 → EndsLength (19 ∷ take (n + 1) (47 ∷ [])) → ⊥
+text_asks_nothing zero lt ends = no_length_within 19 (omega arith) (omega arith) ends
+text_asks_nothing (suc n) lt ends = absurd (omega arith)
 
 -- behind a header no length is 0
 listener_hides : (n : ℕ) → n < 1
@@ -205,7 +216,11 @@ unfolding message shortest shortest_within
 memory_rows = record {
   length_alone = (header ∷ [], 3 ∷ [], 3, refl, one_byte 3 [] (omega arith));
   nothing = no_length_yet;
-  in_the_text = no_length_within;
+  in_the_text = no_length_within 3 (omega arith) (omega arith);
+  no_byte_of_a_listener = λ r. let within = r.within in absurd (omega (arith, within));
+  no_byte_of_a_dialer = λ r. let within = r.within in absurd (omega (arith, within));
+  text_of_a_listener = λ r. text_asks_nothing r.n r.within r.ends;
+  text_of_a_dialer = λ r. text_asks_nothing r.n r.within r.ends;
   fault_of_a_listener = λ r. listener_hides r.n r.within r.behind;
   fault_of_a_dialer = λ r. dialer_hides r.n r.within r.behind;
   listener = record {

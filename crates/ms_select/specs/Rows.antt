@@ -74,6 +74,8 @@ pub record ListenRows : Type 0 where
   pub other_header : Listens (y ∷ []) y_bytes (Err BadHeader) 4 header_bytes
   pub no_header : Listens (y ∷ []) (0 ∷ []) (Err BadLength) 1 header_bytes
   pub bad_length : Listens (y ∷ []) (header_bytes ++ 0 ∷ []) (Err BadLength) 21 header_bytes
+  pub no_newline_at_once : Listens (y ∷ []) (2 ∷ 97 ∷ 98 ∷ []) (Err NoNewline) 3 header_bytes
+  pub no_newline : Listens (y ∷ []) (header_bytes ++ 2 ∷ 97 ∷ 98 ∷ []) (Err NoNewline) 23 header_bytes
 
 -- A dialer of x and y
 pub record DialRows : Type 0 where
@@ -95,6 +97,8 @@ pub record DialRows : Type 0 where
   pub proposed_header : Dials (header ∷ []) (header_bytes ++ header_bytes) (Ok (Agreed 0)) 40
       (header_bytes ++ header_bytes)
   pub bad_length : Dials (x ∷ y ∷ []) (header_bytes ++ 0 ∷ []) (Err BadLength) 21 (header_bytes ++ x_bytes)
+  pub no_newline_at_once : Dials (x ∷ y ∷ []) (2 ∷ 97 ∷ 98 ∷ []) (Err NoNewline) 3 (header_bytes ++ x_bytes)
+  pub no_newline : Dials (x ∷ y ∷ []) (header_bytes ++ 2 ∷ 97 ∷ 98 ∷ []) (Err NoNewline) 23 (header_bytes ++ x_bytes)
 
 -- Whether more may be sent
 pub record SendRows : Type 0 where
@@ -111,6 +115,11 @@ pub record MemoryRows : Type 0 where
   pub in_the_text : ¬ EndsLength (3 ∷ 47 ∷ [])
   pub listener : RunsOut Listener (y ∷ []) header_bytes [] (19 ∷ 47 ∷ [])
   pub dialer : RunsOut Dialer (x ∷ y ∷ []) (header_bytes ++ x_bytes) header_bytes (3 ∷ 47 ∷ [])
+  -- no byte asks for memory, and none of a text
+  pub no_byte_of_a_listener : ¬ RunsOut Listener (y ∷ []) header_bytes header_bytes []
+  pub no_byte_of_a_dialer : ¬ RunsOut Dialer (x ∷ y ∷ []) (header_bytes ++ x_bytes) header_bytes []
+  pub text_of_a_listener : ¬ RunsOut Listener (y ∷ []) header_bytes (19 ∷ []) (47 ∷ [])
+  pub text_of_a_dialer : ¬ RunsOut Dialer (x ∷ y ∷ []) (header_bytes ++ x_bytes) (19 ∷ []) (47 ∷ [])
   -- the byte that would ask for memory is a fault
   pub fault_of_a_listener : ¬ RunsOut Listener (y ∷ []) header_bytes header_bytes (0 ∷ [])
   pub fault_of_a_dialer : ¬ RunsOut Dialer (x ∷ y ∷ []) (header_bytes ++ x_bytes) header_bytes (0 ∷ [])

@@ -32,7 +32,7 @@ use Rattle.std.specs.Char.{digit_value}
 use Rattle.std.specs.Net.Grammar.{IsGroupsAfter}
 use Rattle.multiaddr.proofs.OneAddress.{stuck_opaque}
 use Rattle.std.specs.Fmt.{digits}
-use Rattle.multiaddr.specs.Rows.{address, groups, local, peer, port_4001, udp, ProtocolRows, ValueRows, SpellingRows, AddressRows, Ip6Rows, TextValueRows, TextRows, GivenRows}
+use Rattle.multiaddr.specs.Rows.{address, groups, local, peer, port_4001, udp, least_code, largest_code, ProtocolRows, ValueRows, SpellingRows, AddressRows, Ip6Rows, TextValueRows, TextRows, GivenRows}
 
 pub protocol_rows : ProtocolRows
 protocol_rows = record {
@@ -106,6 +106,16 @@ spelling_rows = record { ip4 = refl; tcp = refl; ip6 = refl; dns = refl; dns4 = 
 
 -- ---- bytes
 
+-- the codes of the table
+in_table : (p : Protocol) → (4 ≤ code_of p) × (code_of p < 422)
+in_table Ip4 = (omega arith, omega arith)
+in_table Tcp = (omega arith, omega arith)
+in_table Ip6 = (omega arith, omega arith)
+in_table Dns = (omega arith, omega arith)
+in_table Dns4 = (omega arith, omega arith)
+in_table Dns6 = (omega arith, omega arith)
+in_table P2p = (omega arith, omega arith)
+
 not_273 : (p : Protocol) → code_of p ≢ 273
 not_273 Ip4 e = omega (arith, e)
 not_273 Tcp e = omega (arith, e)
@@ -118,6 +128,18 @@ not_273 P2p e = omega (arith, e)
 udp_is_opaque : IsOpaque udp
 unfolding shortest shortest_within
 udp_is_opaque = (273, 15 ∷ 161 ∷ [], omega arith, refl, not_273)
+
+zero_is_opaque : (rest : List ℕ) → IsOpaque (0 ∷ rest)
+unfolding shortest shortest_within
+zero_is_opaque rest = (0, rest, omega arith, refl, (λ p e. omega (arith, e, (in_table p).0)))
+
+largest_is_opaque : IsOpaque largest_code
+unfolding shortest shortest_within
+largest_is_opaque = (9223372036854775807, [], omega arith, refl, (λ p e. omega (arith, e, (in_table p).1)))
+
+-- an opaque part is an address of its own
+alone : (opaque : List ℕ) → 0 < length opaque → IsOpaque opaque → SpellsAddress opaque (address [] opaque)
+alone opaque some is = (record { some = omega (arith, some); parts = tt; opaque = inr is }, refl)
 
 port_is_spelt : SpellsAddress (6 ∷ 15 ∷ 161 ∷ []) (address (port_4001 ∷ []) [])
 unfolding shortest shortest_within
@@ -137,6 +159,11 @@ address_rows = record {
   socket = (record { some = omega arith; parts = (refl, (refl, tt)); opaque = inl refl }, refl);
   opaque = (record { some = omega arith; parts = (refl, tt); opaque = inr udp_is_opaque }, refl);
   opaque_alone = (record { some = omega arith; parts = tt; opaque = inr udp_is_opaque }, refl);
+  opaque_of_code_0 = alone least_code (omega arith) (zero_is_opaque []);
+  opaque_of_the_largest_code = alone largest_code (omega arith) largest_is_opaque;
+  opaque_of_code_0_behind = (record { some = omega arith; parts = (refl, tt); opaque = inr (zero_is_opaque (7 ∷ [])) }, refl);
+  port_0 = (record { some = omega arith; parts = (refl, tt); opaque = inl refl }, refl);
+  port_65535 = (record { some = omega arith; parts = (refl, tt); opaque = inl refl }, refl);
   nothing_is_no_address = λ h. omega (arith, h.0.some);
   known_is_not_opaque = λ opaque. stuck_opaque (6 ∷ 15 ∷ 161 ∷ []) opaque Tcp (15 ∷ 161 ∷ []) [] refl refl;
   memory = (address (port_4001 ∷ []) [], port_is_spelt);
@@ -408,6 +435,10 @@ text_rows = record {
   bad_value = inr (inr ([], codes "dns/", refl, inr (refl, Dns, [], None, no_slash [] refl, refl, text_value_rows.no_name)));
   the_first_decides = inr (inr ([], codes "dns//quic", refl, inr (refl, Dns, [], Some (codes "quic"), no_slash [] refl, refl, text_value_rows.no_name)));
   slash_at_the_end = unknown_name dns_a (codes "/dns/a/") [] None (leads_dns_a (codes "/")) refl (λ e. omega (arith, e)) (λ e. omega (arith, e)) (λ e. omega (arith, e)) (λ e. omega (arith, e));
+  printed_port_0 = (codes "0", [], text_value_rows.port_0.0, refl, refl);
+  printed_port_65535 = (codes "65535", [], text_value_rows.port_65535.0, refl, refl);
+  code_0_is_not_printed = (address [] least_code, address_rows.opaque_of_code_0, zero_is_opaque []);
+  the_largest_code_is_not_printed = (address [] largest_code, address_rows.opaque_of_the_largest_code, largest_is_opaque);
   opaque_is_not_printed = (address [] udp, address_rows.opaque_alone, udp_is_opaque);
   printing_takes_memory = (address (port_4001 ∷ []) [], port_is_spelt, refl);
 }
@@ -438,6 +469,8 @@ pub given_rows : GivenRows
 given_rows = record {
   ports = (refl, refl);
   socket = record { tail = []; parts = refl; opaque = refl; peer = inl refl };
+  socket_of_port_0 = record { tail = []; parts = refl; opaque = refl; peer = inl refl };
+  socket_of_port_65535 = record { tail = []; parts = refl; opaque = refl; peer = inl refl };
   socket_of_ip6 = record { tail = []; parts = refl; opaque = refl; peer = inl refl };
   socket_with_a_peer = record { tail = part P2p peer ∷ []; parts = refl; opaque = refl; peer = inr (peer, refl) };
   host_alone = λ ip port h. one local _ _ _ h.parts;

@@ -1,7 +1,7 @@
 -- Worked rows of the definitions: each protocol, each value at its ends, and each refusal before the ones behind it.
 -- Source: multiaddr (multiformats) with its table of protocols; RFC 5952, section 4; which refusal comes is this
 -- project's profile.
-use Rattle.std.specs.Prelude.{◌≡◌, ℕ, List, [], ◌∷◌, replicate, codes, Option, Some, None}
+use Rattle.std.specs.Prelude.{◌≡◌, ℕ, List, [], ◌∷◌, ◌++◌, replicate, codes, Option, Some, None}
 use Rattle.multiaddr.specs.declared.protocol.Protocol.{Protocol}
 use Rattle.multiaddr.specs.declared.protocol.Protocol.TheVariants.{Ip4, Tcp, Ip6, Dns, Dns4, Dns6, P2p}
 use Rattle.multiaddr.specs.declared.socket.Ip.{Ip}
@@ -87,11 +87,23 @@ address parts opaque = record { parts = parts; opaque = opaque }
 abbrev pub udp : List ℕ
 udp = 145 ∷ 2 ∷ 15 ∷ 161 ∷ []
 
+-- the spellings of the least code and of the largest, neither of which is in the table
+abbrev pub least_code : List ℕ
+least_code = 0 ∷ []
+
+abbrev pub largest_code : List ℕ
+largest_code = replicate 8 255 ++ 127 ∷ []
+
 pub record AddressRows : Type 0 where
   pub socket : SpellsAddress (4 ∷ 127 ∷ 0 ∷ 0 ∷ 1 ∷ 6 ∷ 15 ∷ 161 ∷ [])
       (address (local ∷ port_4001 ∷ []) [])
   pub opaque : SpellsAddress (4 ∷ 127 ∷ 0 ∷ 0 ∷ 1 ∷ udp) (address (local ∷ []) udp)
   pub opaque_alone : SpellsAddress udp (address [] udp)
+  pub opaque_of_code_0 : SpellsAddress least_code (address [] least_code)
+  pub opaque_of_the_largest_code : SpellsAddress largest_code (address [] largest_code)
+  pub opaque_of_code_0_behind : SpellsAddress (4 ∷ 127 ∷ 0 ∷ 0 ∷ 1 ∷ 0 ∷ 7 ∷ []) (address (local ∷ []) (0 ∷ 7 ∷ []))
+  pub port_0 : SpellsAddress (6 ∷ 0 ∷ 0 ∷ []) (address (part Tcp (0 ∷ 0 ∷ []) ∷ []) [])
+  pub port_65535 : SpellsAddress (6 ∷ 255 ∷ 255 ∷ []) (address (part Tcp (255 ∷ 255 ∷ []) ∷ []) [])
   pub nothing_is_no_address : ¬ SpellsAddress [] (address [] [])
   pub known_is_not_opaque : ¬ IsOpaque (6 ∷ 15 ∷ 161 ∷ [])
   pub memory : RefusesAddress (6 ∷ 15 ∷ 161 ∷ []) OutOfMemory
@@ -156,7 +168,11 @@ pub record TextRows : Type 0 where
   pub bad_value : TextFault (codes "/dns/") BadValue
   pub the_first_decides : TextFault (codes "/dns//quic") BadValue
   pub slash_at_the_end : TextFault (codes "/dns/a/") UnknownProtocol
+  pub printed_port_0 : PrintsParts (codes "/tcp/0") (part Tcp (0 ∷ 0 ∷ []) ∷ [])
+  pub printed_port_65535 : PrintsParts (codes "/tcp/65535") (part Tcp (255 ∷ 255 ∷ []) ∷ [])
   pub opaque_is_not_printed : RefusesPrint udp UnknownProtocol
+  pub code_0_is_not_printed : RefusesPrint least_code UnknownProtocol
+  pub the_largest_code_is_not_printed : RefusesPrint largest_code UnknownProtocol
   pub printing_takes_memory : RefusesPrint (6 ∷ 15 ∷ 161 ∷ []) OutOfMemory
 
 -- ---- what an address gives
@@ -167,6 +183,10 @@ at_4001 ip = Some (ip, 4001)
 pub record GivenRows : Type 0 where
   pub ports : (port_part 0 ≡ part Tcp (0 ∷ 0 ∷ [])) × (port_part 65535 ≡ part Tcp (255 ∷ 255 ∷ []))
   pub socket : GivesSocket (address (local ∷ port_4001 ∷ []) []) (at_4001 (V4 (127 ∷ 0 ∷ 0 ∷ 1 ∷ [])))
+  pub socket_of_port_0 : GivesSocket (address (local ∷ part Tcp (0 ∷ 0 ∷ []) ∷ []) [])
+      (Some (V4 (127 ∷ 0 ∷ 0 ∷ 1 ∷ []), 0))
+  pub socket_of_port_65535 : GivesSocket (address (local ∷ part Tcp (255 ∷ 255 ∷ []) ∷ []) [])
+      (Some (V4 (127 ∷ 0 ∷ 0 ∷ 1 ∷ []), 65535))
   pub socket_of_ip6 : GivesSocket (address (part Ip6 (replicate 16 7) ∷ port_4001 ∷ []) [])
       (at_4001 (V6 (replicate 16 7)))
   pub socket_with_a_peer : GivesSocket (address (local ∷ port_4001 ∷ part P2p peer ∷ []) [])

@@ -135,8 +135,13 @@ fn faults_of_bytes(rt: HostRuntime) -> Result<(), Fail> {
     let mut long_name = Vec::new(rt.alloc());
     long_name.extend_from_slice(&[0x35, 0x80, 0x02])?;
     long_name.extend_from_slice(&long)?;
-    let rows: [(&[u8], AddrFault); 9] = [
+    let rows: [(&[u8], AddrFault); 10] = [
         (&[], AddrFault::Empty),
+        // A code of 2^63.
+        (
+            b"\x80\x80\x80\x80\x80\x80\x80\x80\x80\x01",
+            AddrFault::BadValue,
+        ),
         (&[0x04, 0x7f, 0, 0, 1, 0x06, 0x0f], AddrFault::Cut),
         (&[0x84], AddrFault::Cut),
         (&[0x84, 0x00], AddrFault::BadValue),
@@ -158,14 +163,22 @@ fn faults_of_bytes(rt: HostRuntime) -> Result<(), Fail> {
 
 #[test]
 fn an_opaque_part_is_kept_and_not_printed(rt: HostRuntime) -> Result<(), Fail> {
-    let bytes = [0x04, 0x7f, 0, 0, 1, 0x91, 0x02, 0x0f, 0xa1];
-    let Ok(address) = Multiaddr::read(rt.alloc(), &bytes) else {
-        return Err("an address with an opaque part".into());
-    };
-    assert_eq!(rt; address.bytes(), bytes.as_slice());
-    assert_eq!(rt; address.print().err(), Some(AddrFault::UnknownProtocol));
-    assert_eq!(rt; address.socket(), None);
-    assert_eq!(rt; address.peer(), None);
+    // Codes 273, 0 and 2^63 - 1.
+    let rows: [&[u8]; 4] = [
+        &[0x04, 0x7f, 0, 0, 1, 0x91, 0x02, 0x0f, 0xa1],
+        &[0x00],
+        &[0x06, 0x0f, 0xa1, 0x00, 0x07],
+        b"\xff\xff\xff\xff\xff\xff\xff\xff\x7f",
+    ];
+    for bytes in rows {
+        let Ok(address) = Multiaddr::read(rt.alloc(), bytes) else {
+            return Err("an address with an opaque part".into());
+        };
+        assert_eq!(rt; address.bytes(), bytes, "{bytes:?}");
+        assert_eq!(rt; address.print().err(), Some(AddrFault::UnknownProtocol));
+        assert_eq!(rt; address.socket(), None);
+        assert_eq!(rt; address.peer(), None);
+    }
     Ok(())
 }
 
@@ -207,6 +220,16 @@ fn sockets_and_peers(rt: HostRuntime) -> Result<(), Fail> {
     let two_peers = format!(in rt.alloc(); "{with_peer}/p2p/{PEER}")?;
     let rows = [
         ("/ip4/127.0.0.1/tcp/4001", local, None),
+        (
+            "/ip4/127.0.0.1/tcp/0",
+            Some((Ip::V4([127, 0, 0, 1]), 0)),
+            None,
+        ),
+        (
+            "/ip4/127.0.0.1/tcp/65535",
+            Some((Ip::V4([127, 0, 0, 1]), 65535)),
+            None,
+        ),
         (with_peer.as_str(), local, peer),
         (behind_peer.as_str(), None, None),
         (two_peers.as_str(), None, peer),

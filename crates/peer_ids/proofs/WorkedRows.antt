@@ -9,11 +9,14 @@ use Rattle.varint_proto.specs.Varint.{shortest, shortest_within}
 use Rattle.varint_proto.specs.Message.{Entry, entry, Varint, Bytes, IsMessage, shortest_field}
 use Rattle.varint_proto.proofs.Writing.{written_is_read}
 use Rattle.peer_ids.specs.declared.kind.KeyType.TheVariants.{Rsa, Ed25519, Secp256k1, Ecdsa}
+use Rattle.peer_ids.specs.declared.fault.KeyFault.TheVariants as key_faults
 use Rattle.peer_ids.specs.declared.fault.IdFault.{IdFault}
 use Rattle.peer_ids.specs.declared.fault.IdFault.TheVariants.{NotBase32, BadLength, BadPrefix, BadHash}
 use Rattle.varint_proto.specs.declared.fault.WireFault.TheVariants.{Cut}
+use Rattle.peer_ids.specs.ReadsKey.{RefusesKey}
 use Rattle.peer_ids.specs.PeerId.{IsMultihash}
 use Rattle.peer_ids.specs.Base32.{AreFives, bits_of, in_fives, letter_of, AreLetters, IsBase32, IsLetter, IsRegrouped}
+use Rattle.peer_ids.proofs.OneKey.{key_or_fault}
 use Rattle.peer_ids.proofs.OneText.{counts, only_counts, refuses_letters, refuses_count, refuses_bits, reads_behind, length-chunks}
 use Rattle.std.proofs.lemmas.List.{length-append, length-map, length-replicate}
 use Rattle.peer_ids.proofs.Regroup.{all_letters}
@@ -58,13 +61,16 @@ key_rows = record {
   );
   empty = ([], refl, refl);
   no_data = (entry 1 (Varint 4) ∷ [], written_is_read (entry 1 (Varint 4) ∷ []) (((omega arith, omega arith), omega arith), tt), (refl, refl));
-  unknown = (typed 4 [], read 4 [] (omega arith) (omega arith), (4, refl, omega arith, refl));
+  unknown = unknown_type;
   type_of_33_bits = (
     typed (2 ^ 32 + 1) (replicate 32 255),
     read (2 ^ 32 + 1) (replicate 32 255) (omega arith) (omega arith),
     (2 ^ 32 + 1, refl, omega arith, refl),
   );
-  no_length = (typed 1 [], read 1 [] (omega arith) (omega arith), (Ed25519, [], refl, refl, (λ h. omega (arith, h))));
+  no_length = bad_length;
+  no_memory_for_a_fault = λ m. key_or_fault (8 ∷ 1 ∷ 18 ∷ 0 ∷ []) m.0 key_faults.BadLength (λ e. cc) m.1 bad_length;
+  no_memory_for_an_unknown_type = λ m. key_or_fault (8 ∷ 4 ∷ 18 ∷ 0 ∷ []) m.0 key_faults.UnknownType (λ e. cc) m.1 unknown_type;
+  no_memory_for_no_key = λ m. key_or_fault [] m.0 key_faults.NoType (λ e. cc) m.1 ([], refl, refl);
 }
   where
     typed : ℕ → List ℕ → List Entry
@@ -72,6 +78,12 @@ key_rows = record {
 
     read : (n : ℕ) (body : List ℕ) → n < 2 ^ 64 → length body < 2 ^ 64 → IsMessage (flat_map shortest_field (typed n body)) (typed n body)
     read n body few fits = written_is_read (typed n body) (((omega arith, omega arith), few), (((omega arith, omega arith), fits), tt))
+
+    bad_length : RefusesKey (8 ∷ 1 ∷ 18 ∷ 0 ∷ []) key_faults.BadLength
+    bad_length = (typed 1 [], read 1 [] (omega arith) (omega arith), (Ed25519, [], refl, refl, (λ h. omega (arith, h))))
+
+    unknown_type : RefusesKey (8 ∷ 4 ∷ 18 ∷ 0 ∷ []) key_faults.UnknownType
+    unknown_type = (typed 4 [], read 4 [] (omega arith) (omega arith), (4, refl, omega arith, refl))
 
 -- ---- ids
 
@@ -99,6 +111,8 @@ multihash_rows = record {
   too_long = not_multihash 0 0 (0 ∷ []) (λ x y z. omega (arith, y)) (λ x y z. omega (arith, x));
   identity_of_43 = not_multihash 0 43 (replicate 43 7) (λ x y z. omega (arith, z)) (λ x y z. omega (arith, x));
   digest_of_31 = not_multihash 18 31 (replicate 31 7) (λ x y z. omega (arith, x)) (λ x y z. omega (arith, y));
+  digest_of_33 = not_multihash 18 33 (replicate 33 7) (λ x y z. omega (arith, x)) (λ x y z. omega (arith, y));
+  byte_behind_the_digest = not_multihash 18 32 (replicate 33 7) (λ x y z. omega (arith, x)) (λ x y z. omega (arith, z));
   digest_cut = not_multihash 18 32 (replicate 31 7) (λ x y z. omega (arith, x)) (λ x y z. omega (arith, z));
   another_hash = not_multihash 19 32 (replicate 32 7) (λ x y z. omega (arith, x)) (λ x y z. omega (arith, x));
 }

@@ -51,6 +51,10 @@ pub record KeyRows : Type 0 where
   pub too_long : KeyFaultOf (entry 1 (Varint 1) ∷ entry 2 (Bytes (replicate 33 0)) ∷ []) key.BadLength
   pub spelt : SpellsKey (8 ∷ 1 ∷ 18 ∷ 32 ∷ replicate 32 255) (key_of Ed25519 (replicate 32 255))
   pub memory : RefusesKey (8 ∷ 0 ∷ 18 ∷ 1 ∷ 7 ∷ []) OutOfMemory
+  -- where the bytes have a fault no memory is asked for
+  pub no_memory_for_a_fault : ¬ RefusesKey (8 ∷ 1 ∷ 18 ∷ 0 ∷ []) OutOfMemory
+  pub no_memory_for_an_unknown_type : ¬ RefusesKey (8 ∷ 4 ∷ 18 ∷ 0 ∷ []) OutOfMemory
+  pub no_memory_for_no_key : ¬ RefusesKey [] OutOfMemory
   pub cut : RefusesKey (8 ∷ []) Wire
   pub empty : RefusesKey [] NoType
   pub no_data : RefusesKey (8 ∷ 4 ∷ []) NoData
@@ -78,6 +82,8 @@ pub record MultihashRows : Type 0 where
   pub too_long : ¬ IsMultihash (0 ∷ 0 ∷ 0 ∷ [])
   pub identity_of_43 : ¬ IsMultihash (0 ∷ 43 ∷ replicate 43 7)
   pub digest_of_31 : ¬ IsMultihash (18 ∷ 31 ∷ replicate 31 7)
+  pub digest_of_33 : ¬ IsMultihash (18 ∷ 33 ∷ replicate 33 7)
+  pub byte_behind_the_digest : ¬ IsMultihash (18 ∷ 32 ∷ replicate 33 7)
   pub digest_cut : ¬ IsMultihash (18 ∷ 32 ∷ replicate 31 7)
   pub another_hash : ¬ IsMultihash (19 ∷ 32 ∷ replicate 32 7)
 

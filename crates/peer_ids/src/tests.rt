@@ -224,13 +224,19 @@ fn faults_of_texts(rt: HostRuntime) {
 fn faults_of_bytes(rt: HostRuntime) {
     let mut identity_of_43 = [43; 45];
     identity_of_43[0] = 0;
-    let rows: [&[u8]; 6] = [
+    let mut digest_of_33 = [33; 35];
+    digest_of_33[0] = 0x12;
+    let mut byte_behind_the_digest = [0x20; 35];
+    byte_behind_the_digest[0] = 0x12;
+    let rows: [&[u8]; 8] = [
         &[],
         &[0x00],
         &[0x00, 0x01],
         &[0x00, 0x00, 0x00],
         &[0x12, 0x20, 0x00],
         &identity_of_43,
+        &digest_of_33,
+        &byte_behind_the_digest,
     ];
     for bytes in rows {
         assert_eq!(rt;
@@ -240,6 +246,30 @@ fn faults_of_bytes(rt: HostRuntime) {
         );
     }
     assert!(rt; PeerId::from_bytes(&[0x00, 0x00]).is_ok());
+}
+
+#[test]
+fn ids_are_ordered_from_the_first_byte_on(rt: HostRuntime) -> Result<(), Fail> {
+    let mut digest = [0; 34];
+    digest[0] = 0x12;
+    digest[1] = 0x20;
+    let rows: [&[u8]; 6] = [
+        &[0x00, 0x00],
+        &[0x00, 0x01, 0x09],
+        &[0x00, 0x02, 0x00, 0x09],
+        &[0x00, 0x02, 0x01, 0x00],
+        &[0x00, 0x03, 0x00, 0x00, 0x00],
+        &digest,
+    ];
+    for (index, low) in rows.iter().enumerate() {
+        let low = PeerId::from_bytes(low).ok().ok_or("a multihash")?;
+        for (place, high) in rows.iter().enumerate() {
+            let high = PeerId::from_bytes(high).ok().ok_or("a multihash")?;
+            assert_eq!(rt; low < high, index < place, "{index} and {place}");
+            assert_eq!(rt; low.cmp(&high), index.cmp(&place), "{index} and {place}");
+        }
+    }
+    Ok(())
 }
 
 #[test]

@@ -1,5 +1,5 @@
 -- The definitions of an exchange at worked bytes.
-use Rattle.std.proofs.Common.{◌≡◌, ℕ, ◌+◌, ◌*◌, ◌%◌, ◌<◌, ◌≤◌, List, [], ◌∷◌, ◌++◌, length, Some, Ok, Err, refl, sym, ap, subst, inl, inr, arith}
+use Rattle.std.proofs.Common.{◌≡◌, ℕ, zero, suc, ◌+◌, ◌*◌, ◌%◌, ◌<◌, ◌≤◌, List, [], ◌∷◌, ◌++◌, length, take, None, Some, Ok, Err, refl, sym, ap, subst, inl, inr, arith}
 use Rattle.std.specs.Prelude.{IsSome}
 use Rattle.std.specs.List.{AllByRecursion, flat_map}
 use Rattle.std.proofs.lemmas.List.{length-append}
@@ -18,7 +18,7 @@ use Rattle.peer_ids.proofs.Written.{canonical_spells}
 use Rattle.plaintext_x.specs.declared.fault.ExchangeFault.{ExchangeFault}
 use Rattle.plaintext_x.specs.declared.fault.ExchangeFault.TheVariants.{Wire, NoId, NoKey, BadKey, Differs}
 use Rattle.plaintext_x.specs.Exchange.{SpellsExchange, RefusesBody, Exchanges, AsksMemory, longest, last_id, last_key, joined_key}
-use Rattle.plaintext_x.specs.Rows.{short_key, key_bytes, id_bytes, id_field, key_field, ProofRows, WaitingRows, RefusalRows}
+use Rattle.plaintext_x.specs.Rows.{short_key, key_bytes, id_bytes, id_field, key_field, ProofRows, WaitingRows, MemoryRows, RefusalRows}
 use Rattle.plaintext_x.proofs.Steps.{faulty_in}
 
 -- a length of one byte
@@ -167,6 +167,34 @@ waiting_rows = record {
   nothing_within_the_message = asks_no_part;
   nothing_for_an_id_alone = asks_for_both id_field (id_entry ∷ []) (omega arith) (written (id_entry ∷ []) (both_writable.0, tt)) (λ both. absurd (let none = both.1 in cc)) (omega arith);
   nothing_for_a_key_alone = asks_for_both key_field (key_entry ∷ []) (omega arith) (written (key_entry ∷ []) both_writable.1) (λ both. absurd (let none = both.0 in cc)) (omega arith);
+}
+
+in_message : (n : ℕ) → n < 1 → AsksMemory (16 ∷ take (n + 1) (10 ∷ [])) → ⊥
+in_message zero lt asks = asks_no_part asks
+in_message (suc n) lt asks = absurd (omega arith)
+
+of_none : (n : ℕ) → n < 1 → AsksMemory (take (n + 1) (0 ∷ [])) → ⊥
+of_none zero lt asks = asks_nothing asks
+of_none (suc n) lt asks = absurd (omega arith)
+
+-- the last byte of the key's field is still to come
+but_one : List ℕ
+but_one = 18 ∷ 5 ∷ 8 ∷ 2 ∷ 18 ∷ 1 ∷ []
+
+all_but_one : Exchanges (16 ∷ (id_field ++ but_one)) (Ok None) 16
+unfolding but_one
+all_but_one = (inr (16, id_field ++ but_one, record { begins = one_byte 16 (id_field ++ but_one) (omega arith); allowed = omega arith }, omega arith), refl)
+
+pub memory_rows : MemoryRows
+unfolding but_one
+memory_rows = record {
+  for_the_message = (0, omega arith, waiting_rows.nothing, waiting_rows.asks_for_the_message);
+  for_the_key = (6, omega arith, all_but_one, waiting_rows.asks_for_the_key);
+  no_byte_at_once = λ r. let within = r.1 in absurd (omega (arith, within));
+  no_byte_behind_the_length = λ r. let within = r.1 in absurd (omega (arith, within));
+  no_byte_behind_the_message = λ r. let within = r.1 in absurd (omega (arith, within));
+  in_the_message = λ r. in_message r.0 r.1 r.3;
+  of_no_message = λ r. of_none r.0 r.1 r.3;
 }
 
 number_0 : FaultIn (0 ∷ []) wire.BadNumber

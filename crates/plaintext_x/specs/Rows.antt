@@ -4,7 +4,7 @@ use Rattle.peer_ids.specs.declared.kind.KeyType.TheVariants.{Secp256k1}
 use Rattle.peer_ids.specs.Key.{Key}
 use Rattle.peer_ids.specs.PeerId.{id_of}
 use Rattle.plaintext_x.specs.declared.fault.ExchangeFault.TheVariants.{TooLong, Wire, NoId, NoKey, BadKey, Differs}
-use Rattle.plaintext_x.specs.Exchange.{Exchanges, AsksMemory, message_of}
+use Rattle.plaintext_x.specs.Exchange.{Exchanges, AsksMemory, RunsOut, message_of}
 
 -- a key of one byte, the message that spells it, and its peer id
 abbrev pub short_key : Key
@@ -54,6 +54,16 @@ pub record WaitingRows : Type 0 where
   -- so want of memory stands neither for NoKey nor for NoId
   pub nothing_for_an_id_alone : ¬ AsksMemory (9 ∷ id_field)
   pub nothing_for_a_key_alone : ¬ AsksMemory (7 ∷ key_field)
+
+-- Where memory may be refused: at the last byte of a length, and of a message with both fields; by no other byte
+pub record MemoryRows : Type 0 where
+  pub for_the_message : RunsOut [] (16 ∷ 10 ∷ [])
+  pub for_the_key : RunsOut (16 ∷ id_field) key_field
+  pub no_byte_at_once : ¬ RunsOut [] []
+  pub no_byte_behind_the_length : ¬ RunsOut (16 ∷ []) []
+  pub no_byte_behind_the_message : ¬ RunsOut (16 ∷ (id_field ++ key_field)) []
+  pub in_the_message : ¬ RunsOut (16 ∷ []) (10 ∷ [])
+  pub of_no_message : ¬ RunsOut [] (0 ∷ [])
 
 -- Each refusal
 pub record RefusalRows : Type 0 where

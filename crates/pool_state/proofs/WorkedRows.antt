@@ -4,7 +4,7 @@ use Rattle.std.specs.List.{All}
 use Rattle.std.proofs.lemmas.List.{length-replicate}
 use Rattle.std.proofs.lemmas.List.Elements.{All-nil, All-cons, All-head, All-tail, All-replicate}
 use Rattle.pool_state.specs.AgentName.{IsAgentName}
-use Rattle.pool_state.specs.Rows.{ConnectionRows, StreamRows, ListRows, RefusalRows, LimitRows, AddedRows, AgentRows}
+use Rattle.pool_state.specs.Rows.{ConnectionRows, StreamRows, ListRows, RefusalRows, LimitRows, RangeRows, AddedRows, AgentRows}
 
 pub connection_rows : ConnectionRows
 connection_rows = record {
@@ -75,8 +75,61 @@ limit_rows = record {
   allowed_already = refl;
 }
 
+pub range_rows : RangeRows
+range_rows = record {
+  least = record {
+    some_conns = (omega arith, omega arith);
+    some_per_peer = (omega arith, omega arith);
+    some_streams = (omega arith, omega arith);
+    few_blocked = omega arith;
+    few_inbound = omega arith;
+    few_outbound = omega arith;
+    few_allowed = omega arith;
+  };
+  largest = record {
+    some_conns = (omega arith, omega arith);
+    some_per_peer = (omega arith, omega arith);
+    some_streams = (omega arith, omega arith);
+    few_blocked = omega arith;
+    few_inbound = omega arith;
+    few_outbound = omega arith;
+    few_allowed = omega arith;
+  };
+  common = λ limits h. record {
+    some_conns = (omega (arith, h.conns), omega (arith, h.conns));
+    some_per_peer = (omega (arith, h.per_peer), omega (arith, h.per_peer));
+    some_streams = (omega (arith, h.streams), omega (arith, h.streams));
+    few_blocked = omega (arith, h.blocked);
+    few_inbound = omega (arith, h.inbound);
+    few_outbound = omega (arith, h.outbound);
+    few_allowed = omega (arith, h.allowed);
+  };
+  no_connection = λ h. omega (arith, h.some_conns.0);
+  none_of_a_peer = λ h. omega (arith, h.some_per_peer.0);
+  no_stream = λ h. omega (arith, h.some_streams.0);
+  more_connections = λ h. omega (arith, h.some_conns.1);
+  more_of_a_peer = λ h. omega (arith, h.some_per_peer.1);
+  more_streams = λ h. omega (arith, h.some_streams.1);
+  more_blocked = λ h. omega (arith, h.few_blocked);
+  more_accepted = λ h. omega (arith, h.few_inbound);
+  more_dialed = λ h. omega (arith, h.few_outbound);
+  more_allowed = λ h. omega (arith, h.few_allowed);
+}
+
 pub added_rows : AddedRows
 added_rows = record {
+  dial = refl;
+  accept = refl;
+  settle = refl;
+  ask = refl;
+  finish = refl;
+  note = refl;
+  hang_up = refl;
+  block = refl;
+  unblock = refl;
+  gone = refl;
+  allow = refl;
+  disallow = refl;
   another_number = refl;
   no_number = refl;
   refused_number = refl;

@@ -57,7 +57,9 @@ use Rattle.pool_state.specs.History.{Entry, entry}
 use Rattle.pool_state.specs.Table.{may_refuse}
 use Rattle.pool_state.specs.Shown.{Shown, reply_after}
 use Rattle.pool_state.specs.At.{number_after}
-use Rattle.pool_state.specs.Added.{more, more_at, with_row, with_peer, row_after, rows_after}
+use Rattle.pool_state.specs.Added.{more, more_at, with_row, with_peer, row_after, rows_after, added}
+use Rattle.pool_state.specs.Limits.{AreCommon}
+use Rattle.pool_state.specs.Ranges.{AreInRange}
 
 -- THE CAST
 
@@ -396,6 +398,25 @@ pub record LimitRows : Type 0 where
   pub none_to_allow : at_peers 64 (Allow first) ≡ (SelfPeer, false) ∷ (AllowFull, true) ∷ []
   pub allowed_already : at_peers 64 (Allow (67 ∷ [])) ≡ (SelfPeer, false) ∷ (AllowFull, false) ∷ []
 
+-- The ranges of the limits: all at their least, all at their largest, those of a pool whose owner names none, and one
+-- of them beyond
+pub record RangeRows : Type 0 where
+  pub least : AreInRange 1 1 1 0 0 0 0
+  pub largest : AreInRange 256 8 64 64 256 256 64
+  pub common : (limits : Limits) → AreCommon limits
+      → AreInRange limits.conns limits.per_peer limits.streams limits.blocked limits.inbound limits.outbound
+      limits.allowed
+  pub no_connection : ¬ AreInRange 0 1 1 0 0 0 0
+  pub none_of_a_peer : ¬ AreInRange 1 0 1 0 0 0 0
+  pub no_stream : ¬ AreInRange 1 1 0 0 0 0 0
+  pub more_connections : ¬ AreInRange 257 8 64 64 256 256 64
+  pub more_of_a_peer : ¬ AreInRange 256 9 64 64 256 256 64
+  pub more_streams : ¬ AreInRange 256 8 65 64 256 256 64
+  pub more_blocked : ¬ AreInRange 256 8 64 65 256 256 64
+  pub more_accepted : ¬ AreInRange 256 8 64 64 257 256 64
+  pub more_dialed : ¬ AreInRange 256 8 64 64 256 257 64
+  pub more_allowed : ¬ AreInRange 256 8 64 64 256 256 65
+
 -- two rows of one number, which no legal history shows
 abbrev pub twins : ConnSide → ConnSide → List ℕ → List Row
 twins s t asked =
@@ -405,8 +426,42 @@ twins s t asked =
 abbrev pub last_count : ℕ
 last_count = 18446744073709551615
 
--- What a listing and a number become by replies that no legal history has there
+-- a listing of one connection that is dialed and of one that lives, a blocked peer and an allowed one
+abbrev pub dialing : Row
+dialing = row 1 Dialer phase.Pending (Some first)
+
+abbrev pub living : Row
+living = row 2 Listener phase.Live (Some second)
+
+abbrev pub stood : Listing
+stood = listing 6 (dialing ∷ living ∷ []) (third ∷ []) (second ∷ [])
+
+-- what this listing becomes by one entry more
+abbrev pub Becomes : Call → Reply → List Row → List Peer → List Peer → Type 0
+Becomes call reply rows blocked allowed = added stood call reply ≡ listing 7 rows blocked allowed
+
+-- What a listing becomes by each call, and what it and a number become by replies that no legal history has there
 pub record AddedRows : Type 0 where
+  pub dial : Becomes (Dial (Some first)) (reply.Conn 3)
+      (dialing ∷ living ∷ row 3 Dialer phase.Pending (Some first) ∷ []) (third ∷ []) (second ∷ [])
+  pub accept : Becomes Accept (reply.Conn 3) (dialing ∷ living ∷ row 3 Listener phase.Pending None ∷ []) (third ∷ [])
+      (second ∷ [])
+  pub settle : Becomes (Settle 1 first) reply.Done (row 1 Dialer phase.Live (Some first) ∷ living ∷ []) (third ∷ [])
+      (second ∷ [])
+  pub ask : Becomes (Ask 2 1) reply.Done (dialing ∷ counting living (0 ∷ 1 ∷ 0 ∷ []) (0 ∷ 0 ∷ 0 ∷ []) ∷ []) (third ∷ [])
+      (second ∷ [])
+  pub finish : Becomes (Done 2 1) reply.Done (dialing ∷ counting living (0 ∷ 0 ∷ 0 ∷ []) (0 ∷ 1 ∷ 0 ∷ []) ∷ [])
+      (third ∷ []) (second ∷ [])
+  pub note : Becomes (Note 2 x) reply.Done (dialing ∷ naming living x ∷ []) (third ∷ []) (second ∷ [])
+  pub hang_up : Becomes (HangUp second) (reply.Count 1)
+      (dialing ∷ row 2 Listener phase.Closing (Some second) ∷ []) (third ∷ []) (second ∷ [])
+  pub block : Becomes (Block second) (reply.Count 1)
+      (dialing ∷ row 2 Listener phase.Closing (Some second) ∷ []) (third ∷ second ∷ []) (second ∷ [])
+  pub unblock : Becomes (Unblock third) (reply.Count 1) (dialing ∷ living ∷ []) [] (second ∷ [])
+  pub gone : Becomes (Gone 1) reply.Done (living ∷ []) (third ∷ []) (second ∷ [])
+  pub allow : Becomes (Allow first) (reply.Count 1) (dialing ∷ living ∷ []) (third ∷ []) (second ∷ first ∷ [])
+  pub disallow : Becomes (Disallow second) (reply.Count 1)
+      (dialing ∷ row 2 Listener phase.Closing (Some second) ∷ []) (third ∷ []) []
   pub another_number : number_after 1 (reply.Conn 7) ≡ 8
   pub no_number : number_after 7 reply.Done ≡ 7
   pub refused_number : number_after 7 (refused Full) ≡ 7

@@ -14,7 +14,8 @@ ghost use Rattle.pool_state.specs.Shown.{Shown, IsLegal, ShowsHistory, reply_aft
 ghost use Rattle.pool_state.specs.Added.{added};
 ghost use Rattle.pool_state.specs.Bounded.{IsBounded, refusal_numbers};
 ghost use Rattle.pool_state.specs.Ordered.{IsEachOnce, KeepsOrder};
-ghost use Rattle.pool_state.specs.Rows.{AddedRows, AgentRows, ConnectionRows, LimitRows, ListRows, RefusalRows, StreamRows};
+ghost use Rattle.pool_state.specs.Rows.{AddedRows, AgentRows, ConnectionRows, LimitRows, ListRows};
+ghost use Rattle.pool_state.specs.Rows.{RangeRows, RefusalRows, StreamRows};
 
 /// What a legal history shows keeps to the limits.
 pub fn bounded()
@@ -77,6 +78,7 @@ pub fn worked_rows()
     ensures lists { ListRows }
     ensures refusals { RefusalRows }
     ensures limits { LimitRows }
+    ensures ranges { RangeRows }
     ensures added { AddedRows }
     ensures agents { AgentRows }
 {}

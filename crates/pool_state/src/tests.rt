@@ -355,6 +355,27 @@ fn limits_have_ranges(rt: HostRuntime) {
     assert!(rt; Limits::new(257, 8, 64, 64, 256, 256, 64).is_none());
     assert!(rt; Limits::new(0, 8, 64, 64, 256, 256, 64).is_none());
     assert!(rt; Limits::new(64, 9, 64, 64, 256, 256, 64).is_none());
+    assert!(rt; Limits::new(64, 0, 64, 64, 256, 256, 64).is_none());
+    assert!(rt; Limits::new(64, 8, 65, 64, 256, 256, 64).is_none());
+    assert!(rt; Limits::new(64, 8, 0, 64, 256, 256, 64).is_none());
+    assert!(rt; Limits::new(64, 8, 64, 65, 256, 256, 64).is_none());
+    assert!(rt; Limits::new(64, 8, 64, 64, 257, 256, 64).is_none());
+    assert!(rt; Limits::new(64, 8, 64, 64, 256, 257, 64).is_none());
+    assert!(rt; Limits::new(64, 8, 64, 64, 256, 256, 65).is_none());
+}
+
+#[test]
+fn common_limits(rt: HostRuntime) {
+    let common = Limits::default();
+    assert_eq!(rt; common.conns, 64);
+    assert_eq!(rt; common.per_peer, 8);
+    assert_eq!(rt; common.streams, 64);
+    assert_eq!(rt; common.blocked, 64);
+    assert_eq!(rt; common.inbound, 256);
+    assert_eq!(rt; common.outbound, 256);
+    assert_eq!(rt; common.allowed, 64);
+    let named = Limits::new(64, 8, 64, 64, 256, 256, 64);
+    assert_eq!(rt; named, Some(common));
 }
 
 #[test]

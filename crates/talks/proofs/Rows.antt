@@ -4,11 +4,12 @@ use Rattle.std.specs.Prelude.{unwrap_or}
 use Rattle.std.specs.List.{All}
 use Rattle.std.proofs.lemmas.List.Elements.{All-nil, All-cons}
 use Rattle.varint_proto.specs.Varint.{BeginsShortest, shortest, shortest_within}
-use Rattle.ms_select.specs.declared.fault.SelectFault.TheVariants.{BadLength}
+use Rattle.ms_select.specs.declared.fault.SelectFault.TheVariants.{BadLength, NoNewline}
 use Rattle.ms_select.specs.Messages.{header, na, message, IsShort, ReadsMessage}
 use Rattle.ms_select.specs.Listening.{choice}
 use Rattle.ms_select.specs.Rows.{x, y, x_bytes, y_bytes}
-use Rattle.talks.specs.Rows.{AskRows, AnswerRows}
+use Rattle.ms_select.proofs.Rows.{text_asks_nothing}
+use Rattle.talks.specs.Rows.{AskRows, AnswerRows, MemoryRows}
 
 -- a length of one byte
 one_byte : (n : ℕ) (rest : List ℕ) → n < 128 → BeginsShortest (n ∷ rest) n rest
@@ -19,6 +20,9 @@ no_length = inr (0, [], one_byte 0 [] (omega arith), inl refl)
 
 length_came : (rest : List ℕ) → length rest < 3 → ReadsMessage (3 ∷ rest) (Ok None)
 length_came rest lt = inr (3, rest, one_byte 3 rest (omega arith), (omega arith, omega arith), lt)
+
+no_text : ReadsMessage (2 ∷ 97 ∷ 98 ∷ []) (Err NoNewline)
+no_text = (2, 97 ∷ 98 ∷ [], one_byte 2 (97 ∷ 98 ∷ []) (omega arith), (omega arith, omega arith), omega arith, omega arith)
 
 nothing_came : ReadsMessage [] (Ok None)
 nothing_came = inl (tt, omega arith)
@@ -57,6 +61,8 @@ ask_rows = record {
     refl,
     refl,
   );
+  no_newline = (header ∷ [], 2 ∷ 97 ∷ 98 ∷ [], record { answered = record { parts = refl; refusals = (refl, no_na) }; left = omega arith }, inl no_text, refl, refl);
+  bad_length = (header ∷ [], 0 ∷ [], record { answered = record { parts = refl; refusals = (refl, no_na) }; left = omega arith }, inl no_length, refl, refl);
   data_behind = record {
     rest = 7 ∷ [];
     input_is = refl;
@@ -99,6 +105,7 @@ answer_rows =
       another_behind = (z ∷ [], y, [], record { parts = refl; short = short_both; undecided = (refl, z_not_chosen) }, record { short = lit< tt; chosen = refl }, refl, refl);
       other_header = ([], y_bytes, record { parts = refl; short = All-nil IsShort; undecided = tt }, inr (y, ([], record { parts = refl; short = lit< tt }), (λ e. cc), refl), refl, refl);
       bad_length = (header ∷ z ∷ [], 0 ∷ [], record { parts = refl; short = short_both; undecided = (refl, z_not_chosen) }, no_length, refl, refl);
+      no_newline = (header ∷ [], 2 ∷ 97 ∷ 98 ∷ [], record { parts = refl; short = short_header; undecided = (refl, none_chosen) }, no_text, refl, refl);
       data_behind = record {
         rest = x_bytes;
         input_is = refl;
@@ -113,3 +120,13 @@ answer_rows =
         ends = ([], 19 ∷ [], 19, refl, one_byte 19 [] (omega arith));
       };
     }
+
+-- ---- memory
+
+pub memory_rows : MemoryRows
+memory_rows = record {
+  no_byte_asked = λ r. let within = r.within in absurd (omega (arith, within));
+  no_byte_answered = λ r. let within = r.within in absurd (omega (arith, within));
+  text_asked = λ r. text_asks_nothing r.n r.within r.ends;
+  text_answered = λ r. text_asks_nothing r.n r.within r.ends;
+}

@@ -14,6 +14,31 @@ use Rattle.upgrade.specs.declared.role.ConnRole.{ConnRole}
 use Rattle.upgrade.specs.Upgrades.{InExchange, InSecondTalk, side_of, yamux}
 use Rattle.upgrade.specs.Stages.{IsWaiting}
 
+-- the same input by another name
+unfoldable pub exchange_at : (role : ConnRole) (own : Key) (input same written : List ℕ) (now : Result (Option Key) ExchangeFault) → same ≡ input → InExchange role own input now written → InExchange role own same now written
+exchange_at role own input same written now e here = record {
+  first = here.first;
+  exchange = here.exchange;
+  index = here.index;
+  talk = here.talk;
+  input_is = e ∙ here.input_is;
+  agrees = here.agrees;
+  exchanges = here.exchanges;
+  written_is = here.written_is;
+}
+
+unfoldable pub second_at : (role : ConnRole) (own key : Key) (input same written : List ℕ) (now : Result Answer SelectFault) → same ≡ input → InSecondTalk role own key input now written → InSecondTalk role own key same now written
+second_at role own key input same written now e here = record {
+  before = here.before;
+  second = here.second;
+  written_before = here.written_before;
+  talk = here.talk;
+  input_is = e ∙ here.input_is;
+  proven = here.proven;
+  talks = here.talks;
+  written_is = here.written_is;
+}
+
 unfoldable pub exchange_on : (role : ConnRole) (own : Key) (input piece written : List ℕ) (was now : Result (Option Key) ExchangeFault) (here : InExchange role own input was written)
     → Exchanges (here.exchange ++ piece) now (length (here.exchange ++ piece)) → InExchange role own (input ++ piece) now written
 exchange_on role own input piece written was now here e = record {

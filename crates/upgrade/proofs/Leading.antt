@@ -11,7 +11,7 @@ use Rattle.plaintext_x.specs.declared.fault.ExchangeFault.TheVariants as exchang
 use Rattle.plaintext_x.specs.Exchange.{Exchanging, Exchanges, HasRead, is_proven, message_of, RunsOut as ExchangeRunsOut, Stands as ExchangeStands}
 use Rattle.plaintext_x.proofs.Cut.{nothing_behind}
 use Rattle.plaintext_x.proofs.Steps.{still_reading}
-use Rattle.talks.specs.Talks.{Side, Talks}
+use Rattle.talks.specs.Talks.{Side, Talks, RunsOut as TalkRunsOut}
 use Rattle.talks.specs.State.{Talking}
 use Rattle.upgrade.specs.declared.role.ConnRole.{ConnRole}
 use Rattle.upgrade.specs.declared.fault.UpgradeFault.{UpgradeFault}
@@ -21,7 +21,7 @@ use Rattle.upgrade.specs.declared.stages.Next.{Next}
 use Rattle.upgrade.specs.declared.stages.Next.TheVariants.{Waits, Up}
 use Rattle.upgrade.specs.Upgrades.{InFirstTalk, InExchange, InSecondTalk, Upgrades, RunsOut, side_of, plaintext, yamux}
 use Rattle.upgrade.specs.Stages.{IsWaiting, StandsIn, Leads, Hears, LosesOutput, of_exchange}
-use Rattle.upgrade.proofs.Growing.{exchange_on, second_on, second_grown, undecided, put_behind}
+use Rattle.upgrade.proofs.Growing.{exchange_at, exchange_on, second_at, second_on, second_grown, undecided, put_behind}
 use Rattle.upgrade.proofs.Opening.{nothing_exchanged, opening, opens, some_message, some_opening, some_more}
 
 -- ---- lists
@@ -36,6 +36,43 @@ leads_as role own input piece result a b e l = subst (λ (t : List ℕ). Leads r
 
 -- ---- a part by the bytes behind the part before
 
+-- want of memory behind a front of a piece is that of the piece
+runs_out_behind : (role : ConnRole) (own : Key) (input front rest piece written : List ℕ) → piece ≡ front ++ rest → RunsOut role own (input ++ front) rest written → RunsOut role own input piece written
+unfolding exchange_at second_at
+runs_out_behind role own input front rest piece written e (inl r) = inl (record {
+  front = front ++ r.front;
+  rest = r.rest;
+  outcome = r.outcome;
+  lost = r.lost;
+  piece_is = e ∙ further front r.front r.rest rest r.piece_is;
+  upgrades = subst (λ (t : List ℕ). Upgrades role own t r.outcome (written ++ r.lost)) (append_assoc input front r.front) r.upgrades;
+  some = r.some;
+})
+runs_out_behind role own input front rest piece written e (inr (inl r)) = inr (inl (record {
+  front = front ++ r.front;
+  rest = r.rest;
+  piece_is = e ∙ further front r.front r.rest rest r.piece_is;
+  runs_out = subst (λ (t : List ℕ). TalkRunsOut (side_of role plaintext) written t r.rest) (append_assoc input front r.front) r.runs_out;
+}))
+runs_out_behind role own input front rest piece written e (inr (inr (inl r))) = inr (inr (inl (record {
+  front = front ++ r.front;
+  rest = r.rest;
+  piece_is = e ∙ further front r.front r.rest rest r.piece_is;
+  before = exchange_at role own ((input ++ front) ++ r.front) (input ++ (front ++ r.front)) written (Ok None) (sym (append_assoc input front r.front)) r.before;
+  runs_out = r.runs_out;
+})))
+runs_out_behind role own input front rest piece written e (inr (inr (inr r))) = inr (inr (inr (record {
+  front = front ++ r.front;
+  rest = r.rest;
+  piece_is = e ∙ further front r.front r.rest rest r.piece_is;
+  key = r.key;
+  written_before = r.written_before;
+  before = second_at role own r.key ((input ++ front) ++ r.front) (input ++ (front ++ r.front)) r.written_before (Ok Going) (sym (append_assoc input front r.front)) r.before;
+  talk = r.talk;
+  runs_out = r.runs_out;
+  written_is = r.written_is;
+})))
+
 pub leads_behind : (role : ConnRole) (own : Key) (input front rest piece : List ℕ) (result : Result Next UpgradeFault) (written : List ℕ) → piece ≡ front ++ rest
     → Leads role own (input ++ front) rest result written → Leads role own input piece result written
 leads_behind role own input front rest piece (Ok (Waits stage)) written e l = subst (λ (t : List ℕ). StandsIn stage role own t written) (sym (further input front rest piece e)) l
@@ -46,7 +83,7 @@ leads_behind role own input front rest piece (Ok (Up left key)) written e l = (
   l.3,
   subst (λ (t : List ℕ). Upgrades role own t (Ok (Some key)) written) (append_assoc input front l.0) l.4,
 )
-leads_behind role own input front rest piece (Err faults.OutOfMemory) written e l = subst (λ (t : List ℕ). RunsOut role own t written) (sym (further input front rest piece e)) l
+leads_behind role own input front rest piece (Err faults.OutOfMemory) written e l = runs_out_behind role own input front rest piece written e l
 leads_behind role own input front rest piece (Err faults.Failed) written e l = absurd l
 leads_behind role own input front rest piece (Err (faults.Select fault)) written e l =
     subst (λ (t : List ℕ). Upgrades role own t (Err (faults.Select fault)) written) (sym (further input front rest piece e)) l
@@ -57,16 +94,16 @@ leads_behind role own input front rest piece (Err (faults.Exchange fault)) writt
 -- ---- the second talk
 
 second_loses : (role : ConnRole) (own key : Key) (input piece written more : List ℕ) (here : InSecondTalk role own key input (Ok Going) written) (l : LosesOutput (side_of role yamux) here.second piece (here.talk ++ more))
-    → RunsOut role own (input ++ piece) (written ++ more)
+    → RunsOut role own input piece (written ++ more)
 second_loses role own key input piece written more here l =
     let talks = subst (λ (t : List ℕ). Talks (side_of role yamux) (here.second ++ l.front) l.standing t) (append_assoc here.talk more l.lost) l.talks in
     let there = second_on role own key input l.front written (more ++ l.lost) (Ok Going) l.standing here talks in
     inl (record {
-      front = input ++ l.front;
+      front = l.front;
       rest = l.rest;
       outcome = outcome_of l.standing;
       lost = l.lost;
-      input_is = further input l.front l.rest piece l.piece_is;
+      piece_is = l.piece_is;
       upgrades = subst (λ (t : List ℕ). Upgrades role own (input ++ l.front) (outcome_of l.standing) t) (sym (append_assoc written more l.lost)) (upgrades_of l.standing (written ++ (more ++ l.lost)) there);
       some = l.some;
     })
@@ -86,16 +123,17 @@ second_loses role own key input piece written more here l =
 pub second_fails : (role : ConnRole) (own key : Key) (talk : Talking) (input piece written more : List ℕ) (fault : UpgradeFault) (here : InSecondTalk role own key input (Ok Going) written)
     → Hears (side_of role yamux) talk here.second piece (Err fault) (here.talk ++ more)
     → Leads role own input piece (Err fault) (written ++ more)
+unfolding second_at
 second_fails role own key talk input piece written more (faults.Select fault) here h = inr (key, second_on role own key input piece written more (Ok Going) (Err fault) here h)
 second_fails role own key talk input piece written more faults.NoneLeft here h =
     (input ++ h.0, h.1, further input h.0 h.1 piece h.2, inr (key, second_on role own key input h.0 written more (Ok Going) (Ok NoneLeft) here h.3))
 second_fails role own key talk input piece written more faults.OutOfMemory here (inl r) = inr (inr (inr (record {
-  heard = input;
-  piece = piece;
-  input_is = refl;
+  front = [];
+  rest = piece;
+  piece_is = refl;
   key = key;
   written_before = written;
-  before = here;
+  before = second_at role own key input (input ++ []) written (Ok Going) (append-nil input) here;
   talk = here.talk ++ more;
   runs_out = r;
   written_is = ap (λ (t : List ℕ). t ++ more) here.written_is ∙ append_assoc here.written_before here.talk more;
@@ -131,14 +169,14 @@ exchange_begins role own input talk index t = record {
 }
 
 -- there is no room for the message
-pub no_room_for_message : (role : ConnRole) (own : Key) (input front rest whole talk : List ℕ) (index : ℕ) → whole ≡ (input ++ front) ++ rest → InFirstTalk role (input ++ front) (Ok (Agreed index)) talk
-    → RunsOut role own whole talk
-no_room_for_message role own input front rest whole talk index e t = inl (record {
-  front = input ++ front;
+pub no_room_for_message : (role : ConnRole) (own : Key) (input front rest piece talk : List ℕ) (index : ℕ) → piece ≡ front ++ rest → InFirstTalk role (input ++ front) (Ok (Agreed index)) talk
+    → RunsOut role own input piece talk
+no_room_for_message role own input front rest piece talk index e t = inl (record {
+  front = front;
   rest = rest;
   outcome = Ok None;
   lost = message_of own;
-  input_is = e;
+  piece_is = e;
   upgrades = inr (exchange_begins role own (input ++ front) talk index t);
   some = some_message own;
 })
@@ -161,6 +199,7 @@ known role own input piece written fault here ne f = (ne, exchange_on role own i
 pub exchange_fails : (role : ConnRole) (own : Key) (input piece written : List ℕ) (fault : ExchangeFault) (here : InExchange role own input (Ok None) written)
     → (fault ≢ exchange_faults.OutOfMemory → Exchanges (here.exchange ++ piece) (Err fault) (length (here.exchange ++ piece)))
     → (fault ≡ exchange_faults.OutOfMemory → ExchangeRunsOut here.exchange piece) → Leads role own input piece (Err (of_exchange fault)) written
+unfolding exchange_at
 exchange_fails role own input piece written exchange_faults.Failed here f m = known role own input piece written exchange_faults.Failed here (λ e. cc) f
 exchange_fails role own input piece written exchange_faults.TooLong here f m = known role own input piece written exchange_faults.TooLong here (λ e. cc) f
 exchange_fails role own input piece written exchange_faults.Wire here f m = known role own input piece written exchange_faults.Wire here (λ e. cc) f
@@ -168,7 +207,13 @@ exchange_fails role own input piece written exchange_faults.NoId here f m = know
 exchange_fails role own input piece written exchange_faults.NoKey here f m = known role own input piece written exchange_faults.NoKey here (λ e. cc) f
 exchange_fails role own input piece written exchange_faults.BadKey here f m = known role own input piece written exchange_faults.BadKey here (λ e. cc) f
 exchange_fails role own input piece written exchange_faults.Differs here f m = known role own input piece written exchange_faults.Differs here (λ e. cc) f
-exchange_fails role own input piece written exchange_faults.OutOfMemory here f m = inr (inr (inl (record { heard = input; piece = piece; input_is = refl; before = here; runs_out = m refl })))
+exchange_fails role own input piece written exchange_faults.OutOfMemory here f m = inr (inr (inl (record {
+  front = [];
+  rest = piece;
+  piece_is = refl;
+  before = exchange_at role own input (input ++ []) written (Ok None) (append-nil input) here;
+  runs_out = m refl;
+})))
 
 -- the key is proven by exactly the bytes that the exchange used
 pub proven_by : (role : ConnRole) (own key : Key) (input piece written : List ℕ) (used : ℕ) (here : InExchange role own input (Ok None) written) → used ≤ length piece
@@ -201,14 +246,14 @@ unfolding second_begins
 muxing_begins role own key talk input written more e w = (second_begins role own key input written more e (undecided (side_of role yamux) talk [] more w), w)
 
 -- there is no room for the first bytes of the second talk
-pub no_room_for_talk : (role : ConnRole) (own key : Key) (input rest whole written : List ℕ) → whole ≡ input ++ rest → InExchange role own input (Ok (Some key)) written → RunsOut role own whole written
-no_room_for_talk role own key input rest whole written is e = inl (record {
-  front = input;
+pub no_room_for_talk : (role : ConnRole) (own key : Key) (input front rest piece written : List ℕ) → piece ≡ front ++ rest → InExchange role own (input ++ front) (Ok (Some key)) written → RunsOut role own input piece written
+no_room_for_talk role own key input front rest piece written is e = inl (record {
+  front = front;
   rest = rest;
   outcome = Ok None;
   lost = opening role yamux;
-  input_is = is;
-  upgrades = inl (inr (key, second_begins role own key input written (opening role yamux) e (opens role yamux)));
+  piece_is = is;
+  upgrades = inl (inr (key, second_begins role own key (input ++ front) written (opening role yamux) e (opens role yamux)));
   some = some_opening role yamux;
 })
 
@@ -218,29 +263,34 @@ pub first_fails : (role : ConnRole) (own : Key) (talk : Talking) (input piece wr
     → Leads role own input piece (Err fault) (written ++ more)
 first_fails role own talk input piece written more (faults.Select fault) h = inl h
 first_fails role own talk input piece written more faults.NoneLeft h = (input ++ h.0, h.1, further input h.0 h.1 piece h.2, inl h.3)
-first_fails role own talk input piece written more faults.OutOfMemory (inl r) = inr (inl (record { heard = input; piece = piece; input_is = refl; runs_out = r }))
+first_fails role own talk input piece written more faults.OutOfMemory (inl r) = inr (inl (record {
+  front = [];
+  rest = piece;
+  piece_is = refl;
+  runs_out = subst (λ (t : List ℕ). TalkRunsOut (side_of role plaintext) (written ++ more) t piece) (sym (append-nil input)) r;
+}))
 first_fails role own talk input piece written more faults.OutOfMemory (inr l) = first_loses l.standing l.talks
   where
     kept : List ℕ
     kept = written ++ more
 
-    no_room : (outcome : Result (Option Key) UpgradeFault) → Upgrades role own (input ++ l.front) outcome (kept ++ l.lost) → RunsOut role own (input ++ piece) kept
-    no_room outcome u = inl (record { front = input ++ l.front; rest = l.rest; outcome = outcome; lost = l.lost; input_is = further input l.front l.rest piece l.piece_is; upgrades = u; some = l.some })
+    no_room : (outcome : Result (Option Key) UpgradeFault) → Upgrades role own (input ++ l.front) outcome (kept ++ l.lost) → RunsOut role own input piece kept
+    no_room outcome u = inl (record { front = l.front; rest = l.rest; outcome = outcome; lost = l.lost; piece_is = l.piece_is; upgrades = u; some = l.some })
 
-    agreed : (i : ℕ) → InFirstTalk role (input ++ l.front) (Ok (Agreed i)) (kept ++ l.lost) → RunsOut role own (input ++ piece) kept
+    agreed : (i : ℕ) → InFirstTalk role (input ++ l.front) (Ok (Agreed i)) (kept ++ l.lost) → RunsOut role own input piece kept
     agreed i t =
         let there = exchange_begins role own (input ++ l.front) (kept ++ l.lost) i t in
         inl (record {
-          front = input ++ l.front;
+          front = l.front;
           rest = l.rest;
           outcome = Ok None;
           lost = l.lost ++ message_of own;
-          input_is = further input l.front l.rest piece l.piece_is;
+          piece_is = l.piece_is;
           upgrades = subst (λ (t : List ℕ). Upgrades role own (input ++ l.front) (Ok None) t) (append_assoc kept l.lost (message_of own)) (inr there);
           some = some_more l.lost (message_of own) l.some;
         })
 
-    first_loses : (standing : Result Answer SelectFault) → InFirstTalk role (input ++ l.front) standing (kept ++ l.lost) → RunsOut role own (input ++ piece) kept
+    first_loses : (standing : Result Answer SelectFault) → InFirstTalk role (input ++ l.front) standing (kept ++ l.lost) → RunsOut role own input piece kept
     first_loses (Ok Going) t = no_room (Ok None) (inl (inl t))
     first_loses (Ok (Agreed i)) t = agreed i t
     first_loses (Ok NoneLeft) t = no_room (Err faults.NoneLeft) (input ++ l.front, [], sym (append-nil (input ++ l.front)), inl t)
@@ -296,8 +346,8 @@ pub message_refused : (role : ConnRole) (own : Key) (talk : Talking) (input piec
     → Kept (side_of role plaintext) talk input piece (taken ++ old) old new (Ok heard) → Leads role own input piece (Err faults.OutOfMemory) (taken ++ kept)
 message_refused role own talk input piece taken old new kept heard used e same k =
     let a = agreed_first role talk input piece taken old new used (of_option (side_of role plaintext) talk input piece (taken ++ old) old new heard (Some used) e k) in
-    subst (λ (t : List ℕ). RunsOut role own (input ++ piece) (taken ++ t)) (sym same)
-    (no_room_for_message role own input (take used piece) (drop used piece) (input ++ piece) (taken ++ new) a.0 (further input (take used piece) (drop used piece) piece (sym (take-append-drop used piece))) a.1)
+    subst (λ (t : List ℕ). RunsOut role own input piece (taken ++ t)) (sym same)
+    (no_room_for_message role own input (take used piece) (drop used piece) piece (taken ++ new) a.0 (sym (take-append-drop used piece)) a.1)
 
 pub proving_begins : (role : ConnRole) (own : Key) (talk : Talking) (x : Exchanging) (input piece taken old new more : List ℕ) (heard : Option ℕ) (used : ℕ) → heard ≡ Some used → more ≡ new ++ message_of own
     → x.answer ≡ Some None → ExchangeStands own x [] 0 (message_of own) → Kept (side_of role plaintext) talk input piece (taken ++ old) old new (Ok heard)
@@ -320,7 +370,7 @@ unproven state some not_proven = still_reading state some (λ key e. not_proven 
 
 pub talk_refused : (role : ConnRole) (own key : Key) (input piece written : List ℕ) (used : ℕ) → InExchange role own (input ++ take used piece) (Ok (Some key)) written → Leads role own input piece (Err faults.OutOfMemory) written
 talk_refused role own key input piece written used e =
-    no_room_for_talk role own key (input ++ take used piece) (drop used piece) (input ++ piece) written (further input (take used piece) (drop used piece) piece (sym (take-append-drop used piece))) e
+    no_room_for_talk role own key input (take used piece) (drop used piece) piece written (sym (take-append-drop used piece)) e
 
 pub proven_of : (role : ConnRole) (own key : Key) (input piece written : List ℕ) (used : ℕ) (state : Option (Option Key)) (here : InExchange role own input (Ok None) written) → state ≡ Some (Some key) → used ≤ length piece
     → IfSome state (λ answer. Exchanges (here.exchange ++ piece) (Ok answer) (length here.exchange + used)) → InExchange role own (input ++ take used piece) (Ok (Some key)) written

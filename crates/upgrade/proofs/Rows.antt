@@ -1,5 +1,5 @@
 -- The definitions of an upgrade at worked bytes.
-use Rattle.std.proofs.Common.{◌≡◌, ℕ, List, [], ◌∷◌, ◌++◌, length, Option, Some, None, Result, Ok, Err, refl, sym, ap, subst, inl, inr, arith, lit<}
+use Rattle.std.proofs.Common.{◌≡◌, ℕ, List, [], ◌∷◌, ◌++◌, length, get_or, Option, Some, None, Result, Ok, Err, refl, sym, ap, ◌∙◌, subst, inl, inr, arith, lit<}
 use Rattle.std.proofs.lemmas.List.{append-nil, length-append, nil_from_length}
 use Rattle.std.proofs.lemmas.List.Elements.{All-nil}
 use Rattle.varint_proto.specs.Varint.{shortest, shortest_within}
@@ -19,7 +19,7 @@ use Rattle.upgrade.specs.declared.role.ConnRole.{ConnRole}
 use Rattle.upgrade.specs.declared.role.ConnRole.TheVariants.{Dialer, Listener}
 use Rattle.upgrade.specs.declared.fault.UpgradeFault.{UpgradeFault}
 use Rattle.upgrade.specs.Upgrades.{InExchange, InSecondTalk, Upgrades, ComesTo, RunsOut, side_of, plaintext, yamux}
-use Rattle.upgrade.specs.Rows.{own, other, hello, mux, come, sent, ByteRows, DialerRows, ListenerRows, MemoryRows}
+use Rattle.upgrade.specs.Rows.{own, other, hello, mux, come, sent, ByteRows, DialerRows, ListenerRows, MemoryRows, GrowthRows}
 use Rattle.upgrade.proofs.Opening.{opening, opens, nothing_exchanged, some_message, some_opening}
 use Rattle.upgrade.proofs.Leading.{exchange_begins}
 use Rattle.upgrade.proofs.Outcomes.{one_outcome}
@@ -127,30 +127,49 @@ no_more a b e = nil_from_length b (omega (arith, ap length e, length-append a b)
 nothing_in : (a b : List ℕ) → [] ≡ a ++ b → (a ≡ []) × (b ≡ [])
 nothing_in a b e = (nil_from_length a (omega (arith, ap length e, length-append a b)), nil_from_length b (omega (arith, ap length e, length-append a b)))
 
--- no byte has come, and all is kept
-no_room_at_once : (front rest lost : List ℕ) (outcome : Result (Option Key) UpgradeFault) → [] ≡ front ++ rest → Upgrades Dialer own front outcome (hello ++ lost) → lost ≡ []
-no_room_at_once front rest lost outcome e u =
-    let none = (nothing_in front rest e).0 in
-    let here = subst (λ (t : List ℕ). Upgrades Dialer own t outcome (hello ++ lost)) none u in
-    no_more hello lost ((one_outcome Dialer own [] [] [] (Ok None) outcome hello (hello ++ lost) (by_all Dialer [] (Ok None) hello (inl (inl (opens Dialer plaintext)))) (by_all Dialer [] outcome (hello ++ lost) here)).2)
+-- no byte more has come, and all is kept
+module _ (input written : List ℕ) (here : Upgrades Dialer own input (Ok None) written) where
+  no_room : (front rest lost : List ℕ) (outcome : Result (Option Key) UpgradeFault) → [] ≡ front ++ rest → Upgrades Dialer own (input ++ front) outcome (written ++ lost) → lost ≡ []
+  no_room front rest lost outcome e u =
+      let none = (nothing_in front rest e).0 in
+      let there = subst (λ (t : List ℕ). Upgrades Dialer own t outcome (written ++ lost)) (ap (λ (t : List ℕ). input ++ t) none ∙ append-nil input) u in
+      no_more written lost ((one_outcome Dialer own input input input (Ok None) outcome written (written ++ lost) (by_all Dialer input (Ok None) written here) (by_all Dialer input outcome (written ++ lost) there)).2)
 
-nothing_asked : ¬ RunsOut Dialer own [] hello
-nothing_asked (inl r) = r.some (no_room_at_once r.front r.rest r.lost r.outcome r.input_is r.upgrades)
-nothing_asked (inr (inl r)) = let none = (nothing_in r.heard r.piece r.input_is).1 in let within = r.runs_out.within in absurd (omega (arith, ap length none, within))
-nothing_asked (inr (inr (inl r))) = let none = (nothing_in r.heard r.piece r.input_is).1 in let within = r.runs_out.1 in absurd (omega (arith, ap length none, within))
-nothing_asked (inr (inr (inr r))) = let none = (nothing_in r.heard r.piece r.input_is).1 in let within = r.runs_out.within in absurd (omega (arith, ap length none, within))
+  nothing_more : ¬ RunsOut Dialer own input [] written
+  nothing_more (inl r) = r.some (no_room r.front r.rest r.lost r.outcome r.piece_is r.upgrades)
+  nothing_more (inr (inl r)) = let none = (nothing_in r.front r.rest r.piece_is).1 in let within = r.runs_out.within in absurd (omega (arith, ap length none, within))
+  nothing_more (inr (inr (inl r))) = let none = (nothing_in r.front r.rest r.piece_is).1 in let within = r.runs_out.1 in absurd (omega (arith, ap length none, within))
+  nothing_more (inr (inr (inr r))) = let none = (nothing_in r.front r.rest r.piece_is).1 in let within = r.runs_out.within in absurd (omega (arith, ap length none, within))
 
 pub memory_rows : MemoryRows
 memory_rows = record {
-  at_once = inl (record { front = []; rest = []; outcome = Ok None; lost = hello; input_is = refl; upgrades = inl (inl (opens Dialer plaintext)); some = some_opening Dialer plaintext });
-  message = inl (record { front = hello; rest = []; outcome = Ok None; lost = message_of own; input_is = sym (append-nil hello); upgrades = inr (exchange_waits Dialer); some = some_message own });
+  at_once = inl (record { front = []; rest = []; outcome = Ok None; lost = hello; piece_is = refl; upgrades = inl (inl (opens Dialer plaintext)); some = some_opening Dialer plaintext });
+  message = inl (record { front = hello; rest = []; outcome = Ok None; lost = message_of own; piece_is = sym (append-nil hello); upgrades = inr (exchange_waits Dialer); some = some_message own });
   length_of_message = inr (inr (inl (record {
-    heard = hello;
-    piece = 16 ∷ [];
-    input_is = refl;
-    before = record { first = hello; exchange = []; index = 0; talk = hello; input_is = sym (append-nil hello); agrees = plaintext_agreed Dialer; exchanges = nothing_exchanged; written_is = refl };
+    front = [];
+    rest = 16 ∷ [];
+    piece_is = refl;
+    before = record { first = hello; exchange = []; index = 0; talk = hello; input_is = refl; agrees = plaintext_agreed Dialer; exchanges = nothing_exchanged; written_is = refl };
     runs_out = (0, lit< tt, waiting_rows.nothing, waiting_rows.asks_for_the_message);
   })));
-  second_talk = inl (record { front = come; rest = []; outcome = Ok None; lost = mux; input_is = sym (append-nil come); upgrades = inl (inr (other, begins_second Dialer)); some = some_opening Dialer yamux });
-  nothing_asked = nothing_asked;
+  second_talk = inl (record {
+    front = message_of other;
+    rest = [];
+    outcome = Ok None;
+    lost = mux;
+    piece_is = sym (append-nil (message_of other));
+    upgrades = inl (inr (other, begins_second Dialer));
+    some = some_opening Dialer yamux;
+  });
+  nothing_asked = nothing_more [] hello (inl (inl (opens Dialer plaintext)));
+  nothing_again = nothing_more hello sent (inr (exchange_waits Dialer));
+  nothing_again_then = nothing_more come (sent ++ mux) (inl (inr (other, begins_second Dialer)));
+}
+
+pub growth_rows : GrowthRows
+growth_rows = record {
+  by_nothing = ([], refl);
+  behind = (6 ∷ [], refl);
+  dropped = λ g. omega (arith, ap length g.1, length-append (5 ∷ 6 ∷ []) g.0);
+  in_front = λ g. let firsts : 6 ≡ 5 = ap (λ (t : List ℕ). get_or t 0 0) g.1 in omega (arith, firsts);
 }

@@ -21,7 +21,7 @@ use Rattle.upgrade.specs.declared.stages.Stage.{Stage}
 use Rattle.upgrade.specs.declared.stages.Stage.TheVariants.{Greeting, Proving, Muxing, Over}
 use Rattle.upgrade.specs.Upgrades.{InExchange, InSecondTalk, Upgrades, ComesTo, side_of, plaintext, yamux}
 use Rattle.upgrade.specs.Stages.{StandsIn}
-use Rattle.upgrade.specs.Laws.{UpStays, FaultStays, GoesOn, SomeOutcome}
+use Rattle.upgrade.specs.Laws.{UpStays, FaultStays, FaultsOfParts, GoesOn, SomeOutcome}
 use Rattle.upgrade.proofs.Growing.{exchange_on, second_grown, undecided}
 
 -- ---- what stays
@@ -43,6 +43,17 @@ fault_stays role own input more written (faults.Exchange fault) (ne, e) =
     (ne, exchange_on role own input more written (Err fault) (Err fault) e (exchange_fault_stays e.exchange more fault (length e.exchange) e.exchanges))
 fault_stays role own input more written faults.Failed u = absurd u
 fault_stays role own input more written faults.OutOfMemory u = absurd u
+
+-- ---- faults of the parts
+
+pub faults_of_parts : FaultsOfParts
+faults_of_parts = record {
+  first_talk = λ role own input written fault t. inl t;
+  exchange = λ role own input written fault ne e. (ne, e);
+  second_talk = λ role own key input written fault t. inr (key, t);
+  first_turned_down = λ role own input more written t. (input, more, refl, inl t);
+  second_turned_down = λ role own key input more written t. (input, more, refl, inr (key, t));
+}
 
 -- ---- standings
 

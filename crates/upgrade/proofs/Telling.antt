@@ -26,7 +26,7 @@ fault_is role own input piece (faults.Exchange fault) written l ne = l
 fault_is role own input piece faults.OutOfMemory written l ne = absurd (ne refl)
 
 pub runs_out : (role : ConnRole) (own : Key) (input piece : List ℕ) (fault : UpgradeFault) (written : List ℕ) → Leads role own input piece (Err fault) written → fault ≡ faults.OutOfMemory
-    → RunsOut role own (input ++ piece) written
+    → RunsOut role own input piece written
 runs_out role own input piece fault written l e = subst (λ (f : UpgradeFault). Leads role own input piece (Err f) written) e l
 
 abbrev pub refused : UpgradeFault → Result Progress UpgradeFault

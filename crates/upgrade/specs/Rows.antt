@@ -10,7 +10,7 @@ use Rattle.plaintext_x.specs.declared.fault.ExchangeFault.TheVariants.{NoId}
 use Rattle.plaintext_x.specs.Exchange.{message_of}
 use Rattle.upgrade.specs.declared.role.ConnRole.TheVariants.{Dialer, Listener}
 use Rattle.upgrade.specs.declared.fault.UpgradeFault.TheVariants.{Select, NoneLeft, Exchange}
-use Rattle.upgrade.specs.Upgrades.{plaintext, yamux, Upgrades, ComesTo, RunsOut}
+use Rattle.upgrade.specs.Upgrades.{plaintext, yamux, Upgrades, ComesTo, RunsOut, Grows}
 
 -- the key of this end, and that of the other one
 abbrev pub own : Key
@@ -74,9 +74,19 @@ pub record ListenerRows : Type 0 where
 
 -- where memory may be refused: for the own message, for the length of a message, for the first bytes of a talk
 pub record MemoryRows : Type 0 where
-  pub at_once : RunsOut Dialer own [] []
-  pub message : RunsOut Dialer own hello hello
-  pub length_of_message : RunsOut Dialer own (hello ++ 16 ∷ []) sent
-  pub second_talk : RunsOut Dialer own come sent
+  pub at_once : RunsOut Dialer own [] [] []
+  pub message : RunsOut Dialer own [] hello hello
+  pub length_of_message : RunsOut Dialer own hello (16 ∷ []) sent
+  pub second_talk : RunsOut Dialer own hello (message_of other) sent
   -- with the whole output kept, no memory is asked for before a byte has come
-  pub nothing_asked : ¬ RunsOut Dialer own [] hello
+  pub nothing_asked : ¬ RunsOut Dialer own [] [] hello
+  -- nor again for what came with an earlier piece
+  pub nothing_again : ¬ RunsOut Dialer own hello [] sent
+  pub nothing_again_then : ¬ RunsOut Dialer own come [] (sent ++ mux)
+
+-- output that grows: at its end alone, and by nothing too
+pub record GrowthRows : Type 0 where
+  pub by_nothing : Grows (5 ∷ []) (5 ∷ [])
+  pub behind : Grows (5 ∷ []) (5 ∷ 6 ∷ [])
+  pub dropped : ¬ Grows (5 ∷ 6 ∷ []) (5 ∷ [])
+  pub in_front : ¬ Grows (5 ∷ []) (6 ∷ 5 ∷ [])

@@ -70,7 +70,7 @@ Leads role own input piece (Ok (Waits stage)) written = StandsIn stage role own 
 Leads role own input piece (Ok (Up left key)) written =
     (first : List ℕ) × (rest : List ℕ) × (piece ≡ first ++ rest) × (left ≡ length rest)
     × Upgrades role own (input ++ first) (Ok (Some key)) written
-Leads role own input piece (Err faults.OutOfMemory) written = RunsOut role own (input ++ piece) written
+Leads role own input piece (Err faults.OutOfMemory) written = RunsOut role own input piece written
 Leads role own input piece (Err fault) written = Upgrades role own (input ++ piece) (Err fault) written
 
 -- There is no room for what a talk wrote.

@@ -99,44 +99,49 @@ pub record ComesTo (role : ConnRole) (own : Key) (input first : List ℕ) (outco
 
 -- ---- want of memory
 
--- There is no room for these bytes, which belong behind what is kept of the output.
-pub record HasNoRoom (role : ConnRole) (own : Key) (input kept : List ℕ) : Type 0 where
+-- what was written by then stands at the front of what is written now
+abbrev pub Grows : List ℕ → List ℕ → Type 0
+Grows old new = (more : List ℕ) × (new ≡ old ++ more)
+
+-- There is no room for these bytes, which belong behind what is kept of the output, and which the end writes by a front
+-- of this piece.
+pub record HasNoRoom (role : ConnRole) (own : Key) (input piece kept : List ℕ) : Type 0 where
   pub front : List ℕ
   pub rest : List ℕ
   pub outcome : Result (Option Key) UpgradeFault
   pub lost : List ℕ
-  pub input_is : input ≡ front ++ rest
-  pub upgrades : Upgrades role own front outcome (kept ++ lost)
+  pub piece_is : piece ≡ front ++ rest
+  pub upgrades : Upgrades role own (input ++ front) outcome (kept ++ lost)
   pub some : lost ≢ []
 
--- A part of the upgrade runs out of memory.
-pub record FirstTalkRunsOut (role : ConnRole) (input written : List ℕ) : Type 0 where
-  pub heard : List ℕ
-  pub piece : List ℕ
-  pub input_is : input ≡ heard ++ piece
-  pub runs_out : TalkRunsOut (side_of role plaintext) written heard piece
+-- A part of the upgrade runs out of memory, which has taken the rest of this piece.
+pub record FirstTalkRunsOut (role : ConnRole) (input piece written : List ℕ) : Type 0 where
+  pub front : List ℕ
+  pub rest : List ℕ
+  pub piece_is : piece ≡ front ++ rest
+  pub runs_out : TalkRunsOut (side_of role plaintext) written (input ++ front) rest
 
-pub record ExchangeRunsOutIn (role : ConnRole) (own : Key) (input written : List ℕ) : Type 0 where
-  pub heard : List ℕ
-  pub piece : List ℕ
-  pub input_is : input ≡ heard ++ piece
-  pub before : InExchange role own heard (Ok None) written
-  pub runs_out : ExchangeRunsOut before.exchange piece
+pub record ExchangeRunsOutIn (role : ConnRole) (own : Key) (input piece written : List ℕ) : Type 0 where
+  pub front : List ℕ
+  pub rest : List ℕ
+  pub piece_is : piece ≡ front ++ rest
+  pub before : InExchange role own (input ++ front) (Ok None) written
+  pub runs_out : ExchangeRunsOut before.exchange rest
 
-pub record SecondTalkRunsOut (role : ConnRole) (own : Key) (input written : List ℕ) : Type 0 where
-  pub heard : List ℕ
-  pub piece : List ℕ
-  pub input_is : input ≡ heard ++ piece
+pub record SecondTalkRunsOut (role : ConnRole) (own : Key) (input piece written : List ℕ) : Type 0 where
+  pub front : List ℕ
+  pub rest : List ℕ
+  pub piece_is : piece ≡ front ++ rest
   pub key : Key
   pub written_before : List ℕ
-  pub before : InSecondTalk role own key heard (Ok answers.Going) written_before
+  pub before : InSecondTalk role own key (input ++ front) (Ok answers.Going) written_before
   pub talk : List ℕ
-  pub runs_out : TalkRunsOut (side_of role yamux) talk before.second piece
+  pub runs_out : TalkRunsOut (side_of role yamux) talk before.second rest
   pub written_is : written ≡ before.written_before ++ talk
 
--- Why memory is refused on the way through this input, where this is kept of the output.
-abbrev pub RunsOut : ConnRole → Key → List ℕ → List ℕ → Type 0
-RunsOut role own input kept =
-    HasNoRoom role own input kept
-    ⊎ (FirstTalkRunsOut role input kept
-    ⊎ (ExchangeRunsOutIn role own input kept ⊎ SecondTalkRunsOut role own input kept))
+-- Why memory is refused on the way through this piece behind this input, where this is kept of the output.
+abbrev pub RunsOut : ConnRole → Key → List ℕ → List ℕ → List ℕ → Type 0
+RunsOut role own input piece kept =
+    HasNoRoom role own input piece kept
+    ⊎ (FirstTalkRunsOut role input piece kept
+    ⊎ (ExchangeRunsOutIn role own input piece kept ⊎ SecondTalkRunsOut role own input piece kept))

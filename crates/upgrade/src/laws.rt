@@ -1,7 +1,8 @@
 //! What the definitions of an upgrade come to.
 
-ghost use Rattle.upgrade.specs.Laws.{OneOutcome, SomeOutcome, UpStays, FaultStays, GoesOn, BothUp};
-ghost use Rattle.upgrade.specs.Rows.{ByteRows, DialerRows, ListenerRows, MemoryRows};
+ghost use Rattle.upgrade.specs.Laws.{OneOutcome, SomeOutcome, UpStays, FaultStays, FaultsOfParts};
+ghost use Rattle.upgrade.specs.Laws.{GoesOn, BothUp};
+ghost use Rattle.upgrade.specs.Rows.{ByteRows, DialerRows, ListenerRows, MemoryRows, GrowthRows};
 
 /// The definitions say of worked bytes what the standards and this project's profile say.
 pub fn worked_rows()
@@ -9,6 +10,7 @@ pub fn worked_rows()
     ensures dialer { DialerRows }
     ensures listener { ListenerRows }
     ensures memory { MemoryRows }
+    ensures growth { GrowthRows }
 {}
 
 /// Which bytes are an upgrade's, what it comes to and what it has written depend on its role, its key and its input
@@ -30,6 +32,11 @@ pub fn up_stays()
 /// A fault stays when bytes are added.
 pub fn fault_stays()
     ensures { FaultStays }
+{}
+
+/// Each fault of a part is the fault of the upgrade, by its own name.
+pub fn faults_of_parts()
+    ensures { FaultsOfParts }
 {}
 
 /// Where an upgrade stands is what its definition says of the input.

@@ -8,7 +8,7 @@ ghost use Rattle.plaintext_x.specs.Exchange.{message_of, Stands as ExchangeStand
 ghost use Rattle.talks.specs.Talks.{Side};
 ghost use Rattle.talks.specs.State.{Stands as TalkStands};
 ghost use Rattle.upgrade.specs.declared.role.ConnRole.{ConnRole};
-ghost use Rattle.upgrade.specs.Upgrades.{side_of};
+ghost use Rattle.upgrade.specs.Upgrades.{side_of, Grows};
 ghost use Rattle.upgrade.specs.Stages.{IsWaiting, Hears, Leads, StandsIn};
 
 use crate::fault::UpgradeFault;
@@ -119,6 +119,7 @@ fn hear(talk: &mut Talk, output: &mut Vec<u8>, piece: &[u8]) -> Result<Option<us
     ensures heard { (side : Side) (input before : List ℕ) → IsWaiting side talk.old input before
         → (more : List ℕ) × (output.new.items ≡ output.old.items ++ more)
         × Hears side talk.new input piece.now result (before ++ more) }
+    ensures grows { Grows output.old.items output.new.items }
 {
     let heard = talk.hear(piece);
     // What the talk wrote before a fault is kept too.
@@ -133,7 +134,8 @@ fn hear(talk: &mut Talk, output: &mut Vec<u8>, piece: &[u8]) -> Result<Option<us
 
 /// The second talk takes a piece.
 fn mux(output: &mut Vec<u8>, talk: Talk, proven: Proven, piece: &[u8]) -> Result<Next, UpgradeFault>
-    ensures { (role : ConnRole) (own : Key) (input taken : List ℕ)
+    ensures grows { Grows output.old.items output.new.items }
+    ensures leads { (role : ConnRole) (own : Key) (input taken : List ℕ)
         → StandsIn (Stage.Muxing talk proven) role own input (taken ++ output.old.items)
         → Leads role own input piece.now result (taken ++ output.new.items) }
 {
@@ -154,7 +156,8 @@ fn prove(
     exchange: Exchange,
     piece: &[u8],
 ) -> Result<Next, UpgradeFault>
-    ensures { (input taken : List ℕ)
+    ensures grows { Grows output.old.items output.new.items }
+    ensures leads { (input taken : List ℕ)
         → StandsIn (Stage.Proving exchange) end.now.role end.now.key input (taken ++ output.old.items)
         → Leads end.now.role end.now.key input piece.now result (taken ++ output.new.items) }
 {
@@ -171,7 +174,8 @@ fn prove(
 
 /// The first talk takes a piece, and where it agrees the exchange takes the rest.
 fn greet(end: &End, output: &mut Vec<u8>, talk: Talk, piece: &[u8]) -> Result<Next, UpgradeFault>
-    ensures { (input taken : List ℕ)
+    ensures grows { Grows output.old.items output.new.items }
+    ensures leads { (input taken : List ℕ)
         → StandsIn (Stage.Greeting talk) end.now.role end.now.key input (taken ++ output.old.items)
         → Leads end.now.role end.now.key input piece.now result (taken ++ output.new.items) }
 {
@@ -193,6 +197,7 @@ pub(crate) fn take_on(
     piece: &[u8],
 ) -> Result<Next, UpgradeFault>
     ensures over { stage ≡ Stage.Over → (result ≡ Err UpgradeFault.Failed) × (output.new.items ≡ output.old.items) }
+    ensures grows { Grows output.old.items output.new.items }
     ensures leads { (input taken : List ℕ)
         → StandsIn stage end.now.role end.now.key input (taken ++ output.old.items)
         → Leads end.now.role end.now.key input piece.now result (taken ++ output.new.items) }

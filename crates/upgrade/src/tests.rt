@@ -117,7 +117,7 @@ fn rows_hold(
 
 #[test]
 fn a_dialer_however_the_input_is_cut(rt: HostRuntime) -> Result<(), Fail> {
-    let rows: [Row; 13] = [
+    let rows: [Row; 19] = [
         (&[], Ok(None), 0, &[HELLO]),
         (&[M, b"\x11/plain"], Ok(None), 0, &[HELLO]),
         (&[HELLO], Ok(None), 0, &[HELLO, OWN]),
@@ -162,13 +162,50 @@ fn a_dialer_however_the_input_is_cut(rt: HostRuntime) -> Result<(), Fail> {
             0,
             &[HELLO, OWN, MUX],
         ),
+        // Each other fault of a talk and of the exchange.
+        (
+            &[M, b"\0"],
+            Err(UpgradeFault::Select(SelectFault::BadLength)),
+            0,
+            &[HELLO],
+        ),
+        (
+            &[M, b"\x02ab"],
+            Err(UpgradeFault::Select(SelectFault::NoNewline)),
+            0,
+            &[HELLO],
+        ),
+        (
+            &[HELLO, b"\x01\0"],
+            Err(UpgradeFault::Exchange(ExchangeFault::Wire)),
+            0,
+            &[HELLO, OWN],
+        ),
+        (
+            &[HELLO, b"\x02\x0a\0"],
+            Err(UpgradeFault::Exchange(ExchangeFault::NoKey)),
+            0,
+            &[HELLO, OWN],
+        ),
+        (
+            &[HELLO, b"\x04\x0a\0\x12\0"],
+            Err(UpgradeFault::Exchange(ExchangeFault::BadKey)),
+            0,
+            &[HELLO, OWN],
+        ),
+        (
+            &[HELLO, b"\x09\x0a\0\x12\x05", OTHER_KEY],
+            Err(UpgradeFault::Exchange(ExchangeFault::Differs)),
+            0,
+            &[HELLO, OWN],
+        ),
     ];
     rows_hold(&rt, &rt, ConnRole::Dialer, &rows)
 }
 
 #[test]
 fn a_listener_however_the_input_is_cut(rt: HostRuntime) -> Result<(), Fail> {
-    let rows: [Row; 12] = [
+    let rows: [Row; 13] = [
         (&[], Ok(None), 0, &[M]),
         (&[M_X], Ok(None), 0, &[M_NA]),
         (&[HELLO], Ok(None), 0, &[HELLO, OWN]),
@@ -191,6 +228,12 @@ fn a_listener_however_the_input_is_cut(rt: HostRuntime) -> Result<(), Fail> {
         (
             &[b"\x03/x\n"],
             Err(UpgradeFault::Select(SelectFault::BadHeader)),
+            0,
+            &[M],
+        ),
+        (
+            &[M, b"\x02ab"],
+            Err(UpgradeFault::Select(SelectFault::NoNewline)),
             0,
             &[M],
         ),

@@ -2,7 +2,7 @@
 
 ghost use Rattle.std.specs.Prelude.{◌≡◌, ◌≢◌, ◌≤◌, ℕ, List, [], ◌++◌, length, Option, Result, Ok, Err, IfOk, OnErr};
 ghost use Rattle.peer_ids.specs.Key.{Key};
-ghost use Rattle.upgrade.specs.Upgrades.{Upgrades, ComesTo, RunsOut};
+ghost use Rattle.upgrade.specs.Upgrades.{Upgrades, ComesTo, RunsOut, Grows};
 ghost use Rattle.upgrade.specs.State.{Stands, Whenever, used_of, outcome_of};
 
 use crate::fault::UpgradeFault;
@@ -84,7 +84,9 @@ impl Upgrade {
             → (first ≡ input ++ used_of result piece.now) × (outcome ≡ outcome_of result)
             × (written ≡ taken ++ self.new.pending)) }
         ensures memory { Whenever self.old (λ input taken. result ≡ Err UpgradeFault.OutOfMemory
-            → RunsOut self.old.role self.old.own (input ++ piece.now) (taken ++ self.new.pending)) }
+            → RunsOut self.old.role self.old.own input piece.now (taken ++ self.new.pending)) }
+        // No output that waits is dropped, whatever is answered.
+        ensures grows { Grows self.old.pending self.new.pending }
     {
         let stage = mem::replace(&mut self.stage, Stage::Over);
         match take_on(&self.end, stage, &mut self.output, piece)? {

@@ -1,4 +1,4 @@
-use Rattle.plaintext_x.proofs.Rows.{proof_rows, waiting_rows, refusal_rows}
+use Rattle.plaintext_x.proofs.Rows.{proof_rows, waiting_rows, memory_rows, refusal_rows}
 use Rattle.plaintext_x.proofs.laws.worked_rows.Goals as goal
 
 pub returns-clause-proofs : goal.returns-clause-proofs
@@ -9,3 +9,6 @@ returns-clause-waiting c = waiting_rows
 
 pub returns-clause-refusals : goal.returns-clause-refusals
 returns-clause-refusals c = refusal_rows
+
+pub returns-clause-memory : goal.returns-clause-memory
+returns-clause-memory c = memory_rows

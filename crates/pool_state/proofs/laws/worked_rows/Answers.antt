@@ -1,4 +1,4 @@
-use Rattle.pool_state.proofs.WorkedRows.{connection_rows, stream_rows, list_rows, refusal_rows, limit_rows, added_rows, agent_rows}
+use Rattle.pool_state.proofs.WorkedRows.{connection_rows, stream_rows, list_rows, refusal_rows, limit_rows, range_rows, added_rows, agent_rows}
 use Rattle.pool_state.proofs.laws.worked_rows.Goals as goal
 
 pub returns-clause-connections : goal.returns-clause-connections
@@ -15,6 +15,9 @@ returns-clause-refusals c = refusal_rows
 
 pub returns-clause-limits : goal.returns-clause-limits
 returns-clause-limits c = limit_rows
+
+pub returns-clause-ranges : goal.returns-clause-ranges
+returns-clause-ranges c = range_rows
 
 pub returns-clause-added : goal.returns-clause-added
 returns-clause-added c = added_rows

@@ -1,4 +1,4 @@
-use Rattle.upgrade.proofs.Rows.{byte_rows, dialer_rows, listener_rows, memory_rows}
+use Rattle.upgrade.proofs.Rows.{byte_rows, dialer_rows, listener_rows, memory_rows, growth_rows}
 use Rattle.upgrade.proofs.laws.worked_rows.Goals as goal
 
 pub returns-clause-bytes : goal.returns-clause-bytes
@@ -12,3 +12,6 @@ returns-clause-listener c = listener_rows
 
 pub returns-clause-memory : goal.returns-clause-memory
 returns-clause-memory c = memory_rows
+
+pub returns-clause-growth : goal.returns-clause-growth
+returns-clause-growth c = growth_rows
