@@ -1,0 +1,8 @@
+use Rattle.dispatch.proofs.Rows.{known_rows, made_rows}
+use Rattle.dispatch.proofs.laws.worked_rows.Goals as goal
+
+pub returns-clause-known : goal.returns-clause-known
+returns-clause-known c = known_rows
+
+pub returns-clause-made : goal.returns-clause-made
+returns-clause-made c = made_rows

@@ -1,0 +1,3 @@
+-- cited by public clauses and laws
+pub mod Dispatch
+pub mod Rows

@@ -1,0 +1,48 @@
+-- Worked rows of handing over (this project's profile): a connection knows x and y.
+use Rattle.std.specs.Prelude.{◌≡◌, ◌↔◌, ℕ, List, [], ◌∷◌, Some, None}
+use Rattle.ms_select.specs.Rows.{x, y}
+use Rattle.talks.specs.Talks.{Asks, Answers}
+use Rattle.streams.specs.Streams.{Past, fresh}
+use Rattle.dispatch.specs.declared.direction.Direction.TheVariants.{Inbound, Outbound}
+use Rattle.dispatch.specs.Dispatch.{IsKnown, IsMade, made_by}
+
+abbrev pub known : List (List ℕ)
+known = x ∷ y ∷ []
+
+pub record KnownRows : Type 0 where
+  pub answers : IsKnown known Inbound (Answers known)
+  pub answers_with_one : ¬ IsKnown known Inbound (Answers (x ∷ []))
+  pub answers_in_another_order : ¬ IsKnown known Inbound (Answers (y ∷ x ∷ []))
+  pub asks_inbound : ¬ IsKnown known Inbound (Asks x 0)
+  pub asks : IsKnown known Outbound (Asks y 1)
+  pub asks_by_another_index : ¬ IsKnown known Outbound (Asks y 0)
+  pub asks_beyond : ¬ IsKnown known Outbound (Asks y 2)
+  pub answers_outbound : ¬ IsKnown known Outbound (Answers known)
+
+-- handlers are numbers: the one that an inbound stream of the protocol 1 and the peer 7 is given is 10, an outbound one
+-- is given 20
+abbrev pub gives_inbound : ℕ → List ℕ → ℕ → Type 0
+gives_inbound index peer handler = (index ≡ 1) × (peer ≡ 7 ∷ []) × (handler ≡ 10)
+
+abbrev pub gives_outbound : ℕ → List ℕ → ℕ → Type 0
+gives_outbound index peer handler = (index ≡ 1) × (peer ≡ 7 ∷ []) × (handler ≡ 20)
+
+abbrev pub makes_inbound : ℕ → ℕ → Type 0
+makes_inbound = made_by gives_inbound gives_outbound Inbound (7 ∷ [])
+
+abbrev pub makes_outbound : ℕ → ℕ → Type 0
+makes_outbound = made_by gives_inbound gives_outbound Outbound (7 ∷ [])
+
+-- an eager handler was made before, and is 30
+abbrev pub eager : Past ℕ
+eager = fresh (Asks y 1) (Some 30)
+
+abbrev pub none_yet : Past ℕ
+none_yet = fresh (Asks y 1) None
+
+pub record MadeRows : Type 0 where
+  pub inbound : (index handler : ℕ) → makes_inbound index handler ↔ ((index ≡ 1) × (handler ≡ 10))
+  pub outbound : (index handler : ℕ) → makes_outbound index handler ↔ ((index ≡ 1) × (handler ≡ 20))
+  pub is_eager : (handler : ℕ) → IsMade makes_outbound eager 1 handler ↔ (handler ≡ 30)
+  pub is_new : (handler : ℕ) → IsMade makes_outbound none_yet 1 handler ↔ (handler ≡ 20)
+  pub of_another_index : (handler : ℕ) → ¬ IsMade makes_outbound none_yet 0 handler

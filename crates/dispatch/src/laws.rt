@@ -1,0 +1,9 @@
+//! What the definitions of handing over come to.
+
+ghost use Rattle.dispatch.specs.Rows.{KnownRows, MadeRows};
+
+/// The definitions say of worked values what they are to say.
+pub fn worked_rows()
+    ensures known { KnownRows }
+    ensures made { MadeRows }
+{}

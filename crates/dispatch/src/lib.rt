@@ -1,0 +1,12 @@
+//! The talk of a stream of a connection, and the handler that is made once both ends agree.
+#![tactic(auto)]
+
+mod agreement;
+mod direction;
+pub mod laws;
+
+pub use agreement::negotiate;
+pub use direction::Direction;
+
+#[cfg(test)]
+mod tests;

@@ -1,0 +1,249 @@
+-- Serving a stream: what was asked, written, handed out, closed and taken leaves the stream settled.
+use Rattle.std.proofs.Common.{◌≡◌, ◌≢◌, ◌⊎◌, inl, inr, ℕ, ◌-◌, ◌<◌, ◌==◌, Bool, true, false, ◌&&◌, List, [], ◌∷◌, ◌++◌, length, Option, Some, None, refl, sym, ap, ◌∙◌, subst, arith}
+use Rattle.std.specs.Prelude.{IfSome, IfNone}
+use Rattle.std.specs.List.{concat}
+use Rattle.std.proofs.lemmas.Bool.Decides.{nat_tests}
+use Rattle.handlers.specs.Calls.{HandlerCall}
+use Rattle.yamux_session.specs.declared.event.Role.{Role}
+use Rattle.yamux_session.specs.History.{Item}
+use Rattle.yamux_session.specs.History.Item.{Did}
+use Rattle.yamux_session.specs.History.Act.{Write, Taken, Close}
+use Rattle.yamux_session.specs.Openings.{is_live, closed}
+use Rattle.yamux_session.specs.Windows.{credit, untaken}
+use Rattle.yamux_session.specs.Data.{written}
+use Rattle.yamux_session.specs.Seen.{ActsDo, ActsMove}
+use Rattle.yamux_session.specs.Acts.{open_credit}
+use Rattle.yamux_session.specs.State.{State, Stands as SessionStands}
+use Rattle.streams.specs.declared.stage.Stage.{Stage}
+use Rattle.streams.specs.declared.stage.Stage.TheVariants as stages
+use Rattle.streams.specs.Streams.{Past, IsServed}
+use Rattle.streams.specs.State.{Streaming, Stands, StandsAt, is_open, has_closed, has_finished}
+use Rattle.serving.specs.Served.{Goes, HasGiven, HandsOut, Serves, with_sent}
+use Rattle.serving.specs.Steps.{Sends, WasAsked, WasClosed, Closes, Counts}
+use Rattle.serving.proofs.Acts.{taken_keeps, none_left, has_written, is_closed_then, closing_writes_nothing}
+use Rattle.serving.proofs.Refusals.{open_with, not_open, some_left, nothing_left}
+
+empty_or : (xs : List ℕ) → (xs ≢ [] → ⊥) → xs ≡ []
+empty_or [] h = refl
+empty_or (x ∷ xs) h = absurd (h (λ e. cc e))
+
+not_both : {b : Bool} → b ≡ true → b ≡ false → ⊥
+not_both on off = let e : true ≡ false = sym on ∙ off in cc e
+
+module _ {H : Type 0} (step : H → HandlerCall → H → Type 0) (is_closed is_finished : H → Bool) where
+  begins : (role : Role) (past : List Item) (fed sent : List ℕ) (n : ℕ) (so_far : Past H) (session : State) (x : Streaming H)
+      → SessionStands role past fed sent session → Stands step x so_far → so_far.sent ≡ written role past n
+      → Goes step is_closed is_finished role past fed sent n so_far session x
+  begins role past fed sent n so_far session x at stands e = record {
+    acts = [];
+    now = past;
+    now_is = refl;
+    due = tt;
+    session_stands = at;
+    left = so_far.left;
+    stream_stands = subst (λ t. Stands step x (record so_far { sent = t })) e stands;
+  }
+
+  -- this direction isn't open: the stream isn't asked
+  pub not_asked : (role : Role) (past : List Item) (fed sent : List ℕ) (n : ℕ) (so_far : Past H) (session : State) (x : Streaming H)
+      → SessionStands role past fed sent session → Stands step x so_far → so_far.sent ≡ written role past n → open_credit role past n ≡ None
+      → WasAsked step is_closed is_finished role past fed sent n so_far session x
+  unfolding begins
+  not_asked role past fed sent n so_far session x at stands e none = record {
+    goes = begins role past fed sent n so_far session x at stands e;
+    asked = λ live unclosed is. absurd (not_both (not_open role past n none live) unclosed);
+    none_waits = λ live unclosed some. absurd (not_both (not_open role past n none live) unclosed);
+  }
+
+  module _ (acts_do : ActsDo) (acts_move : ActsMove) where
+    -- what the stream gave was written
+    pub was_asked : (role : Role) (past : List Item) (fed sent : List ℕ) (n amount : ℕ) (so_far : Past H) (session : State) (x : Streaming H)
+        → Sends step is_closed role past fed sent n amount so_far session x → so_far.sent ≡ written role past n → open_credit role past n ≡ Some amount
+        → WasAsked step is_closed is_finished role past fed sent n so_far session x
+    was_asked role past fed sent n amount so_far session x s e is_open =
+        let w = has_written acts_do acts_move role past n s.pieces in
+        let before = (open_with role past n amount is_open).credit_is in
+        let left : credit role (Did (Write n s.pieces) ∷ past) n ≡ amount - length (concat s.pieces) = w.credit_is ∙ ap (λ k. k - length (concat s.pieces)) before in
+        record {
+          goes = record {
+            acts = Write n s.pieces ∷ [];
+            now = Did (Write n s.pieces) ∷ past;
+            now_is = refl;
+            due = (refl, tt);
+            session_stands = s.session_stands;
+            left = s.left;
+            stream_stands = subst (λ t. Stands step x (record so_far { sent = t; left = s.left })) (ap (λ t. t ++ concat s.pieces) e ∙ sym w.written_is) s.stream_stands;
+          };
+          asked = λ live unclosed is. s.asked is ∙ ap Some (sym left);
+          none_waits = λ live unclosed some. empty_or x.waiting (λ waits. let all = s.full waits in omega (arith, all, left));
+        }
+
+    -- a handler that is finished is handed out
+    pub record HasFinished (role : Role) (past : List Item) (fed sent : List ℕ) (n : ℕ) (so_far : Past H)
+        (handler : Option H) (session : State) (x : Streaming H) : Type 0 where
+      pub was_asked : WasAsked step is_closed is_finished role past fed sent n so_far session x
+      pub handed_out : HandsOut step is_closed is_finished (with_sent role was_asked.goes.now n so_far was_asked.goes.left) handler x
+
+    handed_on : (role : Role) (past : List Item) (fed sent : List ℕ) (n : ℕ) (so_far : Past H) (session : State) (old new : Streaming H)
+        → (a : WasAsked step is_closed is_finished role past fed sent n so_far session old) → new ≡ record old { stage = stages.Done }
+        → Stands step new (with_sent role a.goes.now n so_far a.goes.left)
+        → WasAsked step is_closed is_finished role past fed sent n so_far session new
+    handed_on role past fed sent n so_far session old new a is stands =
+        let shut : is_open is_closed new.stage ≡ false = ap (λ (x : Streaming H). is_open is_closed x.stage) is in
+        record {
+          goes = record {
+            acts = a.goes.acts;
+            now = a.goes.now;
+            now_is = a.goes.now_is;
+            due = a.goes.due;
+            session_stands = a.goes.session_stands;
+            left = a.goes.left;
+            stream_stands = stands;
+          };
+          asked = λ live unclosed it. absurd (not_both it shut);
+          none_waits = λ live unclosed some. ap (λ (x : Streaming H). x.waiting) is ∙ a.none_waits live unclosed some;
+        }
+
+    pub has_finished_on : (role : Role) (past : List Item) (fed sent : List ℕ) (n : ℕ) (so_far : Past H) (session : State) (handler : Option H) (old new : Streaming H)
+        → WasAsked step is_closed is_finished role past fed sent n so_far session old
+        → IfSome handler (λ it. (old.stage ≡ stages.Serving it) × (is_finished it ≡ true) × (new ≡ record old { stage = stages.Done }))
+        → IfNone handler ((has_finished is_finished old.stage ≡ false) × (new ≡ old))
+        → ((past : Past H) → Stands step old past → Stands step new past)
+        → HasFinished role past fed sent n so_far handler session new
+    unfolding handed_on
+    has_finished_on role past fed sent n so_far session None old new a some none stands =
+        let same : new ≡ old = none.1 in
+        record {
+          was_asked = subst (λ (x : Streaming H). WasAsked step is_closed is_finished role past fed sent n so_far session x) (sym same) a;
+          handed_out = (tt, ap (λ (x : Streaming H). has_finished is_finished x.stage) same ∙ none.0);
+        }
+    has_finished_on role past fed sent n so_far session (Some it) old new a some none stands =
+        let now = with_sent role a.goes.now n so_far a.goes.left in
+        let stood : StandsAt step (stages.Serving it) now old.waiting = subst (λ (t : Stage H). StandsAt step t now old.waiting) some.0 a.goes.stream_stands in
+        let waits : new.waiting ≡ old.waiting = ap (λ (x : Streaming H). x.waiting) some.2 in
+        record {
+          was_asked = handed_on role past fed sent n so_far session old new a some.2 (stands now a.goes.stream_stands);
+          handed_out = (
+            (subst (λ t. IsServed step now it t) (sym waits) stood, some.1, ap (λ (x : Streaming H). x.stage) some.2),
+            tt,
+          );
+        }
+
+    nothing_more : (waiting : List ℕ) (stage : Bool) → (length waiting == 0) && stage ≡ false → stage ≡ true → waiting ≡ [] → ⊥
+    nothing_more waiting stage off on none =
+        let yes : (length waiting == 0) && stage ≡ true = ap (λ (t : List ℕ). (length t == 0) && stage) none ∙ on in not_both yes off
+
+    both_by : (a b : Bool) → a && b ≡ true → (a ≡ true) × (b ≡ true)
+    both_by true b e = (refl, e)
+    both_by false b e = absurd (cc e)
+
+    is_empty : (waiting : List ℕ) → (length waiting == 0) ≡ true → waiting ≡ []
+    is_empty [] e = refl
+    is_empty (x ∷ waiting) e = absurd (grind (arith, e, nat_tests))
+
+    both : (waiting : List ℕ) (stage : Bool) → (length waiting == 0) && stage ≡ true → (waiting ≡ []) × (stage ≡ true)
+    both waiting stage e = let it = both_by (length waiting == 0) stage e in (is_empty waiting it.0, it.1)
+
+    pub was_closed : (role : Role) (past : List Item) (fed sent : List ℕ) (n : ℕ) (so_far : Past H) (handler : Option H) (before session : State) (x : Streaming H)
+        → (a : WasAsked step is_closed is_finished role past fed sent n so_far before x)
+        → HandsOut step is_closed is_finished (with_sent role a.goes.now n so_far a.goes.left) handler x
+        → Closes role a.goes.now fed sent n ((length x.waiting == 0) && has_closed is_closed x.stage) before session
+        → WasClosed step is_closed is_finished role past fed sent n so_far handler session x
+    was_closed role past fed sent n so_far handler before session x a out (inl (same, why)) = record {
+      goes = record {
+        acts = a.goes.acts;
+        now = a.goes.now;
+        now_is = a.goes.now_is;
+        due = a.goes.due;
+        session_stands = subst (λ (s : State). SessionStands role a.goes.now fed sent s) (sym same) a.goes.session_stands;
+        left = a.goes.left;
+        stream_stands = a.goes.stream_stands;
+      };
+      asked = a.asked;
+      none_waits = a.none_waits;
+      handed_out = out;
+      over = by_why why;
+    } where
+      by_why : (((length x.waiting == 0) && has_closed is_closed x.stage) ≡ false) ⊎ (open_credit role a.goes.now n ≡ None)
+          → is_live role a.goes.now n ≡ true → has_closed is_closed x.stage ≡ true → x.waiting ≡ [] → closed role a.goes.now n ≡ true
+      by_why (inl off) live on none = absurd (nothing_more x.waiting (has_closed is_closed x.stage) off on none)
+      by_why (inr none_open) live on none = not_open role a.goes.now n none_open live
+    was_closed role past fed sent n so_far handler before session x a out (inr (is_over, at)) =
+        let now = Did (Close n) ∷ a.goes.now in
+        let shut : closed role now n ≡ true = is_closed_then acts_do acts_move role a.goes.now n in
+        let given = both x.waiting (has_closed is_closed x.stage) is_over in
+        record {
+          goes = record {
+            acts = Close n ∷ a.goes.acts;
+            now = now;
+            now_is = ap (λ (t : List Item). Did (Close n) ∷ t) a.goes.now_is;
+            due = (
+              (
+                refl,
+                subst (λ (t : List Item). HasGiven step is_closed is_finished role t n so_far) a.goes.now_is
+                    (record { stream = x; left = a.goes.left; stands = a.goes.stream_stands; none_waits = given.0; over = given.1 }),
+              ),
+              a.goes.due,
+            );
+            session_stands = at;
+            left = a.goes.left;
+            stream_stands = subst (λ t. Stands step x (record so_far { sent = t; left = a.goes.left })) (sym (closing_writes_nothing acts_do acts_move role a.goes.now n)) a.goes.stream_stands;
+          };
+          asked = λ live unclosed is. absurd (not_both shut unclosed);
+          none_waits = λ live unclosed some. absurd (not_both shut unclosed);
+          handed_out = subst (λ t. HandsOut step is_closed is_finished (record so_far { sent = t; left = a.goes.left }) handler x) (sym (closing_writes_nothing acts_do acts_move role a.goes.now n)) out;
+          over = λ live on none. shut;
+        }
+
+    -- and what came was counted as taken
+    pub was_settled : (role : Role) (past : List Item) (fed sent : List ℕ) (n : ℕ) (so_far : Past H) (handler : Option H) (before session : State) (x : Streaming H)
+        → (a : WasClosed step is_closed is_finished role past fed sent n so_far handler before x)
+        → Counts role a.goes.now fed sent n before session
+        → Serves step is_closed is_finished role past fed sent n so_far handler session x
+    was_settled role past fed sent n so_far handler before session x a (inl (same, why)) = record {
+      goes = record {
+        acts = a.goes.acts;
+        now = a.goes.now;
+        now_is = a.goes.now_is;
+        due = a.goes.due;
+        session_stands = subst (λ (s : State). SessionStands role a.goes.now fed sent s) (sym same) a.goes.session_stands;
+        left = a.goes.left;
+        stream_stands = a.goes.stream_stands;
+      };
+      handed_out = a.handed_out;
+      settled = λ live. record {
+        asked = λ unclosed. a.asked live unclosed;
+        none_waits = λ unclosed. a.none_waits live unclosed;
+        over = a.over live;
+        was_taken = by_why why live;
+      };
+    } where
+      by_why : (open_credit role a.goes.now n ≡ Some 0) ⊎ (is_live role a.goes.now n ≡ false) → is_live role a.goes.now n ≡ true
+          → (0 < credit role a.goes.now n) ⊎ (closed role a.goes.now n ≡ true) → untaken role a.goes.now n ≡ 0
+      by_why (inl none) live some = absurd (nothing_left role a.goes.now n none some)
+      by_why (inr dead) live some = absurd (not_both live dead)
+    was_settled role past fed sent n so_far handler before session x a (inr (not_none, live, at)) =
+        let count = untaken role a.goes.now n in
+        let now = Did (Taken n count) ∷ a.goes.now in
+        let k = taken_keeps acts_do acts_move role a.goes.now n count in
+        record {
+          goes = record {
+            acts = Taken n count ∷ a.goes.acts;
+            now = now;
+            now_is = ap (λ (t : List Item). Did (Taken n count) ∷ t) a.goes.now_is;
+            due = (
+              (refl, ap (λ (t : List Item). untaken role t n) a.goes.now_is, subst (λ (t : List Item). (0 < credit role t n) ⊎ (closed role t n ≡ true)) a.goes.now_is (some_left role a.goes.now n not_none live)),
+              a.goes.due,
+            );
+            session_stands = at;
+            left = a.goes.left;
+            stream_stands = subst (λ t. Stands step x (record so_far { sent = t; left = a.goes.left })) (sym k.written_is) a.goes.stream_stands;
+          };
+          handed_out = subst (λ t. HandsOut step is_closed is_finished (record so_far { sent = t; left = a.goes.left }) handler x) (sym k.written_is) a.handed_out;
+          settled = λ still. record {
+            asked = λ unclosed is. a.asked live (sym k.closed_is ∙ unclosed) is ∙ ap Some (sym k.credit_is);
+            none_waits = λ unclosed some. a.none_waits live (sym k.closed_is ∙ unclosed) (omega (arith, some, k.credit_is));
+            over = λ on none. k.closed_is ∙ a.over live on none;
+            was_taken = λ some. none_left acts_do acts_move role a.goes.now n;
+          };
+        }

@@ -1,0 +1,5 @@
+pub mod Acts
+pub mod Refusals
+pub mod Going
+pub mod Rows
+pub mod Sending

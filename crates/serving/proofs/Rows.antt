@@ -1,0 +1,108 @@
+-- The worked rows of serving.
+use Rattle.std.proofs.Common.{◌≡◌, ◌⊎◌, ℕ, ◌<◌, Bool, true, false, [], ◌∷◌, Some, refl, sym, ◌∙◌, inl, inr, arith}
+use Rattle.handlers.specs.Calls.{ToGive}
+use Rattle.yamux_session.specs.declared.event.Role.TheVariants.{Client, Server}
+use Rattle.yamux_session.specs.History.Item.{Did}
+use Rattle.yamux_session.specs.History.Act.{Close}
+use Rattle.yamux_session.specs.Openings.{closed}
+use Rattle.yamux_session.specs.Windows.{credit}
+use Rattle.yamux_session.specs.Rows.{two_bytes, all_written}
+use Rattle.streams.specs.Streams.{Past}
+use Rattle.serving.specs.Served.{MayGrow}
+use Rattle.serving.specs.Rows.{DueRows, SettledRows, RefusalRows, taken}
+
+-- ---- what is due
+
+no_credit : (0 < credit Client all_written 1) ⊎ (closed Client all_written 1 ≡ true) → ⊥
+no_credit (inl some) = let none : credit Client all_written 1 ≡ 0 = refl in omega (arith, some, none)
+no_credit (inr shut) = let unclosed : closed Client all_written 1 ≡ false = refl in absurd (let e : true ≡ false = sym shut ∙ unclosed in cc e)
+
+pub due_rows : (so_far : Past Bool) → DueRows so_far
+due_rows so_far = record {
+  written = refl;
+  written_on_another = λ e. absurd (cc e);
+  all_taken = (refl, refl, inl (omega arith));
+  part_taken = λ d. absurd (cc d.1);
+  taken_of_another = λ d. absurd (cc d.0);
+  without_credit = λ d. no_credit d.2;
+  closed_without_credit = (refl, refl, inr refl);
+  closed_another = λ d. absurd (cc d.0);
+  opened = λ d. d;
+  reset = λ d. d;
+  gone_away = λ d. d;
+}
+
+-- ---- a stream that was served
+
+amount_of : {amount credit : ℕ} → Some amount ≡ Some credit → amount ≡ credit
+amount_of e = cc e
+
+pub settled_rows : SettledRows
+settled_rows = record {
+  asked = record {
+    asked = λ unclosed is_open. refl;
+    none_waits = λ unclosed some. refl;
+    over = λ on none. absurd (cc on);
+    was_taken = λ some. refl;
+  };
+  asked_with_less = λ s. let e = amount_of (s.asked refl refl) in let all : credit Server taken 1 ≡ 262144 = refl in omega (arith, e, all);
+  not_asked = λ s. absurd (let e = s.asked refl refl in cc e);
+  not_taken = λ s. absurd (let e = s.was_taken (inl (omega arith)) in cc e);
+  waits_for_credit = record {
+    asked = λ unclosed is_open. refl;
+    none_waits = λ unclosed some. absurd (no_credit (inl some));
+    over = λ on none. absurd (cc on);
+    was_taken = λ some. refl;
+  };
+  waits_with_credit = λ s. absurd (let e = s.none_waits refl (omega arith) in cc e);
+  done = record {
+    asked = λ unclosed is_open. absurd (cc unclosed);
+    none_waits = λ unclosed some. refl;
+    over = λ on none. refl;
+    was_taken = λ some. refl;
+  };
+  closed = record {
+    asked = λ unclosed is_open. absurd (cc unclosed);
+    none_waits = λ unclosed some. refl;
+    over = λ on none. refl;
+    was_taken = λ some. refl;
+  };
+  not_closed = λ s. absurd (let e = s.over refl refl in cc e);
+  done_and_not_closed = λ s. absurd (let e = s.over refl refl in cc e);
+  done_with_output = record {
+    asked = λ unclosed is_open. absurd (cc is_open);
+    none_waits = λ unclosed some. absurd (no_credit (inl some));
+    over = λ on none. absurd (cc none);
+    was_taken = λ some. refl;
+  };
+}
+
+-- ---- refusals
+
+room_of : (room : ℕ) → ToGive room ≡ ToGive 7 → room ≡ 7
+room_of room e = cc e
+
+is_dead : ¬ MayGrow Server [] 1
+is_dead m = absurd (cc m.0)
+
+takes_little : ¬ MayGrow Server (Did (Close 1) ∷ two_bytes) 1
+takes_little (live, inl unclosed) = absurd (cc unclosed)
+takes_little (live, inr some) = omega (arith, some)
+
+pub refusal_rows : RefusalRows
+refusal_rows = record {
+  gives_up = record {
+    handler = false;
+    held = refl;
+    unclosed = refl;
+    fails_by = (record { number = 3 }, refl, (refl, refl));
+  };
+  with_all_credit = λ g. absurd (let e = room_of 5 g.fails_by.2.0 in cc e);
+  another_fault = λ g. absurd (let it = g.fails_by in let a = it.1 in let b = it.2.1 in cc);
+  closed = λ g. absurd (let a = g.held in let b = g.unclosed in cc);
+  done = λ g. absurd (let a = g.held in cc);
+  no_memory = λ g. absurd (let a = g.fails_by.1 in cc);
+  may_send = (refl, inl refl);
+  dead = is_dead;
+  little_taken = takes_little;
+}

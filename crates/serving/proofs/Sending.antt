@@ -1,0 +1,58 @@
+-- What a stream gave was written.
+use Rattle.std.proofs.Common.{◌≡◌, ◌≢◌, ℕ, ◌≤◌, ◌-◌, min, Bool, true, false, List, [], ◌∷◌, ◌++◌, length, take, Some, Result, Ok, Err, refl, sym, ap, ◌∙◌, subst, arith}
+use Rattle.std.specs.Prelude.{OnOk}
+use Rattle.std.specs.List.{concat}
+use Rattle.std.proofs.lemmas.List.{take_all}
+use Rattle.handlers.specs.Calls.{HandlerCall}
+use Rattle.yamux_session.specs.declared.event.Role.{Role}
+use Rattle.yamux_session.specs.History.{Item}
+use Rattle.yamux_session.specs.History.Item.{Did}
+use Rattle.yamux_session.specs.History.Act.{Write}
+use Rattle.yamux_session.specs.State.{State, Stands as SessionStands}
+use Rattle.streams.specs.Streams.{Past}
+use Rattle.streams.specs.State.{Streaming, Stands, is_open}
+use Rattle.serving.specs.Steps.{Sends}
+
+pub on_ok : {A E : Type 0} {P Q : Type 0} (r : Result A E) → (P → Q) → OnOk r P → OnOk r Q
+on_ok (Ok x) f p = f p
+on_ok (Err e) f p = tt
+
+-- all was let through
+pub whole : (bytes given : List ℕ) (count amount credit : ℕ) → given ≡ bytes → count ≡ min (length given) credit → credit ≡ amount
+    → length bytes ≤ amount → take count given ≡ bytes
+whole bytes given count amount credit e is same short =
+    take_all count given (let size = ap length e in omega (arith, is, same, short, size)) ∙ e
+
+module _ {H : Type 0} (step : H → HandlerCall → H → Type 0) (closed : H → Bool) where
+  -- where the stream stands behind what it gave
+  pub record Given (so_far : Past H) (amount : ℕ) (old new : Streaming H) (bytes : List ℕ) : Type 0 where
+    pub asked : is_open closed old.stage ≡ true → Stands step new (record so_far { sent = so_far.sent ++ bytes; left = Some (amount - length bytes) })
+    pub not_asked : is_open closed old.stage ≡ false → Stands step new (record so_far { sent = so_far.sent ++ bytes })
+    pub same : is_open closed old.stage ≡ false → new.stage ≡ old.stage
+    pub full : new.waiting ≢ [] → length bytes ≡ amount
+
+  gave_by : (role : Role) (past : List Item) (fed sent : List ℕ) (n amount : ℕ) (so_far : Past H) (session : State) (old new : Streaming H) (pieces : List (List ℕ))
+      → SessionStands role (Did (Write n pieces) ∷ past) fed sent session → Given so_far amount old new (concat pieces)
+      → (b : Bool) → is_open closed old.stage ≡ b → Sends step closed role past fed sent n amount so_far session new
+  gave_by role past fed sent n amount so_far session old new pieces at g true e = record {
+    pieces = pieces;
+    left = Some (amount - length (concat pieces));
+    session_stands = at;
+    stream_stands = g.asked e;
+    asked = λ is. refl;
+    full = g.full;
+  }
+  gave_by role past fed sent n amount so_far session old new pieces at g false e = record {
+    pieces = pieces;
+    left = so_far.left;
+    session_stands = at;
+    stream_stands = g.not_asked e;
+    asked = λ is. absurd (let both : true ≡ false = sym is ∙ ap (is_open closed) (g.same e) ∙ e in cc both);
+    full = g.full;
+  }
+
+  pub gave : (role : Role) (past : List Item) (fed sent : List ℕ) (n amount : ℕ) (so_far : Past H) (session : State) (old new : Streaming H) (bytes : List ℕ) (pieces : List (List ℕ))
+      → concat pieces ≡ bytes → SessionStands role (Did (Write n pieces) ∷ past) fed sent session → Given so_far amount old new bytes
+      → Sends step closed role past fed sent n amount so_far session new
+  gave role past fed sent n amount so_far session old new bytes pieces e at g =
+      gave_by role past fed sent n amount so_far session old new pieces at (subst (λ t. Given so_far amount old new t) (sym e) g) (is_open closed old.stage) refl

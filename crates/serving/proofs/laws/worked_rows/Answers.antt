@@ -1,0 +1,11 @@
+use Rattle.serving.proofs.Rows.{due_rows, settled_rows, refusal_rows}
+use Rattle.serving.proofs.laws.worked_rows.Goals as goal
+
+pub returns-clause-due : goal.returns-clause-due
+returns-clause-due c = due_rows
+
+pub returns-clause-settled : goal.returns-clause-settled
+returns-clause-settled c = settled_rows
+
+pub returns-clause-refusals : goal.returns-clause-refusals
+returns-clause-refusals c = refusal_rows

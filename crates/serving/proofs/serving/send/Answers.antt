@@ -1,0 +1,17 @@
+use Rattle.std.proofs.Common.{◌∙◌}
+use Rattle.serving.proofs.Sending.{whole, gave}
+use Rattle.serving.proofs.Refusals.{open_with}
+use Rattle.serving.proofs.serving.send.Goals as goal
+
+pub returns-in-Ok-clause-sends : goal.returns-in-Ok-clause-sends
+returns-in-Ok-clause-sends g c = λ role past fed sent so_far at is_open stands.
+    let it = c.in-Ok.ensures.ok role past fed sent at in
+    let all = whole c.in_ok-bytes.bytes.items c.deref.result.now c.in-Ok.field-0 c.args.credit _ c.deref.ensures.value (c.in-Ok.ensures.count role past fed sent at)
+    (open_with role past c.args.number c.args.credit is_open).credit_is c.in_ok-bytes.ensures.room in
+    gave g.H.Handler.steps g.H.Handler.is_closed role past fed sent c.args.number c.args.credit so_far c.write.new.self c.args.stream.now c.give.new.self c.in_ok-bytes.bytes.items it.0
+    (it.1 ∙ all) it.2 (record {
+      asked = c.in_ok-bytes.ensures.asked so_far stands;
+      not_asked = c.in_ok-bytes.ensures.not_asked so_far stands;
+      same = λ shut. (c.in_ok-bytes.ensures.same shut).0;
+      full = c.in_ok-bytes.ensures.full;
+    })

@@ -1,0 +1,5 @@
+-- cited by public clauses and laws
+pub mod Served
+pub mod Rows
+-- inside
+pub mod Steps

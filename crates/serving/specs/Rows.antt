@@ -1,0 +1,88 @@
+-- Worked rows of serving a stream (hashicorp yamux, and this project's profile): of the stream 1 of an end, whose handler
+-- is closed, and finished, where it is `true`.
+use Rattle.std.specs.Prelude.{◌≡◌, ℕ, Bool, true, false, List, [], ◌∷◌, Option, Some, None}
+use Rattle.handlers.specs.Calls.{HandlerCall, Asked, ToGive}
+use Rattle.yamux_session.specs.declared.event.Role.{Role}
+use Rattle.yamux_session.specs.declared.event.Role.TheVariants.{Client, Server}
+use Rattle.yamux_session.specs.History.{Item, Act}
+use Rattle.yamux_session.specs.History.Item.{Did}
+use Rattle.yamux_session.specs.History.Act.{Start, Write, Taken, Close, Reset}
+use Rattle.yamux_session.specs.Rows.{two_bytes, all_written}
+use Rattle.streams.specs.declared.stage.Stage.TheVariants.{Serving, Done}
+use Rattle.streams.specs.declared.stop.Cause.TheVariants.{Handler}
+use Rattle.streams.specs.declared.stop.Stop.{Stop}
+use Rattle.streams.specs.declared.stop.Stop.TheVariants.{Broken, OutOfMemory}
+use Rattle.streams.specs.Streams.{Past}
+use Rattle.streams.specs.State.{Streaming}
+use Rattle.serving.specs.Served.{IsDue, IsSettled, GivesUp, MayGrow}
+
+abbrev pub itself : Bool → Bool
+itself b = b
+
+abbrev pub any_step : Bool → HandlerCall → Bool → Type 0
+any_step old call new = Unit {0}
+
+abbrev pub Due : Past Bool → Role → List Item → Act → Type 0
+Due so_far role past act = IsDue any_step itself itself role past 1 so_far act
+
+-- which acts serve the stream: all that came is taken, while there is credit or once this direction is closed
+pub record DueRows (so_far : Past Bool) : Type 0 where
+  pub written : Due so_far Server two_bytes (Write 1 ((7 ∷ []) ∷ []))
+  pub written_on_another : ¬ Due so_far Server two_bytes (Write 3 ((7 ∷ []) ∷ []))
+  pub all_taken : Due so_far Server two_bytes (Taken 1 2)
+  pub part_taken : ¬ Due so_far Server two_bytes (Taken 1 1)
+  pub taken_of_another : ¬ Due so_far Server two_bytes (Taken 3 0)
+  pub without_credit : ¬ Due so_far Client all_written (Taken 1 0)
+  pub closed_without_credit : Due so_far Client (Did (Close 1) ∷ all_written) (Taken 1 0)
+  pub closed_another : ¬ Due so_far Server two_bytes (Close 3)
+  pub opened : ¬ Due so_far Server two_bytes (Start 1)
+  pub reset : ¬ Due so_far Server two_bytes (Reset 1)
+  pub gone_away : ¬ Due so_far Server two_bytes (Act.GoAway 0)
+
+-- both bytes were taken
+abbrev pub taken : List Item
+taken = Did (Taken 1 2) ∷ two_bytes
+
+abbrev pub serving_of : List ℕ → Bool → Streaming Bool
+serving_of waiting handler = record { waiting = waiting; stage = Serving handler }
+
+abbrev pub done_with : List ℕ → Streaming Bool
+done_with waiting = record { waiting = waiting; stage = Done }
+
+abbrev pub some_of : ℕ → Option ℕ
+some_of n = Some n
+
+abbrev pub Settled : Role → List Item → Option ℕ → Streaming Bool → Type 0
+Settled role past left stream = IsSettled any_step itself itself role past 1 left stream
+
+pub record SettledRows : Type 0 where
+  pub asked : Settled Server taken (some_of 262144) (serving_of [] false)
+  pub asked_with_less : ¬ Settled Server taken (some_of 262143) (serving_of [] false)
+  pub not_asked : ¬ Settled Server taken None (serving_of [] false)
+  pub not_taken : ¬ Settled Server two_bytes (some_of 262144) (serving_of [] false)
+  pub waits_for_credit : Settled Client all_written (some_of 0) (serving_of (7 ∷ []) false)
+  pub waits_with_credit : ¬ Settled Server taken (some_of 262144) (serving_of (7 ∷ []) false)
+  pub done : Settled Server (Did (Close 1) ∷ taken) None (done_with [])
+  pub closed : Settled Server (Did (Close 1) ∷ taken) None (serving_of [] true)
+  pub not_closed : ¬ Settled Server taken None (serving_of [] true)
+  pub done_and_not_closed : ¬ Settled Server taken None (done_with [])
+  pub done_with_output : Settled Client all_written None (done_with (7 ∷ []))
+
+-- a handler that fails by 3 where it is asked for 7 bytes
+abbrev pub Fails7 : Bool → Asked → ℕ → Type 0
+Fails7 handler asked number = (asked ≡ ToGive 7) × (number ≡ 3)
+
+abbrev pub fault : ℕ → Stop
+fault number = Broken (Handler (record { number = number }))
+
+pub record RefusalRows : Type 0 where
+  -- the room is what the credit leaves behind what waits
+  pub gives_up : GivesUp Fails7 itself (serving_of (1 ∷ 2 ∷ []) false) 9 (fault 3)
+  pub with_all_credit : ¬ GivesUp Fails7 itself (serving_of (1 ∷ 2 ∷ []) false) 7 (fault 3)
+  pub another_fault : ¬ GivesUp Fails7 itself (serving_of [] false) 7 (fault 4)
+  pub closed : ¬ GivesUp Fails7 itself (serving_of [] true) 7 (fault 3)
+  pub done : ¬ GivesUp Fails7 itself (done_with []) 7 (fault 3)
+  pub no_memory : ¬ GivesUp Fails7 itself (serving_of [] false) 7 OutOfMemory
+  pub may_send : MayGrow Server two_bytes 1
+  pub dead : ¬ MayGrow Server [] 1
+  pub little_taken : ¬ MayGrow Server (Did (Close 1) ∷ two_bytes) 1

@@ -1,0 +1,96 @@
+-- What the owner of a session does on one of its streams when it serves it, and why each act is due.
+-- Source: hashicorp yamux, "Flow Control" and "Flag Field"; that a handler is asked for as many bytes as there is credit,
+-- and when data counts as taken, is this project's profile.
+use Rattle.std.specs.Prelude.{◌≡◌, ◌⊎◌, ℕ, ◌<◌, ◌-◌, Bool, true, false, List, [], ◌∷◌, ◌++◌, map, length, Option, Some, IfSome, IfNone}
+use Rattle.handlers.specs.Calls.{HandlerCall, Asked, ToGive}
+use Rattle.yamux_session.specs.declared.event.Role.{Role}
+use Rattle.yamux_session.specs.History.{Item, Act}
+use Rattle.yamux_session.specs.History.Item.{Did}
+use Rattle.yamux_session.specs.History.Act.{Start, Write, Taken, Close, Reset}
+use Rattle.yamux_session.specs.Openings.{is_live, closed}
+use Rattle.yamux_session.specs.Windows.{credit, untaken, given_back}
+use Rattle.yamux_session.specs.Data.{written}
+use Rattle.yamux_session.specs.State.{State, Stands as SessionStands}
+use Rattle.streams.specs.declared.stage.Stage.TheVariants.{Done}
+use Rattle.streams.specs.declared.stop.Stop.{Stop}
+use Rattle.streams.specs.Streams.{Past, IsServed}
+use Rattle.streams.specs.State.{Streaming, Stands, handler_of, is_open, has_closed, has_finished}
+use Rattle.streams.specs.Stops.{FailsBy}
+
+-- the stream's past where its session's list is this: what was sent on it is what was written
+abbrev pub with_sent : {H : Type 0} → Role → List Item → ℕ → Past H → Option ℕ → Past H
+with_sent role past n so_far left = record so_far { sent = written role past n; left = left }
+
+module _ {H : Type 0} (step : H → HandlerCall → H → Type 0) (is_closed is_finished : H → Bool) where
+  -- The stream gives no more: nothing waits, and its handler is closed or was handed out.
+  pub record HasGiven (role : Role) (past : List Item) (n : ℕ) (so_far : Past H) : Type 0 where
+    pub stream : Streaming H
+    pub left : Option ℕ
+    pub stands : Stands step stream (with_sent role past n so_far left)
+    pub none_waits : stream.waiting ≡ []
+    pub over : has_closed is_closed stream.stage ≡ true
+
+  -- Why an act is due that serves the stream: all that came is taken, where credit is left or this direction is closed;
+  -- this direction is closed where the stream gives no more; and what it gives is written.
+  abbrev pub IsDue : Role → List Item → ℕ → Past H → Act → Type 0
+  IsDue role past n so_far (Write m pieces) = m ≡ n
+  IsDue role past n so_far (Taken m count) = (m ≡ n) × (count ≡ untaken role past n)
+      × ((0 < credit role past n) ⊎ (closed role past n ≡ true))
+  IsDue role past n so_far (Close m) = (m ≡ n) × HasGiven role past n so_far
+  IsDue role past n so_far (Start m) = ⊥
+  IsDue role past n so_far (Reset m) = ⊥
+  IsDue role past n so_far (Act.GoAway code) = ⊥
+
+  -- each act, the newest first, where it was done
+  abbrev pub AreDue : Role → List Item → ℕ → Past H → List Act → Type 0
+  AreDue role past n so_far [] = Unit {0}
+  AreDue role past n so_far (act ∷ acts) =
+      IsDue role (map Did acts ++ past) n so_far act × AreDue role past n so_far acts
+
+  -- The session's list has grown by acts that serve the stream, and session and stream stand there.
+  pub record Goes (role : Role) (past : List Item) (fed sent : List ℕ) (n : ℕ) (so_far : Past H) (session : State)
+      (stream : Streaming H) : Type 0 where
+    pub acts : List Act
+    pub now : List Item
+    pub now_is : now ≡ map Did acts ++ past
+    pub due : AreDue role past n so_far acts
+    pub session_stands : SessionStands role now fed sent session
+    pub left : Option ℕ
+    pub stream_stands : Stands step stream (with_sent role now n so_far left)
+
+  -- What holds of a live stream that was served: a handler that isn't closed was asked last, with all the credit; what
+  -- its talk wrote waits only where no credit is left; this direction is closed where it gives no more; and all that
+  -- came was taken, unless no credit is left.
+  pub record IsSettled (role : Role) (past : List Item) (n : ℕ) (left : Option ℕ) (stream : Streaming H) : Type 0 where
+    pub asked : closed role past n ≡ false → is_open is_closed stream.stage ≡ true → left ≡ Some (credit role past n)
+    pub none_waits : closed role past n ≡ false → 0 < credit role past n → stream.waiting ≡ []
+    pub over : has_closed is_closed stream.stage ≡ true → stream.waiting ≡ [] → closed role past n ≡ true
+    pub was_taken : (0 < credit role past n) ⊎ (closed role past n ≡ true) → untaken role past n ≡ 0
+
+  -- A handler that is finished was handed out, and then the stream is done; else none is finished.
+  abbrev pub HandsOut : Past H → Option H → Streaming H → Type 0
+  HandsOut so_far handler stream =
+      IfSome handler (λ it. IsServed step so_far it stream.waiting × (is_finished it ≡ true) × (stream.stage ≡ Done))
+      × IfNone handler (has_finished is_finished stream.stage ≡ false)
+
+  -- The stream was served, and this handler was handed out.
+  pub record Serves (role : Role) (past : List Item) (fed sent : List ℕ) (n : ℕ) (so_far : Past H)
+      (handler : Option H) (session : State) (stream : Streaming H) : Type 0 where
+    pub goes : Goes role past fed sent n so_far session stream
+    pub handed_out : HandsOut (with_sent role goes.now n so_far goes.left) handler stream
+    pub settled : is_live role goes.now n ≡ true → IsSettled role goes.now n goes.left stream
+
+-- ---- refusals
+
+-- The handler of the stream gives up, when it is asked for as many bytes as there is credit behind what waits.
+pub record GivesUp {H : Type 0} (fails : H → Asked → ℕ → Type 0) (is_closed : H → Bool) (stream : Streaming H)
+    (credit : ℕ) (stop : Stop) : Type 0 where
+  pub handler : H
+  pub held : handler_of stream.stage ≡ Some handler
+  pub unclosed : is_closed handler ≡ false
+  pub fails_by : FailsBy fails handler (ToGive (credit - length stream.waiting)) stop
+
+-- Serving may send something on the stream: it is live, and this direction is open, or a window is given back.
+abbrev pub MayGrow : Role → List Item → ℕ → Type 0
+MayGrow role past n = (is_live role past n ≡ true)
+    × ((closed role past n ≡ false) ⊎ (0 < given_back role n past (Did (Taken n (untaken role past n)))))

@@ -1,0 +1,12 @@
+//! What the definitions of serving come to.
+
+ghost use Rattle.std.specs.Prelude.{Bool};
+ghost use Rattle.streams.specs.Streams.{Past};
+ghost use Rattle.serving.specs.Rows.{DueRows, SettledRows, RefusalRows};
+
+/// The definitions say of worked histories what they are to say.
+pub fn worked_rows()
+    ensures due { (so_far : Past Bool) → DueRows so_far }
+    ensures settled { SettledRows }
+    ensures refusals { RefusalRows }
+{}

@@ -1,0 +1,152 @@
+//! Serving a stream of a session.
+
+ghost use Rattle.std.specs.Prelude.{◌≡◌, ◌≢◌, ◌⊎◌, ℕ, ◌<◌, Bool, true, false, List};
+ghost use Rattle.std.specs.Prelude.{Option, Some, None, Ok, Err, IfOk, IfErr, OnOk, IsOk};
+ghost use Rattle.yamux_session.specs.declared.event.Role.{Role};
+ghost use Rattle.yamux_session.specs.History.{Item};
+ghost use Rattle.yamux_session.specs.Acts.{open_credit};
+ghost use Rattle.yamux_session.specs.Data.{written};
+ghost use Rattle.yamux_session.specs.State.{Stands as SessionStands, Whenever};
+ghost use Rattle.streams.specs.declared.stage.Stage.TheVariants.{Done, Over};
+ghost use Rattle.streams.specs.Streams.{Past};
+ghost use Rattle.streams.specs.State.{Stands};
+ghost use Rattle.serving.specs.Served.{Serves, GivesUp, MayGrow};
+ghost use Rattle.serving.specs.Steps.{Sends, WasAsked, Closes, Counts};
+
+use handlers::Handler;
+use streams::{Stop, Stream};
+use yamux_session::laws::{acts_tell, untaken_limit};
+use yamux_session::{ActRefused, Session};
+
+/// Asks a stream for as many bytes as there is credit, and writes them.
+fn send<H: Handler>(
+    session: &mut Session,
+    number: u32,
+    stream: &mut Stream<H>,
+    credit: u32,
+) -> Result<(), Stop>
+    ensures sends { (role : Role) (past : List Item) (fed sent : List ℕ) (so_far : Past H)
+        → SessionStands role past fed sent session.old → open_credit role past number ≡ Some credit
+        → Stands H.steps stream.old so_far → OnOk result
+        (Sends H.steps H.is_closed role past fed sent number credit so_far session.new stream.new) }
+    ensures fault { IfErr result (λ stop. stop ≢ Stop.OutOfMemory → (session.new ≡ session.old)
+        × ((stream.new ≡ record stream.old { stage = Over }) × GivesUp H.fails H.is_closed stream.old credit stop)) }
+    ensures held { OnOk result (stream.new.stage ≡ Done → stream.old.stage ≡ Done) }
+{
+    let bytes = stream.give(credit as usize)?;
+    match session.write(number, &bytes) {
+        Ok(_) => Ok(()),
+        Err(_) => Err(Stop::OutOfMemory),
+    }
+}
+
+/// Asks a stream for as many bytes as there is credit, and writes them, where this end's direction is open.
+fn ask<H: Handler>(session: &mut Session, number: u32, stream: &mut Stream<H>) -> Result<(), Stop>
+    ensures asks { (role : Role) (past : List Item) (fed sent : List ℕ) (so_far : Past H)
+        → SessionStands role past fed sent session.old → Stands H.steps stream.old so_far
+        → so_far.sent ≡ written role past number → OnOk result
+        (WasAsked H.steps H.is_closed H.is_finished role past fed sent number so_far session.new stream.new) }
+    ensures held { OnOk result (stream.new.stage ≡ Done → stream.old.stage ≡ Done) }
+    ensures kept { Whenever session.old (λ role past. open_credit role past number ≡ None
+        → IsOk result × (session.new ≡ session.old)) }
+    ensures fault { IfErr result (λ stop. stop ≢ Stop.OutOfMemory → (session.new ≡ session.old)
+        × ((stream.new ≡ record stream.old { stage = Over }) × Whenever session.old (λ role past.
+        (credit : ℕ) × (open_credit role past number ≡ Some credit)
+        × GivesUp H.fails H.is_closed stream.old credit stop))) }
+{
+    acts_tell();
+    let Some(credit) = session.credit(number) else {
+        return Ok(());
+    };
+    send(session, number, stream, credit)
+}
+
+/// Closes this end's direction, where it is open and the stream gives no more.
+fn close(session: &mut Session, number: u32, over: bool) -> Result<(), Stop>
+    ensures closes { (role : Role) (past : List Item) (fed sent : List ℕ) → SessionStands role past fed sent session.old
+        → OnOk result (Closes role past fed sent number over session.old session.new) }
+    ensures kept { Whenever session.old (λ role past. open_credit role past number ≡ None
+        → IsOk result × (session.new ≡ session.old)) }
+    ensures memory { IfErr result (λ stop. stop ≡ Stop.OutOfMemory) }
+{
+    if !over {
+        return Ok(());
+    }
+    let Some(_) = session.credit(number) else {
+        return Ok(());
+    };
+    match session.close(number) {
+        Ok(()) => Ok(()),
+        Err(_) => Err(Stop::OutOfMemory),
+    }
+}
+
+/// Whether what came may be counted as taken: unless this direction is open and its credit is used up.
+fn may_take(session: &Session, number: u32) -> bool
+    ensures due { Whenever session.now (λ role past. result ≡ true → open_credit role past number ≢ Some 0) }
+    ensures not_due { Whenever session.now (λ role past. result ≡ false → open_credit role past number ≡ Some 0) }
+{
+    match session.credit(number) {
+        Some(credit) => credit > 0,
+        None => true,
+    }
+}
+
+/// A stream that isn't live takes nothing, and that is no fault.
+fn unless_gone(refused: ActRefused) -> Result<(), Stop>
+    ensures gone { OnOk result (refused ≡ ActRefused.NoStream) }
+    ensures why { IfErr result (λ stop. (stop ≡ Stop.OutOfMemory) × (refused ≢ ActRefused.NoStream)) }
+{
+    match refused {
+        ActRefused::NoStream => Ok(()),
+        _ => Err(Stop::OutOfMemory),
+    }
+}
+
+/// Counts all that came of a stream as taken, unless its credit is used up.
+fn count_taken(session: &mut Session, number: u32) -> Result<(), Stop>
+    ensures counts { (role : Role) (past : List Item) (fed sent : List ℕ) → SessionStands role past fed sent session.old
+        → OnOk result (Counts role past fed sent number session.old session.new) }
+    ensures memory { IfErr result (λ stop. (stop ≡ Stop.OutOfMemory)
+        × Whenever session.old (λ role past. MayGrow role past number)) }
+{
+    untaken_limit();
+    if !may_take(session, number) {
+        return Ok(());
+    }
+    match session.taken(number, usize::MAX) {
+        Ok(()) => Ok(()),
+        Err(refused) => unless_gone(refused),
+    }
+}
+
+/// Serves a stream of a session: its handler is asked for as many bytes as there is credit, what is given is written, a
+/// handler that is finished is handed out, this end's direction is closed where no more is given, and what came is
+/// counted as taken, unless the credit is used up. It is called once data or its end was handed to the stream, and
+/// whenever the credit has grown.
+///
+/// A handler that gives up leaves the session as it was; the stream is over then.
+pub fn serve<H: Handler>(
+    session: &mut Session,
+    number: u32,
+    stream: &mut Stream<H>,
+) -> Result<Option<H>, Stop>
+    ensures serves { (role : Role) (past : List Item) (fed sent : List ℕ) (so_far : Past H)
+        → SessionStands role past fed sent session.old → Stands H.steps stream.old so_far
+        → so_far.sent ≡ written role past number → IfOk result (λ handler.
+        Serves H.steps H.is_closed H.is_finished role past fed sent number so_far handler session.new stream.new) }
+    // A stream is done only with its handler handed out.
+    ensures held { result ≡ Ok None → stream.new.stage ≡ Done → stream.old.stage ≡ Done }
+    ensures fault { IfErr result (λ stop. stop ≢ Stop.OutOfMemory → (session.new ≡ session.old)
+        × ((stream.new ≡ record stream.old { stage = Over }) × Whenever session.old (λ role past.
+        (credit : ℕ) × (open_credit role past number ≡ Some credit)
+        × GivesUp H.fails H.is_closed stream.old credit stop))) }
+    ensures memory { result ≡ Err Stop.OutOfMemory → Whenever session.old (λ role past. MayGrow role past number) }
+{
+    acts_tell();
+    ask(session, number, stream)?;
+    let handler = stream.finish();
+    close(session, number, stream.closed())?;
+    count_taken(session, number)?;
+    Ok(handler)
+}

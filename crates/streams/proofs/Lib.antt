@@ -1,0 +1,8 @@
+pub mod Handling
+pub mod Hearing
+pub mod Moving
+pub mod Giving
+pub mod Deciding
+pub mod Rows
+pub mod Beginning
+pub mod Sending

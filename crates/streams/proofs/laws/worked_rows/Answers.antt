@@ -1,0 +1,11 @@
+use Rattle.streams.proofs.Rows.{asked_rows, hears_rows, stream_rows}
+use Rattle.streams.proofs.laws.worked_rows.Goals as goal
+
+pub returns-clause-asked : goal.returns-clause-asked
+returns-clause-asked c = asked_rows
+
+pub returns-clause-hears : goal.returns-clause-hears
+returns-clause-hears c = hears_rows
+
+pub returns-clause-streams : goal.returns-clause-streams
+returns-clause-streams c = stream_rows

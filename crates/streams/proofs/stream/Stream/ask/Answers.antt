@@ -1,0 +1,8 @@
+use Rattle.std.proofs.Common.{None, Some, Option, refl, subst}
+use Rattle.talks.specs.Talks.{Side, Asks}
+use Rattle.streams.specs.Streams.{IsEarly, fresh}
+use Rattle.streams.proofs.Moving.{early_at_first}
+use Rattle.streams.proofs.stream.Stream.ask.Goals as goal
+
+pub begin-requires-clause-early : goal.begin-requires-clause-early
+begin-requires-clause-early g c = early_at_first g.H.Handler.steps _ _ c.args.index c.args.eager c.in_ok-talk.ensures.side

@@ -1,0 +1,11 @@
+use Rattle.std.proofs.Common.{◌≡◌}
+use Rattle.streams.specs.State.{Streaming}
+use Rattle.streams.specs.declared.stage.Stage.TheVariants as stages
+use Rattle.streams.proofs.Moving.{has_taken, served_as}
+use Rattle.streams.proofs.stream.Stream.take.Goals as goal
+
+pub returns-in_ok-take-in-Serving-clause-stands : goal.returns-in_ok-take-in-Serving-clause-stands
+returns-in_ok-take-in-Serving-clause-stands g c = λ past s unended.
+    let is : c.args.self.now ≡ record { waiting = c.self.inside.waiting.items; stage = stages.Serving c.in-Serving.handler } = cc in
+    has_taken g.H.Handler.steps past c.in-Serving.handler c.take.new.self c.self.inside.waiting.items c.args.bytes.now unended
+    (served_as g.H.Handler.steps c.args.self.now past c.in-Serving.handler c.self.inside.waiting.items is s) c.in_ok-take-in-Serving.ensures.step

@@ -1,0 +1,11 @@
+-- cited by public clauses and laws
+pub mod Handled
+pub mod Streams
+pub mod Stops
+pub mod State
+pub mod Hearing
+pub mod Laws
+pub mod Rows
+-- inside
+pub mod InTalk
+pub mod Giving

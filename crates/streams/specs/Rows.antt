@@ -1,0 +1,63 @@
+-- Worked rows of streams (multistream-select 1.0; that a handler is asked with a room is this project's profile): of a
+-- stream that asks for x, which has the index 2, and of one that answers with x and y.
+use Rattle.std.specs.Prelude.{◌≡◌, ◌↔◌, ℕ, true, false, List, [], ◌∷◌, ◌++◌, Some, None, Ok, Err}
+use Rattle.ms_select.specs.declared.fault.SelectFault.TheVariants.{NotProposed}
+use Rattle.ms_select.specs.Rows.{header_bytes, x_bytes, y_bytes, na_bytes}
+use Rattle.handlers.specs.Calls.{HandlerCall, Take, Give, End}
+use Rattle.handlers.specs.Rows.{Noting}
+use Rattle.talks.specs.Rows.{asks, answers, question}
+use Rattle.streams.specs.declared.heard.Heard.TheVariants.{Going, Agreed, Refused}
+use Rattle.streams.specs.declared.stop.Cause.TheVariants.{Select}
+use Rattle.streams.specs.declared.stop.Stop.TheVariants.{Broken}
+use Rattle.streams.specs.Handled.{AskedLast, Handled}
+use Rattle.streams.specs.Streams.{Past, IsServed, IsDone}
+use Rattle.streams.specs.Hearing.{Hears}
+
+-- the last call was a give, and it left what its room had more than it gave
+pub record AskedRows : Type 0 where
+  pub last : AskedLast (Take (1 ∷ []) ∷ Give 5 (8 ∷ 9 ∷ []) ∷ []) 3
+  pub no_room : AskedLast (Give 0 [] ∷ []) 0
+  pub taken_behind : (left : ℕ) → ¬ AskedLast (Give 5 [] ∷ Take (1 ∷ []) ∷ []) left
+  pub never : (left : ℕ) → ¬ AskedLast [] left
+
+pub record HearsRows : Type 0 where
+  pub in_a_message : Hears asks header_bytes (3 ∷ []) (Ok Going) question
+  -- what follows the talk is not its
+  pub agreed : Hears asks header_bytes (x_bytes ++ 7 ∷ []) (Ok (Agreed 2 4)) question
+  pub refused : Hears asks header_bytes (na_bytes ++ x_bytes) (Ok Refused) question
+  pub other_name : Hears asks header_bytes y_bytes (Err (Broken (Select NotProposed))) question
+  pub answered : Hears answers header_bytes (y_bytes ++ x_bytes) (Ok (Agreed 1 4)) (header_bytes ++ y_bytes)
+
+-- a stream that answers with y: behind the talk came 1 and 2
+abbrev pub came : List ℕ
+came = header_bytes ++ y_bytes ++ 1 ∷ 2 ∷ []
+
+-- its handler was handed both at once, and then gave 9, with room for four bytes more
+abbrev pub calls : List HandlerCall
+calls = Take (1 ∷ 2 ∷ []) ∷ Give 5 (9 ∷ []) ∷ []
+
+-- the 9 waits behind what its talk wrote
+abbrev pub served_past : Past (List HandlerCall)
+served_past = record {
+  side = answers;
+  got = came;
+  ended = false;
+  sent = header_bytes;
+  made = Some [];
+  left = Some 4;
+}
+
+-- the end came, and then it was handed out
+abbrev pub done_past : Past (List HandlerCall)
+done_past = record served_past { ended = true; left = None }
+
+pub record StreamRows : Type 0 where
+  pub served : IsServed Noting served_past calls (y_bytes ++ 9 ∷ [])
+  pub done : IsDone Noting done_past (y_bytes ++ 9 ∷ [])
+  -- a handler that was handed the talk's last byte, one that was handed nothing, and one that was handed all twice
+  pub with_talk : ¬ IsServed Noting served_past (Take (10 ∷ 1 ∷ 2 ∷ []) ∷ Give 5 (9 ∷ []) ∷ []) (y_bytes ++ 9 ∷ [])
+  pub handed_nothing : ¬ IsServed Noting served_past (Give 5 (9 ∷ []) ∷ []) (y_bytes ++ 9 ∷ [])
+  pub handed_twice : ¬ IsServed Noting served_past (Take (1 ∷ 2 ∷ []) ∷ Take (1 ∷ 2 ∷ []) ∷ Give 5 (9 ∷ []) ∷ [])
+      (y_bytes ++ 9 ∷ [])
+  -- what it gave is lost
+  pub nothing_waits : ¬ IsServed Noting served_past calls y_bytes

@@ -1,0 +1,123 @@
+//! Where a stream is.
+
+ghost use Rattle.std.specs.Prelude.{◌≡◌, ℕ, ◌≤◌, length, List, Some, true, false, Ok, IfOk, IfErr, OnOk};
+ghost use Rattle.handlers.specs.Calls.{ToGive};
+ghost use Rattle.streams.specs.State.{is_talking, awaits_handler, handler_of, has_closed, has_finished};
+ghost use Rattle.streams.specs.Giving.{Gives, StageGives};
+ghost use Rattle.streams.specs.InTalk.{stage_by};
+
+use crate::heard::Heard;
+use handlers::{Handler, HandlerFault};
+use std::alloc::Global;
+use talks::Talk;
+
+/// Where a stream is.
+#[derive(Drop)]
+pub(crate) enum Stage<H> {
+    /// Nothing is decided. The handler of an eager protocol is there already.
+    Talking(Talk, Option<H>),
+    /// Both ends agree on the protocol of this index, and its handler is awaited.
+    Agreed(usize),
+    /// The handler of its protocol serves it.
+    Serving(H),
+    /// Its handler was handed out.
+    Done,
+    /// It was refused, or goes on no more.
+    Over,
+}
+
+/// Asks a handler for bytes, unless it is closed.
+fn ask_handler<H: Handler>(
+    alloc: Global,
+    handler: &mut H,
+    room: usize,
+) -> Result<Vec<u8>, HandlerFault>
+    ensures gives { IfOk result (λ bytes. Gives H.steps H.is_closed handler.old room handler.new bytes.items) }
+    ensures fault { IfErr result (λ fault. (H.is_closed handler.old ≡ false)
+        × H.fails handler.old (ToGive room) fault.number) }
+{
+    if handler.closed() {
+        return Ok(Vec::new(alloc));
+    }
+    handler.give(room)
+}
+
+impl<H: Handler> Stage<H> {
+    pub(crate) fn talks(&self) -> bool
+        ensures { result ≡ is_talking self.now }
+    {
+        match self {
+            Stage::Talking(_, _) => true,
+            Stage::Agreed(_) | Stage::Serving(_) | Stage::Done | Stage::Over => false,
+        }
+    }
+
+    pub(crate) fn awaits(&self) -> bool
+        ensures { result ≡ awaits_handler self.now }
+    {
+        match self {
+            Stage::Agreed(_) => true,
+            Stage::Talking(_, _) | Stage::Serving(_) | Stage::Done | Stage::Over => false,
+        }
+    }
+
+    pub(crate) fn closed(&self) -> bool
+        ensures { result ≡ has_closed H.is_closed self.now }
+    {
+        match self {
+            Stage::Talking(_, Some(handler)) => handler.closed(),
+            Stage::Serving(handler) => handler.closed(),
+            Stage::Talking(_, None) | Stage::Agreed(_) => false,
+            Stage::Done | Stage::Over => true,
+        }
+    }
+
+    pub(crate) fn finished(&self) -> bool
+        ensures { result ≡ has_finished H.is_finished self.now }
+    {
+        match self {
+            Stage::Serving(handler) => handler.finished(),
+            Stage::Talking(_, _) | Stage::Agreed(_) | Stage::Done | Stage::Over => false,
+        }
+    }
+
+    /// Asks the handler that it holds for bytes.
+    pub(crate) fn ask(self, alloc: Global, room: usize) -> Result<(Stage<H>, Vec<u8>), HandlerFault>
+        ensures gives { IfOk result (λ given. StageGives H.steps H.is_closed self room given.0 given.1.items) }
+        ensures fault { IfErr result (λ fault. (handler : H) × (handler_of self ≡ Some handler)
+            × (H.is_closed handler ≡ false) × H.fails handler (ToGive room) fault.number) }
+    {
+        match self {
+            Stage::Talking(talk, handler) => match handler {
+                Some(handler) => {
+                    let mut handler = handler;
+                    let bytes = ask_handler(alloc, &mut handler, room)?;
+                    Ok((Stage::Talking(talk, Some(handler)), bytes))
+                }
+                None => Ok((Stage::Talking(talk, None), Vec::new(alloc))),
+            },
+            Stage::Serving(handler) => {
+                let mut handler = handler;
+                let bytes = ask_handler(alloc, &mut handler, room)?;
+                Ok((Stage::Serving(handler), bytes))
+            }
+            Stage::Agreed(index) => Ok((Stage::Agreed(index), Vec::new(alloc))),
+            Stage::Done => Ok((Stage::Done, Vec::new(alloc))),
+            Stage::Over => Ok((Stage::Over, Vec::new(alloc))),
+        }
+    }
+}
+
+/// Where a stream is, once its talk told this.
+pub(crate) fn stage_behind<H: Handler>(heard: Heard, talk: Talk, handler: Option<H>) -> Stage<H>
+    ensures { result ≡ stage_by heard talk handler }
+{
+    match heard {
+        Heard::Going => Stage::Talking(talk, handler),
+        Heard::Agreed { index, .. } => match handler {
+            None => Stage::Agreed(index),
+            Some(handler) => Stage::Serving(handler),
+        },
+        Heard::Refused => Stage::Over,
+    }
+}
