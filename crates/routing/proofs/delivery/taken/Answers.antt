@@ -1,0 +1,45 @@
+use Rattle.std.proofs.Common.{◌≡◌, ◌⊎◌, inl, inr, ℕ, List, [], ◌++◌, false, Some, None, Ok, Err, ap, sym, ◌∙◌, refl, subst}
+use Rattle.handlers.specs.Calls.{ToTake}
+use Rattle.streams.specs.declared.stage.Stage.TheVariants as stages
+use Rattle.streams.specs.State.{Streaming, Stands, is_talking}
+use Rattle.routing.specs.declared.delivered.Outcome.{Outcome}
+use Rattle.routing.specs.Routing.{Came, Takes}
+use Rattle.routing.proofs.Delivering.{answered, broken, quiet, handler_failed, keeps_memory, ran_out, same_stop}
+use Rattle.routing.proofs.delivery.taken.Goals as goal
+
+pub returns-in-Ok-clause-takes : goal.returns-in-Ok-clause-takes
+returns-in-Ok-clause-takes g c = λ role past fed sent so_far at stands going talks awaits e.
+    let H = g.H.Handler in
+    let now = record so_far { got = so_far.got ++ c.args.bytes.now; left = None } in
+    let there = c.in-Ok.ensures.stands so_far stands going in
+    answered
+    (λ outcome. Came H.steps H.fails H.is_closed H.is_finished role past fed sent c.args.number now c.take.new.self c.args.session.now outcome c.deliver_credit.new.session c.deliver_credit.new.stream)
+    (λ outcome. Takes H.steps H.fails H.is_closed H.is_finished role past fed sent c.args.number so_far c.args.bytes.now c.args.stream.now c.args.session.now outcome c.deliver_credit.new.session c.deliver_credit.new.stream)
+    c.deliver_credit.result
+    (λ outcome came. inl (c.take.new.self, there, by_stage (quiet H.steps c.args.stream.now so_far stands talks awaits), came))
+    (c.deliver_credit.ensures.came role past fed sent now at there e)
+  where
+    by_stage : ((handler : _) × (c.args.stream.now.stage ≡ stages.Serving handler)) ⊎ (c.args.stream.now.stage ≡ stages.Done) → is_talking c.take.new.self.stage ≡ false
+    by_stage (inl serves) = let after = c.in-Ok.ensures.step serves.0 serves.1 in ap is_talking after.1
+    by_stage (inr done) = let same = (c.in-Ok.ensures.done done).1 in ap (λ x. is_talking x.stage) same ∙ ap is_talking done
+
+pub returns-in-Err-clause-takes : goal.returns-in-Err-clause-takes
+returns-in-Err-clause-takes g c = λ role past fed sent so_far at stands going talks awaits e.
+    let H = g.H.Handler in
+    broken c.in-Err.stop
+    (λ outcome. Takes H.steps H.fails H.is_closed H.is_finished role past fed sent c.args.number so_far c.args.bytes.now c.args.stream.now c.args.session.now outcome c.args.session.now c.take.new.self)
+    c.stopped.result c.stopped.ensures.broken
+    (λ why is. inr (
+      refl,
+      handler_failed H.fails (ToTake c.args.bytes.now) c.args.stream.now c.in-Err.stop why is
+          (λ handler serves. (c.in-Err.ensures.fault handler serves).1) (λ done. absurd (let ok = (c.in-Err.ensures.done done).0 in cc ok))
+          (quiet H.steps c.args.stream.now so_far stands talks awaits),
+    ))
+
+pub returns-in-Err-clause-memory : goal.returns-in-Err-clause-memory
+returns-in-Err-clause-memory g c =
+    let H = g.H.Handler in
+    ran_out c.in-Err.stop c.stopped.result c.stopped.ensures.memory
+    (λ is. absurd (keeps_memory H.fails (ToTake c.args.bytes.now) c.args.stream.now.stage c.in-Err.stop (λ handler serves. (c.in-Err.ensures.fault handler serves).1)
+    (λ done. absurd (let ok = (c.in-Err.ensures.done done).0 in cc ok)) (λ talks. same_stop (c.in-Err.ensures.out_of_turn (inl talks)).0)
+    (λ else. same_stop (c.in-Err.ensures.out_of_turn (inr else)).0) is))

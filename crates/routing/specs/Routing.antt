@@ -1,0 +1,104 @@
+-- What a stream of a session makes of what came for it.
+-- Source: multistream-select 1.0, "Protocol Negotiation"; libp2p connections, "Opening new streams over a connection";
+-- hashicorp yamux, "Flow Control"; that a stream is served behind each piece is this project's profile.
+use Rattle.std.specs.Prelude.{◌≡◌, ◌≢◌, ◌⊎◌, ℕ, Bool, true, false, List, [], ◌++◌, Option, Some, None}
+use Rattle.handlers.specs.Calls.{HandlerCall, Asked, ToTake, ToEnd}
+use Rattle.handlers.specs.declared.handler.HandlerFault.{HandlerFault}
+use Rattle.ms_select.specs.declared.fault.SelectFault.TheVariants as select_faults
+use Rattle.talks.specs.Talks.{IsTurnedDown, Faults}
+use Rattle.yamux_session.specs.declared.event.Role.{Role}
+use Rattle.yamux_session.specs.History.{Item}
+use Rattle.yamux_session.specs.Acts.{open_credit}
+use Rattle.yamux_session.specs.State.{State}
+use Rattle.streams.specs.declared.stop.Cause.{Cause}
+use Rattle.streams.specs.declared.stop.Cause.TheVariants as causes
+use Rattle.streams.specs.declared.stop.Stop.TheVariants as stops
+use Rattle.streams.specs.declared.stage.Stage.TheVariants as stages
+use Rattle.streams.specs.Streams.{Past}
+use Rattle.streams.specs.State.{Streaming, Stands, is_talking}
+use Rattle.serving.specs.Served.{Serves, GivesUp}
+use Rattle.dispatch.specs.Dispatch.{AgreesBy, IsMade}
+use Rattle.routing.specs.declared.delivered.Delivered.{Delivered}
+use Rattle.routing.specs.declared.delivered.Outcome.{Outcome}
+use Rattle.routing.specs.declared.delivered.Outcome.TheVariants.{Going, Done, Refused, Broken}
+
+module _ {H : Type 0} (step : H → HandlerCall → H → Type 0) (fails : H → Asked → ℕ → Type 0)
+    (is_closed is_finished : H → Bool) (role : Role) (past : List Item) (fed sent : List ℕ) (n : ℕ) where
+  -- What serving the stream came to, which stood so: it was served, or its handler gave up when it was asked for bytes,
+  -- and nothing was done.
+  abbrev pub Came : Past H → Streaming H → State → Outcome H → State → Streaming H → Type 0
+  Came so_far old before Going session stream =
+      Serves step is_closed is_finished role past fed sent n so_far None session stream
+  Came so_far old before (Done handler) session stream =
+      Serves step is_closed is_finished role past fed sent n so_far (Some handler) session stream
+  Came so_far old before Refused session stream = ⊥
+  Came so_far old before (Broken cause) session stream =
+      (session ≡ before) × ((credit : ℕ) × (open_credit role past n ≡ Some credit)
+      × GivesUp fails is_closed old credit (stops.Broken cause))
+
+  -- the handler that serves the stream fails at this, and nothing was done
+  abbrev pub Fails : Asked → Streaming H → State → Outcome H → State → Type 0
+  Fails asked old before outcome session =
+      (session ≡ before) × ((handler : H) × (fault : HandlerFault) × (old.stage ≡ stages.Serving handler)
+      × fails handler asked fault.number × (outcome ≡ Broken (causes.Handler fault)))
+
+  -- The handler was told this, or it was dropped, and the stream was served: so far this came then. Or the handler failed
+  -- at it.
+  abbrev pub Hands : Asked → Past H → Streaming H → State → Outcome H → State → Streaming H → Type 0
+  Hands asked so_far old before outcome session stream =
+      ((middle : Streaming H) × Stands step middle so_far × (is_talking middle.stage ≡ false)
+      × Came so_far middle before outcome session stream)
+      ⊎ Fails asked old before outcome session
+
+  -- data behind the talk
+  abbrev pub Takes : Past H → List ℕ → Streaming H → State → Outcome H → State → Streaming H → Type 0
+  Takes so_far bytes = Hands (ToTake bytes) (record so_far { got = so_far.got ++ bytes; left = None })
+
+  -- What came of the end: an end within the talk breaks the stream, and nothing is done.
+  abbrev pub Ends : Past H → Streaming H → State → Outcome H → State → Streaming H → Type 0
+  Ends so_far old before outcome session stream =
+      (is_talking old.stage ≡ true → (outcome ≡ Broken causes.Ended) × (session ≡ before))
+      × (is_talking old.stage ≡ false
+      → Hands ToEnd (record so_far { ended = true; left = None }) old before outcome session stream)
+
+  module _ (makes : ℕ → H → Type 0) where
+    -- By this front both ends agree on the protocol of this index, and the handler took the rest: so far this came then.
+    pub record HasAgreed (so_far : Past H) (bytes : List ℕ) (index : ℕ) (front rest : List ℕ) (middle : Streaming H)
+        : Type 0 where
+      pub agrees : AgreesBy so_far bytes index front rest
+      pub made : H
+      pub is_made : IsMade makes so_far index made
+      pub stands : Stands step middle (record so_far { got = so_far.got ++ front; made = Some made })
+
+    -- Why the stream is done with before it was served: nothing was done then.
+    abbrev pub Stops : Past H → List ℕ → Outcome H → Type 0
+    Stops so_far bytes Refused =
+        (front : List ℕ) × (rest : List ℕ) × (output : List ℕ) × (bytes ≡ front ++ rest)
+        × IsTurnedDown so_far.side (so_far.got ++ front) output
+    Stops so_far bytes (Broken (causes.Select fault)) =
+        (fault ≢ select_faults.OutOfMemory) × ((output : List ℕ) × Faults so_far.side (so_far.got ++ bytes) fault output)
+    Stops so_far bytes (Broken (causes.Handler fault)) = ⊥
+    Stops so_far bytes (Broken causes.Reset) = ⊥
+    Stops so_far bytes (Broken causes.Ended) = ⊥
+    Stops so_far bytes Going = ⊥
+    Stops so_far bytes (Done handler) = ⊥
+
+    -- while it talks: nothing is decided, or both ends agree, or it stops
+    abbrev pub InTalk : Past H → List ℕ → State → Option ℕ → Outcome H → State → Streaming H → Type 0
+    InTalk so_far bytes before None outcome session stream =
+        ((middle : Streaming H) × Stands step middle (record so_far { got = so_far.got ++ bytes })
+        × (is_talking middle.stage ≡ true)
+        × Came (record so_far { got = so_far.got ++ bytes }) middle before outcome session stream)
+        ⊎ ((session ≡ before) × Stops so_far bytes outcome)
+    InTalk so_far bytes before (Some index) outcome session stream =
+        (front : List ℕ) × (rest : List ℕ) × (middle : Streaming H)
+        × ((has : HasAgreed so_far bytes index front rest middle)
+        × Takes (record so_far { got = so_far.got ++ front; made = Some has.made }) rest middle before outcome session
+        stream)
+
+    -- What came of data.
+    abbrev pub Delivers : Past H → List ℕ → Streaming H → State → Delivered H → State → Streaming H → Type 0
+    Delivers so_far bytes old before delivered session stream =
+        (is_talking old.stage ≡ true → InTalk so_far bytes before delivered.agreed delivered.outcome session stream)
+        × (is_talking old.stage ≡ false → (delivered.agreed ≡ None)
+        × Takes so_far bytes old before delivered.outcome session stream)

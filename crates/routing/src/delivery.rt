@@ -1,0 +1,158 @@
+//! Delivering what came to one stream.
+
+ghost use Rattle.std.specs.Prelude.{◌≡◌, ◌≢◌, ◌⊎◌, ℕ, ◌≤◌, true, false, List, ◌++◌, length, drop, Option, Some, None};
+ghost use Rattle.std.specs.Prelude.{IfOk, OnErr};
+ghost use Rattle.yamux_session.specs.declared.event.Role.{Role};
+ghost use Rattle.yamux_session.specs.History.{Item};
+ghost use Rattle.yamux_session.specs.Data.{written};
+ghost use Rattle.yamux_session.specs.State.{Stands as SessionStands, Whenever};
+ghost use Rattle.streams.specs.Streams.{Past};
+ghost use Rattle.streams.specs.State.{Stands, is_talking, awaits_handler};
+ghost use Rattle.serving.specs.Served.{MayGrow};
+ghost use Rattle.dispatch.specs.Dispatch.{IsKnown, made_by, MakingRunsOut};
+ghost use Rattle.streams.specs.declared.stop.Cause.{Cause};
+ghost use Rattle.routing.specs.Routing.{Came, Takes, Ends, Delivers};
+
+use crate::delivered::{Delivered, Outcome};
+use dispatch::{Direction, negotiate};
+use handlers::{Handler, Protocols};
+use peer_ids::PeerId;
+use serving::serve;
+use std::alloc::AllocError;
+use streams::{Heard, Stop, Stream};
+use yamux_session::Session;
+
+/// What a stream that stops comes to: it is given up, or memory is wanting.
+fn stopped<H: Handler>(stop: Stop) -> Result<Outcome<H>, AllocError>
+    ensures broken { IfOk result (λ outcome.
+        (cause : Cause) × (stop ≡ Stop.Broken cause) × (outcome ≡ Outcome.Broken cause)) }
+    ensures memory { OnErr result (stop ≡ Stop.OutOfMemory) }
+{
+    match stop {
+        Stop::Broken(cause) => Ok(Outcome::Broken(cause)),
+        Stop::OutOfMemory => Err(AllocError),
+    }
+}
+
+/// Delivers credit to a stream: its handler is asked for as many bytes as there is credit, and what it gives is written.
+/// It is called once the stream is there, and whenever its credit has grown.
+///
+/// Its only error is want of memory, and ends the connection. A stream that is broken is done with: its handler was
+/// dropped.
+pub fn deliver_credit<H: Handler>(
+    session: &mut Session,
+    number: u32,
+    stream: &mut Stream<H>,
+) -> Result<Outcome<H>, AllocError>
+    ensures came { (role : Role) (past : List Item) (fed sent : List ℕ) (so_far : Past H)
+        → SessionStands role past fed sent session.old → Stands H.steps stream.old so_far
+        → so_far.sent ≡ written role past number → IfOk result (λ outcome.
+        Came H.steps H.fails H.is_closed H.is_finished role past fed sent number so_far stream.old session.old
+        outcome session.new stream.new) }
+    ensures memory { OnErr result (Whenever session.old (λ role past. MayGrow role past number)) }
+{
+    match serve(session, number, stream) {
+        Ok(None) => Ok(Outcome::Going),
+        Ok(Some(handler)) => Ok(Outcome::Done(handler)),
+        Err(stop) => stopped(stop),
+    }
+}
+
+/// Hands data to the handler, and serves the stream.
+fn taken<H: Handler>(
+    session: &mut Session,
+    number: u32,
+    stream: &mut Stream<H>,
+    bytes: &[u8],
+) -> Result<Outcome<H>, AllocError>
+    ensures takes { (role : Role) (past : List Item) (fed sent : List ℕ) (so_far : Past H)
+        → SessionStands role past fed sent session.old → Stands H.steps stream.old so_far → so_far.ended ≡ false
+        → is_talking stream.old.stage ≡ false → awaits_handler stream.old.stage ≡ false
+        → so_far.sent ≡ written role past number → IfOk result (λ outcome.
+        Takes H.steps H.fails H.is_closed H.is_finished role past fed sent number so_far bytes.now stream.old
+        session.old outcome session.new stream.new) }
+    ensures memory { OnErr result (Whenever session.old (λ role past. MayGrow role past number)) }
+{
+    match stream.take(bytes) {
+        Ok(()) => deliver_credit(session, number, stream),
+        Err(stop) => stopped(stop),
+    }
+}
+
+/// Delivers the end of the data to a stream: to its handler. Then the stream is served. An end within the talk breaks the
+/// stream.
+///
+/// Its only error is want of memory, and ends the connection. A stream that is broken is done with: its handler was
+/// dropped.
+pub fn deliver_end<H: Handler>(
+    session: &mut Session,
+    number: u32,
+    stream: &mut Stream<H>,
+) -> Result<Outcome<H>, AllocError>
+    ensures ends { (role : Role) (past : List Item) (fed sent : List ℕ) (so_far : Past H)
+        → SessionStands role past fed sent session.old → Stands H.steps stream.old so_far → so_far.ended ≡ false
+        → awaits_handler stream.old.stage ≡ false → so_far.sent ≡ written role past number → IfOk result (λ outcome.
+        Ends H.steps H.fails H.is_closed H.is_finished role past fed sent number so_far stream.old session.old outcome
+        session.new stream.new) }
+    ensures memory { OnErr result (Whenever session.old (λ role past. MayGrow role past number)) }
+{
+    match stream.end() {
+        Ok(()) => deliver_credit(session, number, stream),
+        Err(stop) => stopped(stop),
+    }
+}
+
+/// What stands behind so many bytes of a piece.
+fn behind(piece: &[u8], used: usize) -> &[u8]
+    requires { used ≤ length piece.now }
+    ensures { result.now ≡ drop used piece.now }
+{
+    &piece[used..]
+}
+
+/// Delivers data to a stream: to its talk while nothing is decided, and behind it to its handler. Then the stream is
+/// served.
+///
+/// Its only error is want of memory, and ends the connection. A stream that was refused or is broken is done with: its
+/// handler was dropped.
+pub fn deliver<P: Protocols>(
+    session: &mut Session,
+    number: u32,
+    protocols: &mut P,
+    direction: Direction,
+    peer: PeerId,
+    stream: &mut Stream<P::H>,
+    bytes: &[u8],
+) -> Result<Delivered<P::H>, AllocError>
+    ensures names { P.listed protocols.new ≡ P.listed protocols.old }
+    ensures eager { P.is_eager protocols.new ≡ P.is_eager protocols.old }
+    ensures delivers { (role : Role) (past : List Item) (fed sent : List ℕ) (so_far : Past P.H)
+        → SessionStands role past fed sent session.old → Stands P.H.steps stream.old so_far → so_far.ended ≡ false
+        → awaits_handler stream.old.stage ≡ false → IsKnown (P.listed protocols.old) direction so_far.side
+        → so_far.sent ≡ written role past number → IfOk result (λ delivered.
+        Delivers P.H.steps P.H.fails P.H.is_closed P.H.is_finished role past fed sent number
+        (made_by (P.makes_inbound protocols.old) (P.makes_outbound protocols.old) direction peer) so_far bytes.now
+        stream.old session.old delivered session.new stream.new) }
+    ensures memory { (so_far : Past P.H) → Stands P.H.steps stream.old so_far
+        → IsKnown (P.listed protocols.old) direction so_far.side → OnErr result
+        (Whenever session.old (λ role past. MayGrow role past number)
+        ⊎ ((is_talking stream.old.stage ≡ true)
+        × ((waiting : List ℕ) × MakingRunsOut P.H.steps so_far stream.old bytes.now waiting))) }
+{
+    if !stream.talks() {
+        let outcome = taken(session, number, stream, bytes)?;
+        return Ok(Delivered::by_none(outcome));
+    }
+    match negotiate(protocols, direction, peer, stream, bytes) {
+        Ok(Heard::Going) => Ok(Delivered::by_none(deliver_credit(session, number, stream)?)),
+        Ok(Heard::Refused) => Ok(Delivered::by_none(Outcome::Refused)),
+        Ok(Heard::Agreed { index, used }) => {
+            let outcome = taken(session, number, stream, behind(bytes, used))?;
+            Ok(Delivered {
+                agreed: Some(index),
+                outcome,
+            })
+        }
+        Err(stop) => Ok(Delivered::by_none(stopped(stop)?)),
+    }
+}
