@@ -7,18 +7,8 @@ use handlers::{Handler, HandlerFault, Protocols};
 use ms_select::SelectFault;
 use peer_ids::PeerId;
 use std::alloc::{AllocError, Global};
-use std::process::Abort;
 use std::test::*;
 use streams::{Cause, Heard, Stop, Stream};
-
-/// The header, and behind it the proposal or the echo of x and y, and a refusal.
-const HEADER: &[u8] = b"\x13/multistream/1.0.0\n";
-
-const X: &[u8] = b"\x03/x\n";
-
-const Y: &[u8] = b"\x03/y\n";
-
-const NA: &[u8] = b"\x03na\n";
 
 /// A handler that notes what it is handed, and fails where that would be more than it holds.
 #[derive(Drop)]
@@ -119,232 +109,172 @@ impl Protocols for Two {
     }
 }
 
-fn holding(alloc: Global, most: usize) -> Two {
-    Two {
-        alloc,
-        most,
-        out_of_memory: false,
-    }
+/// A stream: who opens it, how much its handler may be handed at once, whether an eager one is there and whether there is
+/// memory for another. Then what comes, on which protocol both agree, what the last piece came to, and what the handler
+/// of which direction and index was handed.
+struct Script {
+    direction: Direction,
+    most: usize,
+    eager: bool,
+    out_of_memory: bool,
+    input: &'static [u8],
+    agreed: Option<usize>,
+    last: Result<Heard, Stop>,
+    handed: Option<&'static [u8]>,
 }
 
-/// What came of pieces, up to the first that doesn't only go on or agree.
+const SCRIPTS: [Script; 7] = [
+    Script {
+        direction: Direction::Inbound,
+        most: 1024,
+        eager: false,
+        out_of_memory: false,
+        input: b"\x13/multistream/1.0.0\n\x03/z\n\x03/y\nPing",
+        agreed: Some(1),
+        last: Ok(Heard::Going),
+        handed: Some(b"Ping"),
+    },
+    Script {
+        direction: Direction::Outbound,
+        most: 1024,
+        eager: false,
+        out_of_memory: false,
+        input: b"\x13/multistream/1.0.0\n\x03/y\nPong",
+        agreed: Some(1),
+        last: Ok(Heard::Going),
+        handed: Some(b"Pong"),
+    },
+    // The other end doesn't know the name, or names another.
+    Script {
+        direction: Direction::Outbound,
+        most: 1024,
+        eager: false,
+        out_of_memory: false,
+        input: b"\x13/multistream/1.0.0\n\x03na\n",
+        agreed: None,
+        last: Ok(Heard::Refused),
+        handed: None,
+    },
+    Script {
+        direction: Direction::Outbound,
+        most: 1024,
+        eager: false,
+        out_of_memory: false,
+        input: b"\x13/multistream/1.0.0\n\x03/x\n",
+        agreed: None,
+        last: Err(Stop::Broken(Cause::Select(SelectFault::NotProposed))),
+        handed: None,
+    },
+    // An eager handler holds 1024 bytes, and a new one would hold none.
+    Script {
+        direction: Direction::Outbound,
+        most: 0,
+        eager: true,
+        out_of_memory: false,
+        input: b"\x13/multistream/1.0.0\n\x03/y\nPong",
+        agreed: Some(1),
+        last: Ok(Heard::Going),
+        handed: Some(b"Pong"),
+    },
+    // The handler fails by the last byte.
+    Script {
+        direction: Direction::Inbound,
+        most: 0,
+        eager: false,
+        out_of_memory: false,
+        input: b"\x13/multistream/1.0.0\n\x03/x\nP",
+        agreed: Some(0),
+        last: Err(Stop::Broken(Cause::Handler(HandlerFault { number: 7 }))),
+        handed: None,
+    },
+    // There is no memory for a handler.
+    Script {
+        direction: Direction::Inbound,
+        most: 1024,
+        eager: false,
+        out_of_memory: true,
+        input: b"\x13/multistream/1.0.0\n\x03/x\n",
+        agreed: None,
+        last: Err(Stop::OutOfMemory),
+        handed: None,
+    },
+];
+
+fn stream(alloc: Global, protocols: &Two, script: &Script) -> Result<Stream<Note>, Stop> {
+    if script.direction == Direction::Inbound {
+        return Stream::answer(alloc, &NAMES);
+    }
+    if !script.eager {
+        return Stream::ask(alloc, "/y", 1, None);
+    }
+    let mut eager = protocols.note(Direction::Outbound, 1)?;
+    eager.most = 1024;
+    Stream::ask(alloc, "/y", 1, Some(eager))
+}
+
+/// What came of pieces.
 #[derive(Drop)]
 struct Came {
+    stream: Stream<Note>,
     agreed: Option<usize>,
     last: Result<Heard, Stop>,
 }
 
-/// Hands the input to the talk, and behind the agreement to the handler.
-fn handed(
-    protocols: &mut Two,
-    direction: Direction,
-    stream: &mut Stream<Note>,
-    input: &[u8],
-    size: usize,
-) -> Came {
+/// Hands a piece to the talk, and behind the agreement to the handler.
+fn hand(protocols: &mut Two, direction: Direction, came: &mut Came, piece: &[u8]) {
     let peer = PeerId::of_ed25519(&[0; 32]);
-    let mut agreed = None;
-    for piece in input.chunks(size.max(1)) {
-        let mut rest = piece;
-        if stream.talks() {
-            match negotiate(protocols, direction, peer, stream, piece) {
-                Ok(Heard::Going) => continue,
-                Ok(Heard::Agreed { index, used }) => {
-                    agreed = Some(index);
-                    rest = &piece[used..];
-                }
-                last => return Came { agreed, last },
-            }
+    let mut rest = piece;
+    if came.stream.talks() {
+        came.last = negotiate(protocols, direction, peer, &mut came.stream, piece);
+        let Ok(Heard::Agreed { index, used }) = came.last else {
+            return;
+        };
+        came.agreed = Some(index);
+        rest = &piece[used..];
+    }
+    came.last = came.stream.take(rest).map(|()| Heard::Going);
+}
+
+/// The end comes. Whether the handler, which is handed out, is of this direction and index, and was handed this.
+fn was_handed(came: Came, direction: Direction, index: usize, bytes: &[u8]) -> bool {
+    let mut stream = came.stream;
+    let is_told = stream.end().is_ok();
+    match stream.finish() {
+        Some(note) => {
+            is_told
+                && note.direction == direction
+                && note.index == index
+                && note.taken.as_slice() == bytes
         }
-        if let Err(stop) = stream.take(rest) {
-            return Came {
-                agreed,
-                last: Err(stop),
+        None => false,
+    }
+}
+
+#[test]
+fn scripts_in_pieces(rt: HostRuntime) -> Result<(), Fail> {
+    for size in [1, 7, 1024] {
+        for (number, script) in SCRIPTS.iter().enumerate() {
+            let mut protocols = Two {
+                alloc: rt.alloc(),
+                most: script.most,
+                out_of_memory: script.out_of_memory,
             };
+            let mut came = Came {
+                stream: stream(rt.alloc(), &protocols, script)
+                    .ok()
+                    .ok_or("a stream")?,
+                agreed: None,
+                last: Ok(Heard::Going),
+            };
+            for piece in script.input.chunks(size.max(1)) {
+                hand(&mut protocols, script.direction, &mut came, piece);
+            }
+            let mut held = came.agreed == script.agreed && came.last == script.last;
+            if let Some(bytes) = script.handed {
+                held = held && was_handed(came, script.direction, 1, bytes);
+            }
+            assert!(rt; held, "script {number}, in pieces of {size}");
         }
     }
-    Came {
-        agreed,
-        last: Ok(Heard::Going),
-    }
-}
-
-/// The end comes, and the handler, which is handed out, is of this direction and index, and was handed this.
-fn ended(
-    rt: &impl Abort,
-    stream: Stream<Note>,
-    direction: Direction,
-    index: usize,
-    taken: &[u8],
-) -> Result<(), Fail> {
-    let mut stream = stream;
-    assert_eq!(rt; stream.end(), Ok(()));
-    let note = stream.finish().ok_or("a handler")?;
-    assert_eq!(rt; note.direction, direction);
-    assert_eq!(rt; note.index, index);
-    assert_eq!(rt; note.taken.as_slice(), taken);
-    Ok(())
-}
-
-/// The talk's bytes and those of a protocol.
-fn joined(alloc: Global, parts: &[&[u8]]) -> Result<Vec<u8>, AllocError> {
-    let mut bytes = Vec::new(alloc);
-    for part in parts {
-        bytes.extend_from_slice(part)?;
-    }
-    Ok(bytes)
-}
-
-#[test]
-fn an_inbound_stream_however_cut(rt: HostRuntime) -> Result<(), Fail> {
-    for size in [1, 7, 1024] {
-        let mut protocols = holding(rt.alloc(), 1024);
-        let mut stream = Stream::answer(rt.alloc(), &NAMES).ok().ok_or("names")?;
-        let input = joined(rt.alloc(), &[HEADER, b"\x03/z\n", Y, b"Ping"])?;
-        let came = handed(
-            &mut protocols,
-            Direction::Inbound,
-            &mut stream,
-            &input,
-            size,
-        );
-        assert_eq!(rt; came.agreed, Some(1), "in pieces of {size}");
-        assert_eq!(rt; came.last, Ok(Heard::Going), "in pieces of {size}");
-        assert!(rt; !stream.awaits_handler());
-        let output = joined(rt.alloc(), &[HEADER, NA, Y])?;
-        assert_eq!(rt;
-            stream.give(1000).ok().ok_or("a give")?.as_slice(),
-            output.as_slice()
-        );
-        ended(&rt, stream, Direction::Inbound, 1, b"Ping")?;
-    }
-    Ok(())
-}
-
-#[test]
-fn an_outbound_stream_however_cut(rt: HostRuntime) -> Result<(), Fail> {
-    for size in [1, 7, 1024] {
-        let mut protocols = holding(rt.alloc(), 1024);
-        let mut stream = Stream::ask(rt.alloc(), "/y", 1, None).ok().ok_or("a name")?;
-        let input = joined(rt.alloc(), &[HEADER, Y, b"Pong"])?;
-        let came = handed(
-            &mut protocols,
-            Direction::Outbound,
-            &mut stream,
-            &input,
-            size,
-        );
-        assert_eq!(rt; came.agreed, Some(1), "in pieces of {size}");
-        assert_eq!(rt; came.last, Ok(Heard::Going), "in pieces of {size}");
-        ended(&rt, stream, Direction::Outbound, 1, b"Pong")?;
-        let mut stream = Stream::ask(rt.alloc(), "/y", 1, None).ok().ok_or("a name")?;
-        let input = joined(rt.alloc(), &[HEADER, NA])?;
-        let came = handed(
-            &mut protocols,
-            Direction::Outbound,
-            &mut stream,
-            &input,
-            size,
-        );
-        assert_eq!(rt; came.agreed, None, "in pieces of {size}");
-        assert_eq!(rt; came.last, Ok(Heard::Refused), "in pieces of {size}");
-        let mut stream = Stream::ask(rt.alloc(), "/y", 1, None).ok().ok_or("a name")?;
-        let input = joined(rt.alloc(), &[HEADER, X])?;
-        let came = handed(
-            &mut protocols,
-            Direction::Outbound,
-            &mut stream,
-            &input,
-            size,
-        );
-        let stop = Stop::Broken(Cause::Select(SelectFault::NotProposed));
-        assert_eq!(rt; came.last, Err(stop), "in pieces of {size}");
-    }
-    Ok(())
-}
-
-#[test]
-fn an_eager_handler_is_kept(rt: HostRuntime) -> Result<(), Fail> {
-    let mut protocols = holding(rt.alloc(), 0);
-    // The eager one holds 1024 bytes, a new one would hold none.
-    let eager = Note {
-        alloc: rt.alloc(),
-        direction: Direction::Outbound,
-        index: 0,
-        taken: Vec::new(rt.alloc()),
-        most: 1024,
-        ended: false,
-    };
-    let mut stream = Stream::ask(rt.alloc(), "/x", 0, Some(eager))
-        .ok()
-        .ok_or("a name")?;
-    let input = joined(rt.alloc(), &[HEADER, X, b"Pong"])?;
-    let came = handed(
-        &mut protocols,
-        Direction::Outbound,
-        &mut stream,
-        &input,
-        1024,
-    );
-    assert_eq!(rt; came.agreed, Some(0));
-    assert_eq!(rt; came.last, Ok(Heard::Going));
-    ended(&rt, stream, Direction::Outbound, 0, b"Pong")
-}
-
-#[test]
-fn a_handler_fails_by_what_it_is_handed(rt: HostRuntime) -> Result<(), Fail> {
-    let stop = Stop::Broken(Cause::Handler(HandlerFault { number: 7 }));
-    let mut protocols = holding(rt.alloc(), 3);
-    let mut stream = Stream::answer(rt.alloc(), &NAMES).ok().ok_or("names")?;
-    let input = joined(rt.alloc(), &[HEADER, X, b"Ping"])?;
-    let came = handed(
-        &mut protocols,
-        Direction::Inbound,
-        &mut stream,
-        &input,
-        1024,
-    );
-    assert_eq!(rt; came.last, Err(stop));
-    // What the talk wrote still waits.
-    let output = joined(rt.alloc(), &[HEADER, X])?;
-    assert_eq!(rt;
-        stream.give(1000).ok().ok_or("a give")?.as_slice(),
-        output.as_slice()
-    );
-    let mut stream = Stream::answer(rt.alloc(), &NAMES).ok().ok_or("names")?;
-    let input = joined(rt.alloc(), &[HEADER, X, b"Pin"])?;
-    let came = handed(
-        &mut protocols,
-        Direction::Inbound,
-        &mut stream,
-        &input,
-        1024,
-    );
-    assert_eq!(rt; came.last, Ok(Heard::Going));
-    let came = handed(
-        &mut protocols,
-        Direction::Inbound,
-        &mut stream,
-        b"Pong",
-        1024,
-    );
-    assert_eq!(rt; came.last, Err(stop));
-    Ok(())
-}
-
-#[test]
-fn no_memory_for_a_handler(rt: HostRuntime) -> Result<(), Fail> {
-    let mut protocols = holding(rt.alloc(), 3);
-    protocols.out_of_memory = true;
-    let mut stream = Stream::answer(rt.alloc(), &NAMES).ok().ok_or("names")?;
-    let input = joined(rt.alloc(), &[HEADER, X])?;
-    let came = handed(
-        &mut protocols,
-        Direction::Inbound,
-        &mut stream,
-        &input,
-        1024,
-    );
-    assert_eq!(rt; came.last, Err(Stop::OutOfMemory));
     Ok(())
 }

@@ -5,7 +5,7 @@ ghost use Rattle.std.specs.Prelude.{⊤, ◌&&◌, ◌==◌, vec_len};
 use super::*;
 use handlers::{Handler, HandlerFault};
 use std::alloc::Global;
-use std::test::Fail;
+use std::test::*;
 use streams::{Cause, Stop, Stream};
 use yamux_session::{Event, Role, Session};
 
@@ -64,7 +64,37 @@ impl Handler for Echo {
     }
 }
 
-/// Two sessions with one stream, opened by the client, and the server's side of it.
+/// What the client does.
+#[derive(Clone, Copy)]
+enum Does {
+    Nothing,
+    /// It writes so many bytes.
+    Writes(usize),
+    Closes,
+    /// It has taken all that came.
+    Takes,
+}
+
+/// What serving came to.
+#[derive(Clone, Copy, PartialEq, Eq)]
+enum Served {
+    Going,
+    Done,
+    Stopped(Stop),
+}
+
+/// What the client does, what serving came to, how many bytes the client is told then and whether the end came, and how
+/// much credit server and client have.
+struct Step {
+    does: Does,
+    served: Served,
+    told: usize,
+    ended: bool,
+    credit: Option<u32>,
+    left: Option<u32>,
+}
+
+/// Two sessions with one stream, opened by the client, and the server's side of it. Both ends agree on /x.
 #[derive(Drop)]
 struct Pair {
     client: Session,
@@ -72,7 +102,6 @@ struct Pair {
     stream: Stream<Echo>,
 }
 
-/// The client has opened stream 1, and both ends agree on /x.
 fn agreed(alloc: Global, failing: bool) -> Result<Pair, Fail> {
     let mut client = Session::new(alloc, Role::Client);
     let mut server = Session::new(alloc, Role::Server);
@@ -98,93 +127,135 @@ fn agreed(alloc: Global, failing: bool) -> Result<Pair, Fail> {
 }
 
 impl Pair {
-    /// The client writes, and the server hands it to the handler.
-    fn comes(&mut self, bytes: &[u8]) -> Result<(), Fail> {
-        self.client.write(1, bytes)?;
-        for event in &self.server.feed(&self.client.take_output())? {
-            if let Event::Payload(_, data) = event {
-                self.stream.take(data.as_slice()).ok().ok_or("a take")?;
+    fn hears(&mut self, event: &Event) -> Result<(), Stop> {
+        match event {
+            Event::Payload(_, data) => self.stream.take(data.as_slice()),
+            Event::Ended(_) => self.stream.end(),
+            _ => Ok(()),
+        }
+    }
+
+    /// The client does this, and the handler is told what came of it.
+    fn does(&mut self, alloc: Global, does: Does) -> Result<(), Fail> {
+        match does {
+            Does::Nothing => (),
+            Does::Writes(count) => {
+                let bytes = vec![in alloc; b'a'; count]?;
+                self.client.write(1, &bytes)?;
             }
+            Does::Closes => self.client.close(1)?,
+            Does::Takes => self.client.taken(1, usize::MAX)?,
+        }
+        for event in &self.server.feed(&self.client.take_output())? {
+            self.hears(event).ok().ok_or("what is told is taken")?;
         }
         Ok(())
     }
 
-    /// What the client is told of what the server sent: the data, and whether the end came.
-    fn told(&mut self, alloc: Global) -> Result<(Vec<u8>, bool), Fail> {
-        let mut came = Vec::new(alloc);
+    fn served(&mut self) -> Served {
+        match serve(&mut self.server, 1, &mut self.stream) {
+            Ok(None) => Served::Going,
+            Ok(Some(_)) => Served::Done,
+            Err(stop) => Served::Stopped(stop),
+        }
+    }
+
+    /// How many bytes the client is told, and whether the end came.
+    fn told(&mut self) -> Result<(usize, bool), Fail> {
+        let mut count = 0usize;
         let mut ended = false;
         for event in &self.client.feed(&self.server.take_output())? {
             match event {
-                Event::Payload(_, data) => came.extend_from_slice(data.as_slice())?,
+                Event::Payload(_, data) => count = count.saturating_add(data.as_slice().len()),
                 Event::Ended(_) => ended = true,
                 _ => (),
             }
         }
-        Ok((came, ended))
+        Ok((count, ended))
+    }
+
+    /// Whether all comes as the step says.
+    fn holds(&mut self, alloc: Global, step: &Step) -> Result<bool, Fail> {
+        self.does(alloc, step.does)?;
+        let served = self.served();
+        let (told, ended) = self.told()?;
+        let is_told = told == step.told && ended == step.ended;
+        let has_credit = self.server.credit(1) == step.credit && self.client.credit(1) == step.left;
+        Ok(served == step.served && is_told && has_credit)
     }
 }
 
-#[test]
-fn an_echo_to_its_end(rt: HostRuntime) -> Result<(), Fail> {
-    let mut pair = agreed(rt.alloc(), false)?;
-    pair.comes(b"hello")?;
-    assert!(rt;
-        serve(&mut pair.server, 1, &mut pair.stream).is_ok_and(|handler| handler.is_none())
-    );
-    let (came, ended) = pair.told(rt.alloc())?;
-    assert_eq!(rt;
-        came.as_slice(),
-        b"\x13/multistream/1.0.0\n\x03/x\nhello".as_slice()
-    );
-    assert!(rt; !ended);
-    pair.client.close(1)?;
-    assert_eq!(rt; pair.server.feed(&pair.client.take_output())?.len(), 1);
-    assert_eq!(rt; pair.stream.end(), Ok(()));
-    assert!(rt;
-        serve(&mut pair.server, 1, &mut pair.stream).is_ok_and(|handler| handler.is_some())
-    );
-    let (came, ended) = pair.told(rt.alloc())?;
-    assert_eq!(rt; came.len(), 0);
-    assert!(rt; ended);
-    assert_eq!(rt; pair.server.credit(1), None);
-    // Once the stream is over, nothing is done.
-    assert!(rt;
-        serve(&mut pair.server, 1, &mut pair.stream).is_ok_and(|handler| handler.is_none())
-    );
-    assert_eq!(rt; pair.server.take_output().len(), 0);
-    Ok(())
-}
+/// Each script of a handler that gives back what it is handed.
+const SCRIPTS: [&[Step]; 2] = [
+    &[
+        Step {
+            does: Does::Writes(5),
+            served: Served::Going,
+            told: 29,
+            ended: false,
+            credit: Some(262115),
+            left: Some(262115),
+        },
+        Step {
+            does: Does::Closes,
+            served: Served::Done,
+            told: 0,
+            ended: true,
+            credit: None,
+            left: None,
+        },
+        // Once the stream is over, nothing is done.
+        Step {
+            does: Does::Nothing,
+            served: Served::Going,
+            told: 0,
+            ended: false,
+            credit: None,
+            left: None,
+        },
+    ],
+    &[
+        // All that came is given back, and that uses up the credit.
+        Step {
+            does: Does::Writes(262120),
+            served: Served::Going,
+            told: 262144,
+            ended: false,
+            credit: Some(0),
+            left: Some(0),
+        },
+        // The client takes it: there is credit again, and what came counts as taken.
+        Step {
+            does: Does::Takes,
+            served: Served::Going,
+            told: 0,
+            ended: false,
+            credit: Some(262144),
+            left: Some(262144),
+        },
+    ],
+];
+
+/// The handler gives up when it is asked: nothing is sent.
+const GIVES_UP: Step = Step {
+    does: Does::Writes(5),
+    served: Served::Stopped(Stop::Broken(Cause::Handler(HandlerFault { number: 7 }))),
+    told: 0,
+    ended: false,
+    credit: Some(262144),
+    left: Some(262115),
+};
 
 #[test]
-fn a_handler_that_gives_up(rt: HostRuntime) -> Result<(), Fail> {
+fn scripts(rt: HostRuntime) -> Result<(), Fail> {
+    for (number, script) in SCRIPTS.iter().enumerate() {
+        let mut pair = agreed(rt.alloc(), false)?;
+        for (row, step) in script.iter().enumerate() {
+            let held = pair.holds(rt.alloc(), step)?;
+            assert!(rt; held, "script {number}, row {row}");
+        }
+    }
     let mut pair = agreed(rt.alloc(), true)?;
-    pair.comes(b"hello")?;
-    pair.told(rt.alloc())?;
-    let stop = Stop::Broken(Cause::Handler(HandlerFault { number: 7 }));
-    assert!(rt; serve(&mut pair.server, 1, &mut pair.stream).err() == Some(stop));
-    assert_eq!(rt; pair.server.take_output().len(), 0);
-    assert_eq!(rt; pair.server.credit(1), Some(262144));
-    Ok(())
-}
-
-#[test]
-fn a_window_is_given_back_once_there_is_credit(rt: HostRuntime) -> Result<(), Fail> {
-    let mut pair = agreed(rt.alloc(), false)?;
-    let rest = vec![in rt.alloc(); b'a'; 262120]?;
-    pair.comes(&rest)?;
-    assert_eq!(rt; pair.client.credit(1), Some(0));
-    // All that came is given back, and that uses up the credit.
-    assert!(rt; serve(&mut pair.server, 1, &mut pair.stream).is_ok());
-    assert_eq!(rt; pair.server.credit(1), Some(0));
-    let (came, _) = pair.told(rt.alloc())?;
-    assert_eq!(rt; came.len(), 262144);
-    assert_eq!(rt; pair.client.credit(1), Some(0));
-    // The client takes it: there is credit again, and what came counts as taken.
-    pair.client.taken(1, came.len())?;
-    pair.server.feed(&pair.client.take_output())?;
-    assert_eq!(rt; pair.server.credit(1), Some(262144));
-    assert!(rt; serve(&mut pair.server, 1, &mut pair.stream).is_ok());
-    pair.told(rt.alloc())?;
-    assert_eq!(rt; pair.client.credit(1), Some(262144));
+    assert!(rt; pair.holds(rt.alloc(), &GIVES_UP)?);
     Ok(())
 }

@@ -1,5 +1,6 @@
 use super::*;
 use ms_select::{Answer, SelectFault, Step};
+use std::alloc::Global;
 use std::test::*;
 
 /// The header as a message.
@@ -12,194 +13,316 @@ const M_Y: &[u8] = b"\x13/multistream/1.0.0\n\x03/y\n";
 
 const M_NA: &[u8] = b"\x13/multistream/1.0.0\n\x03na\n";
 
-/// What a talk answers, how many bytes it has used, and all that it wrote.
-type Came = (Result<Answer, SelectFault>, usize, Vec<u8>);
-
-/// What a talk makes of the input in pieces of this size. Its output is taken behind each piece.
-fn heard(rt: &HostRuntime, talk: Talk, input: &[u8], size: usize) -> Result<Came, Fail> {
-    let mut talk = talk;
-    let mut answer = Ok(Answer::Going);
-    let mut used = 0usize;
-    let mut output = talk.take_output();
-    for piece in input.chunks(size.max(1)) {
-        match talk.hear(piece) {
-            Ok(step) => {
-                used = used.saturating_add(step.used);
-                answer = Ok(step.answer);
-            }
-            Err(fault) => {
-                answer = Err(fault);
-                output.extend_from_slice(&talk.take_output())?;
-                if talk.hear(piece) != Err(SelectFault::Failed) {
-                    return Err("failed for good".into());
-                }
-                break;
-            }
-        }
-        output.extend_from_slice(&talk.take_output())?;
-    }
-    Ok((answer, used, output))
+/// Which end it is: it asks for /x, as what it numbers 2, or it knows /x and /y.
+#[derive(Clone, Copy)]
+enum End {
+    Asks,
+    Answers,
 }
 
 /// An input, the answer to it, how many bytes are used where it is no fault, and the output.
-type Row<'a> = (&'a [u8], Result<Answer, SelectFault>, usize, &'a [u8]);
+struct Row {
+    end: End,
+    input: &'static [u8],
+    answer: Result<Answer, SelectFault>,
+    used: usize,
+    output: &'static [u8],
+}
+
+const ROWS: [Row; 17] = [
+    Row {
+        end: End::Asks,
+        input: b"",
+        answer: Ok(Answer::Going),
+        used: 0,
+        output: M_X,
+    },
+    Row {
+        end: End::Asks,
+        input: b"\x13/multistream/1.0.0\n\x03",
+        answer: Ok(Answer::Going),
+        used: 21,
+        output: M_X,
+    },
+    Row {
+        end: End::Asks,
+        input: M_X,
+        answer: Ok(Answer::Agreed(2)),
+        used: 24,
+        output: M_X,
+    },
+    // What follows the echo isn't used.
+    Row {
+        end: End::Asks,
+        input: b"\x13/multistream/1.0.0\n\x03/x\nNext",
+        answer: Ok(Answer::Agreed(2)),
+        used: 24,
+        output: M_X,
+    },
+    Row {
+        end: End::Asks,
+        input: M_NA,
+        answer: Ok(Answer::NoneLeft),
+        used: 24,
+        output: M_X,
+    },
+    Row {
+        end: End::Asks,
+        input: b"\x13/multistream/1.0.0\n\x03na\n\x03/x\n",
+        answer: Ok(Answer::NoneLeft),
+        used: 24,
+        output: M_X,
+    },
+    Row {
+        end: End::Asks,
+        input: M_Y,
+        answer: Err(SelectFault::NotProposed),
+        used: 0,
+        output: M_X,
+    },
+    Row {
+        end: End::Asks,
+        input: b"\x03/x\n",
+        answer: Err(SelectFault::BadHeader),
+        used: 0,
+        output: M_X,
+    },
+    Row {
+        end: End::Asks,
+        input: b"\x13/multistream/1.0.0\n\x81\x08",
+        answer: Err(SelectFault::BadLength),
+        used: 0,
+        output: M_X,
+    },
+    Row {
+        end: End::Answers,
+        input: b"",
+        answer: Ok(Answer::Going),
+        used: 0,
+        output: M,
+    },
+    Row {
+        end: End::Answers,
+        input: b"\x13/multistream/1.0.0\n\x03",
+        answer: Ok(Answer::Going),
+        used: 21,
+        output: M,
+    },
+    Row {
+        end: End::Answers,
+        input: M_Y,
+        answer: Ok(Answer::Agreed(1)),
+        used: 24,
+        output: M_Y,
+    },
+    Row {
+        end: End::Answers,
+        input: b"\x13/multistream/1.0.0\n\x03/z\n",
+        answer: Ok(Answer::Going),
+        used: 24,
+        output: M_NA,
+    },
+    // An unknown name, and then another; what follows the agreement isn't used.
+    Row {
+        end: End::Answers,
+        input: b"\x13/multistream/1.0.0\n\x03/z\n\x03/y\n\x03/x\n",
+        answer: Ok(Answer::Agreed(1)),
+        used: 28,
+        output: b"\x13/multistream/1.0.0\n\x03na\n\x03/y\n",
+    },
+    Row {
+        end: End::Answers,
+        input: b"\x03/y\n",
+        answer: Err(SelectFault::BadHeader),
+        used: 0,
+        output: M,
+    },
+    Row {
+        end: End::Answers,
+        input: b"\x13/multistream/1.0.0\n\x03/z\n\x00",
+        answer: Err(SelectFault::BadLength),
+        used: 0,
+        output: M_NA,
+    },
+    Row {
+        end: End::Answers,
+        input: b"\x13/multistream/1.0.0\n\x02ab",
+        answer: Err(SelectFault::NoNewline),
+        used: 0,
+        output: M,
+    },
+];
+
+/// What a talk answered, how many bytes it has used, and all that it wrote.
+#[derive(Drop)]
+struct Came {
+    talk: Talk,
+    answer: Result<Answer, SelectFault>,
+    used: usize,
+    output: Vec<u8>,
+}
+
+impl Came {
+    /// Hands a piece to the talk, unless it has failed. Its output is taken behind each piece.
+    fn hear(&mut self, piece: &[u8]) -> Result<(), Fail> {
+        if self.answer.is_err() {
+            return Ok(());
+        }
+        self.answer = match self.talk.hear(piece) {
+            Ok(step) => {
+                self.used = self.used.saturating_add(step.used);
+                Ok(step.answer)
+            }
+            Err(fault) => Err(fault),
+        };
+        self.output.extend_from_slice(&self.talk.take_output())?;
+        Ok(())
+    }
+
+    /// Whether what came next is answered as it must be: a decision is told again and uses nothing, a fault is for good.
+    fn stays(&mut self) -> bool {
+        match self.answer {
+            Ok(Answer::Going) => true,
+            Ok(answer) => self.talk.hear(M_X) == Ok(Step { used: 0, answer }),
+            Err(_) => self.talk.hear(M_X) == Err(SelectFault::Failed),
+        }
+    }
+
+    fn is_as(&self, row: &Row) -> bool {
+        let is_used = row.answer.is_err() || self.used == row.used;
+        self.answer == row.answer && is_used && self.output.as_slice() == row.output
+    }
+}
+
+fn talk(alloc: Global, end: End) -> Result<Talk, SelectFault> {
+    match end {
+        End::Asks => Talk::ask(alloc, "/x", 2),
+        End::Answers => Talk::answer(alloc, &["/x", "/y"]),
+    }
+}
+
+fn heard(alloc: Global, row: &Row, size: usize) -> Result<Came, Fail> {
+    let mut talk = talk(alloc, row.end).ok().ok_or("names")?;
+    let output = talk.take_output();
+    let mut came = Came {
+        talk,
+        answer: Ok(Answer::Going),
+        used: 0,
+        output,
+    };
+    for piece in row.input.chunks(size.max(1)) {
+        came.hear(piece)?;
+    }
+    Ok(came)
+}
 
 #[test]
-fn asking_for_x_however_the_input_is_cut(rt: HostRuntime) -> Result<(), Fail> {
-    let rows: [Row; 9] = [
-        (b"", Ok(Answer::Going), 0, M_X),
-        (b"\x13/multistream/1.0.0\n\x03", Ok(Answer::Going), 21, M_X),
-        (M_X, Ok(Answer::Agreed(2)), 24, M_X),
-        // What follows the echo isn't used.
-        (
-            b"\x13/multistream/1.0.0\n\x03/x\nNext",
-            Ok(Answer::Agreed(2)),
-            24,
-            M_X,
-        ),
-        (M_NA, Ok(Answer::NoneLeft), 24, M_X),
-        (
-            b"\x13/multistream/1.0.0\n\x03na\n\x03/x\n",
-            Ok(Answer::NoneLeft),
-            24,
-            M_X,
-        ),
-        (M_Y, Err(SelectFault::NotProposed), 0, M_X),
-        (b"\x03/x\n", Err(SelectFault::BadHeader), 0, M_X),
-        (
-            b"\x13/multistream/1.0.0\n\x81\x08",
-            Err(SelectFault::BadLength),
-            0,
-            M_X,
-        ),
-    ];
-    for (row, (input, answer, used, output)) in rows.iter().enumerate() {
+fn talks_however_the_input_is_cut(rt: HostRuntime) -> Result<(), Fail> {
+    for (number, row) in ROWS.iter().enumerate() {
         for size in [1, 7, 1024] {
-            let talk = Talk::ask(rt.alloc(), "/x", 2).ok().ok_or("a name")?;
-            let came = heard(&rt, talk, *input, size)?;
-            assert_eq!(rt; came.0, *answer, "row {row} in pieces of {size}");
-            if came.0.is_ok() {
-                assert_eq!(rt; came.1, *used, "row {row} in pieces of {size}");
-            }
-            assert_eq!(rt; came.2.as_slice(), *output, "row {row} in pieces of {size}");
+            let mut came = heard(rt.alloc(), row, size)?;
+            let held = came.is_as(row) && came.stays();
+            assert!(rt; held, "row {number} in pieces of {size}");
         }
     }
     Ok(())
 }
 
-#[test]
-fn answering_with_x_and_y_however_the_input_is_cut(rt: HostRuntime) -> Result<(), Fail> {
-    let rows: [Row; 8] = [
-        (b"", Ok(Answer::Going), 0, M),
-        (b"\x13/multistream/1.0.0\n\x03", Ok(Answer::Going), 21, M),
-        (M_Y, Ok(Answer::Agreed(1)), 24, M_Y),
-        (
-            b"\x13/multistream/1.0.0\n\x03/z\n",
-            Ok(Answer::Going),
-            24,
-            M_NA,
-        ),
-        // An unknown name, and then another; what follows the agreement isn't used.
-        (
-            b"\x13/multistream/1.0.0\n\x03/z\n\x03/y\n\x03/x\n",
-            Ok(Answer::Agreed(1)),
-            28,
-            b"\x13/multistream/1.0.0\n\x03na\n\x03/y\n",
-        ),
-        (b"\x03/y\n", Err(SelectFault::BadHeader), 0, M),
-        (
-            b"\x13/multistream/1.0.0\n\x03/z\n\x00",
-            Err(SelectFault::BadLength),
-            0,
-            M_NA,
-        ),
-        (
-            b"\x13/multistream/1.0.0\n\x02ab",
-            Err(SelectFault::NoNewline),
-            0,
-            M,
-        ),
-    ];
-    for (row, (input, answer, used, output)) in rows.iter().enumerate() {
-        for size in [1, 7, 1024] {
-            let talk = Talk::answer(rt.alloc(), &["/x", "/y"]).ok().ok_or("names")?;
-            let came = heard(&rt, talk, *input, size)?;
-            assert_eq!(rt; came.0, *answer, "row {row} in pieces of {size}");
-            if came.0.is_ok() {
-                assert_eq!(rt; came.1, *used, "row {row} in pieces of {size}");
-            }
-            assert_eq!(rt; came.2.as_slice(), *output, "row {row} in pieces of {size}");
-        }
-    }
-    Ok(())
-}
+/// How long a name is, and whether a talk can be about it.
+const LENGTHS: [(usize, bool); 4] = [(0, false), (1, true), (1023, true), (1024, false)];
 
-#[test]
-fn a_decision_is_told_again_and_uses_nothing(rt: HostRuntime) -> Result<(), Fail> {
-    let rows: [(&[u8], Answer); 2] = [(M_X, Answer::Agreed(5)), (M_NA, Answer::NoneLeft)];
-    for (input, answer) in rows {
-        let mut talk = Talk::ask(rt.alloc(), "/x", 5).ok().ok_or("a name")?;
-        assert_eq!(rt; talk.hear(input), Ok(Step { used: 24, answer }));
-        assert_eq!(rt; talk.hear(M_X), Ok(Step { used: 0, answer }));
+/// Whether a talk that asks, and one that answers, can be about a name of so many bytes.
+fn begins(alloc: Global, length: usize) -> Result<(bool, bool), Fail> {
+    let mut name = String::new(alloc);
+    for _ in 0..length {
+        name.push('x')?;
     }
-    let mut talk = Talk::answer(rt.alloc(), &["/x", "/y"]).ok().ok_or("names")?;
-    let answer = Answer::Agreed(1);
-    assert_eq!(rt; talk.hear(M_Y), Ok(Step { used: 24, answer }));
-    assert_eq!(rt; talk.hear(M_X), Ok(Step { used: 0, answer }));
-    Ok(())
+    let asks = Talk::ask(alloc, name.as_str(), 0);
+    let answers = Talk::answer(alloc, &["/x", name.as_str()]);
+    let is_length = |fault: Option<SelectFault>| fault.is_none()
+        || fault == Some(SelectFault::BadLength);
+    if !is_length(asks.as_ref().err().copied()) || !is_length(answers.as_ref().err().copied()) {
+        return Err("another fault".into());
+    }
+    Ok((asks.is_ok(), answers.is_ok()))
 }
 
 #[test]
 fn names_of_1_to_1023_bytes(rt: HostRuntime) -> Result<(), Fail> {
-    let mut longest = String::new(rt.alloc());
-    for _ in 0..1023 {
-        longest.push('x')?;
-    }
-    assert!(rt; Talk::ask(rt.alloc(), longest.as_str(), 0).is_ok());
-    assert!(rt; Talk::answer(rt.alloc(), &[longest.as_str()]).is_ok());
-    assert!(rt; Talk::answer(rt.alloc(), &[]).is_ok());
-    longest.push('x')?;
-    for name in [longest.as_str(), ""] {
-        assert!(rt; matches!(Talk::ask(rt.alloc(), name, 0), Err(SelectFault::BadLength)));
-        assert!(rt;
-            matches!(
-                Talk::answer(rt.alloc(), &["/x", name]),
-                Err(SelectFault::BadLength)
-            )
+    for (length, good) in LENGTHS {
+        assert_eq!(rt;
+            begins(rt.alloc(), length)?,
+            (good, good),
+            "a name of {length} bytes"
         );
     }
+    assert!(rt; Talk::answer(rt.alloc(), &[]).is_ok());
     Ok(())
 }
 
-#[test]
-fn two_ends_agree(rt: HostRuntime) -> Result<(), Fail> {
-    let mut asking = Talk::ask(rt.alloc(), "/y", 7).ok().ok_or("a name")?;
-    let question = asking.take_output();
-    let answering = answered(rt.alloc(), &["/x", "/y"], &[question.as_slice()])
-        .ok()
-        .ok_or("a talk")?;
-    assert_eq!(rt; answering.answer, Answer::Agreed(1));
-    let agreed = asked(rt.alloc(), "/y", 7, &[answering.output.as_slice()])
-        .ok()
-        .ok_or("a talk")?;
-    assert_eq!(rt; agreed.answer, Answer::Agreed(7));
-    assert_eq!(rt; agreed.output.as_slice(), question.as_slice());
-    Ok(())
+/// A whole talk in pieces: what it comes to, and what it writes where it is no fault.
+struct Cut {
+    end: End,
+    pieces: &'static [&'static [u8]],
+    answer: Result<Answer, SelectFault>,
+    output: &'static [u8],
+}
+
+const CUTS: [Cut; 6] = [
+    Cut {
+        end: End::Asks,
+        pieces: &[M, b"\x03n", b"a\nNext"],
+        answer: Ok(Answer::NoneLeft),
+        output: M_X,
+    },
+    Cut {
+        end: End::Asks,
+        pieces: &[],
+        answer: Ok(Answer::Going),
+        output: M_X,
+    },
+    Cut {
+        end: End::Asks,
+        pieces: &[M, b"\x03/y\n", b"Next"],
+        answer: Err(SelectFault::NotProposed),
+        output: b"",
+    },
+    // Two ends agree.
+    Cut {
+        end: End::Asks,
+        pieces: &[M_X],
+        answer: Ok(Answer::Agreed(2)),
+        output: M_X,
+    },
+    Cut {
+        end: End::Answers,
+        pieces: &[M_X],
+        answer: Ok(Answer::Agreed(0)),
+        output: M_X,
+    },
+    Cut {
+        end: End::Answers,
+        pieces: &[M, b"\x03/z\n"],
+        answer: Ok(Answer::Going),
+        output: M_NA,
+    },
+];
+
+fn is_cut(alloc: Global, cut: &Cut) -> bool {
+    let whole = match cut.end {
+        End::Asks => asked(alloc, "/x", 2, cut.pieces),
+        End::Answers => answered(alloc, &["/x", "/y"], cut.pieces),
+    };
+    match whole {
+        Ok(whole) => cut.answer == Ok(whole.answer) && whole.output.as_slice() == cut.output,
+        Err(fault) => cut.answer == Err(fault),
+    }
 }
 
 #[test]
 fn whole_talks_in_pieces(rt: HostRuntime) -> Result<(), Fail> {
-    let turned_down = asked(rt.alloc(), "/x", 7, &[M, b"\x03n", b"a\nNext"])
-        .ok()
-        .ok_or("a talk")?;
-    assert_eq!(rt; turned_down.answer, Answer::NoneLeft);
-    let going = asked(rt.alloc(), "/x", 7, &[]).ok().ok_or("a talk")?;
-    assert_eq!(rt; going.answer, Answer::Going);
-    assert_eq!(rt; going.output.as_slice(), M_X);
-    let faulty = asked(rt.alloc(), "/x", 7, &[M, b"\x03/y\n", b"Next"]);
-    assert!(rt; matches!(faulty, Err(SelectFault::NotProposed)));
-    let unknown = answered(rt.alloc(), &["/x"], &[M_Y]).ok().ok_or("a talk")?;
-    assert_eq!(rt; unknown.answer, Answer::Going);
-    assert_eq!(rt; unknown.output.as_slice(), M_NA);
+    for (number, cut) in CUTS.iter().enumerate() {
+        assert!(rt; is_cut(rt.alloc(), cut), "row {number}");
+    }
     Ok(())
 }
