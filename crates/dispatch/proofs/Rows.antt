@@ -1,8 +1,8 @@
 -- The worked rows of handing over.
 use Rattle.std.proofs.Common.{◌≡◌, inl, inr, ℕ, List, [], ◌∷◌, Some, refl, sym, ap, arith, get_or}
 use Rattle.ms_select.specs.Rows.{x, y}
-use Rattle.dispatch.specs.Rows.{KnownRows, MadeRows, makes_outbound, eager, none_yet}
-use Rattle.dispatch.specs.Dispatch.{IsMade}
+use Rattle.dispatch.specs.Rows.{KnownRows, MemoryRows, MadeRows, makes_outbound, eager, none_yet, agreed, any_step, some_stream}
+use Rattle.dispatch.specs.Dispatch.{IsMade, MakingRunsOut}
 
 differ : y ≡ x → ⊥
 differ e = let places : 121 ≡ 120 = ap (λ (name : List ℕ). get_or name 1 0) e in omega (arith, places)
@@ -39,6 +39,14 @@ new_is handler (inr (none, made)) = made.2
 no_other : (handler : ℕ) → ¬ IsMade makes_outbound none_yet 0 handler
 no_other handler (inl e) = absurd (cc e)
 no_other handler (inr (none, made)) = absurd (let e = made.0 in cc e)
+
+none_asked : ¬ MakingRunsOut any_step agreed some_stream [] []
+none_asked (inl (inl r)) = let within = r.runs_out.within in absurd (omega (arith, within))
+none_asked (inl (inr r)) = r.0.waits refl
+none_asked (inr r) = absurd (let none = r.0 in cc none)
+
+pub memory_rows : MemoryRows
+memory_rows = record { made_before = none_asked }
 
 pub made_rows : MadeRows
 made_rows = record {

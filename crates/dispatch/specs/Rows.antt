@@ -1,10 +1,13 @@
 -- Worked rows of handing over (this project's profile): a connection knows x and y.
-use Rattle.std.specs.Prelude.{◌≡◌, ◌↔◌, ℕ, List, [], ◌∷◌, Some, None}
-use Rattle.ms_select.specs.Rows.{x, y}
+use Rattle.std.specs.Prelude.{◌≡◌, ◌↔◌, ℕ, List, [], ◌∷◌, ◌++◌, Some, None}
+use Rattle.ms_select.specs.Rows.{x, y, header_bytes, y_bytes}
+use Rattle.handlers.specs.Calls.{HandlerCall}
 use Rattle.talks.specs.Talks.{Asks, Answers}
+use Rattle.streams.specs.declared.stage.Stage.TheVariants.{Over}
 use Rattle.streams.specs.Streams.{Past, fresh}
+use Rattle.streams.specs.State.{Streaming}
 use Rattle.dispatch.specs.declared.direction.Direction.TheVariants.{Inbound, Outbound}
-use Rattle.dispatch.specs.Dispatch.{IsKnown, IsMade, made_by}
+use Rattle.dispatch.specs.Dispatch.{IsKnown, IsMade, MakingRunsOut, made_by}
 
 abbrev pub known : List (List ℕ)
 known = x ∷ y ∷ []
@@ -39,6 +42,20 @@ eager = fresh (Asks y 1) (Some 30)
 
 abbrev pub none_yet : Past ℕ
 none_yet = fresh (Asks y 1) None
+
+-- both ends agree on y already
+abbrev pub agreed : Past ℕ
+agreed = record eager { got = header_bytes ++ y_bytes }
+
+abbrev pub any_step : ℕ → HandlerCall → ℕ → Type 0
+any_step old call new = Unit {0}
+
+abbrev pub some_stream : Streaming ℕ
+some_stream = record { waiting = []; stage = Over }
+
+-- where the handler is there already none is made, and no memory asked for
+pub record MemoryRows : Type 0 where
+  pub made_before : ¬ MakingRunsOut any_step agreed some_stream [] []
 
 pub record MadeRows : Type 0 where
   pub inbound : (index handler : ℕ) → makes_inbound index handler ↔ ((index ≡ 1) × (handler ≡ 10))

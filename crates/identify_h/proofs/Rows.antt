@@ -1,6 +1,7 @@
 -- The definitions at worked bytes.
 use Rattle.std.proofs.Common.{◌≡◌, ℕ, ◌+◌, ◌*◌, ◌<◌, ◌≤◌, zero, suc, List, [], ◌∷◌, ◌++◌, length, replicate, Some, None, true, false, refl, sym, ap, ◌∙◌, subst, inl, inr, arith}
 use Rattle.std.specs.Prelude.{IsSome, is_some, slice_index}
+use Rattle.std.proofs.lemmas.List.{length-append}
 use Rattle.varint_proto.specs.Varint.{shortest, shortest_within}
 use Rattle.varint_proto.specs.Varint.{BeginsShortest, BeginsWide}
 use Rattle.varint_proto.specs.Message.{Entry, entry, Bytes, Varint, Begins, IsMessage, last_body}
@@ -16,9 +17,9 @@ use Rattle.varint_proto.specs.Incoming.{Frames}
 use Rattle.peer_ids.specs.declared.fault.KeyFault.TheVariants as keys
 use Rattle.identify_h.specs.declared.fault.IdentifyFault.TheVariants.{TooMany, OutOfMemory}
 use Rattle.identify_h.specs.Messages.{IsKeySpelt, HasText, HasField, Refuses}
-use Rattle.identify_h.specs.Streams.{Lead, HasFault}
+use Rattle.identify_h.specs.Streams.{Lead, Begins as BeginsWith, HasFault, left_behind}
 use Rattle.identify_h.proofs.Messages.{not_spelt}
-use Rattle.identify_h.specs.Rows.{key_field, key_id, MessageRows, FieldRows, MemoryRows, BadKeyRows, MergeRows, StreamRows, FaultRows}
+use Rattle.identify_h.specs.Rows.{key_field, key_id, texts_and_none, MessageRows, FieldRows, MemoryRows, BadKeyRows, MergeRows, StreamRows, FaultRows}
 
 one_wide : (n : ℕ) (rest : List ℕ) → n < 128 → BeginsWide (n ∷ rest) n rest
 one_wide n rest lt = (n ∷ [], record { ends = lt; within = omega arith; fits = omega arith; value = omega arith }, refl)
@@ -125,6 +126,19 @@ empty_field number tag rest is least lt = (
   refl,
 )
 
+-- a field of a number below 16 that holds a number
+varint_field : (number tag n : ℕ) (rest : List ℕ) → tag ≡ 8 * number + 0 → 8 ≤ tag → tag < 128 → n < 128 → Begins (tag ∷ n ∷ rest) (entry number (Varint n)) rest
+varint_field number tag n rest is least lt small = (
+  tag ∷ n ∷ [],
+  record {
+    value = n ∷ [];
+    fits = (omega arith, omega arith);
+    tag = subst (λ k. BeginsWide (tag ∷ n ∷ []) k (n ∷ [])) is (one_wide tag _ lt);
+    content = record { ends = small; within = omega arith; fits = omega arith; value = omega arith };
+  },
+  refl,
+)
+
 version_1 : Begins (40 ∷ 1 ∷ []) (entry 5 (Varint 1)) []
 version_1 = (
   40 ∷ 1 ∷ [],
@@ -144,16 +158,69 @@ spells_key : SpellsKey key_message the_key
 unfolding the_key
 spells_key = subst (λ (t : List ℕ). SpellsKey t (record { kind = Ed25519; body = replicate 32 7 })) (canonical_ed25519 (replicate 32 7) refl) (canonical_spells (record { kind = Ed25519; body = replicate 32 7 }) refl)
 
+key_before : (rest : List ℕ) → Begins (key_field ++ rest) (entry 1 (Bytes key_message)) rest
+key_before rest = (key_field, record { value = 36 ∷ key_message; fits = (omega arith, omega arith); tag = one_wide 10 _ (omega arith); content = one_wide 36 _ (omega arith) }, refl)
+
 whole_key_field : Begins key_field (entry 1 (Bytes key_message)) []
 whole_key_field = (key_field, record { value = 36 ∷ key_message; fits = (omega arith, omega arith); tag = one_wide 10 _ (omega arith); content = one_wide 36 _ (omega arith) }, refl)
 
+-- the fields of the texts that are empty behind
+texts_fields : List Entry
+texts_fields = entry 4 (Bytes (97 ∷ [])) ∷ entry 5 (Bytes (97 ∷ [])) ∷ entry 6 (Bytes (97 ∷ [])) ∷ entry 4 (Bytes []) ∷ entry 5 (Bytes []) ∷ entry 6 (Bytes []) ∷ []
+
+texts_message : IsMessage texts_and_none texts_fields
+unfolding texts_fields
+texts_message = (
+  42 ∷ 1 ∷ 97 ∷ 50 ∷ 1 ∷ 97 ∷ 34 ∷ 0 ∷ 42 ∷ 0 ∷ 50 ∷ 0 ∷ [],
+  short_field 4 34 97 _ refl (omega arith) (omega arith),
+  (
+    50 ∷ 1 ∷ 97 ∷ 34 ∷ 0 ∷ 42 ∷ 0 ∷ 50 ∷ 0 ∷ [],
+    short_field 5 42 97 _ refl (omega arith) (omega arith),
+    (
+      34 ∷ 0 ∷ 42 ∷ 0 ∷ 50 ∷ 0 ∷ [],
+      short_field 6 50 97 _ refl (omega arith) (omega arith),
+      (
+        42 ∷ 0 ∷ 50 ∷ 0 ∷ [],
+        empty_field 4 34 _ refl (omega arith) (omega arith),
+        (50 ∷ 0 ∷ [], empty_field 5 42 _ refl (omega arith) (omega arith), ([], empty_field 6 50 [] refl (omega arith) (omega arith), refl)),
+      ),
+    ),
+  ),
+)
+
 pub field_rows : FieldRows
-unfolding the_key shortest shortest_within
+unfolding the_key texts_fields shortest shortest_within
 field_rows = record {
   other_type = (
     entry 5 (Varint 1) ∷ [],
     ([], version_1, refl),
     record { key = tt; listen = refl; protocols = refl; observed = refl; version = refl; agent = refl },
+  );
+  other_types = (
+    entry 1 (Varint 1) ∷ entry 2 (Varint 1) ∷ entry 3 (Varint 1) ∷ entry 4 (Varint 1) ∷ entry 5 (Varint 1) ∷ entry 6 (Varint 1) ∷ [],
+    (
+      16 ∷ 1 ∷ 24 ∷ 1 ∷ 32 ∷ 1 ∷ 40 ∷ 1 ∷ 48 ∷ 1 ∷ [],
+      varint_field 1 8 1 _ refl (omega arith) (omega arith) (omega arith),
+      (
+        24 ∷ 1 ∷ 32 ∷ 1 ∷ 40 ∷ 1 ∷ 48 ∷ 1 ∷ [],
+        varint_field 2 16 1 _ refl (omega arith) (omega arith) (omega arith),
+        (
+          32 ∷ 1 ∷ 40 ∷ 1 ∷ 48 ∷ 1 ∷ [],
+          varint_field 3 24 1 _ refl (omega arith) (omega arith) (omega arith),
+          (
+            40 ∷ 1 ∷ 48 ∷ 1 ∷ [],
+            varint_field 4 32 1 _ refl (omega arith) (omega arith) (omega arith),
+            (48 ∷ 1 ∷ [], varint_field 5 40 1 _ refl (omega arith) (omega arith) (omega arith), ([], varint_field 6 48 1 [] refl (omega arith) (omega arith) (omega arith), refl)),
+          ),
+        ),
+      ),
+    ),
+    record { key = tt; listen = refl; protocols = refl; observed = refl; version = refl; agent = refl },
+  );
+  other_type_behind_a_key = (
+    entry 1 (Bytes key_message) ∷ entry 1 (Varint 1) ∷ [],
+    (8 ∷ 1 ∷ [], key_before (8 ∷ 1 ∷ []), ([], varint_field 1 8 1 [] refl (omega arith) (omega arith) (omega arith), refl)),
+    record { key = (spells_key, id_is); listen = refl; protocols = refl; observed = refl; version = refl; agent = refl },
   );
   number_7 = (
     entry 7 (Bytes (97 ∷ [])) ∷ [],
@@ -195,6 +262,16 @@ field_rows = record {
     entry 1 (Bytes key_message) ∷ [],
     ([], whole_key_field, refl),
     record { key = (spells_key, id_is); listen = refl; protocols = refl; observed = refl; version = refl; agent = refl },
+  );
+  key_behind_a_bad_one = (
+    entry 1 (Bytes []) ∷ entry 1 (Bytes key_message) ∷ [],
+    (key_field, empty_field 1 10 _ refl (omega arith) (omega arith), ([], whole_key_field, refl)),
+    record { key = (spells_key, id_is); listen = refl; protocols = refl; observed = refl; version = refl; agent = refl },
+  );
+  empty_behind_a_text = (
+    texts_fields,
+    texts_message,
+    record { key = tt; listen = refl; protocols = refl; observed = refl; version = refl; agent = refl },
   );
   key_of_another = (
     entry 1 (Bytes key_message) ∷ [],
@@ -239,6 +316,7 @@ memory_at peer bytes fields message refused =
     subst (λ (t : List Entry). IsKeySpelt (last_body 1 t) × HasField t) same (refused.2, refused.3)
 
 pub memory_rows : MemoryRows
+unfolding texts_fields
 memory_rows = record {
   version = (
     entry 5 (Bytes (97 ∷ [])) ∷ [],
@@ -282,6 +360,15 @@ memory_rows = record {
       no_memory (entry 6 (Bytes []) ∷ []) refl refl refl (λ h. h) (λ h. h) (λ h. omega arith)
       (memory_at [] (50 ∷ 0 ∷ []) (entry 6 (Bytes []) ∷ []) ([], empty_field 6 50 [] refl (omega arith) (omega arith), refl) refused).1;
   no_field = λ refused. no_memory [] refl refl refl (λ h. h) (λ h. h) (λ h. h) (memory_at [] [] [] refl refused).1;
+  empty_behind_a_text = λ refused.
+      no_memory texts_fields refl refl refl (λ h. omega arith) (λ h. omega arith) (λ h. omega arith)
+      (memory_at [] texts_and_none texts_fields texts_message refused).1;
+  text_behind_an_empty = (
+    entry 5 (Bytes []) ∷ entry 5 (Bytes (97 ∷ [])) ∷ [],
+    (42 ∷ 1 ∷ 97 ∷ [], empty_field 5 42 _ refl (omega arith) (omega arith), ([], short_field 5 42 97 [] refl (omega arith) (omega arith), refl)),
+    tt,
+    inr (5, omega arith, omega arith, omega arith),
+  );
   bad_key = λ refused.
       let spelt = (memory_at [] (10 ∷ 0 ∷ 42 ∷ 1 ∷ 97 ∷ []) (entry 1 (Bytes []) ∷ entry 5 (Bytes (97 ∷ [])) ∷ [])
       (42 ∷ 1 ∷ 97 ∷ [], empty_field 1 10 _ refl (omega arith) (omega arith), ([], short_field 5 42 97 [] refl (omega arith) (omega arith), refl)) refused).0 in
@@ -295,6 +382,33 @@ no_spelling spelt = key_or_fault [] spelt.0 keys.NoType (λ e. cc) spelt.1 ([], 
 
 cut_spelling : ¬ IsKeySpelt (Some (8 ∷ []))
 cut_spelling spelt = key_or_fault (8 ∷ []) spelt.0 keys.Wire (λ e. cc) spelt.1 message_rows.badly_spelt
+
+-- a key of this type, with these data
+key_entries : (n : ℕ) → n < 128 → IsMessage (8 ∷ n ∷ 18 ∷ 1 ∷ 7 ∷ []) (entry 1 (Varint n) ∷ entry 2 (Bytes (7 ∷ [])) ∷ [])
+key_entries n small = (18 ∷ 1 ∷ 7 ∷ [], varint_field 1 8 n _ refl (omega arith) (omega arith) small, ([], short_field 2 18 7 [] refl (omega arith) (omega arith), refl))
+
+no_data_spelling : ¬ IsKeySpelt (Some (8 ∷ 1 ∷ []))
+no_data_spelling spelt =
+    key_or_fault (8 ∷ 1 ∷ []) spelt.0 keys.NoData (λ e. cc) spelt.1
+    (entry 1 (Varint 1) ∷ [], ([], varint_field 1 8 1 [] refl (omega arith) (omega arith) (omega arith), refl), (refl, refl))
+
+unknown_spelling : ¬ IsKeySpelt (Some (8 ∷ 4 ∷ 18 ∷ 1 ∷ 7 ∷ []))
+unknown_spelling spelt =
+    key_or_fault (8 ∷ 4 ∷ 18 ∷ 1 ∷ 7 ∷ []) spelt.0 keys.UnknownType (λ e. cc) spelt.1
+    (entry 1 (Varint 4) ∷ entry 2 (Bytes (7 ∷ [])) ∷ [], key_entries 4 (omega arith), (4, refl, omega arith, refl))
+
+short_spelling : ¬ IsKeySpelt (Some (8 ∷ 1 ∷ 18 ∷ 1 ∷ 7 ∷ []))
+short_spelling spelt =
+    key_or_fault (8 ∷ 1 ∷ 18 ∷ 1 ∷ 7 ∷ []) spelt.0 keys.BadLength (λ e. cc) spelt.1
+    (entry 1 (Varint 1) ∷ entry 2 (Bytes (7 ∷ [])) ∷ [], key_entries 1 (omega arith), (Ed25519, 7 ∷ [], refl, refl, λ allowed. let no : 1 ≡ 32 = allowed in omega arith))
+
+-- the field of a key of five bytes
+key_of_five : (a b c d e : ℕ) → Begins (10 ∷ 5 ∷ a ∷ b ∷ c ∷ d ∷ e ∷ []) (entry 1 (Bytes (a ∷ b ∷ c ∷ d ∷ e ∷ []))) []
+key_of_five a b c d e = (
+  10 ∷ 5 ∷ a ∷ b ∷ c ∷ d ∷ e ∷ [],
+  record { value = 5 ∷ a ∷ b ∷ c ∷ d ∷ e ∷ []; fits = (omega arith, omega arith); tag = one_wide 10 _ (omega arith); content = one_wide 5 _ (omega arith) },
+  refl,
+)
 
 pub bad_key_rows : BadKeyRows
 bad_key_rows = record {
@@ -314,6 +428,17 @@ bad_key_rows = record {
     (42 ∷ 1 ∷ 97 ∷ [], empty_field 1 10 _ refl (omega arith) (omega arith), ([], short_field 5 42 97 [] refl (omega arith) (omega arith), refl)),
     ([], refl, no_spelling),
   );
+  no_data = (
+    entry 1 (Bytes (8 ∷ 1 ∷ [])) ∷ [],
+    (
+      [],
+      (10 ∷ 2 ∷ 8 ∷ 1 ∷ [], record { value = 2 ∷ 8 ∷ 1 ∷ []; fits = (omega arith, omega arith); tag = one_wide 10 _ (omega arith); content = one_wide 2 _ (omega arith) }, refl),
+      refl,
+    ),
+    (8 ∷ 1 ∷ [], refl, no_data_spelling),
+  );
+  unknown_type = (entry 1 (Bytes (8 ∷ 4 ∷ 18 ∷ 1 ∷ 7 ∷ [])) ∷ [], ([], key_of_five 8 4 18 1 7, refl), (8 ∷ 4 ∷ 18 ∷ 1 ∷ 7 ∷ [], refl, unknown_spelling));
+  bad_length = (entry 1 (Bytes (8 ∷ 1 ∷ 18 ∷ 1 ∷ 7 ∷ [])) ∷ [], ([], key_of_five 8 1 18 1 7, refl), (8 ∷ 1 ∷ 18 ∷ 1 ∷ 7 ∷ [], refl, short_spelling));
   well_spelt = λ bad. not_spelt key_field (entry 1 (Bytes key_message) ∷ []) ([], whole_key_field, refl) bad (the_key, spells_key);
   no_key = λ bad. not_spelt [] [] refl bad tt;
   no_message = λ bad. message_or_fault (8 ∷ []) bad.0 message_rows.badly_spelt.0 bad.1 message_rows.badly_spelt.1;
@@ -327,6 +452,21 @@ empties (suc n) rest = (replicate n 0 ++ rest, framed_row 16384 [] (replicate n 
 eleventh : (b : ℕ) (rest : List ℕ) → HasFault (replicate 10 0 ++ b ∷ rest) TooMany
 eleventh b rest = (replicate 10 [], b ∷ rest, record { few = omega arith; lead = empties 10 (b ∷ rest) }, (refl, omega arith))
 
+-- an empty message, and then these bytes
+behind_an_empty : (rest : List ℕ) → BeginsWith (0 ∷ rest) ([] ∷ []) rest
+behind_an_empty rest = record { few = omega arith; lead = (rest, framed_row 16384 [] rest (omega arith) (omega arith), refl) }
+
+-- a body of 16384 bytes behind its length, and then these bytes
+longest : (body rest : List ℕ) → length body ≡ 16384 → Frames 16384 (128 ∷ 128 ∷ 1 ∷ body ++ rest) body rest
+longest body rest is = record {
+  begins = subst (λ n. BeginsShortest (128 ∷ 128 ∷ 1 ∷ body ++ rest) n (body ++ rest)) (sym is)
+      (128 ∷ 128 ∷ 1 ∷ [], record { ends = (omega arith, (omega arith, omega arith)); within = omega arith; shortest = λ _. omega arith; value = refl }, refl);
+  allowed = omega (arith, is);
+}
+
+none_left : (body : List ℕ) → length body ≡ 16384 → left_behind (body ∷ []) ≡ 0
+none_left body is = omega (arith, is, length-append body [])
+
 pub fault_rows : FaultRows
 fault_rows = record {
   cut_behind_bad = (
@@ -336,6 +476,15 @@ fault_rows = record {
     inr (omega arith, inr (5, 42 ∷ [], record { begins = one_short 5 _ (omega arith); allowed = omega arith }, omega arith)),
     inr (omega arith),
   );
+  cut_within_a_length = ([] ∷ [], 128 ∷ [], behind_an_empty (128 ∷ []), inr (omega arith, inl ((omega arith, tt), omega arith)), inr (omega arith));
+  cut_behind_a_length = (
+    [] ∷ [],
+    5 ∷ [],
+    behind_an_empty (5 ∷ []),
+    inr (omega arith, inr (5, [], record { begins = one_short 5 _ (omega arith); allowed = omega arith }, omega arith)),
+    inr (omega arith),
+  );
+  eleventh_length_begun = eleventh 128 [];
   eleventh_begun = eleventh 1 [];
   eleventh_longer = eleventh 1 (8 ∷ []);
   eleventh_bad = eleventh 128 (0 ∷ []);
@@ -344,6 +493,18 @@ fault_rows = record {
     128 ∷ 128 ∷ 1 ∷ [],
     record { few = omega arith; lead = (128 ∷ 128 ∷ 1 ∷ [], framed_row 16384 (8 ∷ []) _ (omega arith) (omega arith), refl) },
     (omega arith, (16384, [], (128 ∷ 128 ∷ 1 ∷ [], record { ends = (omega arith, (omega arith, omega arith)); within = omega arith; shortest = λ _. omega arith; value = refl }, refl), omega arith)),
+  );
+  empty_behind_the_longest = λ body is. record {
+    bodies = body ∷ [] ∷ [];
+    rest = [];
+    begins = record { few = omega arith; lead = (0 ∷ [], longest body (0 ∷ []) is, ([], framed_row _ [] [] (omega arith) (omega arith), refl)) };
+    part = inl refl;
+  };
+  one_behind_the_longest = λ body is. (
+    body ∷ [],
+    1 ∷ [],
+    record { few = omega arith; lead = (1 ∷ [], longest body (1 ∷ []) is, refl) },
+    (omega arith, (1, [], one_short 1 [] (omega arith), omega (arith, none_left body is))),
   );
 }
 

@@ -1,5 +1,5 @@
 -- Worked rows of the definitions (libp2p identify 1.0.0; the limits are this project's profile).
-use Rattle.std.specs.Prelude.{◌≡◌, ◌↔◌, ℕ, List, [], ◌∷◌, ◌++◌, Some, None, true, false, replicate, take, drop}
+use Rattle.std.specs.Prelude.{◌≡◌, ◌↔◌, ℕ, List, [], ◌∷◌, ◌++◌, length, Some, None, true, false, replicate, take, drop}
 use Rattle.handlers.specs.Calls.{Take, Give, End, ToTake, ToGive, ToEnd}
 use Rattle.peer_ids.specs.declared.kind.KeyType.TheVariants.{Ed25519}
 use Rattle.peer_ids.specs.PeerId.{id_of}
@@ -10,7 +10,7 @@ use Rattle.peer_ids.specs.declared.fault.KeyFault.TheVariants as keys
 use Rattle.identify_h.specs.Faults.{number_of, of_key_fault, of_incoming}
 use Rattle.identify_h.specs.Sending.{framed, sending, SendStep, SendFails}
 use Rattle.identify_h.specs.Reading.{Reader, ReadStep, ReadFails}
-use Rattle.identify_h.specs.Streams.{HasFault, TakeFails, EndFails, Reads}
+use Rattle.identify_h.specs.Streams.{GoesOn, HasFault, TakeFails, EndFails, Reads}
 
 -- a message that says nothing, and one with a version `abc` and an agent `x`
 abbrev pub nothing : Message
@@ -47,6 +47,14 @@ key_field = 10 ∷ 36 ∷ 8 ∷ 1 ∷ 18 ∷ 32 ∷ replicate 32 7
 abbrev pub key_id : List ℕ
 key_id = 0 ∷ 36 ∷ 8 ∷ 1 ∷ 18 ∷ 32 ∷ replicate 32 7
 
+-- a message that says that key and nothing else
+abbrev pub keyed : Message
+keyed = record nothing { key = Some (record { kind = Ed25519; body = replicate 32 7 }) }
+
+-- a text of each number that holds one, and then each again, empty
+abbrev pub texts_and_none : List ℕ
+texts_and_none = 34 ∷ 1 ∷ 97 ∷ 42 ∷ 1 ∷ 97 ∷ 50 ∷ 1 ∷ 97 ∷ 34 ∷ 0 ∷ 42 ∷ 0 ∷ 50 ∷ 0 ∷ []
+
 pub record MessageRows : Type 0 where
   pub names : written named ≡ 42 ∷ 3 ∷ 97 ∷ 98 ∷ 99 ∷ 50 ∷ 1 ∷ 120 ∷ []
   pub behind_its_length : framed (written named) ≡ 8 ∷ 42 ∷ 3 ∷ 97 ∷ 98 ∷ 99 ∷ 50 ∷ 1 ∷ 120 ∷ []
@@ -82,6 +90,9 @@ pub record MergeRows : Type 0 where
 pub record FieldRows : Type 0 where
   -- a number that is known, of another wire type, is no empty version
   pub other_type : Spells [] (40 ∷ 1 ∷ []) nothing
+  -- nor is any other number, be it that of the key
+  pub other_types : Spells [] (8 ∷ 1 ∷ 16 ∷ 1 ∷ 24 ∷ 1 ∷ 32 ∷ 1 ∷ 40 ∷ 1 ∷ 48 ∷ 1 ∷ []) nothing
+  pub other_type_behind_a_key : Spells key_id (key_field ++ 8 ∷ 1 ∷ []) keyed
   pub number_7 : Spells [] (58 ∷ 1 ∷ 97 ∷ []) nothing
   pub empty_agent : Spells [] (50 ∷ 0 ∷ []) (record nothing { agent = Some [] })
   pub falling : Spells [] (50 ∷ 1 ∷ 120 ∷ 42 ∷ 1 ∷ 97 ∷ 34 ∷ 1 ∷ 98 ∷ [])
@@ -91,6 +102,11 @@ pub record FieldRows : Type 0 where
       (record nothing { listen = (5 ∷ []) ∷ (4 ∷ []) ∷ []; protocols = (47 ∷ []) ∷ (46 ∷ []) ∷ [] })
   pub own_key : Spells key_id key_field
       (record nothing { key = Some (record { kind = Ed25519; body = replicate 32 7 }) })
+  -- of two keys the last alone counts, though the first isn't read
+  pub key_behind_a_bad_one : Spells key_id (10 ∷ 0 ∷ key_field) keyed
+  -- of two texts the last counts, though it is empty
+  pub empty_behind_a_text : Spells [] texts_and_none
+      (record nothing { observed = Some []; version = Some []; agent = Some [] })
   -- that key, read of a peer whose key has another byte
   pub key_of_another : Refuses (0 ∷ 36 ∷ 8 ∷ 1 ∷ 18 ∷ 32 ∷ replicate 32 9) key_field OtherKey
 
@@ -109,6 +125,9 @@ pub record MemoryRows : Type 0 where
   pub number_7 : ¬ Refuses [] (58 ∷ 1 ∷ 97 ∷ []) OutOfMemory
   pub other_type : ¬ Refuses [] (40 ∷ 1 ∷ []) OutOfMemory
   pub no_field : ¬ Refuses [] [] OutOfMemory
+  -- nor for a text behind which an empty one stands, but for one behind an empty one
+  pub empty_behind_a_text : ¬ Refuses [] texts_and_none OutOfMemory
+  pub text_behind_an_empty : Refuses [] (42 ∷ 0 ∷ 42 ∷ 1 ∷ 97 ∷ []) OutOfMemory
   -- a key that isn't well spelt, and a version behind it
   pub bad_key : ¬ Refuses [] (10 ∷ 0 ∷ 42 ∷ 1 ∷ 97 ∷ []) OutOfMemory
 
@@ -119,6 +138,10 @@ pub record BadKeyRows : Type 0 where
   pub cut : HasBadKey (10 ∷ 1 ∷ 8 ∷ [])
   pub behind_another : HasBadKey (key_field ++ 10 ∷ 0 ∷ [])
   pub before_a_version : HasBadKey (10 ∷ 0 ∷ 42 ∷ 1 ∷ 97 ∷ [])
+  -- without data, of a type that isn't known, and of a length that keys of its type don't have
+  pub no_data : HasBadKey (10 ∷ 2 ∷ 8 ∷ 1 ∷ [])
+  pub unknown_type : HasBadKey (10 ∷ 5 ∷ 8 ∷ 4 ∷ 18 ∷ 1 ∷ 7 ∷ [])
+  pub bad_length : HasBadKey (10 ∷ 5 ∷ 8 ∷ 1 ∷ 18 ∷ 1 ∷ 7 ∷ [])
   pub well_spelt : ¬ HasBadKey key_field
   pub no_key : ¬ HasBadKey []
   pub no_message : ¬ HasBadKey (8 ∷ [])
@@ -137,12 +160,20 @@ pub record StreamRows : Type 0 where
 pub record FaultRows : Type 0 where
   -- a stream that ends within its second message is cut, whatever the first says
   pub cut_behind_bad : EndFails [] (1 ∷ 8 ∷ 5 ∷ 42 ∷ []) Cut
+  -- so is one that ends within the length of its second message, or right behind it
+  pub cut_within_a_length : EndFails [] (0 ∷ 128 ∷ []) Cut
+  pub cut_behind_a_length : EndFails [] (0 ∷ 5 ∷ []) Cut
   -- an eleventh message is too many once its length has begun, be it whole or not
+  pub eleventh_length_begun : HasFault (replicate 10 0 ++ 128 ∷ []) TooMany
   pub eleventh_begun : HasFault (replicate 10 0 ++ 1 ∷ []) TooMany
   pub eleventh_longer : HasFault (replicate 10 0 ++ 1 ∷ 8 ∷ []) TooMany
   pub eleventh_bad : HasFault (replicate 10 0 ++ 128 ∷ 0 ∷ []) TooMany
   -- a body of 16384 bytes is too long behind one of a byte
   pub together : HasFault (1 ∷ 8 ∷ 128 ∷ 128 ∷ 1 ∷ []) TooLong
+  -- behind one of 16384 bytes an empty body may stand, and no other
+  pub empty_behind_the_longest : (body : List ℕ) → length body ≡ 16384 → GoesOn (128 ∷ 128 ∷ 1 ∷ body ++ 0 ∷ [])
+  pub one_behind_the_longest : (body : List ℕ) → length body ≡ 16384
+      → HasFault (128 ∷ 128 ∷ 1 ∷ body ++ 1 ∷ []) TooLong
 
 -- Where a stream asks for memory: at the last byte of a length, once for each body that isn't empty
 pub record RoomRows : Type 0 where

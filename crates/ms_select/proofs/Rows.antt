@@ -9,7 +9,7 @@ use Rattle.varint_proto.specs.declared.fault.WireFault.TheVariants.{NotShortest}
 use Rattle.varint_proto.specs.Varint.{IsSpelling, BeginsShortest, shortest, shortest_within}
 use Rattle.ms_select.specs.declared.fault.SelectFault.TheVariants.{BadLength}
 use Rattle.ms_select.specs.declared.answer.Answer.TheVariants.{Going}
-use Rattle.ms_select.specs.Messages.{header, na, message, spelled, IsShort, ReadsMessage}
+use Rattle.ms_select.specs.Messages.{header, na, ls, message, spelled, IsShort, ReadsMessage}
 use Rattle.ms_select.specs.Listening.{choice, Listens}
 use Rattle.ms_select.specs.Dialing.{Dials}
 use Rattle.ms_select.specs.Sides.{EndsLength}
@@ -129,6 +129,7 @@ dial_rows = record {
   next = (header ∷ na ∷ [], [], record { answered = record { parts = refl; refusals = (refl, one_na) }; left = omega arith }, nothing_came, refl, refl);
   agreed = ([], x, 7 ∷ [], record { parts = refl; refusals = (refl, no_na) }, record { short = lit< tt; place = refl; proposed = refl; other = λ e. cc }, refl, refl);
   second = (na ∷ [], y, [], record { parts = refl; refusals = (refl, one_na) }, record { short = lit< tt; place = refl; proposed = refl; other = λ e. cc }, refl, refl);
+  second_of_two_equal = (na ∷ [], x, [], record { parts = refl; refusals = (refl, one_na) }, record { short = lit< tt; place = refl; proposed = refl; other = λ e. cc }, refl, refl);
   none_left = (header ∷ na ∷ na ∷ [], 7 ∷ [], record { parts = refl; refusals = (refl, two_na) }, record { all = refl; none = λ e. absurd (omega (arith, ap length e)) }, refl, refl);
   nameless = ([], 7 ∷ [], record { parts = refl; refusals = tt }, record { all = refl; none = λ e. refl }, refl, refl);
   other_header = ([], x_bytes, record { answered = record { parts = refl; refusals = tt }; left = omega arith }, inr (x, ([], record { parts = refl; short = lit< tt }), (λ e. cc), refl), refl, refl);
@@ -158,6 +159,7 @@ dial_rows = record {
   );
   proposed_na = (header ∷ na ∷ [], [], record { parts = refl; refusals = (refl, one_na) }, record { all = refl; none = λ e. absurd (omega (arith, ap length e)) }, refl, refl);
   proposed_header = ([], header, [], record { parts = refl; refusals = (refl, no_na) }, record { short = lit< tt; place = refl; proposed = refl; other = λ e. cc }, refl, refl);
+  proposed_ls = ([], ls, [], record { parts = refl; refusals = (refl, no_na) }, record { short = lit< tt; place = refl; proposed = refl; other = differs 0 ls na (omega arith) }, refl, refl);
   bad_length = (header ∷ [], 0 ∷ [], record { answered = record { parts = refl; refusals = (refl, no_na) }; left = omega arith }, inl no_length, refl, refl);
   no_newline_at_once = ([], 2 ∷ 97 ∷ 98 ∷ [], record { answered = record { parts = refl; refusals = tt }; left = omega arith }, inl message_rows.no_newline, refl, refl);
   no_newline = (header ∷ [], 2 ∷ 97 ∷ 98 ∷ [], record { answered = record { parts = refl; refusals = (refl, no_na) }; left = omega arith }, inl message_rows.no_newline, refl, refl);

@@ -28,6 +28,9 @@ y_bytes = 3 ∷ 47 ∷ 121 ∷ 10 ∷ []
 abbrev pub na_bytes : List ℕ
 na_bytes = 3 ∷ 110 ∷ 97 ∷ 10 ∷ []
 
+abbrev pub ls_bytes : List ℕ
+ls_bytes = 3 ∷ 108 ∷ 115 ∷ 10 ∷ []
+
 pub record MessageRows : Type 0 where
   pub header_is : message header ≡ header_bytes
   pub na_is : message na ≡ na_bytes
@@ -84,6 +87,9 @@ pub record DialRows : Type 0 where
   pub agreed : Dials (x ∷ y ∷ []) (header_bytes ++ x_bytes ++ 7 ∷ []) (Ok (Agreed 0)) 24 (header_bytes ++ x_bytes)
   pub second : Dials (x ∷ y ∷ []) (header_bytes ++ na_bytes ++ y_bytes) (Ok (Agreed 1)) 28
       (header_bytes ++ x_bytes ++ y_bytes)
+  -- the index is that of the proposal, also where an earlier one names the same
+  pub second_of_two_equal : Dials (x ∷ x ∷ []) (header_bytes ++ na_bytes ++ x_bytes) (Ok (Agreed 1)) 28
+      (header_bytes ++ x_bytes ++ x_bytes)
   pub none_left : Dials (x ∷ y ∷ []) (header_bytes ++ na_bytes ++ na_bytes ++ 7 ∷ []) (Ok NoneLeft) 28
       (header_bytes ++ x_bytes ++ y_bytes)
   pub nameless : Dials [] (7 ∷ []) (Ok NoneLeft) 0 []
@@ -92,10 +98,11 @@ pub record DialRows : Type 0 where
   pub header_again : Dials (x ∷ y ∷ []) (header_bytes ++ header_bytes) (Err NotProposed) 40 (header_bytes ++ x_bytes)
   pub refused_name : Dials (x ∷ y ∷ []) (header_bytes ++ na_bytes ++ x_bytes) (Err NotProposed) 28
       (header_bytes ++ x_bytes ++ y_bytes)
-  -- na refuses a name that is na itself, and a name may be the header
+  -- na refuses a name that is na itself, and a name may be the header, or ls
   pub proposed_na : Dials (na ∷ []) (header_bytes ++ na_bytes) (Ok NoneLeft) 24 (header_bytes ++ na_bytes)
   pub proposed_header : Dials (header ∷ []) (header_bytes ++ header_bytes) (Ok (Agreed 0)) 40
       (header_bytes ++ header_bytes)
+  pub proposed_ls : Dials (ls ∷ []) (header_bytes ++ ls_bytes) (Ok (Agreed 0)) 24 (header_bytes ++ ls_bytes)
   pub bad_length : Dials (x ∷ y ∷ []) (header_bytes ++ 0 ∷ []) (Err BadLength) 21 (header_bytes ++ x_bytes)
   pub no_newline_at_once : Dials (x ∷ y ∷ []) (2 ∷ 97 ∷ 98 ∷ []) (Err NoNewline) 3 (header_bytes ++ x_bytes)
   pub no_newline : Dials (x ∷ y ∷ []) (header_bytes ++ 2 ∷ 97 ∷ 98 ∷ []) (Err NoNewline) 23 (header_bytes ++ x_bytes)

@@ -391,6 +391,15 @@ not_named name i t d q Dns4 e = d (sym (ap (λ (x : List ℕ). get_or x 0 0) e))
 not_named name i t d q Dns6 e = d (sym (ap (λ (x : List ℕ). get_or x 0 0) e))
 not_named name i t d q P2p e = q (sym (ap (λ (x : List ℕ). get_or x 0 0) e))
 
+not_ipfs : (p : Protocol) → name_of p ≢ codes "ipfs"
+not_ipfs Ip4 e = omega (arith, ap length e)
+not_ipfs Tcp e = omega (arith, ap length e)
+not_ipfs Ip6 e = omega (arith, ap length e)
+not_ipfs Dns e = omega (arith, ap length e)
+not_ipfs Dns4 e = omega (arith, ap (λ (x : List ℕ). get_or x 0 0) e)
+not_ipfs Dns6 e = omega (arith, ap (λ (x : List ℕ). get_or x 0 0) e)
+not_ipfs P2p e = omega (arith, ap length e)
+
 -- the fault of the name at the front
 unknown_name : (parts : List Part) (text name : List ℕ) (tail : Option (List ℕ)) → LeadsParts text parts (47 ∷ (name ++ tail_of tail)) → unslashed name ≡ true
     → get_or name 0 0 ≢ 105 → get_or name 0 0 ≢ 116 → get_or name 0 0 ≢ 100 → get_or name 0 0 ≢ 112 → TextFault text UnknownProtocol
@@ -429,6 +438,9 @@ text_rows = record {
   empty = inl (refl, refl);
   no_slash = inr (inl (refl, (λ e. absurd (cc e)), (λ rest e. first 100 47 _ rest e (λ h. omega (arith, h)))));
   slash_alone = unknown_name [] (codes "/") [] None refl refl (λ e. omega (arith, e)) (λ e. omega (arith, e)) (λ e. omega (arith, e)) (λ e. omega (arith, e));
+  empty_name = unknown_name [] (codes "//a") [] (Some (codes "a")) refl refl (λ e. omega (arith, e)) (λ e. omega (arith, e)) (λ e. omega (arith, e)) (λ e. omega (arith, e));
+  upper_case = unknown_name [] (codes "/TCP/1") (codes "TCP") (Some (codes "1")) refl refl (λ e. omega (arith, e)) (λ e. omega (arith, e)) (λ e. omega (arith, e)) (λ e. omega (arith, e));
+  former_name = inr (inr ([], codes "ipfs/bafzaaaa", refl, inl (inl (refl, codes "ipfs", Some (codes "bafzaaaa"), no_slash (codes "ipfs") refl, refl, not_ipfs))));
   unknown = unknown_name [] (codes "/quic/1") (codes "quic") (Some (codes "1")) refl refl (λ e. omega (arith, e)) (λ e. omega (arith, e)) (λ e. omega (arith, e)) (λ e. omega (arith, e));
   unknown_before_its_value = unknown_name [] (codes "/quic") (codes "quic") None refl refl (λ e. omega (arith, e)) (λ e. omega (arith, e)) (λ e. omega (arith, e)) (λ e. omega (arith, e));
   no_value = inr (inr ([], codes "ip4", refl, inl (inr (refl, Ip4, refl))));

@@ -162,6 +162,9 @@ pub record TextRows : Type 0 where
   pub empty : RefusesText [] Empty
   pub no_slash : RefusesText (codes "dns/a") BadValue
   pub slash_alone : RefusesText (codes "/") UnknownProtocol
+  pub empty_name : RefusesText (codes "//a") UnknownProtocol
+  pub upper_case : RefusesText (codes "/TCP/1") UnknownProtocol
+  pub former_name : RefusesText (codes "/ipfs/bafzaaaa") UnknownProtocol
   pub unknown : RefusesText (codes "/quic/1") UnknownProtocol
   pub unknown_before_its_value : TextFault (codes "/quic") UnknownProtocol
   pub no_value : RefusesText (codes "/ip4") Cut

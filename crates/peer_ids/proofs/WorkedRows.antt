@@ -53,6 +53,8 @@ key_rows = record {
   data_of_another_wire_type = (refl, refl);
   type_before_its_length = (4, refl, omega arith, refl);
   too_long = (Ed25519, replicate 33 0, refl, refl, (λ h. omega (arith, h)));
+  unknown_behind_a_known_type = (4, refl, omega arith, refl);
+  short_behind_good_data = (Ed25519, replicate 31 0, refl, refl, (λ h. omega (arith, h)));
   spelt = (typed 1 (replicate 32 255), read 1 (replicate 32 255) (omega arith) (omega arith), record { kind = refl; body = refl; allowed = refl });
   memory = (key_of Rsa (7 ∷ []), (typed 0 (7 ∷ []), read 0 (7 ∷ []) (omega arith) (omega arith), record { kind = refl; body = refl; allowed = (omega arith, omega arith) }));
   cut = (
@@ -232,6 +234,7 @@ text_rows = record {
   empty = λ letters e. absurd (cc e);
   upper_b = λ letters e. first 66 98 _ letters e (λ h. omega (arith, h));
   no_b_before_its_letters = λ letters e. first 122 98 _ letters e (λ h. omega (arith, h));
+  b_alone = bytes_behind [] [] 0 (Err BadPrefix) refl refl (omega arith) (omega arith) (omega arith) refl tt (λ m e. absurd (cc e));
   letters_before_their_number = wrong_at 0 (codes "1") (omega arith) (λ p q. omega (arith, p)) (λ p q. omega (arith, p));
   upper_case = wrong_at 0 (codes "AA") (omega arith) (λ p q. omega (arith, p)) (λ p q. omega (arith, q));
   eight = wrong_at 1 (codes "a8") (omega arith) (λ p q. omega (arith, p)) (λ p q. omega (arith, q));

@@ -49,6 +49,11 @@ pub record KeyRows : Type 0 where
   pub data_of_another_wire_type : KeyFaultOf (entry 1 (Varint 1) ∷ entry 2 (Varint 1) ∷ []) NoData
   pub type_before_its_length : KeyFaultOf (entry 1 (Varint 4) ∷ entry 2 (Bytes []) ∷ []) UnknownType
   pub too_long : KeyFaultOf (entry 1 (Varint 1) ∷ entry 2 (Bytes (replicate 33 0)) ∷ []) key.BadLength
+  -- the last ones count, also where an earlier one would do
+  pub unknown_behind_a_known_type : KeyFaultOf (entry 1 (Varint 1) ∷ entry 2 (Bytes (replicate 32 0))
+      ∷ entry 1 (Varint 4) ∷ []) UnknownType
+  pub short_behind_good_data : KeyFaultOf (entry 1 (Varint 1) ∷ entry 2 (Bytes (replicate 32 0))
+      ∷ entry 2 (Bytes (replicate 31 0)) ∷ []) key.BadLength
   pub spelt : SpellsKey (8 ∷ 1 ∷ 18 ∷ 32 ∷ replicate 32 255) (key_of Ed25519 (replicate 32 255))
   pub memory : RefusesKey (8 ∷ 0 ∷ 18 ∷ 1 ∷ 7 ∷ []) OutOfMemory
   -- where the bytes have a fault no memory is asked for
@@ -123,6 +128,7 @@ pub record TextRows : Type 0 where
   pub empty : ReadsId [] (Err NotB)
   pub upper_b : ReadsId (codes "Bafzaaaa") (Err NotB)
   pub no_b_before_its_letters : ReadsId (codes "z1") (Err NotB)
+  pub b_alone : ReadsId (codes "b") (Err BadPrefix)
   pub letters_before_their_number : ReadsId (codes "b1") (Err NotBase32)
   pub upper_case : ReadsId (codes "bAA") (Err NotBase32)
   pub eight : ReadsId (codes "ba8") (Err NotBase32)

@@ -102,6 +102,10 @@ proof_rows = record {
       (id_entry ∷ entry 2 (Bytes (8 ∷ 2 ∷ [])) ∷ entry 2 (Bytes (18 ∷ 1 ∷ 5 ∷ [])) ∷ []) (omega arith)
       (written (id_entry ∷ entry 2 (Bytes (8 ∷ 2 ∷ [])) ∷ entry 2 (Bytes (18 ∷ 1 ∷ 5 ∷ [])) ∷ [])
       (both_writable.0, (((omega arith, omega arith), omega arith), (((omega arith, omega arith), omega arith), tt)))) refl refl;
+  keys_round_the_id = exchanged (18 ∷ 2 ∷ 8 ∷ 2 ∷ id_field ++ 18 ∷ 3 ∷ 18 ∷ 1 ∷ 5 ∷ []) []
+      (entry 2 (Bytes (8 ∷ 2 ∷ [])) ∷ id_entry ∷ entry 2 (Bytes (18 ∷ 1 ∷ 5 ∷ [])) ∷ []) (omega arith)
+      (written (entry 2 (Bytes (8 ∷ 2 ∷ [])) ∷ id_entry ∷ entry 2 (Bytes (18 ∷ 1 ∷ 5 ∷ [])) ∷ [])
+      (((omega arith, omega arith), omega arith), (both_writable.0, (((omega arith, omega arith), omega arith), tt)))) refl refl;
 }
 
 -- 8192 and 8193

@@ -39,6 +39,9 @@ pub record ProofRows : Type 0 where
   pub keys_are_joined :
       Exchanges (18 ∷ (id_field
       ++ 18 ∷ 2 ∷ 8 ∷ 2 ∷ 18 ∷ 3 ∷ 18 ∷ 1 ∷ 5 ∷ [])) (Ok (Some short_key)) 19
+  pub keys_round_the_id :
+      Exchanges (18 ∷ (18 ∷ 2 ∷ 8 ∷ 2 ∷ id_field
+      ++ 18 ∷ 3 ∷ 18 ∷ 1 ∷ 5 ∷ [])) (Ok (Some short_key)) 19
 
 -- Where an exchange stands while its message comes
 pub record WaitingRows : Type 0 where

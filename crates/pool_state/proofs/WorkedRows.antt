@@ -143,6 +143,10 @@ added_rows = record {
   stays_closing = refl;
   refused_ask = refl;
   closes_none = refl;
+  hangs_up_all = refl;
+  blocks_all = refl;
+  unblocks_any = refl;
+  allows_any = refl;
   each_of_its_number = refl;
   all_of_its_number = refl;
 }

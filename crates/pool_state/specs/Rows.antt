@@ -479,6 +479,13 @@ pub record AddedRows : Type 0 where
       ≡ row 1 Listener phase.Live None
   pub closes_none : row_after (Disallow first) (reply.Count 0) (row 1 Listener phase.Live (Some first))
       ≡ row 1 Listener phase.Live (Some first)
+  -- of the other calls the count decides nothing
+  pub hangs_up_all : row_after (HangUp first) (reply.Count 0) (row 1 Listener phase.Live (Some first))
+      ≡ row 1 Listener phase.Closing (Some first)
+  pub blocks_all : row_after (Block first) (reply.Count 0) (row 1 Listener phase.Live (Some first))
+      ≡ row 1 Listener phase.Closing (Some first)
+  pub unblocks_any : Becomes (Unblock third) (reply.Count 0) (dialing ∷ living ∷ []) [] (second ∷ [])
+  pub allows_any : Becomes (Allow first) (reply.Count 0) (dialing ∷ living ∷ []) (third ∷ []) (second ∷ first ∷ [])
   pub each_of_its_number : rows_after (Ask 1 2) reply.Done (twins Dialer Listener (0 ∷ 0 ∷ 0 ∷ []))
       ≡ twins Dialer Listener (0 ∷ 0 ∷ 1 ∷ [])
   pub all_of_its_number : rows_after (Gone 1) reply.Done (twins Dialer Listener (0 ∷ 0 ∷ 0 ∷ [])) ≡ []

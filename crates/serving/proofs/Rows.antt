@@ -1,5 +1,5 @@
 -- The worked rows of serving.
-use Rattle.std.proofs.Common.{◌≡◌, ◌⊎◌, ℕ, ◌<◌, Bool, true, false, [], ◌∷◌, Some, refl, sym, ◌∙◌, inl, inr, arith}
+use Rattle.std.proofs.Common.{◌≡◌, ◌⊎◌, ℕ, ◌<◌, Bool, true, false, List, [], ◌∷◌, ◌++◌, Option, Some, None, refl, sym, ◌∙◌, subst, inl, inr, arith}
 use Rattle.handlers.specs.Calls.{ToGive}
 use Rattle.yamux_session.specs.declared.event.Role.TheVariants.{Client, Server}
 use Rattle.yamux_session.specs.History.Item.{Did}
@@ -7,9 +7,13 @@ use Rattle.yamux_session.specs.History.Act.{Close}
 use Rattle.yamux_session.specs.Openings.{closed}
 use Rattle.yamux_session.specs.Windows.{credit}
 use Rattle.yamux_session.specs.Rows.{two_bytes, all_written}
-use Rattle.streams.specs.Streams.{Past}
-use Rattle.serving.specs.Served.{MayGrow}
-use Rattle.serving.specs.Rows.{DueRows, SettledRows, RefusalRows, taken}
+use Rattle.streams.specs.declared.stage.Stage.{Stage}
+use Rattle.streams.specs.declared.stage.Stage.TheVariants as stages
+use Rattle.streams.specs.Streams.{Past, HasAgreed}
+use Rattle.streams.specs.State.{StandsAt, has_closed}
+use Rattle.streams.proofs.Rows.{something_waits}
+use Rattle.serving.specs.Served.{MayGrow, with_sent}
+use Rattle.serving.specs.Rows.{any_step, itself, unsent, DueRows, CloseRows, HandRows, SettledRows, RefusalRows, taken}
 
 -- ---- what is due
 
@@ -30,6 +34,30 @@ due_rows so_far = record {
   opened = λ d. d;
   reset = λ d. d;
   gone_away = λ d. d;
+}
+
+-- a stream that has sent nothing of its talk gives more
+gives_more : (stage : Stage Bool) (waiting : List ℕ) (left : Option ℕ) → StandsAt any_step stage (with_sent Server two_bytes 1 unsent left) waiting → waiting ≡ [] → has_closed itself stage ≡ true → ⊥
+gives_more (stages.Talking talk None) waiting left s none over = absurd (cc over)
+gives_more (stages.Talking talk (Some handler)) waiting left s none over = s.early.0
+gives_more (stages.Agreed index) waiting left s none over = absurd (cc over)
+gives_more (stages.Serving handler) waiting left s none over =
+    let past = with_sent Server two_bytes 1 unsent left in
+    something_waits past s.index s.rest s.gave refl refl refl (subst (λ (t : List ℕ). HasAgreed past s.index s.rest s.gave t) none s.agreed)
+gives_more stages.Done waiting left s none over =
+    let past = with_sent Server two_bytes 1 unsent left in
+    something_waits past s.index (s.front ++ s.rest) s.gave refl refl refl (subst (λ (t : List ℕ). HasAgreed past s.index (s.front ++ s.rest) s.gave t) none s.agreed)
+gives_more stages.Over waiting left s none over = s
+
+pub close_rows : CloseRows
+close_rows = record { waiting = λ d. let given = d.1 in gives_more given.stream.stage given.stream.waiting given.left given.stands given.none_waits given.over }
+
+pub hand_rows : (so_far : Past Bool) → HandRows so_far
+hand_rows so_far = record {
+  none = (tt, refl);
+  kept = λ h. absurd (let e = h.1 in cc e);
+  unfinished = λ stream h. absurd (let e = h.0.1 in cc e);
+  served_on = λ h. absurd (let e = h.0.2 in cc e);
 }
 
 -- ---- a stream that was served

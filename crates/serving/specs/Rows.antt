@@ -14,7 +14,8 @@ use Rattle.streams.specs.declared.stop.Stop.{Stop}
 use Rattle.streams.specs.declared.stop.Stop.TheVariants.{Broken, OutOfMemory}
 use Rattle.streams.specs.Streams.{Past}
 use Rattle.streams.specs.State.{Streaming}
-use Rattle.serving.specs.Served.{IsDue, IsSettled, GivesUp, MayGrow}
+use Rattle.streams.specs.Rows.{came, served_past}
+use Rattle.serving.specs.Served.{IsDue, IsSettled, HandsOut, GivesUp, MayGrow}
 
 abbrev pub itself : Bool → Bool
 itself b = b
@@ -39,15 +40,40 @@ pub record DueRows (so_far : Past Bool) : Type 0 where
   pub reset : ¬ Due so_far Server two_bytes (Reset 1)
   pub gone_away : ¬ Due so_far Server two_bytes (Act.GoAway 0)
 
--- both bytes were taken
-abbrev pub taken : List Item
-taken = Did (Taken 1 2) ∷ two_bytes
+-- a stream whose talk has agreed, whose handler is closed, and of which nothing was sent
+abbrev pub unsent : Past Bool
+unsent = record {
+  side = served_past.side;
+  got = came;
+  ended = false;
+  sent = [];
+  made = Some true;
+  left = None;
+}
+
+-- this direction isn't closed while what the talk wrote waits, though the handler is closed
+pub record CloseRows : Type 0 where
+  pub waiting : ¬ Due unsent Server two_bytes (Close 1)
 
 abbrev pub serving_of : List ℕ → Bool → Streaming Bool
 serving_of waiting handler = record { waiting = waiting; stage = Serving handler }
 
 abbrev pub done_with : List ℕ → Streaming Bool
 done_with waiting = record { waiting = waiting; stage = Done }
+
+abbrev pub HandedOut : Past Bool → Option Bool → Streaming Bool → Type 0
+HandedOut so_far handler stream = HandsOut any_step itself itself so_far handler stream
+
+-- which handler is handed out: one that is finished, and then the stream is done
+pub record HandRows (so_far : Past Bool) : Type 0 where
+  pub none : HandedOut so_far None (serving_of [] false)
+  pub kept : ¬ HandedOut so_far None (serving_of [] true)
+  pub unfinished : (stream : Streaming Bool) → ¬ HandedOut so_far (Some false) stream
+  pub served_on : ¬ HandedOut so_far (Some true) (serving_of [] true)
+
+-- both bytes were taken
+abbrev pub taken : List Item
+taken = Did (Taken 1 2) ∷ two_bytes
 
 abbrev pub some_of : ℕ → Option ℕ
 some_of n = Some n

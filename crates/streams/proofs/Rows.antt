@@ -1,14 +1,21 @@
 -- The worked rows of streams.
-use Rattle.std.proofs.Common.{◌≡◌, ◌≢◌, ◌⊎◌, ℕ, ◌+◌, ◌<◌, List, [], ◌∷◌, ◌++◌, length, Option, Some, None, refl, sym, ap, ◌∙◌, subst, append_assoc, inl, inr, arith}
-use Rattle.std.proofs.lemmas.List.{append-nil, length-append}
-use Rattle.ms_select.specs.Rows.{header_bytes, x_bytes, y_bytes, na_bytes}
-use Rattle.handlers.specs.Calls.{HandlerCall, Take, Give, End, Arises, taken, given}
+use Rattle.std.proofs.Common.{◌≡◌, ◌⊎◌, ℕ, ◌<◌, true, false, List, [], ◌∷◌, ◌++◌, length, Option, Some, None, Result, Ok, refl, sym, ap, ◌∙◌, subst, append_assoc, inl, inr, arith}
+use Rattle.std.proofs.lemmas.List.{append-nil, length-append, nil_from_length}
+use Rattle.ms_select.specs.declared.answer.Answer.{Answer}
+use Rattle.ms_select.specs.declared.answer.Answer.TheVariants.{Going}
+use Rattle.ms_select.specs.declared.fault.SelectFault.{SelectFault}
+use Rattle.ms_select.specs.Messages.{header, spelled}
+use Rattle.ms_select.specs.Rows.{x, header_bytes, x_bytes, y_bytes, na_bytes}
+use Rattle.handlers.specs.Calls.{HandlerCall, Take, Give, End, Arises, EndsAs, taken, given}
 use Rattle.handlers.specs.Rows.{Noting}
-use Rattle.talks.specs.Rows.{asks, answers, question}
+use Rattle.talks.specs.Talks.{Talks, Agrees}
+use Rattle.talks.specs.Rows.{asks, answers, question, z_bytes}
+use Rattle.talks.proofs.Outcomes.{asked_all}
 use Rattle.talks.proofs.Rows.{ask_rows, answer_rows}
-use Rattle.streams.specs.Handled.{AskedLast, Handled}
-use Rattle.streams.specs.Streams.{HasAgreed, IsServed, IsDone}
-use Rattle.streams.specs.Rows.{AskedRows, HearsRows, StreamRows, came, calls, served_past, done_past}
+use Rattle.streams.specs.Handled.{AskedLast}
+use Rattle.streams.specs.Streams.{Past, HasAgreed, IsEarly, IsServed, IsDone, fresh}
+use Rattle.streams.specs.Hearing.{HasNoRoom}
+use Rattle.streams.specs.Rows.{AskedRows, HearsRows, EarlyRows, RoomRows, StreamRows, came, calls, served_past, done_past}
 use Rattle.streams.proofs.Deciding.{one_talk, one_split}
 
 -- ---- the last call
@@ -122,9 +129,123 @@ waits waiting s =
     let gave : s.gave ≡ 9 ∷ [] = sym s.handled.gave_is ∙ ap given all in
     s.agreed.sent_is ∙ ap (λ t. t ++ s.gave) output ∙ ap (λ t. (header_bytes ++ y_bytes) ++ t) gave
 
+-- the calls of a handler that was made with none noted are those that it has noted
+noted : (past : Past (List HandlerCall)) (value : List HandlerCall) (waiting : List ℕ) → past.made ≡ Some [] → (s : IsServed Noting past value waiting) → s.handled.was_handed.calls ≡ value
+noted past value waiting is s =
+    let made = none_made s.made (sym is ∙ s.made_is) in
+    ap (λ t. t ++ s.handled.was_handed.calls) made ∙ notes s.made value s.handled.was_handed.calls s.handled.was_handed.arises
+
+-- an eager one has noted what it was handed
+early : (value : List HandlerCall) → IsEarly Noting (fresh asks (Some [])) (Some value) [] → (taken value ≡ []) × EndsAs value false
+early value e =
+    let h = e.1.2 in
+    let made = none_made e.1.0 e.1.1 in
+    let all : h.was_handed.calls ≡ value = ap (λ t. t ++ h.was_handed.calls) made ∙ notes e.1.0 value h.was_handed.calls h.was_handed.arises in
+    (ap taken (sym all) ∙ h.was_handed.joined, subst (λ (t : List HandlerCall). EndsAs t false) all h.was_handed.ends)
+
+pub early_rows : EarlyRows
+early_rows = record {
+  gave = (
+    tt,
+    (
+      [],
+      refl,
+      record {
+        was_handed = record { calls = Give 5 (9 ∷ []) ∷ []; arises = (_, refl, refl); joined = refl; ends = refl };
+        gave_is = refl;
+        asked = record { before = []; room = 5; bytes = 9 ∷ []; calls_are = refl; left_is = refl };
+      },
+    ),
+  );
+  handed = λ e. let none : 1 ∷ [] ≡ [] = (early (Take (1 ∷ []) ∷ []) e).0 in absurd cc;
+  ended = λ e. let said : false ≡ true = (early (End ∷ []) e).1.0 in absurd cc;
+  lost = λ e. absurd (let none = e.0 in cc none);
+  answering = λ e. e.0;
+}
+
+-- ---- room for what the talk writes
+
+writes_all : (input output : List ℕ) (standing : Result Answer SelectFault) → Talks asks input standing output → length output ≡ length (spelled (header ∷ x ∷ []))
+writes_all input output standing t = ap length (asked_all x 2 input standing output t)
+
+nothing_written : ¬ HasNoRoom asks [] header_bytes question
+nothing_written r =
+    let before = writes_all [] r.output (Ok Going) r.before in
+    let behind = writes_all r.front (r.output ++ r.more) r.standing r.talks in
+    r.some (nil_from_length r.more (omega (arith, before, behind, length-append r.output r.more)))
+
+pub room_rows : RoomRows
+room_rows = record {
+  refusal = record {
+    front = header_bytes ++ z_bytes;
+    rest = [];
+    standing = Ok Going;
+    output = header_bytes;
+    more = na_bytes;
+    waits = λ e. absurd cc;
+    piece_is = refl;
+    before = answer_rows.at_once;
+    talks = answer_rows.unknown;
+    some = λ e. absurd cc;
+  };
+  nothing_waits = λ r. r.waits refl;
+  nothing_written = nothing_written;
+}
+
+room_in : Option HandlerCall → ℕ
+room_in (Some (Give room bytes)) = room
+room_in other = 0
+
+given_in : Option HandlerCall → List ℕ
+given_in (Some (Give room bytes)) = bytes
+given_in other = []
+
+-- the last of these calls left four bytes of its room
+left_four : (left : ℕ) → AskedLast calls left → left ≡ 4
+unfolding last_of room_in given_in
+left_four left h =
+    let last : Some (Give 5 (9 ∷ [])) ≡ Some (Give h.room h.bytes) = ap last_of h.calls_are ∙ last-append h.before (Give h.room h.bytes) in
+    let room : 5 ≡ h.room = ap room_in last in
+    let bytes : 9 ∷ [] ≡ h.bytes = ap given_in last in
+    let count : 1 ≡ length h.bytes = ap length bytes in
+    omega (arith, room, count, h.left_is)
+
+another_room : ¬ IsServed Noting (record served_past { left = Some 3 }) calls (y_bytes ++ 9 ∷ [])
+another_room s =
+    let all = noted (record served_past { left = Some 3 }) calls (y_bytes ++ 9 ∷ []) refl s in
+    let four = left_four 3 (subst (λ (t : List HandlerCall). AskedLast t 3) all s.handled.asked) in
+    omega (arith, four)
+
+end_not_said : ¬ IsServed Noting (record served_past { ended = true }) calls (y_bytes ++ 9 ∷ [])
+end_not_said s =
+    let all = noted (record served_past { ended = true }) calls (y_bytes ++ 9 ∷ []) refl s in
+    let said : true ≡ false = subst (λ (t : List HandlerCall). EndsAs t true) all s.handled.was_handed.ends in
+    cc
+
+end_said_early : ¬ IsServed Noting (record served_past { left = None }) (calls ++ End ∷ []) (y_bytes ++ 9 ∷ [])
+end_said_early s =
+    let all = noted (record served_past { left = None }) (calls ++ End ∷ []) (y_bytes ++ 9 ∷ []) refl s in
+    let ends = subst (λ (t : List HandlerCall). EndsAs t false) all s.handled.was_handed.ends in
+    let said : false ≡ true = ends.0 in
+    cc
+
 longer : (xs ys : List ℕ) → xs ≡ ys → length xs < length ys ⊎ (length ys < length xs) → ⊥
 longer xs ys e (inl lt) = omega (arith, ap length e)
 longer xs ys e (inr lt) = omega (arith, ap length e)
+
+-- where such a stream has sent nothing, what its talk wrote waits
+pub something_waits : {H : Type 0} (past : Past H) (index : ℕ) (rest gave : List ℕ) → past.side ≡ answers → past.got ≡ came → past.sent ≡ [] → HasAgreed past index rest gave [] → ⊥
+something_waits past index rest gave side got sent a =
+    let b : HasAgreed past 1 (1 ∷ 2 ∷ []) [] (header_bytes ++ y_bytes) = record {
+      first = header_bytes ++ y_bytes;
+      output = header_bytes ++ y_bytes;
+      got_is = got;
+      agrees = subst (λ s. Agrees s (header_bytes ++ y_bytes) 1 (header_bytes ++ y_bytes)) (sym side) answer_rows.agreed;
+      sent_is = ap (λ t. t ++ (header_bytes ++ y_bytes)) sent;
+    } in
+    let output : a.output ≡ header_bytes ++ y_bytes = (one_talk past index 1 rest (1 ∷ 2 ∷ []) gave [] [] (header_bytes ++ y_bytes) a b).2 in
+    let all : [] ≡ (header_bytes ++ y_bytes) ++ gave = ap (λ t. t ++ []) (sym sent) ∙ a.sent_is ∙ ap (λ t. t ++ gave) output in
+    omega (arith, ap length all, length-append (header_bytes ++ y_bytes) gave)
 
 pub stream_rows : StreamRows
 stream_rows = record {
@@ -133,5 +254,8 @@ stream_rows = record {
   with_talk = λ s. longer (10 ∷ 1 ∷ 2 ∷ []) (1 ∷ 2 ∷ []) (handed _ s) (inr (omega arith));
   handed_nothing = λ s. longer [] (1 ∷ 2 ∷ []) (handed _ s) (inl (omega arith));
   handed_twice = λ s. longer (1 ∷ 2 ∷ 1 ∷ 2 ∷ []) (1 ∷ 2 ∷ []) (handed _ s) (inr (omega arith));
+  another_room = another_room;
+  end_not_said = end_not_said;
+  end_said_early = end_said_early;
   nothing_waits = λ s. longer (header_bytes ++ y_bytes) ((header_bytes ++ y_bytes) ++ 9 ∷ []) (waits y_bytes s) (inl (omega arith));
 }

@@ -5,13 +5,13 @@ use Rattle.ms_select.specs.declared.fault.SelectFault.TheVariants.{NotProposed}
 use Rattle.ms_select.specs.Rows.{header_bytes, x_bytes, y_bytes, na_bytes}
 use Rattle.handlers.specs.Calls.{HandlerCall, Take, Give, End}
 use Rattle.handlers.specs.Rows.{Noting}
-use Rattle.talks.specs.Rows.{asks, answers, question}
+use Rattle.talks.specs.Rows.{asks, answers, question, z_bytes}
 use Rattle.streams.specs.declared.heard.Heard.TheVariants.{Going, Agreed, Refused}
 use Rattle.streams.specs.declared.stop.Cause.TheVariants.{Select}
 use Rattle.streams.specs.declared.stop.Stop.TheVariants.{Broken}
 use Rattle.streams.specs.Handled.{AskedLast, Handled}
-use Rattle.streams.specs.Streams.{Past, IsServed, IsDone}
-use Rattle.streams.specs.Hearing.{Hears}
+use Rattle.streams.specs.Streams.{Past, IsEarly, IsServed, IsDone, fresh}
+use Rattle.streams.specs.Hearing.{Hears, HasNoRoom}
 
 -- the last call was a give, and it left what its room had more than it gave
 pub record AskedRows : Type 0 where
@@ -27,6 +27,21 @@ pub record HearsRows : Type 0 where
   pub refused : Hears asks header_bytes (na_bytes ++ x_bytes) (Ok Refused) question
   pub other_name : Hears asks header_bytes y_bytes (Err (Broken (Select NotProposed))) question
   pub answered : Hears answers header_bytes (y_bytes ++ x_bytes) (Ok (Agreed 1 4)) (header_bytes ++ y_bytes)
+
+-- What an eager handler was handed and gave before the other end has answered
+pub record EarlyRows : Type 0 where
+  pub gave : IsEarly Noting (record (fresh asks (Some [])) { left = Some 4 }) (Some (Give 5 (9 ∷ []) ∷ [])) (9 ∷ [])
+  pub handed : ¬ IsEarly Noting (fresh asks (Some [])) (Some (Take (1 ∷ []) ∷ [])) []
+  pub ended : ¬ IsEarly Noting (fresh asks (Some [])) (Some (End ∷ [])) []
+  -- one that is there no more, and one at the end that answers
+  pub lost : ¬ IsEarly Noting (fresh asks (Some [])) None []
+  pub answering : ¬ IsEarly Noting (fresh answers (Some [])) (Some []) []
+
+-- Where there is no room for what the talk wrote: where something waits, and more was written
+pub record RoomRows : Type 0 where
+  pub refusal : HasNoRoom answers [] (header_bytes ++ z_bytes) header_bytes
+  pub nothing_waits : ¬ HasNoRoom answers [] (header_bytes ++ z_bytes) []
+  pub nothing_written : ¬ HasNoRoom asks [] header_bytes question
 
 -- a stream that answers with y: behind the talk came 1 and 2
 abbrev pub came : List ℕ
@@ -59,5 +74,9 @@ pub record StreamRows : Type 0 where
   pub handed_nothing : ¬ IsServed Noting served_past (Give 5 (9 ∷ []) ∷ []) (y_bytes ++ 9 ∷ [])
   pub handed_twice : ¬ IsServed Noting served_past (Take (1 ∷ 2 ∷ []) ∷ Take (1 ∷ 2 ∷ []) ∷ Give 5 (9 ∷ []) ∷ [])
       (y_bytes ++ 9 ∷ [])
+  -- room that isn't what it left, an end that it wasn't told, and one that it was told before it came
+  pub another_room : ¬ IsServed Noting (record served_past { left = Some 3 }) calls (y_bytes ++ 9 ∷ [])
+  pub end_not_said : ¬ IsServed Noting (record served_past { ended = true }) calls (y_bytes ++ 9 ∷ [])
+  pub end_said_early : ¬ IsServed Noting (record served_past { left = None }) (calls ++ End ∷ []) (y_bytes ++ 9 ∷ [])
   -- what it gave is lost
   pub nothing_waits : ¬ IsServed Noting served_past calls y_bytes

@@ -2,7 +2,7 @@
 
 ghost use Rattle.streams.specs.Streams.{Past};
 ghost use Rattle.streams.specs.Laws.{OneAnswer, AnswerStays, CutAnywhere, OneSplit};
-ghost use Rattle.streams.specs.Rows.{AskedRows, HearsRows, StreamRows};
+ghost use Rattle.streams.specs.Rows.{AskedRows, HearsRows, EarlyRows, RoomRows, StreamRows};
 
 use handlers::Handler;
 
@@ -10,6 +10,8 @@ use handlers::Handler;
 pub fn worked_rows()
     ensures asked { AskedRows }
     ensures hears { HearsRows }
+    ensures early { EarlyRows }
+    ensures room { RoomRows }
     ensures streams { StreamRows }
 {}
 

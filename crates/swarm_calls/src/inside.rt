@@ -18,7 +18,7 @@ use crate::identity::Identity;
 use crate::ledgers::{Books, Ledgers};
 use crate::pass::Pass;
 use crate::rule::{ShowsSwarm, SwarmWriter};
-use crate::snapshot::{Operation, Snapshot};
+use crate::snapshot::Operation;
 use crate::swarm::{Closed, Gate};
 use core::mem::replace_with;
 use pool_state::laws::added_is_shown;
@@ -113,19 +113,6 @@ fn publish<J: Identity, R: Wait>(
     (writer, true)
 }
 
-// Comes to show the whole history, of which it shows a beginning. Where that is the whole already, it copies nothing.
-fn catch_up<J: Identity>(kept: &mut Snapshot, published: &Snapshot)
-    requires kept { IsShown J.book J.config J.callers kept.old }
-    requires published { IsShown J.book J.config J.callers published.now }
-    requires begins { IsPrefix kept.old.beginning.log published.now.beginning.log }
-    ensures shown { IsShown J.book J.config J.callers kept.new }
-    ensures whole { kept.new.beginning.log ≡ published.now.beginning.log }
-{
-    if kept.count < published.count {
-        kept.copy_from(published);
-    }
-}
-
 impl<J: Identity, L: Ledgers> Inside<J, L> {
     /// Lets the pass see what is published.
     pub fn show<R: Wait>(&mut self, rt: &R, pass: &mut Pass<J, L>)
@@ -142,7 +129,7 @@ impl<J: Identity, L: Ledgers> Inside<J, L> {
             published.count,
         );
         self.books.audit(&mut pass.tally);
-        catch_up::<J>(&mut pass.kept, published);
+        pass.kept.catch_up::<J>(published);
     }
 
     /// Makes a call: asks the pool for its reply, and publishes both in one step.

@@ -40,7 +40,7 @@ impl<J: Identity, L: Ledgers> Model for Pass<J, L> {
         × (caller_of p.tally ≤ J.callers) };
 }
 
-// Becomes the other snapshot, where that is longer and has as many entries of the caller.
+// Comes to show what the other snapshot shows, where that is longer and has as many entries of the caller.
 fn renew<J: Identity>(kept: &mut Snapshot, other: &Snapshot, caller: usize)
     requires caller { (1 ≤ caller) × (caller ≤ 8) }
     requires kept { IsShown J.book J.config J.callers kept.old }
@@ -53,7 +53,7 @@ fn renew<J: Identity>(kept: &mut Snapshot, other: &Snapshot, caller: usize)
         return;
     }
     kept.beginning.begins(&other.beginning);
-    kept.copy_from(other);
+    kept.catch_up::<J>(other);
 }
 
 // Enters, and renews what is kept by what is published then.
@@ -108,7 +108,7 @@ impl<J: Identity, L: Ledgers> Pass<J, L> {
         ensures later { Later J.config J.callers self.old self.new }
         ensures own { SameCalls self.old self.new }
     {
-        if self.kept.count == length {
+        if self.kept.count >= length {
             return;
         }
         let caller = self.tally.caller();

@@ -1,25 +1,29 @@
 //! What is published: a listing, with the history that it shows and the number of each caller's entries there.
 
 ghost use Rattle.std.specs.Prelude.{◌≡◌, ◌<◌, ◌≤◌, ◌^◌, []};
+ghost use mathlib.Core.List.{IsPrefix};
 ghost use Rattle.pool_state.specs.Added.{more, more_at};
-ghost use Rattle.swarm_calls.specs.Snapshots.{followed};
+ghost use Rattle.swarm_calls.specs.Snapshots.{IsShown, followed};
 
 use crate::addition::Addition;
 use crate::entry::Entry;
 use crate::history::Beginning;
+use crate::identity::Identity;
 use left_right::Absorb;
 use pool_state::Listing;
+use pool_state::laws::{added_is_shown, last_reply};
 use std::alloc::AllocError;
 use std::mem::size_of;
 
-/// What is published, and what a pass keeps of it: the history's length, its listing, and how many entries each caller
-/// has there.
+/// What is published, and what a pass keeps of it: the history's length, its listing, how many entries each caller has
+/// there, and its last entry, if it has one.
 #[derive(Drop)]
 pub struct Snapshot {
     pub beginning: Beginning,
     pub count: u64,
     pub listing: Listing,
     pub calls: [u64; 8],
+    pub last: Option<Entry>,
 }
 
 /// What is done to both published copies: an addition, or nothing.
@@ -42,6 +46,15 @@ fn one_more_at(calls: &mut [u64; 8], index: usize)
     calls[index] = one_more(calls[index]);
 }
 
+fn last_copied(last: &Option<Entry>) -> Option<Entry>
+    ensures { result ≡ last.now }
+{
+    match last {
+        Some(entry) => Some(entry.copied()),
+        None => None,
+    }
+}
+
 impl Snapshot {
     /// An equal snapshot. It takes no memory.
     pub fn copied(&self) -> Snapshot
@@ -52,6 +65,7 @@ impl Snapshot {
             count: self.count,
             listing: self.listing.copied(),
             calls: self.calls,
+            last: last_copied(&self.last),
         }
     }
 
@@ -63,6 +77,7 @@ impl Snapshot {
         self.count = other.count;
         self.listing.copy_from(&other.listing);
         self.calls = other.calls;
+        self.last = last_copied(&other.last);
     }
 
     /// Follows an entry that joins the history, with the history that it makes.
@@ -74,6 +89,30 @@ impl Snapshot {
         self.count = one_more(self.count);
         self.listing.add(entry.call(), entry.reply());
         one_more_at(&mut self.calls, entry.caller() - 1);
+        self.last = Some(entry.copied());
+    }
+
+    /// Comes to show the whole history, of which it shows a beginning. Where that is the whole already, it changes
+    /// nothing. Where one entry is missing, it follows that, which costs less than the copy of all rows. It takes no
+    /// memory.
+    pub fn catch_up<J: Identity>(&mut self, all: &Snapshot)
+        requires kept { IsShown J.book J.config J.callers self.old }
+        requires all { IsShown J.book J.config J.callers all.now }
+        requires begins { IsPrefix self.old.beginning.log all.now.beginning.log }
+        ensures shown { IsShown J.book J.config J.callers self.new }
+        ensures whole { self.new.beginning.log ≡ all.now.beginning.log }
+    {
+        if self.count < all.count {
+            let missing = all.count - self.count;
+            match &all.last {
+                Some(entry) if missing == 1 => {
+                    added_is_shown();
+                    last_reply();
+                    self.follow(&all.beginning, entry);
+                }
+                _ => self.copy_from(all),
+            }
+        }
     }
 
     /// The front of the listing.

@@ -319,6 +319,7 @@ fn start<J: Identity>(config: Config, beginning: Beginning) -> (Pool, Snapshot)
         count: 0,
         listing,
         calls: [0; 8],
+        last: None,
     };
     (pool, shown)
 }

@@ -1,20 +1,28 @@
 -- The definitions of an upgrade at worked bytes.
-use Rattle.std.proofs.Common.{◌≡◌, ℕ, List, [], ◌∷◌, ◌++◌, length, get_or, Option, Some, None, Result, Ok, Err, refl, sym, ap, ◌∙◌, subst, inl, inr, arith, lit<}
+use Rattle.std.proofs.Common.{◌≡◌, ◌≢◌, ℕ, ◌<◌, ◌≤◌, List, [], ◌∷◌, ◌++◌, length, get_or, Option, Some, None, Result, Ok, Err, refl, sym, ap, ◌∙◌, subst, append_assoc, inl, inr, arith, lit<}
 use Rattle.std.proofs.lemmas.List.{append-nil, length-append, nil_from_length}
 use Rattle.std.proofs.lemmas.List.Elements.{All-nil}
-use Rattle.varint_proto.specs.Varint.{shortest, shortest_within}
+use Rattle.std.proofs.lemmas.List.Quantifiers.{position-Some}
+use Rattle.std.proofs.lemmas.Slice.Eq.{bytes_eq-Decides}
+use Rattle.std.specs.List.{position}
+use Rattle.std.specs.Str.{bytes_eq}
+use Rattle.varint_proto.specs.Varint.{BeginsShortest, shortest, shortest_within}
 use Rattle.peer_ids.specs.Key.{Key}
 use Rattle.ms_select.specs.declared.answer.Answer.{Answer}
 use Rattle.ms_select.specs.declared.answer.Answer.TheVariants.{Going, Agreed, NoneLeft as NoneIsLeft}
 use Rattle.ms_select.specs.declared.fault.SelectFault.{SelectFault}
 use Rattle.ms_select.specs.declared.fault.SelectFault.TheVariants.{BadHeader}
 use Rattle.ms_select.specs.Messages.{header, na, message, spelled, IsShort}
+use Rattle.ms_select.specs.Listening.{is_reserved, choice}
 use Rattle.ms_select.specs.Rows.{x, x_bytes}
+use Rattle.ms_select.proofs.Lists.{chosen}
+use Rattle.ms_select.proofs.Rows.{text_asks_nothing}
 use Rattle.plaintext_x.specs.declared.fault.ExchangeFault.{ExchangeFault}
 use Rattle.plaintext_x.specs.Exchange.{Exchanges, message_of}
 use Rattle.plaintext_x.proofs.Rows.{proof_rows, waiting_rows, refusal_rows}
-use Rattle.talks.specs.Talks.{Talks}
+use Rattle.talks.specs.Talks.{Talks, RunsOut as TalkRunsOut}
 use Rattle.talks.proofs.Ends.{none_agrees}
+use Rattle.talks.proofs.Outcomes.{asked_all}
 use Rattle.upgrade.specs.declared.role.ConnRole.{ConnRole}
 use Rattle.upgrade.specs.declared.role.ConnRole.TheVariants.{Dialer, Listener}
 use Rattle.upgrade.specs.declared.fault.UpgradeFault.{UpgradeFault}
@@ -105,13 +113,32 @@ dialer_rows = record {
   turned_down_early = (refused, hello, refl, inl plaintext_turned_down);
 }
 
+-- a name that isn't the only one of a list has no place there
+no_place : (mine name : List ℕ) → name ≢ mine → (o : Option ℕ) → choice (mine ∷ []) name ≡ o → o ≡ None
+no_place mine name ne None e = refl
+no_place mine name ne (Some i) e =
+    elim (chosen (is_reserved name) None (position (λ n. bytes_eq n name) (mine ∷ [])) (Some i) e) [
+      | inl p ↦ let bad = p.1 in absurd cc
+      | inr p ↦
+          let there = position-Some (λ n. bytes_eq n name) (mine ∷ []) i [] p.1 in
+          let within : i < 1 = there.0 in
+          let first : i ≡ 0 = omega arith in
+          let same = (bytes_eq-Decides (get_or (mine ∷ []) i []) name).0 there.1 in
+          absurd (ne (sym (subst (λ k. get_or (mine ∷ []) k [] ≡ name) first same)))
+    ]
+
+unknown_to : (mine name : List ℕ) → name ≢ mine → choice (mine ∷ []) name ≡ None
+unknown_to mine name ne = no_place mine name ne (choice (mine ∷ []) name) refl
+
 pub listener_rows : ListenerRows
 listener_rows = record {
   at_once = inl (inl (opens Listener plaintext));
   unknown = inl (inl (none_agrees x 0 (plaintext ∷ []) (lit< tt) refl).1);
+  another_name = λ name short ne. inl (inl (none_agrees name 0 (plaintext ∷ []) short (unknown_to plaintext name ne)).1);
   in_exchange = inr (exchange_waits Listener);
   in_second_talk = inl (inr (other, begins_second Listener));
   unknown_then = inl (inr (other, in_second Listener (spelled (header ∷ x ∷ [])) refused (Ok Going) (none_agrees x 0 (yamux ∷ []) (lit< tt) refl).1));
+  another_name_then = λ name short ne. inl (inr (other, in_second Listener (spelled (header ∷ name ∷ [])) refused (Ok Going) (none_agrees name 0 (yamux ∷ []) short (unknown_to yamux name ne)).1));
   up = came_up Listener;
   data_behind = data_behind Listener;
   other_header = inl (bad_header Listener plaintext);
@@ -120,6 +147,13 @@ listener_rows = record {
 }
 
 -- ---- memory
+
+-- a length of one byte
+one_byte : (n : ℕ) (rest : List ℕ) → n < 128 → BeginsShortest (n ∷ rest) n rest
+one_byte n rest lt = (n ∷ [], record { ends = lt; within = omega arith; shortest = λ h. absurd (omega arith); value = omega arith }, refl)
+
+front_of_none : (a b : List ℕ) → a ++ b ≡ [] → a ≡ []
+front_of_none a b e = nil_from_length a (omega (arith, ap length e, length-append a b))
 
 no_more : (a b : List ℕ) → a ≡ a ++ b → b ≡ []
 no_more a b e = nil_from_length b (omega (arith, ap length e, length-append a b))
@@ -140,6 +174,46 @@ module _ (input written : List ℕ) (here : Upgrades Dialer own input (Ok None) 
   nothing_more (inr (inl r)) = let none = (nothing_in r.front r.rest r.piece_is).1 in let within = r.runs_out.within in absurd (omega (arith, ap length none, within))
   nothing_more (inr (inr (inl r))) = let none = (nothing_in r.front r.rest r.piece_is).1 in let within = r.runs_out.1 in absurd (omega (arith, ap length none, within))
   nothing_more (inr (inr (inr r))) = let none = (nothing_in r.front r.rest r.piece_is).1 in let within = r.runs_out.within in absurd (omega (arith, ap length none, within))
+
+-- ---- a byte of the first text
+
+-- the first talk goes on by these bytes
+talk_goes : (rest : List ℕ) → length rest < 19 → Upgrades Dialer own (19 ∷ rest) (Ok None) hello
+talk_goes rest lt = inl (inl ([], 19 ∷ rest, record { answered = record { parts = refl; refusals = tt }; left = omega arith }, inr (19, rest, one_byte 19 rest (omega arith), (omega arith, omega arith), lt), refl, refl))
+
+-- of one byte a front is nothing or all
+one_front : (b : ℕ) (front rest : List ℕ) → b ∷ [] ≡ front ++ rest → 0 < length rest → (front ≡ []) × (rest ≡ b ∷ [])
+one_front b [] rest e some = (refl, sym e)
+one_front b (c ∷ front) rest e some = absurd (omega (arith, ap length e, length-append front rest, some))
+
+front_length : (b : ℕ) (front rest : List ℕ) → b ∷ [] ≡ front ++ rest → length front ≤ 1
+front_length b front rest e = omega (arith, ap length e, length-append front rest)
+
+all_said : (first talk : List ℕ) (i : ℕ) → Talks (side_of Dialer plaintext) first (Ok (Agreed i)) talk → talk ≡ hello
+all_said first talk i t = asked_all plaintext 0 first (Ok (Agreed i)) talk t
+
+-- what was written by then is longer than the first talk
+longer : (talk more : List ℕ) → talk ≡ hello → hello ≡ (talk ++ message_of own) ++ more → ⊥
+longer talk more is e =
+    let there : hello ≡ hello ++ (message_of own ++ more) = e ∙ ap (λ (t : List ℕ). (t ++ message_of own) ++ more) is ∙ append_assoc hello (message_of own) more in
+    some_message own (front_of_none (message_of own) more (no_more hello (message_of own ++ more) there))
+
+no_text : ¬ RunsOut Dialer own (19 ∷ []) (47 ∷ []) hello
+no_text (inl r) =
+    let here = talk_goes r.front (omega (arith, front_length 47 r.front r.rest r.piece_is)) in
+    r.some (no_more hello r.lost ((one_outcome Dialer own (19 ∷ r.front) (19 ∷ r.front) (19 ∷ r.front) (Ok None) r.outcome hello (hello ++ r.lost)
+    (by_all Dialer (19 ∷ r.front) (Ok None) hello here) (by_all Dialer (19 ∷ r.front) r.outcome (hello ++ r.lost) r.upgrades)).2))
+no_text (inr (inl r)) =
+    let within = r.runs_out.within in
+    let only = one_front 47 r.front r.rest r.piece_is (omega (arith, within)) in
+    let asks = subst (λ (t : List ℕ). TalkRunsOut (side_of Dialer plaintext) hello (19 ∷ t) (47 ∷ [])) only.0
+    (subst (λ (t : List ℕ). TalkRunsOut (side_of Dialer plaintext) hello (19 ∷ r.front) t) only.1 r.runs_out) in
+    text_asks_nothing asks.n asks.within asks.ends
+no_text (inr (inr (inl r))) =
+    longer r.before.talk [] (all_said r.before.first r.before.talk r.before.index r.before.agrees) (r.before.written_is ∙ sym (append-nil (r.before.talk ++ message_of own)))
+no_text (inr (inr (inr r))) =
+    let proven = r.before.proven in
+    longer proven.talk r.talk (all_said proven.first proven.talk proven.index proven.agrees) (r.written_is ∙ ap (λ (t : List ℕ). t ++ r.talk) proven.written_is)
 
 pub memory_rows : MemoryRows
 memory_rows = record {
@@ -162,6 +236,7 @@ memory_rows = record {
     some = some_opening Dialer yamux;
   });
   nothing_asked = nothing_more [] hello (inl (inl (opens Dialer plaintext)));
+  text = no_text;
   nothing_again = nothing_more hello sent (inr (exchange_waits Dialer));
   nothing_again_then = nothing_more come (sent ++ mux) (inl (inr (other, begins_second Dialer)));
 }

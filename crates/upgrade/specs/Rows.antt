@@ -1,10 +1,10 @@
 -- Worked rows of an upgrade (multistream-select 1.0; plaintext 2.0.0; the order of its parts is this project's
 -- profile): of an end that opened the connection and of one that took it, each with a key of one byte.
-use Rattle.std.specs.Prelude.{◌≡◌, ℕ, List, [], ◌∷◌, ◌++◌, codes, Some, None, Ok, Err}
+use Rattle.std.specs.Prelude.{◌≡◌, ◌≢◌, ℕ, List, [], ◌∷◌, ◌++◌, codes, Some, None, Ok, Err}
 use Rattle.peer_ids.specs.Key.{Key}
 use Rattle.peer_ids.specs.declared.kind.KeyType.TheVariants.{Secp256k1}
 use Rattle.ms_select.specs.declared.fault.SelectFault.TheVariants.{BadHeader}
-use Rattle.ms_select.specs.Messages.{header, na, spelled}
+use Rattle.ms_select.specs.Messages.{header, na, spelled, IsShort}
 use Rattle.ms_select.specs.Rows.{x, x_bytes}
 use Rattle.plaintext_x.specs.declared.fault.ExchangeFault.TheVariants.{NoId}
 use Rattle.plaintext_x.specs.Exchange.{message_of}
@@ -61,11 +61,16 @@ pub record DialerRows : Type 0 where
 pub record ListenerRows : Type 0 where
   pub at_once : Upgrades Listener own [] (Ok None) (spelled (header ∷ []))
   pub unknown : Upgrades Listener own (spelled (header ∷ x ∷ [])) (Ok None) (spelled (header ∷ na ∷ []))
+  -- a talk knows one name: so yamux isn't known in the first, nor plaintext in the second
+  pub another_name : (name : List ℕ) → IsShort name → name ≢ plaintext
+      → Upgrades Listener own (spelled (header ∷ name ∷ [])) (Ok None) (spelled (header ∷ na ∷ []))
   pub in_exchange : Upgrades Listener own hello (Ok None) (hello ++ message_of own)
   -- the header of the second talk is sent as soon as the key is proven, and its echo when it agrees
   pub in_second_talk : Upgrades Listener own come (Ok None) (sent ++ spelled (header ∷ []))
   pub unknown_then :
       Upgrades Listener own (come ++ spelled (header ∷ x ∷ [])) (Ok None) (sent ++ spelled (header ∷ na ∷ []))
+  pub another_name_then : (name : List ℕ) → IsShort name → name ≢ yamux
+      → Upgrades Listener own (come ++ spelled (header ∷ name ∷ [])) (Ok None) (sent ++ spelled (header ∷ na ∷ []))
   pub up : Upgrades Listener own (come ++ mux) (Ok (Some other)) (sent ++ mux)
   pub data_behind : ComesTo Listener own ((come ++ mux) ++ 7 ∷ []) (come ++ mux) (Ok (Some other)) (sent ++ mux)
   pub other_header : Upgrades Listener own x_bytes (Err (Select BadHeader)) (spelled (header ∷ []))
@@ -80,6 +85,8 @@ pub record MemoryRows : Type 0 where
   pub second_talk : RunsOut Dialer own hello (message_of other) sent
   -- with the whole output kept, no memory is asked for before a byte has come
   pub nothing_asked : ¬ RunsOut Dialer own [] [] hello
+  -- nor by a byte of a text
+  pub text : ¬ RunsOut Dialer own (19 ∷ []) (47 ∷ []) hello
   -- nor again for what came with an earlier piece
   pub nothing_again : ¬ RunsOut Dialer own hello [] sent
   pub nothing_again_then : ¬ RunsOut Dialer own come [] (sent ++ mux)

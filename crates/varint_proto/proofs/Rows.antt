@@ -64,6 +64,16 @@ field_rows = record {
     record { value = 7 ∷ []; fits = (omega arith, omega arith); tag = (192 ∷ 163 ∷ 9 ∷ [], record { ends = (omega arith, (omega arith, omega arith)); within = omega arith; fits = omega arith; value = refl }, refl); content = record { ends = omega arith; within = omega arith; fits = omega arith; value = refl } },
     refl,
   );
+  long_tag = (
+    136 ∷ 0 ∷ 7 ∷ [],
+    record { value = 7 ∷ []; fits = (omega arith, omega arith); tag = (136 ∷ 0 ∷ [], record { ends = (omega arith, omega arith); within = omega arith; fits = omega arith; value = refl }, refl); content = record { ends = omega arith; within = omega arith; fits = omega arith; value = refl } },
+    refl,
+  );
+  long_length = (
+    18 ∷ 129 ∷ 0 ∷ 7 ∷ [],
+    record { value = 129 ∷ 0 ∷ 7 ∷ []; fits = (omega arith, omega arith); tag = one_byte 18 _ (omega arith); content = (129 ∷ 0 ∷ [], record { ends = (omega arith, omega arith); within = omega arith; fits = omega arith; value = refl }, refl) },
+    refl,
+  );
   two_fields = (
     18 ∷ 0 ∷ [],
     (8 ∷ 1 ∷ [], record { value = 1 ∷ []; fits = (omega arith, omega arith); tag = one_byte 8 _ (omega arith); content = record { ends = omega arith; within = omega arith; fits = omega arith; value = refl } }, refl),

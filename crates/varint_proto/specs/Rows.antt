@@ -42,6 +42,9 @@ pub record FieldRows : Type 0 where
       (entry 536870911 (Fixed32 (9 ∷ 8 ∷ 7 ∷ 6 ∷ []))) []
   -- a number that the standard reserves is read as any other
   pub reserved_number : Begins (192 ∷ 163 ∷ 9 ∷ 7 ∷ []) (entry 19000 (Varint 7)) []
+  -- a tag and a length may be spelt longer than they need be
+  pub long_tag : Begins (136 ∷ 0 ∷ 7 ∷ []) (entry 1 (Varint 7)) []
+  pub long_length : Begins (18 ∷ 129 ∷ 0 ∷ 7 ∷ []) (entry 2 (Bytes (7 ∷ []))) []
   pub two_fields : IsMessage (8 ∷ 1 ∷ 18 ∷ 0 ∷ []) (entry 1 (Varint 1) ∷ entry 2 (Bytes []) ∷ [])
   pub none : IsMessage [] []
   pub number_written : shortest_field (entry 1 (Varint 300)) ≡ 8 ∷ 172 ∷ 2 ∷ []
@@ -77,7 +80,8 @@ abbrev pub some_fields : List Entry
 some_fields =
     entry 1 (Varint 5) ∷ entry 2 (Varint 6) ∷ entry 1 (Bytes (7 ∷ [])) ∷ entry 1 (Varint 8) ∷ entry 2
     (Bytes (9 ∷ []))
-    ∷ entry 1 (Bytes []) ∷ entry 1 (Fixed32 (1 ∷ 2 ∷ 3 ∷ 4 ∷ [])) ∷ []
+    ∷ entry 1 (Bytes []) ∷ entry 1 (Fixed32 (1 ∷ 2 ∷ 3 ∷ 4 ∷ []))
+    ∷ entry 1 (Fixed64 (1 ∷ 2 ∷ 3 ∷ 4 ∷ 5 ∷ 6 ∷ 7 ∷ 8 ∷ [])) ∷ []
 
 -- A number of another kind isn't picked.
 pub record PickRows : Type 0 where

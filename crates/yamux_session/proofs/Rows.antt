@@ -1,6 +1,6 @@
 -- Worked rows of sessions, computed by the definitions.
-use Rattle.std.proofs.Common.{◌<◌, refl, arith}
-use Rattle.yamux_session.specs.Rows.{OpeningRows, EndingRows, WindowRows, AnswerRows, FlagRows, GrowthRows}
+use Rattle.std.proofs.Common.{◌≡◌, ◌<◌, ℕ, refl, arith}
+use Rattle.yamux_session.specs.Rows.{OpeningRows, EarlyRows, LeavingRows, EndingRows, WindowRows, AnswerRows, FlagRows, NamingRows, GrowthRows}
 
 pub opening_rows : OpeningRows
 opening_rows = record {
@@ -12,6 +12,8 @@ opening_rows = record {
   stream_0_of_no_client = refl;
   stream_0_of_no_server = refl;
   opened_with_data = refl;
+  opened_with_a_window = refl;
+  opened_at_a_client = refl;
   opened_with_credit = refl;
   opened_and_ended = refl;
   opened_and_reset = refl;
@@ -42,6 +44,42 @@ opening_rows = record {
   reopened_inbound = refl;
   reopened_goes_on = refl;
 }
+
+pub early_rows : EarlyRows
+early_rows = record {
+  some_data = refl;
+  credit = refl;
+  much_data = refl;
+  much_credit = refl;
+  reset = refl;
+  reset_is_dead = refl;
+  accepted_at_a_server = refl;
+}
+
+pub leaving_rows : LeavingRows
+leaving_rows = record {
+  written = refl;
+  taken = refl;
+  credit = refl;
+  started = refl;
+  some_data = refl;
+  written_behind_the_other = refl;
+  taken_behind_the_other = refl;
+  opened_behind_the_other = refl;
+}
+
+pub naming_rows : NamingRows
+naming_rows = record {
+  opened = λ one. two_streams one.stream one.named.0 one.named.1.0;
+  accepted = λ one. two_streams one.stream one.named.0 one.named.1.0;
+  payload = λ one. two_streams one.stream one.named.0 one.named.1.0;
+  reset = λ one. two_streams one.stream one.named.0 one.named.1.0;
+  credit = λ one. two_streams one.stream one.named.0 one.named.1.0;
+  no_empty_data = λ some. some refl;
+}
+  where
+    two_streams : (n : ℕ) → 1 ≡ n → 3 ≡ n → ⊥
+    two_streams n one three = omega (arith, one, three)
 
 pub ending_rows : EndingRows
 ending_rows = record {
@@ -93,6 +131,7 @@ window_rows = record {
   empty_piece = λ is. absurd (let some = is.0 in omega arith);
   credit_shown = refl;
   credit_of_the_closed = refl;
+  no_credit_shown = refl;
   credit_of_the_unknown = refl;
   most_credit = refl;
   too_large_at_once = refl;
@@ -186,6 +225,7 @@ flag_rows = record {
   much_credit_of_a_reset = refl;
   much_data_behind_the_close = refl;
   much_credit_behind_the_close = refl;
+  much_credit_behind_the_end = refl;
   much_data_opens_and_resets = refl;
 }
 

@@ -22,6 +22,7 @@ use Rattle.std.specs.List.{AllByRecursion}
 use Rattle.yamux_session.specs.declared.event.Event.TheVariants as event
 use Rattle.yamux_session.specs.Seen.{IsQuiet}
 use Rattle.yamux_session.specs.Naming.{NamesOne}
+use Rattle.yamux_session.specs.Arrives.{HasData}
 
 abbrev pub header : FrameKind → ℕ → ℕ → ℕ → Arrival
 header kind flags stream len = Head (record { kind = kind; flags = flags; stream = stream; length = len })
@@ -73,6 +74,8 @@ pub record OpeningRows : Type 0 where
   pub stream_0_of_no_server : events Client (Came (header Window 1 0 0) ∷ []) ≡ Told.Fault WrongParity ∷ []
   pub opened_with_data : events Server (Came Tail ∷ Came (Byte 7) ∷ Came (header Payload 1 1 1) ∷ [])
       ≡ Told.Opened 1 ∷ Told.Payload 1 7 ∷ []
+  pub opened_with_a_window : events Server (Came (header Payload 1 1 262144) ∷ []) ≡ Told.Opened 1 ∷ []
+  pub opened_at_a_client : events Client (bare Window 1 2 0) ≡ Told.Opened 2 ∷ []
   pub opened_with_credit : events Server (bare Window 1 1 5) ≡ Told.Opened 1 ∷ Told.Credit 1 ∷ []
   pub opened_and_ended : events Server (bare Window 5 1 0) ≡ Told.Opened 1 ∷ Told.Ended 1 ∷ []
   pub opened_and_reset : events Server (bare Window 9 1 0) ≡ Told.Opened 1 ∷ Told.Reset 1 ∷ []
@@ -117,6 +120,37 @@ pub record OpeningRows : Type 0 where
   pub reopened_goes_on : events Server ((Came Tail ∷ Came (Byte 9) ∷ Came (header Payload 0 1 1) ∷ [])
       ++ reopened)
       ≡ Told.Opened 1 ∷ Told.Payload 1 7 ∷ Told.Ended 1 ∷ Told.Opened 1 ∷ Told.Payload 1 9 ∷ []
+
+-- What comes for a stream of this end before its ACK, which a peer may send late or never
+pub record EarlyRows : Type 0 where
+  pub some_data : events Client (in_order ((Did (Start 1) ∷ []) ∷
+      (Came Tail ∷ Came (Byte 7) ∷ Came (header Payload 0 1 1) ∷ []) ∷ [])) ≡ Told.Payload 1 7 ∷ []
+  pub credit : events Client (in_order ((Did (Start 1) ∷ []) ∷ bare Window 0 1 5 ∷ [])) ≡ Told.Credit 1 ∷ []
+  pub much_data : events Client (in_order ((Did (Start 1) ∷ []) ∷ (Came (header Payload 0 1 262145) ∷ []) ∷ []))
+      ≡ Told.Fault WindowExceeded ∷ []
+  pub much_credit : events Client (in_order ((Did (Start 1) ∷ []) ∷ (Came (header Window 0 1 4294967295) ∷ [])
+      ∷ [])) ≡ Told.Fault WindowTooLarge ∷ []
+  -- this is how a SYN is refused
+  pub reset : events Client (in_order ((Did (Start 1) ∷ []) ∷ bare Window 8 1 0 ∷ [])) ≡ Told.Reset 1 ∷ []
+  pub reset_is_dead : is_live Client (in_order ((Did (Start 1) ∷ []) ∷ bare Window 8 1 0 ∷ [])) 1 ≡ false
+  pub accepted_at_a_server : events Server (in_order ((Did (Start 2) ∷ []) ∷ bare Window 2 2 0 ∷ []))
+      ≡ Told.Accepted 2 ∷ []
+
+-- What goes on behind this end's GoAway, and behind the other's
+pub record LeavingRows : Type 0 where
+  pub written : direction_refusal Server (Did (Act.GoAway 0) ∷ bare Window 1 1 0) 1 ≡ None
+  pub taken : stream_refusal Server (Did (Act.GoAway 0) ∷ bare Window 1 1 0) 1 ≡ None
+  pub credit : open_credit Server (Did (Act.GoAway 0) ∷ bare Window 1 1 0) 1 ≡ Some 262144
+  pub started : start_refusal Client (Did (Act.GoAway 0) ∷ []) ≡ None
+  pub some_data : events Server (in_order (bare Window 1 1 0 ∷ (Did (Act.GoAway 0) ∷ []) ∷
+      (Came Tail ∷ Came (Byte 7) ∷ Came (header Payload 0 1 1) ∷ []) ∷ []))
+      ≡ Told.Opened 1 ∷ Told.Payload 1 7 ∷ []
+  pub written_behind_the_other : direction_refusal Server (in_order (bare Window 1 1 0 ∷ bare GoAway 0 0 0 ∷ [])) 1
+      ≡ None
+  pub taken_behind_the_other : stream_refusal Server (in_order (bare Window 1 1 0 ∷ bare GoAway 0 0 0 ∷ [])) 1
+      ≡ None
+  pub opened_behind_the_other : events Server (in_order (bare GoAway 0 0 0 ∷ bare Window 1 1 0 ∷ []))
+      ≡ Told.GoAway 0 ∷ Told.Opened 1 ∷ []
 
 -- How streams end
 pub record EndingRows : Type 0 where
@@ -202,6 +236,7 @@ pub record WindowRows : Type 0 where
   pub empty_piece : IsPiece [] → ⊥
   pub credit_shown : open_credit Server (bare Window 1 1 5) 1 ≡ Some 262149
   pub credit_of_the_closed : open_credit Server (Did (Close 1) ∷ bare Window 1 1 5) 1 ≡ None
+  pub no_credit_shown : open_credit Client all_written 1 ≡ Some 0
   pub credit_of_the_unknown : open_credit Server [] 1 ≡ None
   pub most_credit : events Server (bare Window 1 1 4294705151) ≡ Told.Opened 1 ∷ Told.Credit 1 ∷ []
   pub too_large_at_once : events Server (Came (header Window 1 1 4294705152) ∷ [])
@@ -354,8 +389,20 @@ pub record FlagRows : Type 0 where
       (Came (header Payload 0 1 262145) ∷ []) ∷ [])) ≡ Told.Opened 1 ∷ Told.Fault WindowExceeded ∷ []
   pub much_credit_behind_the_close : events Server (in_order (bare Window 1 1 0 ∷ (Did (Close 1) ∷ []) ∷
       (Came (header Window 0 1 4294967295) ∷ []) ∷ [])) ≡ Told.Opened 1 ∷ Told.Fault WindowTooLarge ∷ []
+  pub much_credit_behind_the_end : events Server (in_order (bare Window 1 1 0 ∷ bare Window 4 1 0 ∷
+      (Came (header Window 0 1 4294967295) ∷ []) ∷ []))
+      ≡ Told.Opened 1 ∷ Told.Ended 1 ∷ Told.Fault WindowTooLarge ∷ []
   pub much_data_opens_and_resets : events Server (Came (header Payload 9 1 262145) ∷ [])
       ≡ Told.Fault WindowExceeded ∷ []
+
+-- Events that name two streams are not those of one frame; and no data is empty
+pub record NamingRows : Type 0 where
+  pub opened : ¬ NamesOne (event.Opened 1 ∷ event.Ended 3 ∷ [])
+  pub accepted : ¬ NamesOne (event.Accepted 1 ∷ event.Ended 3 ∷ [])
+  pub payload : ¬ NamesOne (event.Payload 1 (7 ∷ []) ∷ event.Ended 3 ∷ [])
+  pub reset : ¬ NamesOne (event.Reset 1 ∷ event.Ended 3 ∷ [])
+  pub credit : ¬ NamesOne (event.Credit 1 ∷ event.Ended 3 ∷ [])
+  pub no_empty_data : ¬ HasData (event.Payload 1 [])
 
 -- What tells and sends more than was told and sent before: nothing else can want memory
 pub record GrowthRows : Type 0 where

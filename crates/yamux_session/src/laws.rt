@@ -1,7 +1,7 @@
 //! What holds of every history of a session.
 
 ghost use Rattle.yamux_session.specs.Limits.{RoomForOwn, RoomForTheOther};
-ghost use Rattle.yamux_session.specs.Limits.{ExhaustedFirst, LiveLimit, NoSecondOpening, UntakenLimit};
+ghost use Rattle.yamux_session.specs.Limits.{ExhaustedFirst, LiveLimit, NoSecondOpening, NoWrongOpening, UntakenLimit};
 ghost use Rattle.yamux_session.specs.Acts.{OneRefusal};
 ghost use Rattle.yamux_session.specs.Received.{ReceivedData, SomeSince};
 ghost use Rattle.yamux_session.specs.Seen.{ActsDo, ActsMove, CreditIsTold, EventsTell};
@@ -9,15 +9,19 @@ ghost use Rattle.yamux_session.specs.Joined.{AllBeforeTheEnd, Balance, BothGoOn,
 ghost use Rattle.yamux_session.specs.OneOutcome.{OneOutcome};
 ghost use Rattle.yamux_session.specs.Runs.{OneCall, RunIsLegal};
 ghost use Rattle.yamux_session.specs.Tied.{ActGoesOn, FeedGoesOn, WantOfMemoryStops};
-ghost use Rattle.yamux_session.specs.Rows.{AnswerRows, EndingRows, FlagRows, GrowthRows, OpeningRows, WindowRows};
+ghost use Rattle.yamux_session.specs.Rows.{AnswerRows, EarlyRows, EndingRows, FlagRows, GrowthRows};
+ghost use Rattle.yamux_session.specs.Rows.{LeavingRows, NamingRows, OpeningRows, WindowRows};
 
 /// The definitions say of worked histories what the specification says.
 pub fn worked_rows()
     ensures openings { OpeningRows }
+    ensures early { EarlyRows }
+    ensures leaving { LeavingRows }
     ensures endings { EndingRows }
     ensures windows { WindowRows }
     ensures answers { AnswerRows }
     ensures flags { FlagRows }
+    ensures naming { NamingRows }
     ensures growth { GrowthRows }
 {}
 
@@ -27,12 +31,13 @@ pub fn live_limit()
 {}
 
 /// And so many may be: while fewer are, a SYN of the other end opens a stream, and this end may open one. A SYN for a
-/// live stream opens none, however many are live.
+/// live stream opens none, and one for no stream of the other end neither, however many are live.
 pub fn room_for_more()
     ensures the_other { RoomForTheOther }
     ensures own { RoomForOwn }
     ensures exhausted { ExhaustedFirst }
     ensures opened_once { NoSecondOpening }
+    ensures own_numbers { NoWrongOpening }
 {}
 
 /// Of no stream more than a window has arrived and wasn't taken.

@@ -96,7 +96,7 @@ fn goes_so<J: Identity, L: Ledgers, R: Wait>(
     }
 }
 
-/// Both passes end the swarm, and one doesn't.
+/// Both passes end the swarm, and either alone doesn't, nor does none.
 fn close<J: Identity, L: Ledgers, R: Wait + Abort>(
     rt: &R,
     swarm: Swarm<NoGate, J, L>,
@@ -104,10 +104,17 @@ fn close<J: Identity, L: Ledgers, R: Wait + Abort>(
     one: Pass<J, L>,
     two: Pass<J, L>,
 ) -> Result<Closed, Fail> {
-    let mut passes = passes;
+    let Err((swarm, mut passes)) = swarm.close(rt, passes) else {
+        panic!(rt; "both passes are missing");
+    };
+    passes.push(two)?;
+    let Err((swarm, mut passes)) = swarm.close(rt, passes) else {
+        panic!(rt; "the first pass is missing");
+    };
+    let two = passes.pop().ok_or("a pass")?;
     passes.push(one)?;
     let Err((swarm, mut passes)) = swarm.close(rt, passes) else {
-        panic!(rt; "a pass is missing");
+        panic!(rt; "the second pass is missing");
     };
     passes.push(two)?;
     let Ok(closed) = swarm.close(rt, passes) else {

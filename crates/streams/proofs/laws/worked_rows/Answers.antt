@@ -1,4 +1,4 @@
-use Rattle.streams.proofs.Rows.{asked_rows, hears_rows, stream_rows}
+use Rattle.streams.proofs.Rows.{asked_rows, hears_rows, early_rows, room_rows, stream_rows}
 use Rattle.streams.proofs.laws.worked_rows.Goals as goal
 
 pub returns-clause-asked : goal.returns-clause-asked
@@ -9,3 +9,9 @@ returns-clause-hears c = hears_rows
 
 pub returns-clause-streams : goal.returns-clause-streams
 returns-clause-streams c = stream_rows
+
+pub returns-clause-early : goal.returns-clause-early
+returns-clause-early c = early_rows
+
+pub returns-clause-room : goal.returns-clause-room
+returns-clause-room c = room_rows

@@ -8,4 +8,4 @@ returns-clause-own g c =
     let o = c.args.other.now.beginning.log in
     let mine_of_kept = c.requires.kept.calls_are.each c.args.caller c.requires.caller.0 c.requires.caller.1 in
     let mine_of_other = c.requires.other.calls_are.each c.args.caller c.requires.caller.0 c.requires.caller.1 in
-    rw (c.copy_from.ensures) (mine_same c.args.caller s o c.begins.ensures (sym mine_of_other ∙ (sym c.if-kept-caller.false ∙ mine_of_kept)))
+    rw (c.catch_up.ensures.whole) (mine_same c.args.caller s o c.begins.ensures (sym mine_of_other ∙ (sym c.if-kept-caller.false ∙ mine_of_kept)))

@@ -18,4 +18,5 @@ returns-clause-shown g c =
       listing_is = c.listing-listing.ensures g.J.Identity.config [] at ∙ ap (Shown g.J.Identity.config) (sym none);
       calls_are = subst (λ (h : List Entry). Counts (0 ∷ 0 ∷ 0 ∷ 0 ∷ 0 ∷ 0 ∷ 0 ∷ 0 ∷ []) h) (sym none) counts_nil;
       callers_are = subst (IsOf g.J.Identity.callers) (sym none) (of_nil g.J.Identity.callers);
+      last_is = tt;
     }

@@ -1,4 +1,4 @@
-use Rattle.yamux_session.proofs.Rows.{opening_rows, ending_rows, window_rows, answer_rows, flag_rows, growth_rows}
+use Rattle.yamux_session.proofs.Rows.{opening_rows, early_rows, leaving_rows, naming_rows, ending_rows, window_rows, answer_rows, flag_rows, growth_rows}
 use Rattle.yamux_session.proofs.laws.worked_rows.Goals as goal
 
 pub returns-clause-openings : goal.returns-clause-openings
@@ -18,3 +18,12 @@ returns-clause-flags c = flag_rows
 
 pub returns-clause-growth : goal.returns-clause-growth
 returns-clause-growth c = growth_rows
+
+pub returns-clause-early : goal.returns-clause-early
+returns-clause-early c = early_rows
+
+pub returns-clause-leaving : goal.returns-clause-leaving
+returns-clause-leaving c = leaving_rows
+
+pub returns-clause-naming : goal.returns-clause-naming
+returns-clause-naming c = naming_rows
