@@ -15,7 +15,7 @@ use Rattle.streams.specs.declared.stop.Cause.TheVariants as causes
 use Rattle.streams.specs.declared.stop.Stop.TheVariants as stops
 use Rattle.streams.specs.declared.stage.Stage.TheVariants as stages
 use Rattle.streams.specs.Streams.{Past}
-use Rattle.streams.specs.State.{Streaming, Stands, is_talking}
+use Rattle.streams.specs.State.{Streaming, Stands, is_talking, kind_of, Served}
 use Rattle.serving.specs.Served.{Serves, GivesUp}
 use Rattle.dispatch.specs.Dispatch.{AgreesBy, IsMade}
 use Rattle.routing.specs.declared.delivered.Delivered.{Delivered}
@@ -29,8 +29,10 @@ module _ {H : Type 0} (step : H → HandlerCall → H → Type 0) (fails : H →
   abbrev pub Came : Past H → Streaming H → State → Outcome H → State → Streaming H → Type 0
   Came so_far old before Going session stream =
       Serves step is_closed is_finished role past fed sent n so_far None session stream
+      × (kind_of stream.stage ≡ kind_of old.stage)
   Came so_far old before (Done handler) session stream =
       Serves step is_closed is_finished role past fed sent n so_far (Some handler) session stream
+      × (kind_of old.stage ≡ Served)
   Came so_far old before Refused session stream = ⊥
   Came so_far old before (Broken cause) session stream =
       (session ≡ before) × ((credit : ℕ) × (open_credit role past n ≡ Some credit)
@@ -46,7 +48,7 @@ module _ {H : Type 0} (step : H → HandlerCall → H → Type 0) (fails : H →
   -- at it.
   abbrev pub Hands : Asked → Past H → Streaming H → State → Outcome H → State → Streaming H → Type 0
   Hands asked so_far old before outcome session stream =
-      ((middle : Streaming H) × Stands step middle so_far × (is_talking middle.stage ≡ false)
+      ((middle : Streaming H) × Stands step middle so_far × (kind_of middle.stage ≡ kind_of old.stage)
       × Came so_far middle before outcome session stream)
       ⊎ Fails asked old before outcome session
 
@@ -69,6 +71,7 @@ module _ {H : Type 0} (step : H → HandlerCall → H → Type 0) (fails : H →
       pub made : H
       pub is_made : IsMade makes so_far index made
       pub stands : Stands step middle (record so_far { got = so_far.got ++ front; made = Some made })
+      pub serving : kind_of middle.stage ≡ Served
 
     -- Why the stream is done with before it was served: nothing was done then.
     abbrev pub Stops : Past H → List ℕ → Outcome H → Type 0

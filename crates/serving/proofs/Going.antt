@@ -63,16 +63,18 @@ module _ {H : Type 0} (step : H → HandlerCall → H → Type 0) (is_closed is_
     was_asked role past fed sent n amount so_far session x s e is_open =
         let w = has_written acts_do acts_move role past n s.pieces in
         let before = (open_with role past n amount is_open).credit_is in
+        let there : Stands step x (with_sent role (Did (Write n s.pieces) ∷ past) n so_far s.left) =
+        subst (λ t. Stands step x (record so_far { sent = t; left = s.left })) (ap (λ t. t ++ concat s.pieces) e ∙ sym w.written_is) s.stream_stands in
         let left : credit role (Did (Write n s.pieces) ∷ past) n ≡ amount - length (concat s.pieces) = w.credit_is ∙ ap (λ k. k - length (concat s.pieces)) before in
         record {
           goes = record {
             acts = Write n s.pieces ∷ [];
             now = Did (Write n s.pieces) ∷ past;
             now_is = refl;
-            due = (refl, tt);
+            due = ((refl, record { stream = x; left = s.left; stands = there }), tt);
             session_stands = s.session_stands;
             left = s.left;
-            stream_stands = subst (λ t. Stands step x (record so_far { sent = t; left = s.left })) (ap (λ t. t ++ concat s.pieces) e ∙ sym w.written_is) s.stream_stands;
+            stream_stands = there;
           };
           asked = λ live unclosed is. s.asked is ∙ ap Some (sym left);
           none_waits = λ live unclosed some. empty_or x.waiting (λ waits. let all = s.full waits in omega (arith, all, left));

@@ -1,9 +1,10 @@
 -- The worked rows of serving.
 use Rattle.std.proofs.Common.{◌≡◌, ◌⊎◌, ℕ, ◌<◌, Bool, true, false, List, [], ◌∷◌, ◌++◌, Option, Some, None, refl, sym, ◌∙◌, subst, inl, inr, arith}
-use Rattle.handlers.specs.Calls.{ToGive}
+use Rattle.ms_select.specs.Rows.{header_bytes, y_bytes}
+use Rattle.handlers.specs.Calls.{Take, ToGive}
 use Rattle.yamux_session.specs.declared.event.Role.TheVariants.{Client, Server}
 use Rattle.yamux_session.specs.History.Item.{Did}
-use Rattle.yamux_session.specs.History.Act.{Close}
+use Rattle.yamux_session.specs.History.Act.{Write, Close}
 use Rattle.yamux_session.specs.Openings.{closed}
 use Rattle.yamux_session.specs.Windows.{credit}
 use Rattle.yamux_session.specs.Rows.{two_bytes, all_written}
@@ -11,9 +12,11 @@ use Rattle.streams.specs.declared.stage.Stage.{Stage}
 use Rattle.streams.specs.declared.stage.Stage.TheVariants as stages
 use Rattle.streams.specs.Streams.{Past, HasAgreed}
 use Rattle.streams.specs.State.{StandsAt, has_closed}
-use Rattle.streams.proofs.Rows.{something_waits}
+use Rattle.streams.specs.Rows.{came}
+use Rattle.talks.proofs.Rows.{answer_rows}
+use Rattle.streams.proofs.Rows.{something_waits, sends_its_talk}
 use Rattle.serving.specs.Served.{MayGrow, with_sent}
-use Rattle.serving.specs.Rows.{any_step, itself, unsent, DueRows, CloseRows, HandRows, SettledRows, RefusalRows, taken}
+use Rattle.serving.specs.Rows.{any_step, itself, unsent, DueRows, WriteRows, CloseRows, HandRows, SettledRows, RefusalRows, taken}
 
 -- ---- what is due
 
@@ -23,8 +26,7 @@ no_credit (inr shut) = let unclosed : closed Client all_written 1 ≡ false = re
 
 pub due_rows : (so_far : Past Bool) → DueRows so_far
 due_rows so_far = record {
-  written = refl;
-  written_on_another = λ e. absurd (cc e);
+  written_on_another = λ d. absurd (cc d.0);
   all_taken = (refl, refl, inl (omega arith));
   part_taken = λ d. absurd (cc d.1);
   taken_of_another = λ d. absurd (cc d.0);
@@ -34,6 +36,44 @@ due_rows so_far = record {
   opened = λ d. d;
   reset = λ d. d;
   gone_away = λ d. d;
+}
+
+-- the handler of a stream that sent its header: its talk's name waits
+sent_header : StandsAt any_step (stages.Serving true) (with_sent Server (Did (Write 1 (header_bytes ∷ [])) ∷ two_bytes) 1 unsent None) y_bytes
+sent_header = record {
+  index = 1;
+  rest = 1 ∷ 2 ∷ [];
+  gave = [];
+  made = true;
+  agreed = record { first = header_bytes ++ y_bytes; output = header_bytes ++ y_bytes; got_is = refl; agrees = answer_rows.agreed; sent_is = refl };
+  made_is = refl;
+  handled = record {
+    was_handed = record { calls = Take (1 ∷ 2 ∷ []) ∷ []; arises = (true, tt, refl); joined = refl; ends = refl };
+    gave_is = refl;
+    asked = tt;
+  };
+}
+
+-- a stream that sent a 7 first stands nowhere
+begins_otherwise : (stage : Stage Bool) (waiting : List ℕ) (left : Option ℕ)
+    → StandsAt any_step stage (with_sent Server (Did (Write 1 ((7 ∷ []) ∷ [])) ∷ two_bytes) 1 unsent left) waiting → ⊥
+begins_otherwise (stages.Talking talk None) waiting left s = absurd (let e = s.early.0 in cc e)
+begins_otherwise (stages.Talking talk (Some handler)) waiting left s = s.early.0
+begins_otherwise (stages.Agreed index) waiting left s = absurd (let e = s.none_made in cc e)
+begins_otherwise (stages.Serving handler) waiting left s =
+    let past = with_sent Server (Did (Write 1 ((7 ∷ []) ∷ [])) ∷ two_bytes) 1 unsent left in
+    let e = sends_its_talk past s.index s.rest s.gave waiting refl refl s.agreed in
+    absurd (cc e)
+begins_otherwise stages.Done waiting left s =
+    let past = with_sent Server (Did (Write 1 ((7 ∷ []) ∷ [])) ∷ two_bytes) 1 unsent left in
+    let e = sends_its_talk past s.index (s.front ++ s.rest) s.gave waiting refl refl s.agreed in
+    absurd (cc e)
+begins_otherwise stages.Over waiting left s = s
+
+pub write_rows : WriteRows
+write_rows = record {
+  written = (refl, record { stream = record { waiting = y_bytes; stage = stages.Serving true }; left = None; stands = sent_header });
+  something_else = λ d. let sent = d.1 in begins_otherwise sent.stream.stage sent.stream.waiting sent.left sent.stands;
 }
 
 -- a stream that has sent nothing of its talk gives more

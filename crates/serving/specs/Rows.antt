@@ -1,6 +1,7 @@
 -- Worked rows of serving a stream (hashicorp yamux, and this project's profile): of the stream 1 of an end, whose handler
 -- is closed, and finished, where it is `true`.
 use Rattle.std.specs.Prelude.{◌≡◌, ℕ, Bool, true, false, List, [], ◌∷◌, Option, Some, None}
+use Rattle.ms_select.specs.Rows.{header_bytes}
 use Rattle.handlers.specs.Calls.{HandlerCall, Asked, ToGive}
 use Rattle.yamux_session.specs.declared.event.Role.{Role}
 use Rattle.yamux_session.specs.declared.event.Role.TheVariants.{Client, Server}
@@ -28,7 +29,6 @@ Due so_far role past act = IsDue any_step itself itself role past 1 so_far act
 
 -- which acts serve the stream: all that came is taken, while there is credit or once this direction is closed
 pub record DueRows (so_far : Past Bool) : Type 0 where
-  pub written : Due so_far Server two_bytes (Write 1 ((7 ∷ []) ∷ []))
   pub written_on_another : ¬ Due so_far Server two_bytes (Write 3 ((7 ∷ []) ∷ []))
   pub all_taken : Due so_far Server two_bytes (Taken 1 2)
   pub part_taken : ¬ Due so_far Server two_bytes (Taken 1 1)
@@ -50,6 +50,11 @@ unsent = record {
   made = Some true;
   left = None;
 }
+
+-- what is written is what the stream gave, and what its talk wrote comes first
+pub record WriteRows : Type 0 where
+  pub written : Due unsent Server two_bytes (Write 1 (header_bytes ∷ []))
+  pub something_else : ¬ Due unsent Server two_bytes (Write 1 ((7 ∷ []) ∷ []))
 
 -- this direction isn't closed while what the talk wrote waits, though the handler is closed
 pub record CloseRows : Type 0 where

@@ -30,10 +30,16 @@ module _ {H : Type 0} (step : H → HandlerCall → H → Type 0) (is_closed is_
     pub none_waits : stream.waiting ≡ []
     pub over : has_closed is_closed stream.stage ≡ true
 
+  -- The stream stands where this is its session's list: what was written on it is what it gave.
+  pub record HasSent (role : Role) (past : List Item) (n : ℕ) (so_far : Past H) : Type 0 where
+    pub stream : Streaming H
+    pub left : Option ℕ
+    pub stands : Stands step stream (with_sent role past n so_far left)
+
   -- Why an act is due that serves the stream: all that came is taken, where credit is left or this direction is closed;
   -- this direction is closed where the stream gives no more; and what it gives is written.
   abbrev pub IsDue : Role → List Item → ℕ → Past H → Act → Type 0
-  IsDue role past n so_far (Write m pieces) = m ≡ n
+  IsDue role past n so_far (Write m pieces) = (m ≡ n) × HasSent role (Did (Write m pieces) ∷ past) n so_far
   IsDue role past n so_far (Taken m count) = (m ≡ n) × (count ≡ untaken role past n)
       × ((0 < credit role past n) ⊎ (closed role past n ≡ true))
   IsDue role past n so_far (Close m) = (m ≡ n) × HasGiven role past n so_far

@@ -1,15 +1,15 @@
 //! Serving a stream of a session.
 
 ghost use Rattle.std.specs.Prelude.{◌≡◌, ◌≢◌, ◌⊎◌, ℕ, ◌<◌, Bool, true, false, List};
-ghost use Rattle.std.specs.Prelude.{Option, Some, None, Ok, Err, IfOk, IfErr, OnOk, IsOk};
+ghost use Rattle.std.specs.Prelude.{Option, Some, None, Ok, Err, IfOk, IfErr, IfSome, OnOk, IsOk};
 ghost use Rattle.yamux_session.specs.declared.event.Role.{Role};
 ghost use Rattle.yamux_session.specs.History.{Item};
 ghost use Rattle.yamux_session.specs.Acts.{open_credit};
 ghost use Rattle.yamux_session.specs.Data.{written};
 ghost use Rattle.yamux_session.specs.State.{Stands as SessionStands, Whenever};
-ghost use Rattle.streams.specs.declared.stage.Stage.TheVariants.{Done, Over};
+ghost use Rattle.streams.specs.declared.stage.Stage.TheVariants.{Over};
 ghost use Rattle.streams.specs.Streams.{Past};
-ghost use Rattle.streams.specs.State.{Stands};
+ghost use Rattle.streams.specs.State.{Stands, Served, kind_of};
 ghost use Rattle.serving.specs.Served.{Serves, GivesUp, MayGrow};
 ghost use Rattle.serving.specs.Steps.{Sends, WasAsked, Closes, Counts};
 
@@ -31,7 +31,7 @@ fn send<H: Handler>(
         (Sends H.steps H.is_closed role past fed sent number credit so_far session.new stream.new) }
     ensures fault { IfErr result (λ stop. stop ≢ Stop.OutOfMemory → (session.new ≡ session.old)
         × ((stream.new ≡ record stream.old { stage = Over }) × GivesUp H.fails H.is_closed stream.old credit stop)) }
-    ensures held { OnOk result (stream.new.stage ≡ Done → stream.old.stage ≡ Done) }
+    ensures kind { OnOk result (kind_of stream.new.stage ≡ kind_of stream.old.stage) }
 {
     let bytes = stream.give(credit as usize)?;
     match session.write(number, &bytes) {
@@ -46,7 +46,7 @@ fn ask<H: Handler>(session: &mut Session, number: u32, stream: &mut Stream<H>) -
         → SessionStands role past fed sent session.old → Stands H.steps stream.old so_far
         → so_far.sent ≡ written role past number → OnOk result
         (WasAsked H.steps H.is_closed H.is_finished role past fed sent number so_far session.new stream.new) }
-    ensures held { OnOk result (stream.new.stage ≡ Done → stream.old.stage ≡ Done) }
+    ensures kind { OnOk result (kind_of stream.new.stage ≡ kind_of stream.old.stage) }
     ensures kept { Whenever session.old (λ role past. open_credit role past number ≡ None
         → IsOk result × (session.new ≡ session.old)) }
     ensures fault { IfErr result (λ stop. stop ≢ Stop.OutOfMemory → (session.new ≡ session.old)
@@ -135,8 +135,9 @@ pub fn serve<H: Handler>(
         → SessionStands role past fed sent session.old → Stands H.steps stream.old so_far
         → so_far.sent ≡ written role past number → IfOk result (λ handler.
         Serves H.steps H.is_closed H.is_finished role past fed sent number so_far handler session.new stream.new) }
-    // A stream is done only with its handler handed out.
-    ensures held { result ≡ Ok None → stream.new.stage ≡ Done → stream.old.stage ≡ Done }
+    // A stream is done only with its handler handed out, which served it.
+    ensures kind { result ≡ Ok None → kind_of stream.new.stage ≡ kind_of stream.old.stage }
+    ensures served { IfOk result (λ handler. IfSome handler (λ it. kind_of stream.old.stage ≡ Served)) }
     ensures fault { IfErr result (λ stop. stop ≢ Stop.OutOfMemory → (session.new ≡ session.old)
         × ((stream.new ≡ record stream.old { stage = Over }) × Whenever session.old (λ role past.
         (credit : ℕ) × (open_credit role past number ≡ Some credit)

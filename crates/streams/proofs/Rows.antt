@@ -233,18 +233,26 @@ longer : (xs ys : List ℕ) → xs ≡ ys → length xs < length ys ⊎ (length 
 longer xs ys e (inl lt) = omega (arith, ap length e)
 longer xs ys e (inr lt) = omega (arith, ap length e)
 
--- where such a stream has sent nothing, what its talk wrote waits
-pub something_waits : {H : Type 0} (past : Past H) (index : ℕ) (rest gave : List ℕ) → past.side ≡ answers → past.got ≡ came → past.sent ≡ [] → HasAgreed past index rest gave [] → ⊥
-something_waits past index rest gave side got sent a =
-    let b : HasAgreed past 1 (1 ∷ 2 ∷ []) [] (header_bytes ++ y_bytes) = record {
+-- what such a stream sent, and what waits, begins with what its talk wrote
+pub sends_its_talk : {H : Type 0} (past : Past H) (index : ℕ) (rest gave waiting : List ℕ) → past.side ≡ answers → past.got ≡ came → HasAgreed past index rest gave waiting
+    → past.sent ++ waiting ≡ (header_bytes ++ y_bytes) ++ gave
+sends_its_talk past index rest gave waiting side got a =
+    let alone : Past _ = record past { sent = [] } in
+    let b : HasAgreed alone 1 (1 ∷ 2 ∷ []) [] (header_bytes ++ y_bytes) = record {
       first = header_bytes ++ y_bytes;
       output = header_bytes ++ y_bytes;
       got_is = got;
       agrees = subst (λ s. Agrees s (header_bytes ++ y_bytes) 1 (header_bytes ++ y_bytes)) (sym side) answer_rows.agreed;
-      sent_is = ap (λ t. t ++ (header_bytes ++ y_bytes)) sent;
+      sent_is = refl;
     } in
-    let output : a.output ≡ header_bytes ++ y_bytes = (one_talk past index 1 rest (1 ∷ 2 ∷ []) gave [] [] (header_bytes ++ y_bytes) a b).2 in
-    let all : [] ≡ (header_bytes ++ y_bytes) ++ gave = ap (λ t. t ++ []) (sym sent) ∙ a.sent_is ∙ ap (λ t. t ++ gave) output in
+    let c : HasAgreed alone index rest gave (past.sent ++ waiting) = record { first = a.first; output = a.output; got_is = a.got_is; agrees = a.agrees; sent_is = a.sent_is } in
+    let output : a.output ≡ header_bytes ++ y_bytes = (one_talk alone index 1 rest (1 ∷ 2 ∷ []) gave [] (past.sent ++ waiting) (header_bytes ++ y_bytes) c b).2 in
+    a.sent_is ∙ ap (λ t. t ++ gave) output
+
+-- where it has sent nothing, something waits
+pub something_waits : {H : Type 0} (past : Past H) (index : ℕ) (rest gave : List ℕ) → past.side ≡ answers → past.got ≡ came → past.sent ≡ [] → HasAgreed past index rest gave [] → ⊥
+something_waits past index rest gave side got sent a =
+    let all : [] ≡ (header_bytes ++ y_bytes) ++ gave = ap (λ t. t ++ []) (sym sent) ∙ sends_its_talk past index rest gave [] side got a in
     omega (arith, ap length all, length-append (header_bytes ++ y_bytes) gave)
 
 pub stream_rows : StreamRows

@@ -76,3 +76,27 @@ has_finished finished (Agreed index) = false
 has_finished finished (Serving handler) = finished handler
 has_finished finished Done = false
 has_finished finished Over = false
+
+-- its handler was finished, and handed out
+abbrev pub was_handed_out : {H : Type 0} → Stage H → Bool
+was_handed_out (Talking talk handler) = false
+was_handed_out (Agreed index) = false
+was_handed_out (Serving handler) = false
+was_handed_out Done = true
+was_handed_out Over = false
+
+-- ---- where it is, without what is held there
+
+pub data Kind : Type 0 where
+  InTalk : Kind
+  Awaiting : Kind
+  Served : Kind
+  HandedOut : Kind
+  Ended : Kind
+
+abbrev pub kind_of : {H : Type 0} → Stage H → Kind
+kind_of (Talking talk handler) = InTalk
+kind_of (Agreed index) = Awaiting
+kind_of (Serving handler) = Served
+kind_of Done = HandedOut
+kind_of Over = Ended

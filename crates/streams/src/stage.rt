@@ -2,7 +2,7 @@
 
 ghost use Rattle.std.specs.Prelude.{◌≡◌, ℕ, ◌≤◌, length, List, Some, true, false, Ok, IfOk, IfErr, OnOk};
 ghost use Rattle.handlers.specs.Calls.{ToGive};
-ghost use Rattle.streams.specs.State.{is_talking, awaits_handler, handler_of, has_closed, has_finished};
+ghost use Rattle.streams.specs.State.{is_talking, awaits_handler, handler_of, has_closed, has_finished, was_handed_out, kind_of};
 ghost use Rattle.streams.specs.Giving.{Gives, StageGives};
 ghost use Rattle.streams.specs.InTalk.{stage_by};
 
@@ -81,9 +81,16 @@ impl<H: Handler> Stage<H> {
         }
     }
 
+    pub(crate) fn was_handed_out(&self) -> bool
+        ensures { result ≡ was_handed_out self.now }
+    {
+        matches!(self, Stage::Done)
+    }
+
     /// Asks the handler that it holds for bytes.
     pub(crate) fn ask(self, alloc: Global, room: usize) -> Result<(Stage<H>, Vec<u8>), HandlerFault>
         ensures gives { IfOk result (λ given. StageGives H.steps H.is_closed self room given.0 given.1.items) }
+        ensures kind { IfOk result (λ given. kind_of given.0 ≡ kind_of self) }
         ensures fault { IfErr result (λ fault. (handler : H) × (handler_of self ≡ Some handler)
             × (H.is_closed handler ≡ false) × H.fails handler (ToGive room) fault.number) }
     {

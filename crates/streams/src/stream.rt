@@ -13,7 +13,7 @@ ghost use Rattle.talks.specs.State.{Stands as TalkStands};
 ghost use Rattle.streams.specs.Streams.{Past, IsEarly, fresh};
 ghost use Rattle.streams.specs.Stops.{FailsBy, not_now};
 ghost use Rattle.streams.specs.State.{Stands, is_talking, awaits_handler};
-ghost use Rattle.streams.specs.State.{handler_of, is_open, has_closed, has_finished};
+ghost use Rattle.streams.specs.State.{handler_of, is_open, has_closed, has_finished, was_handed_out, kind_of};
 ghost use Rattle.streams.specs.Hearing.{HasHeard, Moves, RunsOut, used_of};
 
 use crate::heard::Heard;
@@ -136,6 +136,13 @@ impl<H: Handler> Stream<H> {
         self.stage.finished()
     }
 
+    /// Whether its handler was finished, and handed out. What still comes is dropped.
+    pub fn was_handed_out(&self) -> bool
+        ensures { result ≡ was_handed_out self.now.stage }
+    {
+        self.stage.was_handed_out()
+    }
+
     /// The talk takes data. Nothing behind the bytes by which both ends agree is read: it is the handler's.
     pub fn hear(&mut self, bytes: &[u8]) -> Result<Heard, Stop>
         ensures out_of_turn { is_talking self.old.stage ≡ false → (result ≡ Err not_now) × (self.new ≡ self.old) }
@@ -183,6 +190,7 @@ impl<H: Handler> Stream<H> {
         ensures fault { (handler : H) → self.old.stage ≡ Stage.Serving handler → IfErr result (λ stop.
             (self.new.stage ≡ Stage.Over) × FailsBy H.fails handler (ToTake bytes.now) stop) }
         ensures done { self.old.stage ≡ Stage.Done → IsOk result × (self.new ≡ self.old) }
+        ensures kind { OnOk result (kind_of self.new.stage ≡ kind_of self.old.stage) }
         ensures out_of_turn { (is_talking self.old.stage ≡ true) ⊎ ((awaits_handler self.old.stage ≡ true)
             ⊎ (self.old.stage ≡ Stage.Over)) → (result ≡ Err not_now) × (self.new ≡ self.old) }
         // All data behind the talk is handed over, each byte once.
@@ -215,6 +223,7 @@ impl<H: Handler> Stream<H> {
         ensures fault { (handler : H) → self.old.stage ≡ Stage.Serving handler → IfErr result (λ stop.
             (self.new.stage ≡ Stage.Over) × FailsBy H.fails handler ToEnd stop) }
         ensures done { self.old.stage ≡ Stage.Done → IsOk result × (self.new ≡ self.old) }
+        ensures kind { OnOk result (kind_of self.new.stage ≡ kind_of self.old.stage) }
         ensures in_talk { is_talking self.old.stage ≡ true
             → (result ≡ Err (Stop.Broken Cause.Ended)) × (self.new.stage ≡ Stage.Over) }
         ensures out_of_turn { (awaits_handler self.old.stage ≡ true) ⊎ (self.old.stage ≡ Stage.Over)
@@ -248,6 +257,7 @@ impl<H: Handler> Stream<H> {
         ensures room { IfOk result (λ bytes. length bytes.items ≤ room) }
         ensures full { IfOk result (λ bytes. self.new.waiting ≢ [] → length bytes.items ≡ room) }
         ensures waits { OnOk result (self.new.waiting ≡ drop room self.old.waiting) }
+        ensures kind { OnOk result (kind_of self.new.stage ≡ kind_of self.old.stage) }
         // The handler that was asked is held on, and its stage is where it was.
         ensures step { (handler : H) → handler_of self.old.stage ≡ Some handler → H.is_closed handler ≡ false
             → IfOk result (λ bytes. (after : H) × (more : List ℕ) × (handler_of self.new.stage ≡ Some after)

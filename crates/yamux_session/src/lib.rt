@@ -20,3 +20,4 @@ mod tests;
 pub use calls::{Act, ActAnswer, Ran, run};
 pub use event::{ActRefused, Event, Fault, Role};
 pub use session::Session;
+pub use streams::is_own_number;

@@ -5,6 +5,7 @@ ghost use Rattle.std.specs.List.{AllByRecursion};
 ghost use Rattle.yamux_session.specs.History.{Item, Act};
 ghost use Rattle.yamux_session.specs.History.Item.{Came, Did};
 ghost use Rattle.yamux_session.specs.History.Act.{Start, Write, Taken, Close, Reset};
+ghost use Rattle.yamux_session.specs.Openings.{is_live};
 ghost use Rattle.yamux_session.specs.Acts.{open_credit, start_refusal, stream_refusal, direction_refusal, IsRefusedFor, frames_length};
 ghost use Rattle.yamux_session.specs.Windows.{credit, given_back, untaken};
 ghost use Rattle.yamux_session.specs.Output.{frame};
@@ -89,6 +90,14 @@ impl Session {
             return None;
         }
         self.streams.credit(stream)
+    }
+
+    /// Whether a stream is live. Once the session has failed none is.
+    pub fn is_live(&self, stream: u32) -> bool
+        ensures live { Whenever self.now (λ role past. result ≡ is_live role past stream) }
+        ensures failed { self.now.failed ≡ true → result ≡ false }
+    {
+        !self.failed && self.streams.is_live(stream)
     }
 
     /// Whether the bytes that came end within a frame: after a part of a header, or with an unfinished payload. Once

@@ -5,6 +5,7 @@ ghost use Rattle.yamux_session.specs.History.{Item, is_own, is_remote, is_update
 ghost use Rattle.yamux_session.specs.History.Item.{Came};
 ghost use Rattle.yamux_frames.specs.Frames.Arrival.{Head, Tail};
 ghost use Rattle.yamux_session.specs.Faults.{fault_at};
+ghost use Rattle.yamux_session.specs.Openings.{is_live};
 ghost use Rattle.yamux_session.specs.Acts.{open_credit, start_refusal, AreAnswered};
 ghost use Rattle.yamux_session.specs.Keeps.{Keeps};
 ghost use Rattle.yamux_session.specs.Windows.{initial_window};
@@ -120,6 +121,14 @@ impl Streams {
         ensures { result ≡ row_at self.now.rows.entries number }
     {
         self.rows.get(&number).copied()
+    }
+
+    /// Whether a stream is live.
+    pub fn is_live(&self, number: u32) -> bool
+        ensures { (role : Role) (past : List Item) → Keeps role past (table_of self.now)
+            → result ≡ is_live role past number }
+    {
+        self.row(number).is_some()
     }
 
     /// Gives windows to a stream that becomes live.

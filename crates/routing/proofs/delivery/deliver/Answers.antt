@@ -1,6 +1,6 @@
 use Rattle.std.proofs.Common.{◌≡◌, ◌≢◌, ℕ, List, ◌++◌, Bool, true, false, Option, Some, None, Ok, Err, refl, sym, ap, ◌∙◌, subst, inl, inr, take, drop}
 use Rattle.streams.specs.declared.heard.Heard.{Heard}
-use Rattle.streams.specs.State.{Streaming, is_talking, awaits_handler}
+use Rattle.streams.specs.State.{Streaming, is_talking, awaits_handler, kind_of}
 use Rattle.dispatch.specs.Dispatch.{made_by, Negotiates}
 use Rattle.routing.specs.declared.delivered.Delivered.{Delivered}
 use Rattle.routing.specs.Routing.{Delivers, HasAgreed}
@@ -53,6 +53,7 @@ returns-in_ok-outcome-in-Ok-Agreed-clause-delivers g c = λ role past fed sent s
       made = came.1.0;
       is_made = came.1.1;
       stands = came.1.2;
+      serving = ap kind_of came.2.1;
     } in (
       λ _. (
         take used bytes,

@@ -21,13 +21,9 @@ returns-in-Ok-clause-ends g c = λ role past fed sent so_far at stands going awa
     c.deliver_credit.result
     (λ outcome came. (
       λ talks. absurd (let no = (c.in-Ok.ensures.in_talk talks).0 in cc no),
-      λ talks. inl (c.end.new.self, there, by_stage (quiet H.steps c.args.stream.now so_far stands talks awaits), came),
+      λ talks. inl (c.end.new.self, there, c.in-Ok.ensures.kind, came),
     ))
     (c.deliver_credit.ensures.came role past fed sent now at there e)
-  where
-    by_stage : ((handler : _) × (c.args.stream.now.stage ≡ stages.Serving handler)) ⊎ (c.args.stream.now.stage ≡ stages.Done) → is_talking c.end.new.self.stage ≡ false
-    by_stage (inl serves) = let after = c.in-Ok.ensures.step serves.0 serves.1 in ap is_talking after.1
-    by_stage (inr done) = let same = (c.in-Ok.ensures.done done).1 in ap (λ x. is_talking x.stage) same ∙ ap is_talking done
 
 pub returns-in-Err-clause-ends : goal.returns-in-Err-clause-ends
 returns-in-Err-clause-ends g c = λ role past fed sent so_far at stands going awaits e.

@@ -16,12 +16,8 @@ returns-in-Ok-clause-takes g c = λ role past fed sent so_far at stands going ta
     (λ outcome. Came H.steps H.fails H.is_closed H.is_finished role past fed sent c.args.number now c.take.new.self c.args.session.now outcome c.deliver_credit.new.session c.deliver_credit.new.stream)
     (λ outcome. Takes H.steps H.fails H.is_closed H.is_finished role past fed sent c.args.number so_far c.args.bytes.now c.args.stream.now c.args.session.now outcome c.deliver_credit.new.session c.deliver_credit.new.stream)
     c.deliver_credit.result
-    (λ outcome came. inl (c.take.new.self, there, by_stage (quiet H.steps c.args.stream.now so_far stands talks awaits), came))
+    (λ outcome came. inl (c.take.new.self, there, c.in-Ok.ensures.kind, came))
     (c.deliver_credit.ensures.came role past fed sent now at there e)
-  where
-    by_stage : ((handler : _) × (c.args.stream.now.stage ≡ stages.Serving handler)) ⊎ (c.args.stream.now.stage ≡ stages.Done) → is_talking c.take.new.self.stage ≡ false
-    by_stage (inl serves) = let after = c.in-Ok.ensures.step serves.0 serves.1 in ap is_talking after.1
-    by_stage (inr done) = let same = (c.in-Ok.ensures.done done).1 in ap (λ x. is_talking x.stage) same ∙ ap is_talking done
 
 pub returns-in-Err-clause-takes : goal.returns-in-Err-clause-takes
 returns-in-Err-clause-takes g c = λ role past fed sent so_far at stands going talks awaits e.

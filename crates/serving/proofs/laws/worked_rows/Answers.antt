@@ -1,4 +1,4 @@
-use Rattle.serving.proofs.Rows.{due_rows, close_rows, hand_rows, settled_rows, refusal_rows}
+use Rattle.serving.proofs.Rows.{due_rows, write_rows, close_rows, hand_rows, settled_rows, refusal_rows}
 use Rattle.serving.proofs.laws.worked_rows.Goals as goal
 
 pub returns-clause-due : goal.returns-clause-due
@@ -9,6 +9,9 @@ returns-clause-settled c = settled_rows
 
 pub returns-clause-refusals : goal.returns-clause-refusals
 returns-clause-refusals c = refusal_rows
+
+pub returns-clause-writes : goal.returns-clause-writes
+returns-clause-writes c = write_rows
 
 pub returns-clause-closes : goal.returns-clause-closes
 returns-clause-closes c = close_rows

@@ -1,6 +1,6 @@
 use Rattle.std.proofs.Common.{◌≡◌, ℕ, ◌-◌, min, List, length, take, sym, ap, ◌∙◌, subst}
 use Rattle.streams.specs.declared.stage.Stage.{Stage}
-use Rattle.streams.specs.State.{Streaming}
+use Rattle.streams.specs.State.{Streaming, kind_of}
 use Rattle.streams.specs.Giving.{StageGives}
 use Rattle.streams.proofs.Sending.{Sent, asked_on, nothing_asked, sent_on, given_short, step_on, waits_on}
 use Rattle.streams.proofs.stream.Stream.give.Goals as goal
@@ -74,3 +74,8 @@ returns-clause-step g c = λ handler held unclosed.
       short = given_short g.H.Handler.steps g.H.Handler.is_closed c.self.inside.stage c.in_ok-stage.stage (c.args.room - count) c.in_ok-stage.given.items gives;
     } in
     step_on g.H.Handler.steps g.H.Handler.is_closed c.args.self.now c.self.inside.stage c.in_ok-stage.stage handler c.self.inside.waiting.items c.in_ok-front.front.items c.drop_front.new.waiting.items c.in_ok-stage.given.items c.in_ok-bytes.bytes.items c.args.room count is sent held unclosed gives
+
+pub returns-clause-kind : goal.returns-clause-kind
+returns-clause-kind g c =
+    let is : c.args.self.now ≡ record { waiting = c.self.inside.waiting.items; stage = c.self.inside.stage } = sym c.self.view_is in
+    c.in_ok-stage.ensures.kind ∙ ap (λ (t : Stage _). kind_of t) c.replace-stage.ensures.value ∙ ap (λ (x : Streaming _). kind_of x.stage) (sym is)

@@ -1,0 +1,55 @@
+use Rattle.std.proofs.Common.{◌≡◌, ℕ, List, [], ◌∷◌, Option, Some, None, refl, sym, ◌∙◌, subst}
+use Rattle.std.specs.Prelude.{IfSome}
+use Rattle.std.specs.Ordering.{nat_cmp}
+use Rattle.std.specs.BTreeMap as tree
+use Rattle.yamux_session.specs.Events.{Told}
+use Rattle.streams.specs.declared.stop.Cause.TheVariants as causes
+use Rattle.streams.specs.State.{Streaming}
+use Rattle.conn_log.specs.declared.event.ConnEvent.TheVariants as event
+use Rattle.conn_log.specs.Routes.{IsMoving}
+use Rattle.conn_log.proofs.Views.{gone}
+use Rattle.conn_log.proofs.Resetting.{forgotten, was_broken}
+use Rattle.board.proofs.Tables.{elsewhere, here}
+use Rattle.board.proofs.Telling.{on_ok, told_none, told_at}
+use Rattle.board.proofs.board.Board.reset.Goals as goal
+
+pub returns-in_default-clause-routes : goal.returns-in_default-clause-routes
+returns-in_default-clause-routes g c = λ log fed sent session view rest r reset.
+    let H = g.P.H.Handler in
+    let makes = g.P.Protocols in
+    let board = c.args.self.now in
+    let n = c.args.number in
+    let old = tree.get nat_cmp board.streams in
+    told_none H.steps H.fails H.is_closed H.is_finished makes.makes_inbound makes.makes_outbound (makes.is_eager board.protocols) (makes.listed board.protocols) board.peer board.role log
+    c.args.told.now.items c.args.told.now.items fed sent session _ board.past.items n rest (gone view) refl
+    (forgotten H.steps H.fails H.is_closed H.is_finished makes.makes_inbound makes.makes_outbound (makes.is_eager board.protocols) (makes.listed board.protocols) board.peer board.role log
+    fed sent session old _ board.past.items n view rest r.around (elsewhere old _ n None c.remove.ensures.updates.0) (here old _ n None c.remove.ensures.updates.0))
+
+pub returns-then-was_handed_out-clause-routes : goal.returns-then-was_handed_out-clause-routes
+returns-then-was_handed_out-clause-routes g c = λ log fed sent session view rest r reset.
+    let H = g.P.H.Handler in
+    let makes = g.P.Protocols in
+    let board = c.args.self.now in
+    let n = c.args.number in
+    let old = tree.get nat_cmp board.streams in
+    told_none H.steps H.fails H.is_closed H.is_finished makes.makes_inbound makes.makes_outbound (makes.is_eager board.protocols) (makes.listed board.protocols) board.peer board.role log
+    c.args.told.now.items c.args.told.now.items fed sent session _ board.past.items n rest (gone view) refl
+    (forgotten H.steps H.fails H.is_closed H.is_finished makes.makes_inbound makes.makes_outbound (makes.is_eager board.protocols) (makes.listed board.protocols) board.peer board.role log
+    fed sent session old _ board.past.items n view rest r.around (elsewhere old _ n None c.remove.ensures.updates.0) (here old _ n None c.remove.ensures.updates.0))
+
+pub returns-clause-routes : goal.returns-clause-routes
+returns-clause-routes g c = λ log fed sent session view rest r reset.
+    let H = g.P.H.Handler in
+    let makes = g.P.Protocols in
+    let board = c.args.self.now in
+    let n = c.args.number in
+    let old = tree.get nat_cmp board.streams in
+    let moving = subst (λ (t : Option (Streaming _)). IfSome t (λ it. IsMoving H.steps H.fails H.is_closed H.is_finished makes.makes_inbound makes.makes_outbound (makes.is_eager board.protocols)
+    (makes.listed board.protocols) board.peer board.role log n view (Told.Reset n ∷ rest) it)) (sym c.in-Some.ensures.value) r.own in
+    on_ok c.tell.result
+    (λ is. told_at H.steps H.fails H.is_closed H.is_finished makes.makes_inbound makes.makes_outbound (makes.is_eager board.protocols) (makes.listed board.protocols) board.peer board.role log
+    c.args.told.now.items c.tell.new.told.items fed sent session _ board.past.items n rest (gone view) (event.Broken n causes.Reset) is
+    (was_broken H.steps H.fails H.is_closed H.is_finished makes.makes_inbound makes.makes_outbound (makes.is_eager board.protocols) (makes.listed board.protocols) board.peer board.role log
+    fed sent session old _ board.past.items n view rest r.around (elsewhere old _ n None c.remove.ensures.updates.0) (here old _ n None c.remove.ensures.updates.0)
+    c.in-Some.stream moving (sym c.was_handed_out.ensures ∙ c.if-was_handed_out.false) reset))
+    c.tell.ensures

@@ -1,0 +1,61 @@
+use Rattle.std.proofs.Common.{◌≡◌, [], ◌∷◌, refl, subst}
+use Rattle.std.specs.Ordering.{nat_cmp}
+use Rattle.std.specs.BTreeMap as tree
+use Rattle.routing.specs.declared.delivered.Outcome.{Outcome}
+use Rattle.conn_log.specs.declared.event.ConnEvent.TheVariants as event
+use Rattle.conn_log.specs.Entries.Entry.{Says}
+use Rattle.conn_log.specs.Routes.{Comes}
+use Rattle.board.proofs.Telling.{on_ok, told_none, told_at, told_then}
+use Rattle.board.proofs.board.Board.settle.Goals as goal
+
+pub returns-in-Going-clause-settles : goal.returns-in-Going-clause-settles
+returns-in-Going-clause-settles g c = λ log fed sent view rest comes.
+    let H = g.P.H.Handler in
+    let makes = g.P.Protocols in
+    let board = c.args.self.now in
+    let there = subst (λ (o : Outcome _). Comes H.steps H.fails H.is_closed H.is_finished makes.makes_inbound makes.makes_outbound (makes.is_eager board.protocols) (makes.listed board.protocols)
+    board.peer board.role log fed sent c.args.session.now (tree.get nat_cmp board.streams) board.past.items c.args.number view rest o) c.in-Going.is comes in
+    told_none H.steps H.fails H.is_closed H.is_finished makes.makes_inbound makes.makes_outbound (makes.is_eager board.protocols) (makes.listed board.protocols) board.peer board.role log
+    c.args.told.now.items c.args.told.now.items fed sent c.args.session.now (tree.get nat_cmp board.streams) board.past.items c.args.number rest view refl there
+
+pub returns-in-Done-clause-settles : goal.returns-in-Done-clause-settles
+returns-in-Done-clause-settles g c = λ log fed sent view rest comes.
+    let H = g.P.H.Handler in
+    let makes = g.P.Protocols in
+    let board = c.args.self.now in
+    let there = subst (λ (o : Outcome _). Comes H.steps H.fails H.is_closed H.is_finished makes.makes_inbound makes.makes_outbound (makes.is_eager board.protocols) (makes.listed board.protocols)
+    board.peer board.role log fed sent c.args.session.now (tree.get nat_cmp board.streams) board.past.items c.args.number view rest o) c.in-Done.is comes in
+    on_ok c.tell.result
+    (λ is. told_at H.steps H.fails H.is_closed H.is_finished makes.makes_inbound makes.makes_outbound (makes.is_eager board.protocols) (makes.listed board.protocols) board.peer board.role log
+    c.args.told.now.items c.tell.new.told.items fed sent c.args.session.now (tree.get nat_cmp board.streams) board.past.items c.args.number rest view (event.Done c.args.number c.in-Done.handler) is there)
+    c.tell.ensures
+
+pub returns-in_ok-give_up-in-Refused-clause-settles :
+    goal.returns-in_ok-give_up-in-Refused-clause-settles
+returns-in_ok-give_up-in-Refused-clause-settles g c = λ log fed sent view rest comes.
+    let H = g.P.H.Handler in
+    let makes = g.P.Protocols in
+    let board = c.args.self.now in
+    let there = subst (λ (o : Outcome _). Comes H.steps H.fails H.is_closed H.is_finished makes.makes_inbound makes.makes_outbound (makes.is_eager board.protocols) (makes.listed board.protocols)
+    board.peer board.role log fed sent c.args.session.now (tree.get nat_cmp board.streams) board.past.items c.args.number view rest o) c.in-Refused.is comes in
+    on_ok c.tell-in-Refused.result
+    (λ is. told_then H.steps H.fails H.is_closed H.is_finished makes.makes_inbound makes.makes_outbound (makes.is_eager board.protocols) (makes.listed board.protocols) board.peer board.role log
+    c.args.told.now.items c.tell-in-Refused.new.told.items fed sent c.give_up.new.session (tree.get nat_cmp c.give_up.new.self.streams) c.give_up.new.self.past.items c.args.number rest
+    (event.Refused c.args.number) is
+    (c.in_ok-give_up-in-Refused.ensures.gives_up (Says (event.Refused c.args.number) ∷ log) fed sent view rest [] there refl))
+    c.tell-in-Refused.ensures
+
+pub returns-in_ok-give_up-in-Broken-clause-settles :
+    goal.returns-in_ok-give_up-in-Broken-clause-settles
+returns-in_ok-give_up-in-Broken-clause-settles g c = λ log fed sent view rest comes.
+    let H = g.P.H.Handler in
+    let makes = g.P.Protocols in
+    let board = c.args.self.now in
+    let there = subst (λ (o : Outcome _). Comes H.steps H.fails H.is_closed H.is_finished makes.makes_inbound makes.makes_outbound (makes.is_eager board.protocols) (makes.listed board.protocols)
+    board.peer board.role log fed sent c.args.session.now (tree.get nat_cmp board.streams) board.past.items c.args.number view rest o) c.in-Broken.is comes in
+    on_ok c.tell-in-Broken.result
+    (λ is. told_then H.steps H.fails H.is_closed H.is_finished makes.makes_inbound makes.makes_outbound (makes.is_eager board.protocols) (makes.listed board.protocols) board.peer board.role log
+    c.args.told.now.items c.tell-in-Broken.new.told.items fed sent c.give_up-in-Broken.new.session (tree.get nat_cmp c.give_up-in-Broken.new.self.streams) c.give_up-in-Broken.new.self.past.items
+    c.args.number rest (event.Broken c.args.number c.in-Broken.cause) is
+    (c.in_ok-give_up-in-Broken.ensures.gives_up (Says (event.Broken c.args.number c.in-Broken.cause) ∷ log) fed sent view rest [] there.0 (refl, there.1)))
+    c.tell-in-Broken.ensures

@@ -1,0 +1,11 @@
+-- What routing leaves of a board. Inside: no public clause of a connection cites it.
+use Rattle.std.specs.Prelude.{◌≡◌, ℕ, Bool, List}
+use Rattle.board.specs.declared.board.Board.{Board}
+
+-- Whose streams they are stays, and what makes their handlers lists the same protocols.
+pub record Keeps {P H : Type 0} (listed : P → List (List ℕ)) (is_eager : P → ℕ → Bool) (old new : Board P H) : Type 0
+  where
+    pub role_is : new.role ≡ old.role
+    pub peer_is : new.peer ≡ old.peer
+    pub names_are : listed new.protocols ≡ listed old.protocols
+    pub eager_are : is_eager new.protocols ≡ is_eager old.protocols

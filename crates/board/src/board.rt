@@ -1,0 +1,253 @@
+//! The streams of a connection.
+
+ghost use Rattle.std.specs.Prelude.{◌≡◌, ◌≢◌, ℕ, Bool, List, [], ◌∷◌, ◌++◌, map, OnOk};
+ghost use Rattle.std.specs.Ordering.{nat_cmp};
+ghost use Rattle.std.specs.BTreeMap as tree;
+ghost use Rattle.yamux_session.specs.History.{Item};
+ghost use Rattle.yamux_session.specs.Events.{Told};
+ghost use Rattle.yamux_session.specs.Seen.{Seen};
+ghost use Rattle.yamux_session.specs.State.{State, Stands as SessionStands};
+ghost use Rattle.conn_log.specs.Entries.{Entry, items, agreement};
+ghost use Rattle.conn_log.specs.Due.{direction_of, IsGivenUp, WasReset};
+ghost use Rattle.conn_log.specs.Routes.{Around, Routes, Routed, Comes, Resets};
+ghost use Rattle.board.specs.Boards.{Keeps};
+
+use conn_log::{ConnEvent, Earlier};
+use dispatch::Direction;
+use handlers::{Handler, Protocols};
+use peer_ids::PeerId;
+use routing::{Outcome, deliver, deliver_credit, deliver_end};
+use std::alloc::{AllocError, Global};
+use std::collections::BTreeMap;
+use streams::{Cause, Stream};
+use yamux_session::laws::acts_tell;
+use yamux_session::{ActRefused, Role, Session, is_own_number};
+
+/// The streams of a connection, and what makes their handlers.
+#[derive(Drop)]
+pub struct Board<P: Protocols> {
+    /// Which end of the session this is.
+    pub role: Role,
+    /// The other end.
+    pub peer: PeerId,
+    /// The protocols of the streams.
+    pub protocols: P,
+    /// The streams that are held, by their numbers: each live one, and each whose handler never finished, until its
+    /// number is opened anew.
+    pub streams: BTreeMap<u32, Stream<P::H>>,
+    /// Streams of earlier openings, in the order in which their numbers were opened anew.
+    pub past: Vec<Earlier<P::H>>,
+}
+
+/// This end opened the streams that have its numbers.
+fn direction_of(role: Role, number: u32) -> Direction
+    ensures { result ≡ direction_of role number }
+{
+    if is_own_number(role, number) {
+        return Direction::Outbound;
+    }
+    Direction::Inbound
+}
+
+/// Resets a stream, where it is live.
+fn reset(session: &mut Session, number: u32) -> Result<(), AllocError>
+    ensures { (role : Role) (past : List Item) (fed sent : List ℕ) → SessionStands role past fed sent session.old
+        → OnOk result (Resets role past fed sent number session.old session.new) }
+{
+    match session.reset(number) {
+        Ok(()) => Ok(()),
+        Err(ActRefused::NoStream) => Ok(()),
+        Err(_) => Err(AllocError),
+    }
+}
+
+/// Tells an event behind those that were told.
+fn tell<H: Handler>(told: &mut Vec<ConnEvent<H>>, event: ConnEvent<H>) -> Result<(), AllocError>
+    ensures { OnOk result (told.new.items ≡ told.old.items ++ event ∷ []) }
+{
+    match told.push(event) {
+        Ok(()) => Ok(()),
+        Err(_) => Err(AllocError),
+    }
+}
+
+/// Tells on which protocol both ends agree, where they do by now.
+fn tell_agreement<H: Handler>(
+    told: &mut Vec<ConnEvent<H>>,
+    number: u32,
+    agreed: Option<usize>,
+) -> Result<(), AllocError>
+    ensures { OnOk result (told.new.items ≡ told.old.items ++ agreement number agreed) }
+{
+    match agreed {
+        Some(index) => tell(told, ConnEvent::Agreed(number, index)),
+        None => Ok(()),
+    }
+}
+
+impl<P: Protocols> Board<P> {
+    /// Gives a stream up: its handler is dropped, and the stream is reset where it is live.
+    fn give_up(&mut self, session: &mut Session, number: u32) -> Result<(), AllocError>
+        ensures keeps { Keeps P.listed P.is_eager self.old self.new }
+        ensures gives_up { (log : List (Entry P.H)) (fed sent : List ℕ) (view : Seen) (rest : List Told)
+            (told : List (ConnEvent P.H))
+            → Around P.H.steps P.H.fails P.H.is_closed P.H.is_finished P.makes_inbound P.makes_outbound
+            (P.is_eager self.old.protocols) (P.listed self.old.protocols) self.old.peer self.old.role log fed sent
+            session.old (tree.get nat_cmp self.old.streams) self.old.past.items number view rest
+            → IsGivenUp number log → OnOk result (Routed P.H.steps P.H.fails P.H.is_closed P.H.is_finished
+            P.makes_inbound P.makes_outbound (P.is_eager self.old.protocols) (P.listed self.old.protocols)
+            self.old.peer self.old.role log told told fed sent session.new (tree.get nat_cmp self.new.streams)
+            self.new.past.items number rest) }
+    {
+        acts_tell();
+        self.streams.remove(&number);
+        reset(session, number)
+    }
+
+    /// Tells what a stream came to, and gives it up where it goes on no more.
+    fn settle(
+        &mut self,
+        session: &mut Session,
+        number: u32,
+        outcome: Outcome<P::H>,
+        told: &mut Vec<ConnEvent<P::H>>,
+    ) -> Result<(), AllocError>
+        ensures keeps { Keeps P.listed P.is_eager self.old self.new }
+        ensures settles { (log : List (Entry P.H)) (fed sent : List ℕ) (view : Seen) (rest : List Told)
+            → Comes P.H.steps P.H.fails P.H.is_closed P.H.is_finished P.makes_inbound P.makes_outbound
+            (P.is_eager self.old.protocols) (P.listed self.old.protocols) self.old.peer self.old.role log fed sent
+            session.old (tree.get nat_cmp self.old.streams) self.old.past.items number view rest outcome
+            → OnOk result (Routed P.H.steps P.H.fails P.H.is_closed P.H.is_finished P.makes_inbound P.makes_outbound
+            (P.is_eager self.old.protocols) (P.listed self.old.protocols) self.old.peer self.old.role log
+            told.old.items told.new.items fed sent session.new (tree.get nat_cmp self.new.streams)
+            self.new.past.items number rest) }
+    {
+        match outcome {
+            Outcome::Going => Ok(()),
+            Outcome::Done(handler) => tell(told, ConnEvent::Done(number, handler)),
+            Outcome::Refused => {
+                self.give_up(session, number)?;
+                tell(told, ConnEvent::Refused(number))
+            }
+            Outcome::Broken(cause) => {
+                self.give_up(session, number)?;
+                tell(told, ConnEvent::Broken(number, cause))
+            }
+        }
+    }
+
+    /// Routes credit to its stream: it is asked for as many bytes as there is credit now.
+    pub fn credit(
+        &mut self,
+        session: &mut Session,
+        number: u32,
+        told: &mut Vec<ConnEvent<P::H>>,
+    ) -> Result<(), AllocError>
+        ensures keeps { Keeps P.listed P.is_eager self.old self.new }
+        ensures routes { (log : List (Entry P.H)) (fed sent : List ℕ) (view : Seen) (rest : List Told)
+            → Routes P.H.steps P.H.fails P.H.is_closed P.H.is_finished P.makes_inbound P.makes_outbound
+            (P.is_eager self.old.protocols) (P.listed self.old.protocols) self.old.peer self.old.role log fed sent
+            session.old (tree.get nat_cmp self.old.streams) self.old.past.items number view
+            (Told.Credit number ∷ rest)
+            → OnOk result (Routed P.H.steps P.H.fails P.H.is_closed P.H.is_finished P.makes_inbound P.makes_outbound
+            (P.is_eager self.old.protocols) (P.listed self.old.protocols) self.old.peer self.old.role log
+            told.old.items told.new.items fed sent session.new (tree.get nat_cmp self.new.streams)
+            self.new.past.items number rest) }
+    {
+        acts_tell();
+        let Some(stream) = self.streams.get_mut(&number) else {
+            return Ok(());
+        };
+        let outcome = deliver_credit(session, number, stream)?;
+        self.settle(session, number, outcome, told)
+    }
+
+    /// Routes the end of the data to its stream: to its handler. Then the stream is served. An end within the talk
+    /// breaks the stream.
+    pub fn end(
+        &mut self,
+        session: &mut Session,
+        number: u32,
+        told: &mut Vec<ConnEvent<P::H>>,
+    ) -> Result<(), AllocError>
+        ensures keeps { Keeps P.listed P.is_eager self.old self.new }
+        ensures routes { (log : List (Entry P.H)) (fed sent : List ℕ) (view : Seen) (rest : List Told)
+            → Routes P.H.steps P.H.fails P.H.is_closed P.H.is_finished P.makes_inbound P.makes_outbound
+            (P.is_eager self.old.protocols) (P.listed self.old.protocols) self.old.peer self.old.role log fed sent
+            session.old (tree.get nat_cmp self.old.streams) self.old.past.items number view
+            (Told.Ended number ∷ rest)
+            → OnOk result (Routed P.H.steps P.H.fails P.H.is_closed P.H.is_finished P.makes_inbound P.makes_outbound
+            (P.is_eager self.old.protocols) (P.listed self.old.protocols) self.old.peer self.old.role log
+            told.old.items told.new.items fed sent session.new (tree.get nat_cmp self.new.streams)
+            self.new.past.items number rest) }
+    {
+        acts_tell();
+        let Some(stream) = self.streams.get_mut(&number) else {
+            return Ok(());
+        };
+        let outcome = deliver_end(session, number, stream)?;
+        self.settle(session, number, outcome, told)
+    }
+
+    /// Routes the other end's reset to its stream, which is given up, unless its handler was handed out before.
+    pub fn reset(&mut self, number: u32, told: &mut Vec<ConnEvent<P::H>>) -> Result<(), AllocError>
+        ensures keeps { Keeps P.listed P.is_eager self.old self.new }
+        ensures routes { (log : List (Entry P.H)) (fed sent : List ℕ) (session : State) (view : Seen) (rest : List Told)
+            → Routes P.H.steps P.H.fails P.H.is_closed P.H.is_finished P.makes_inbound P.makes_outbound
+            (P.is_eager self.old.protocols) (P.listed self.old.protocols) self.old.peer self.old.role log fed sent
+            session (tree.get nat_cmp self.old.streams) self.old.past.items number view
+            (Told.Reset number ∷ rest)
+            → WasReset self.old.role (items log) number → OnOk result
+            (Routed P.H.steps P.H.fails P.H.is_closed P.H.is_finished P.makes_inbound P.makes_outbound
+            (P.is_eager self.old.protocols) (P.listed self.old.protocols) self.old.peer self.old.role log
+            told.old.items told.new.items fed sent session (tree.get nat_cmp self.new.streams)
+            self.new.past.items number rest) }
+    {
+        let Some(stream) = self.streams.remove(&number) else {
+            return Ok(());
+        };
+        if stream.was_handed_out() {
+            return Ok(());
+        }
+        tell(told, ConnEvent::Broken(number, Cause::Reset))
+    }
+
+    /// Routes data to its stream: to its talk while nothing is decided, and behind it to its handler. Then the stream
+    /// is served.
+    pub fn data(
+        &mut self,
+        session: &mut Session,
+        number: u32,
+        bytes: &[u8],
+        told: &mut Vec<ConnEvent<P::H>>,
+    ) -> Result<(), AllocError>
+        ensures keeps { Keeps P.listed P.is_eager self.old self.new }
+        ensures routes { (log : List (Entry P.H)) (fed sent : List ℕ) (view : Seen) (rest : List Told)
+            → Routes P.H.steps P.H.fails P.H.is_closed P.H.is_finished P.makes_inbound P.makes_outbound
+            (P.is_eager self.old.protocols) (P.listed self.old.protocols) self.old.peer self.old.role log fed sent
+            session.old (tree.get nat_cmp self.old.streams) self.old.past.items number view
+            (map (Told.Payload number) bytes.now ++ rest)
+            → bytes.now ≢ [] → OnOk result
+            (Routed P.H.steps P.H.fails P.H.is_closed P.H.is_finished P.makes_inbound P.makes_outbound
+            (P.is_eager self.old.protocols) (P.listed self.old.protocols) self.old.peer self.old.role log
+            told.old.items told.new.items fed sent session.new (tree.get nat_cmp self.new.streams)
+            self.new.past.items number rest) }
+    {
+        acts_tell();
+        let direction = direction_of(self.role, number);
+        let Some(stream) = self.streams.get_mut(&number) else {
+            return Ok(());
+        };
+        let delivered = deliver(
+            session,
+            number,
+            &mut self.protocols,
+            direction,
+            self.peer,
+            stream,
+            bytes,
+        )?;
+        tell_agreement(told, number, delivered.agreed)?;
+        self.settle(session, number, delivered.outcome, told)
+    }
+}

@@ -1,0 +1,7 @@
+//! The streams of a connection, by their numbers: what a frame told is routed to the stream that it names, and what
+//! became of it is told.
+#![tactic(auto)]
+
+mod board;
+
+pub use board::Board;

@@ -1,0 +1,374 @@
+-- Where the streams stand once data of one of them was told.
+use Rattle.std.proofs.Common.{◌≡◌, ◌≢◌, ◌⊎◌, inl, inr, ℕ, ◌==◌, ◌||◌, Bool, true, false, not, ◌&&◌, cond, List, [], ◌∷◌, ◌++◌, map, Option, Some, None, refl, sym, ap, ◌∙◌, subst}
+use Rattle.std.specs.Prelude.{IfSome, IsSome, slice_get}
+use Rattle.std.specs.List.{AllByRecursion}
+use Rattle.std.proofs.lemmas.List.{append-nil, append_assoc}
+use Rattle.handlers.specs.Calls.{HandlerCall, Asked, ToTake}
+use Rattle.handlers.specs.declared.handler.HandlerFault.{HandlerFault}
+use Rattle.talks.specs.Talks.{Side, Asks, Answers, Agrees}
+use Rattle.yamux_session.specs.declared.event.Role.{Role}
+use Rattle.yamux_session.specs.History.{is_own}
+use Rattle.yamux_session.specs.Openings.{finished}
+use Rattle.yamux_session.specs.Data.{inbound}
+use Rattle.yamux_session.specs.Events.{Told}
+use Rattle.yamux_session.specs.Seen.{Seen, seen, hears, all_heard, AgreesOn, ActsDo, ActsMove}
+use Rattle.yamux_session.specs.State.{State}
+use Rattle.streams.specs.declared.stop.Cause.{Cause}
+use Rattle.streams.specs.declared.stop.Cause.TheVariants as causes
+use Rattle.streams.specs.declared.stage.Stage.TheVariants as stages
+use Rattle.streams.specs.Streams.{Past}
+use Rattle.streams.specs.State.{Streaming, Stands, is_talking, awaits_handler, was_handed_out, kind_of, Served}
+use Rattle.dispatch.specs.declared.direction.Direction.{Direction}
+use Rattle.dispatch.specs.declared.direction.Direction.TheVariants.{Inbound, Outbound}
+use Rattle.dispatch.specs.Dispatch.{IsKnown, IsMade, made_by}
+use Rattle.routing.specs.declared.delivered.Outcome.{Outcome}
+use Rattle.routing.specs.declared.delivered.Outcome.TheVariants as outcomes
+use Rattle.routing.specs.declared.delivered.Delivered.{Delivered}
+use Rattle.routing.specs.Routing.{Came, Hands, Takes, HasAgreed, Stops, InTalk, Delivers}
+use Rattle.conn_log.specs.declared.earlier.Earlier.{Earlier}
+use Rattle.conn_log.specs.declared.event.ConnEvent.{ConnEvent}
+use Rattle.conn_log.specs.declared.event.ConnEvent.TheVariants as event
+use Rattle.conn_log.specs.Entries.{Entry, items, said, agreed, is_over, made_of, asked, agreement}
+use Rattle.conn_log.specs.Entries.Entry.{Says, Made}
+use Rattle.conn_log.specs.Due.{IsSide, direction_of, HasCome, ComesTo, HandlerFails, IsDue, AllDue, Makes}
+use Rattle.conn_log.specs.Held.{IsHeld, IsAtRest, IsPast}
+use Rattle.conn_log.specs.Routes.{IsNoOpening, EndsLast, Around, Comes}
+use Rattle.conn_log.proofs.Same.{same_by_making, at_rest_same, past_same}
+use Rattle.conn_log.proofs.Views.{same, came_front}
+use Rattle.conn_log.proofs.StageKinds.{same_talking, same_awaiting, same_handed, served_talking, served_handed, served_awaits, talking_kind, talking_awaits}
+use Rattle.conn_log.proofs.Settling.{said_append}
+use Rattle.conn_log.proofs.Comes.{went, around_event}
+
+-- what is seen of a stream of which these bytes came
+abbrev pub with_bytes : List ℕ → Seen → Seen
+with_bytes bytes view = record view { came = view.came ++ bytes }
+
+-- and it is what was told
+pub heard_bytes : (n : ℕ) (view : Seen) (bytes : List ℕ) (rest : List Told) → all_heard n view (map (Told.Payload n) bytes ++ rest) ≡ all_heard n (with_bytes bytes view) rest
+heard_bytes n view [] rest = ap (λ t. all_heard n (record view { came = t }) rest) (sym (append-nil view.came))
+heard_bytes n view (b ∷ bytes) rest =
+    ap (λ x. all_heard n (cond x (record view { came = view.came ++ b ∷ [] }) view) (map (Told.Payload n) bytes ++ rest)) (same n)
+    ∙ heard_bytes n (record view { came = view.came ++ b ∷ [] }) bytes rest
+    ∙ ap (λ t. all_heard n (record view { came = t }) rest) (append_assoc view.came (b ∷ []) bytes)
+
+none_opened : (n : ℕ) (bytes : List ℕ) (rest : List Told) → AllByRecursion (IsNoOpening n) (map (Told.Payload n) bytes ++ rest) → AllByRecursion (IsNoOpening n) rest
+none_opened n [] rest none = none
+none_opened n (b ∷ bytes) rest none = none_opened n bytes rest none.1
+
+still_last : (ended : Bool) (n : ℕ) (bytes : List ℕ) (rest : List Told) → EndsLast ended (map (Told.Payload n) bytes ++ rest) → EndsLast ended rest
+still_last ended n [] rest last = last
+still_last ended n (b ∷ bytes) rest last = still_last ended n bytes rest last.1
+
+-- data comes before the end
+pub before_the_end : (ended : Bool) (n : ℕ) (bytes : List ℕ) (rest : List Told) → bytes ≢ [] → EndsLast ended (map (Told.Payload n) bytes ++ rest) → ended ≡ false
+before_the_end ended n [] rest some last = absurd (some refl)
+before_the_end ended n (b ∷ bytes) rest some last = last.0
+
+-- the talk of a stream is about the names of the connection
+pub is_known : {H : Type 0} (role : Role) (names : List (List ℕ)) (log : List (Entry H)) (n : ℕ) (side : Side) → IsSide role names log n side → IsKnown names (direction_of role n) side
+is_known role names log n (Asks name index) s = subst (λ (b : Bool). IsKnown names (cond b Outbound Inbound) (Asks name index)) (sym s.0) s.2
+is_known role names log n (Answers known) s = subst (λ (b : Bool). IsKnown names (cond b Outbound Inbound) (Answers known)) (sym s.0) s.1
+
+module _ {P H : Type 0} (step : H → HandlerCall → H → Type 0) (fails : H → Asked → ℕ → Type 0)
+    (is_closed is_finished : H → Bool) (inbound_makes outbound_makes : P → ℕ → List ℕ → H → Type 0)
+    (eager : ℕ → Bool) (names : List (List ℕ)) (peer : List ℕ) (role : Role) where
+  -- data was told, and nothing was done yet
+  pub data_came : (log : List (Entry H)) (fed sent : List ℕ) (session : State) (streams : ℕ → Option (Streaming H)) (past : List (Earlier H)) (n : ℕ) (view : Seen) (bytes : List ℕ) (rest : List Told)
+      → Around step fails is_closed is_finished inbound_makes outbound_makes eager names peer role log fed sent session streams past n view (map (Told.Payload n) bytes ++ rest)
+      → Around step fails is_closed is_finished inbound_makes outbound_makes eager names peer role log fed sent session streams past n (with_bytes bytes view) rest
+  data_came log fed sent session streams past n view bytes rest a = record {
+    session_stands = a.session_stands;
+    due = a.due;
+    others = a.others;
+    others_held = a.others_held;
+    heard = subst (λ (x : Seen). AgreesOn (seen role (items log) n) x) (heard_bytes n view bytes rest) a.heard;
+    opens_none = none_opened n bytes rest a.opens_none;
+    ends_last = still_last view.ended n bytes rest a.ends_last;
+    earlier = a.earlier;
+  }
+
+  -- its handler was made
+  around_making : (log : List (Entry H)) (fed sent : List ℕ) (session : State) (streams : ℕ → Option (Streaming H)) (past : List (Earlier H)) (n : ℕ) (view : Seen) (rest : List Told) (made : H)
+      → IsDue step fails is_closed is_finished inbound_makes outbound_makes eager names peer role log (Made n made)
+      → Around step fails is_closed is_finished inbound_makes outbound_makes eager names peer role log fed sent session streams past n view rest
+      → Around step fails is_closed is_finished inbound_makes outbound_makes eager names peer role (Made n made ∷ log) fed sent session streams past n view rest
+  around_making log fed sent session streams past n view rest made is_due a = record {
+    session_stands = a.session_stands;
+    due = (is_due, a.due);
+    others = λ m apart. if_some (streams m) (λ it. at_rest_same step is_closed is_finished names role log (Made n made ∷ log) m it (same_by_making role log n m made apart)) (a.others m apart);
+    others_held = a.others_held;
+    heard = a.heard;
+    opens_none = a.opens_none;
+    ends_last = a.ends_last;
+    earlier = all_past past a.earlier;
+  } where
+    if_some : {A : Type 0} {P Q : A → Type 0} (r : Option A) → ((x : A) → P x → Q x) → IfSome r P → IfSome r Q
+    if_some None f p = tt
+    if_some (Some x) f p = f x p
+
+    all_past : (past : List (Earlier H)) → AllByRecursion (λ it. IsPast step is_closed is_finished names role log it.number it.stream) past
+        → AllByRecursion (λ it. IsPast step is_closed is_finished names role (Made n made ∷ log) it.number it.stream) past
+    all_past [] all = tt
+    all_past (it ∷ past) all = (past_same step is_closed is_finished names role log (Made n made ∷ []) it.number it.stream all.0, all_past past all.1)
+
+  -- What data came to: by these entries, that tell this.
+  pub record Went (log : List (Entry H)) (told : List (ConnEvent H)) (fed sent : List ℕ) (session : State) (streams : ℕ → Option (Streaming H)) (past : List (Earlier H)) (n : ℕ) (rest : List Told)
+      (outcome : Outcome H) : Type 0 where
+    pub newer : List (Entry H)
+    pub said_is : said newer ≡ told
+    pub seen_now : Seen
+    pub comes : Comes step fails is_closed is_finished inbound_makes outbound_makes eager names peer role (newer ++ log) fed sent session streams past n seen_now rest outcome
+
+  module _ (acts_do : ActsDo) (acts_move : ActsMove) (fed sent : List ℕ) (before after : State) (streams now : ℕ → Option (Streaming H))
+      (past : List (Earlier H)) (n : ℕ) (view : Seen) (rest : List Told) (new : Streaming H) (over : view.live ≡ false → view.ended ≡ true)
+      (elsewhere : (m : ℕ) → (n == m) ≡ false → now m ≡ streams m) (here : now n ≡ Some new) where
+    still : (log : List (Entry H)) → after ≡ before → Around step fails is_closed is_finished inbound_makes outbound_makes eager names peer role log fed sent before streams past n view rest
+        → Around step fails is_closed is_finished inbound_makes outbound_makes eager names peer role log fed sent after now past n view rest
+    still log same_session a = record {
+      session_stands = subst (λ (t : State). Rattle.yamux_session.specs.State.Stands role (items log) fed sent t) (sym same_session) a.session_stands;
+      due = a.due;
+      others = λ m apart. subst (λ (t : Option (Streaming H)). IfSome t (λ it. IsAtRest step is_closed is_finished names role log m it)) (sym (elsewhere m apart)) (a.others m apart);
+      others_held = λ m apart live. subst (λ (t : Option (Streaming H)). IsSome t) (sym (elsewhere m apart)) (a.others_held m apart live);
+      heard = a.heard;
+      opens_none = a.opens_none;
+      ends_last = a.ends_last;
+      earlier = a.earlier;
+    }
+
+    -- a stream that is given up, and why
+    stopped : (log : List (Entry H)) (outcome : Outcome H) (told : ConnEvent H) → after ≡ before
+        → Around step fails is_closed is_finished inbound_makes outbound_makes eager names peer role log fed sent before streams past n view rest
+        → (Around step fails is_closed is_finished inbound_makes outbound_makes eager names peer role (Says told ∷ log) fed sent after now past n view rest
+        → Comes step fails is_closed is_finished inbound_makes outbound_makes eager names peer role log fed sent after now past n view rest outcome)
+        → Rattle.conn_log.proofs.Same.IsOf n told → IsDue step fails is_closed is_finished inbound_makes outbound_makes eager names peer role log (Says told)
+        → Went log [] fed sent after now past n rest outcome
+    stopped log outcome told same_session a come of is_due = record {
+      newer = [];
+      said_is = refl;
+      seen_now = view;
+      comes = come (around_event step fails is_closed is_finished inbound_makes outbound_makes eager names peer role log fed sent after now past n view rest told of is_due (still log same_session a));
+    }
+
+    -- the handler took data behind the talk
+    pub takes : (log : List (Entry H)) (bytes : List ℕ) (old : Streaming H) (got : List ℕ) (outcome : Outcome H)
+        → (a : Around step fails is_closed is_finished inbound_makes outbound_makes eager names peer role log fed sent before streams past n view rest)
+        → view.came ≡ got ++ bytes → view.ended ≡ false
+        → (h : IsHeld step is_closed is_finished names role log n got view.ended old)
+        → Takes step fails is_closed is_finished role (items log) fed sent n h.so_far bytes old before outcome after new
+        → Went log [] fed sent after now past n rest outcome
+    takes log bytes old got outcome a came going h (inl served) =
+        let middle = served.0 in
+        let kind : kind_of middle.stage ≡ kind_of old.stage = served.2 in
+        let so_far : Past H = record h.so_far { got = h.so_far.got ++ bytes; left = None } in
+        let held : IsHeld step is_closed is_finished names role log n view.came view.ended middle = record {
+          so_far = so_far;
+          side_is = h.side_is;
+          got_is = ap (λ t. t ++ bytes) h.got_is ∙ sym came;
+          ended_is = h.ended_is;
+          sent_is = h.sent_is;
+          made_is = h.made_is;
+          stands = served.1;
+          talking = λ is. h.talking (sym (same_talking middle.stage old.stage kind) ∙ is);
+          agreed_on = λ is. h.agreed_on (sym (same_talking middle.stage old.stage kind) ∙ is);
+          over = h.over ∙ sym (same_handed middle.stage old.stage kind);
+          served = same_awaiting middle.stage old.stage kind ∙ h.served;
+        } in
+        let it = went step fails is_closed is_finished inbound_makes outbound_makes eager names peer role acts_do acts_move log fed sent before after streams now past n view rest middle new a held over
+        elsewhere here outcome served.3 in
+        record { newer = it.newer; said_is = it.none_said; seen_now = it.seen_now; comes = it.comes }
+    takes log bytes old got outcome a came going h (inr f) =
+        let front = came_front n view rest a.opens_none in
+        let data_is : inbound role (items log) n ≡ h.so_far.got ++ bytes ++ front.0 =
+        a.heard.came ∙ front.1 ∙ ap (λ t. t ++ front.0) (came ∙ ap (λ t. t ++ bytes) (sym h.got_is)) in
+        let handler = f.1.0 in
+        let fault : HandlerFault = f.1.1 in
+        stopped log outcome (event.Broken n (causes.Handler fault)) f.0 a
+        (λ around. subst (λ (o : Outcome H). Comes step fails is_closed is_finished inbound_makes outbound_makes eager names peer role log fed sent after now past n view rest o) (sym f.1.4)
+        (around, λ e. absurd (cc e)))
+        refl (
+          h.over ∙ ap was_handed_out f.1.2,
+          record {
+            there = record {
+              so_far = h.so_far;
+              stream = old;
+              come = record {
+                side_is = h.side_is;
+                rest = bytes ++ front.0;
+                got_is = data_is ∙ append_assoc h.so_far.got bytes front.0;
+                ended_by = λ is. absurd (let e : true ≡ false = sym is ∙ h.ended_is ∙ going in cc e);
+                sent_is = h.sent_is;
+                made_is = h.made_is;
+              };
+              stands = h.stands;
+            };
+            handler = handler;
+            held = ap Rattle.streams.specs.State.handler_of f.1.2;
+            request = ToTake bytes;
+            asked_for = (front.0, data_is);
+            fails_by = f.1.3;
+          },
+        )
+
+    -- ---- in the talk
+
+    module _ (protocols : P) (log : List (Entry H)) (bytes : List ℕ) (old : Streaming H) (got : List ℕ)
+        (a : Around step fails is_closed is_finished inbound_makes outbound_makes eager names peer role log fed sent before streams past n view rest)
+        (came : view.came ≡ got ++ bytes) (going : view.ended ≡ false) (h : IsHeld step is_closed is_finished names role log n got view.ended old) where
+      abbrev pub makes : ℕ → H → Type 0
+      makes index made = made_by (inbound_makes protocols) (outbound_makes protocols) (direction_of role n) peer index made
+
+      -- what comes behind this piece
+      behind : List ℕ
+      behind = (came_front n view rest a.opens_none).0
+
+      data_is : inbound role (items log) n ≡ (h.so_far.got ++ bytes) ++ behind
+      unfolding behind
+      data_is = a.heard.came ∙ (came_front n view rest a.opens_none).1 ∙ ap (λ t. t ++ behind) (came ∙ ap (λ t. t ++ bytes) (sym h.got_is))
+
+      by_front : (front more : List ℕ) → bytes ≡ front ++ more → inbound role (items log) n ≡ (h.so_far.got ++ front) ++ (more ++ behind)
+      by_front front more is =
+          data_is ∙ ap (λ t. (h.so_far.got ++ t) ++ behind) is ∙ ap (λ t. t ++ behind) (sym (append_assoc h.so_far.got front more)) ∙ append_assoc (h.so_far.got ++ front) more behind
+
+      not_over : is_talking old.stage ≡ true → is_over role log n ≡ false
+      not_over talks = h.over ∙ talking_kind old.stage talks
+
+      decided : (outcome : Outcome H) → is_talking old.stage ≡ true → after ≡ before
+          → Stops step fails is_closed is_finished role (items log) fed sent n makes h.so_far bytes outcome → Went log [] fed sent after now past n rest outcome
+      decided outcomes.Refused talks same_session s =
+          stopped log outcomes.Refused (event.Refused n) same_session a (λ around. around) refl (
+            h.talking talks,
+            not_over talks,
+            record { side = h.so_far.side; first = h.so_far.got ++ s.0; rest = s.1 ++ behind; output = s.2; side_is = h.side_is; data_is = by_front s.0 s.1 s.3; comes_to = s.4 },
+          )
+      decided (outcomes.Broken (causes.Select fault)) talks same_session s =
+          stopped log (outcomes.Broken (causes.Select fault)) (event.Broken n (causes.Select fault)) same_session a (λ around. (around, λ e. absurd (cc e))) refl (
+            not_over talks,
+            (
+              s.0,
+              h.talking talks,
+              record { side = h.so_far.side; first = h.so_far.got ++ bytes; rest = behind; output = s.1.0; side_is = h.side_is; data_is = data_is; comes_to = s.1.1 },
+            ),
+          )
+      decided (outcomes.Broken (causes.Handler fault)) talks same_session s = absurd s
+      decided (outcomes.Broken causes.Reset) talks same_session s = absurd s
+      decided (outcomes.Broken causes.Ended) talks same_session s = absurd s
+      decided outcomes.Going talks same_session s = absurd s
+      decided (outcomes.Done handler) talks same_session s = absurd s
+
+      -- nothing is decided by these bytes
+      undecided : (outcome : Outcome H) (middle : Streaming H) → is_talking old.stage ≡ true → Stands step middle (record h.so_far { got = h.so_far.got ++ bytes }) → is_talking middle.stage ≡ true
+          → Came step fails is_closed is_finished role (items log) fed sent n (record h.so_far { got = h.so_far.got ++ bytes }) middle before outcome after new
+          → Went log [] fed sent after now past n rest outcome
+      undecided outcome middle talks stands still_talks came_to =
+          let held : IsHeld step is_closed is_finished names role log n view.came view.ended middle = record {
+            so_far = record h.so_far { got = h.so_far.got ++ bytes };
+            side_is = h.side_is;
+            got_is = ap (λ t. t ++ bytes) h.got_is ∙ sym came;
+            ended_is = h.ended_is;
+            sent_is = h.sent_is;
+            made_is = h.made_is;
+            stands = stands;
+            talking = λ is. h.talking talks;
+            agreed_on = λ is. absurd (let e : true ≡ false = sym still_talks ∙ is in cc e);
+            over = not_over talks ∙ sym (talking_kind middle.stage still_talks);
+            served = talking_awaits middle.stage still_talks;
+          } in
+          let it = went step fails is_closed is_finished inbound_makes outbound_makes eager names peer role acts_do acts_move log fed sent before after streams now past n view rest middle new a held over
+          elsewhere here outcome came_to in
+          record { newer = it.newer; said_is = it.none_said; seen_now = it.seen_now; comes = it.comes }
+
+      -- both ends agree by a front of these bytes, and the handler takes the rest
+      agreed_on : (outcome : Outcome H) (index : ℕ) (front more : List ℕ) (middle : Streaming H) → is_talking old.stage ≡ true
+          → (has : HasAgreed step fails is_closed is_finished role (items log) fed sent n makes h.so_far bytes index front more middle)
+          → Takes step fails is_closed is_finished role (items log) fed sent n (record h.so_far { got = h.so_far.got ++ front; made = Some has.made }) more middle before outcome after new
+          → Went log (event.Agreed n index ∷ []) fed sent after now past n rest outcome
+      agreed_on outcome index front more middle talks has took = by_making has.is_made where
+        told_so : List (Entry H)
+        told_so = Says (event.Agreed n index) ∷ log
+
+        told : Around step fails is_closed is_finished inbound_makes outbound_makes eager names peer role told_so fed sent before streams past n view rest
+        told = around_event step fails is_closed is_finished inbound_makes outbound_makes eager names peer role log fed sent before streams past n view rest (event.Agreed n index) refl (
+          h.talking talks,
+          not_over talks,
+          record {
+            side = h.so_far.side;
+            first = h.so_far.got ++ front;
+            rest = more ++ behind;
+            output = has.agrees.output;
+            side_is = h.side_is;
+            data_is = by_front front more has.agrees.bytes_are;
+            comes_to = has.agrees.agrees;
+          },
+        ) a
+
+        came_then : view.came ≡ (h.so_far.got ++ front) ++ more
+        came_then = came ∙ ap (λ t. t ++ bytes) (sym h.got_is) ∙ ap (λ t. h.so_far.got ++ t) has.agrees.bytes_are ∙ sym (append_assoc h.so_far.got front more)
+
+        some_index : {k : Option ℕ} → k ≡ Some index → k ≢ None
+        some_index is none = absurd (let e : Some index ≡ None = sym is ∙ none in cc e)
+
+        agreed_now : agreed role told_so n ≡ Some index
+        agreed_now = ap (λ b. cond b (Some index) (agreed role log n)) (same n)
+
+        held_at : (then : List (Entry H)) → IsSide role names then n h.so_far.side → agreed role then n ≡ Some index → is_over role then n ≡ is_over role log n → Some has.made ≡ made_of role then n
+            → h.so_far.sent ≡ Rattle.yamux_session.specs.Data.written role (items then) n
+            → IsHeld step is_closed is_finished names role then n (h.so_far.got ++ front) view.ended middle
+        held_at then side agrees_then over_then made_then sent_then = record {
+          so_far = record h.so_far { got = h.so_far.got ++ front; made = Some has.made };
+          side_is = side;
+          got_is = refl;
+          ended_is = h.ended_is;
+          sent_is = sent_then;
+          made_is = made_then;
+          stands = has.stands;
+          talking = λ is. absurd (let e : true ≡ false = sym is ∙ served_talking middle.stage has.serving in cc e);
+          agreed_on = λ is. some_index agrees_then;
+          over = over_then ∙ not_over talks ∙ sym (served_handed middle.stage has.serving);
+          served = served_awaits middle.stage has.serving;
+        }
+
+        side_at : (side : Side) → IsSide role names log n side → IsSide role names told_so n side
+        side_at (Asks name k) s = s
+        side_at (Answers known) s = s
+
+        side_made : (side : Side) → IsSide role names log n side → IsSide role names (Made n has.made ∷ told_so) n side
+        side_made (Asks name k) s = s
+        side_made (Answers known) s = s
+
+        by_making : IsMade makes h.so_far index has.made → Went log (event.Agreed n index ∷ []) fed sent after now past n rest outcome
+        by_making (inl is) =
+            let it = takes told_so more middle (h.so_far.got ++ front) outcome told came_then going
+            (held_at told_so (side_at h.so_far.side h.side_is) agreed_now refl (sym is ∙ h.made_is) h.sent_is) took in
+            record {
+              newer = it.newer ++ Says (event.Agreed n index) ∷ [];
+              said_is = said_append it.newer (Says (event.Agreed n index) ∷ []) ∙ ap (λ t. (event.Agreed n index ∷ []) ++ t) it.said_is;
+              seen_now = it.seen_now;
+              comes = subst (λ t. Comes step fails is_closed is_finished inbound_makes outbound_makes eager names peer role t fed sent after now past n it.seen_now rest outcome)
+                  (sym (append_assoc it.newer (Says (event.Agreed n index) ∷ []) log)) it.comes;
+            }
+        by_making (inr made) =
+            let it = takes (Made n has.made ∷ told_so) more middle (h.so_far.got ++ front) outcome
+            (around_making told_so fed sent before streams past n view rest has.made (refl, sym h.made_is ∙ made.0, (protocols, made.1)) told) came_then going
+            (held_at (Made n has.made ∷ told_so) (side_made h.so_far.side h.side_is) agreed_now refl (sym (ap (λ b. cond b (Some has.made) (made_of role told_so n)) (same n))) h.sent_is) took in
+            record {
+              newer = it.newer ++ Made n has.made ∷ Says (event.Agreed n index) ∷ [];
+              said_is = said_append it.newer (Made n has.made ∷ Says (event.Agreed n index) ∷ []) ∙ ap (λ t. (event.Agreed n index ∷ []) ++ t) it.said_is;
+              seen_now = it.seen_now;
+              comes = subst (λ t. Comes step fails is_closed is_finished inbound_makes outbound_makes eager names peer role t fed sent after now past n it.seen_now rest outcome)
+                  (sym (append_assoc it.newer (Made n has.made ∷ Says (event.Agreed n index) ∷ []) log)) it.comes;
+            }
+
+      in_talk : (agreed_by : Option ℕ) (outcome : Outcome H) → is_talking old.stage ≡ true
+          → InTalk step fails is_closed is_finished role (items log) fed sent n makes h.so_far bytes before agreed_by outcome after new
+          → Went log (agreement n agreed_by) fed sent after now past n rest outcome
+      in_talk None outcome talks (inl it) = undecided outcome it.0 talks it.1 it.2 it.3
+      in_talk None outcome talks (inr it) = decided outcome talks it.0 it.1
+      in_talk (Some index) outcome talks it = agreed_on outcome index it.0 it.1 it.2 talks it.3.0 it.3.1
+
+      pub delivered_to : (delivered : Delivered H) → Delivers step fails is_closed is_finished role (items log) fed sent n makes h.so_far bytes old before delivered after new
+          → Went log (agreement n delivered.agreed) fed sent after now past n rest delivered.outcome
+      delivered_to delivered d = by_talk (is_talking old.stage) refl where
+        by_talk : (b : Bool) → is_talking old.stage ≡ b → Went log (agreement n delivered.agreed) fed sent after now past n rest delivered.outcome
+        by_talk true e = in_talk delivered.agreed delivered.outcome e (d.0 e)
+        by_talk false e = subst (λ (k : Option ℕ). Went log (agreement n k) fed sent after now past n rest delivered.outcome) (sym (d.1 e).0)
+            (takes log bytes old got delivered.outcome a came going h (d.1 e).1)

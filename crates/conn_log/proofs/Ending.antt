@@ -1,0 +1,202 @@
+-- Where the streams stand once the end of one of them was told.
+use Rattle.std.proofs.Common.{◌≡◌, ◌≢◌, ◌⊎◌, inl, inr, ℕ, ◌==◌, Bool, true, false, not, ◌&&◌, cond, List, [], ◌∷◌, ◌++◌, Option, Some, None, refl, sym, ap, ◌∙◌, subst}
+use Rattle.std.specs.Prelude.{IfSome, IsSome}
+use Rattle.std.proofs.lemmas.List.{append-nil}
+use Rattle.handlers.specs.Calls.{HandlerCall, Asked, ToEnd}
+use Rattle.handlers.specs.declared.handler.HandlerFault.{HandlerFault}
+use Rattle.talks.specs.Talks.{Side, IsOpen}
+use Rattle.yamux_session.specs.declared.event.Role.{Role}
+use Rattle.yamux_session.specs.Openings.{finished}
+use Rattle.yamux_session.specs.Data.{inbound}
+use Rattle.yamux_session.specs.Events.{Told}
+use Rattle.yamux_session.specs.Seen.{Seen, seen, hears, all_heard, AgreesOn, ActsDo, ActsMove}
+use Rattle.yamux_session.specs.State.{State}
+use Rattle.streams.specs.declared.stop.Cause.TheVariants as causes
+use Rattle.streams.specs.declared.stage.Stage.{Stage}
+use Rattle.streams.specs.declared.stage.Stage.TheVariants as stages
+use Rattle.streams.specs.Streams.{Past}
+use Rattle.streams.specs.State.{Streaming, Stands, StandsAt, is_talking, was_handed_out, kind_of}
+use Rattle.streams.proofs.Hearing.{open_before}
+use Rattle.routing.specs.declared.delivered.Outcome.{Outcome}
+use Rattle.routing.specs.declared.delivered.Outcome.TheVariants as outcomes
+use Rattle.routing.specs.Routing.{Came, Ends}
+use Rattle.conn_log.specs.declared.earlier.Earlier.{Earlier}
+use Rattle.conn_log.specs.declared.event.ConnEvent.TheVariants as event
+use Rattle.conn_log.specs.Entries.{Entry, items, agreed, is_over}
+use Rattle.conn_log.specs.Entries.Entry.{Says}
+use Rattle.conn_log.specs.Due.{HasCome, ComesTo, HandlerFails, IsBroken, IsDue}
+use Rattle.conn_log.specs.Held.{IsHeld}
+use Rattle.conn_log.specs.Routes.{EndsLast, IsMoving, Around, Routes, Comes}
+use Rattle.conn_log.proofs.Views.{same}
+use Rattle.conn_log.proofs.StageKinds.{same_talking, same_awaiting, same_handed}
+use Rattle.conn_log.proofs.Served.{none_behind, ended_stays, not_yet}
+use Rattle.conn_log.proofs.Comes.{come, went, around_event, around_still, Went}
+
+-- what is seen of a stream that has ended
+abbrev pub ended_view : Seen → Seen
+ended_view view = record view { ended = true; live = view.live && not view.closed }
+
+pub heard_end : (n : ℕ) (view : Seen) → hears n view (Told.Ended n) ≡ ended_view view
+heard_end n view = ap (λ b. cond b (record view { ended = true; live = view.live && not view.closed }) view) (same n)
+
+talking_not_handed : {H : Type 0} (stage : Stage H) → is_talking stage ≡ true → was_handed_out stage ≡ false
+talking_not_handed (stages.Talking talk handler) e = refl
+talking_not_handed (stages.Agreed index) e = refl
+talking_not_handed (stages.Serving handler) e = refl
+talking_not_handed stages.Done e = absurd (cc e)
+talking_not_handed stages.Over e = refl
+
+module _ {P H : Type 0} (step : H → HandlerCall → H → Type 0) (fails : H → Asked → ℕ → Type 0)
+    (is_closed is_finished : H → Bool) (inbound_makes outbound_makes : P → ℕ → List ℕ → H → Type 0)
+    (eager : ℕ → Bool) (names : List (List ℕ)) (peer : List ℕ) (role : Role) where
+  -- nothing is decided by all data of a stream whose talk goes on
+  pub is_open : (x : Streaming H) (so_far : Past H) → Stands step x so_far → is_talking x.stage ≡ true → (output : List ℕ) × IsOpen so_far.side so_far.got output
+  is_open x so_far s talks = by_stage x.stage s talks where
+    by_stage : (stage : Stage H) → StandsAt step stage so_far x.waiting → is_talking stage ≡ true → (output : List ℕ) × IsOpen so_far.side so_far.got output
+    by_stage (stages.Talking talk handler) s talks = (s.output, open_before so_far.side talk so_far.got s.output s.going)
+    by_stage (stages.Agreed index) s talks = absurd (cc talks)
+    by_stage (stages.Serving handler) s talks = absurd (cc talks)
+    by_stage stages.Done s talks = absurd (cc talks)
+    by_stage stages.Over s talks = absurd (cc talks)
+
+  -- the end was told, and nothing was done yet
+  pub end_came : (log : List (Entry H)) (fed sent : List ℕ) (session : State) (streams : ℕ → Option (Streaming H)) (past : List (Earlier H)) (n : ℕ) (view : Seen) (rest : List Told)
+      → Around step fails is_closed is_finished inbound_makes outbound_makes eager names peer role log fed sent session streams past n view (Told.Ended n ∷ rest)
+      → Around step fails is_closed is_finished inbound_makes outbound_makes eager names peer role log fed sent session streams past n (ended_view view) rest
+  end_came log fed sent session streams past n view rest a = record {
+    session_stands = a.session_stands;
+    due = a.due;
+    others = a.others;
+    others_held = a.others_held;
+    heard = subst (λ (x : Seen). AgreesOn (seen role (items log) n) (all_heard n x rest)) (heard_end n view) a.heard;
+    opens_none = a.opens_none.1;
+    ends_last = a.ends_last.1;
+    earlier = a.earlier;
+  }
+
+  module _ (acts_do : ActsDo) (acts_move : ActsMove) (log : List (Entry H)) (fed sent : List ℕ) (before after : State) (streams now : ℕ → Option (Streaming H))
+      (past : List (Earlier H)) (n : ℕ) (view : Seen) (rest : List Told) (old new : Streaming H)
+      (a : Around step fails is_closed is_finished inbound_makes outbound_makes eager names peer role log fed sent before streams past n (ended_view view) rest)
+      (h : IsHeld step is_closed is_finished names role log n view.came view.ended old) (going : view.ended ≡ false)
+      (elsewhere : (m : ℕ) → (n == m) ≡ false → now m ≡ streams m) (here : now n ≡ Some new) where
+    -- all has come
+    all_came : inbound role (items log) n ≡ h.so_far.got
+    all_came = a.heard.came ∙ none_behind step fails is_closed is_finished inbound_makes outbound_makes eager names peer role acts_do acts_move n (ended_view view) rest a.opens_none a.ends_last ∙ sym h.got_is
+
+    is_finished_then : finished role (items log) n ≡ true
+    is_finished_then = a.heard.ended (ended_stays step fails is_closed is_finished inbound_makes outbound_makes eager names peer role acts_do acts_move n (ended_view view) rest a.opens_none refl)
+
+    had_come : HasCome step fails is_closed is_finished inbound_makes outbound_makes eager names peer role log n h.so_far
+    had_come = record {
+      side_is = h.side_is;
+      rest = [];
+      got_is = all_came ∙ sym (append-nil h.so_far.got);
+      ended_by = λ is. (is_finished_then, refl);
+      sent_is = h.sent_is;
+      made_is = h.made_is;
+    }
+
+    told_end : (middle : Streaming H) → Stands step middle (record h.so_far { ended = true; left = None }) → kind_of middle.stage ≡ kind_of old.stage
+        → IsHeld step is_closed is_finished names role log n (ended_view view).came (ended_view view).ended middle
+    told_end middle stands kind = record {
+      so_far = record h.so_far { ended = true; left = None };
+      side_is = h.side_is;
+      got_is = h.got_is;
+      ended_is = refl;
+      sent_is = h.sent_is;
+      made_is = h.made_is;
+      stands = stands;
+      talking = λ is. h.talking (sym (same_talking middle.stage old.stage kind) ∙ is);
+      agreed_on = λ is. h.agreed_on (sym (same_talking middle.stage old.stage kind) ∙ is);
+      over = h.over ∙ sym (same_handed middle.stage old.stage kind);
+      served = same_awaiting middle.stage old.stage kind ∙ h.served;
+    }
+
+    -- what the end came to
+    pub record Ended (outcome : Outcome H) : Type 0 where
+      pub newer : List (Entry H)
+      pub none_said : Rattle.conn_log.specs.Entries.said newer ≡ []
+      pub seen_now : Seen
+      pub comes : Comes step fails is_closed is_finished inbound_makes outbound_makes eager names peer role (newer ++ log) fed sent after now past n seen_now rest outcome
+
+    still : after ≡ before → Around step fails is_closed is_finished inbound_makes outbound_makes eager names peer role log fed sent after now past n (ended_view view) rest
+    still same_session = record {
+      session_stands = subst (λ (t : State). Rattle.yamux_session.specs.State.Stands role (items log) fed sent t) (sym same_session) a.session_stands;
+      due = a.due;
+      others = λ m apart. subst (λ (t : Option (Streaming H)). IfSome t (λ it. Rattle.conn_log.specs.Held.IsAtRest step is_closed is_finished names role log m it)) (sym (elsewhere m apart)) (a.others m apart);
+      others_held = λ m apart live. subst (λ (t : Option (Streaming H)). IsSome t) (sym (elsewhere m apart)) (a.others_held m apart live);
+      heard = a.heard;
+      opens_none = a.opens_none;
+      ends_last = a.ends_last;
+      earlier = a.earlier;
+    }
+
+    in_talk : (outcome : Outcome H) → is_talking old.stage ≡ true → outcome ≡ outcomes.Broken causes.Ended → after ≡ before → Ended outcome
+    in_talk outcome talks is same_session =
+        let open_so_far = is_open old h.so_far h.stands talks in
+        let was_due : IsDue step fails is_closed is_finished inbound_makes outbound_makes eager names peer role log (Says (event.Broken n causes.Ended)) = (
+          h.over ∙ talking_not_handed old.stage talks,
+          (
+            is_finished_then,
+            h.talking talks,
+            record {
+              side = h.so_far.side;
+              first = h.so_far.got;
+              rest = [];
+              output = open_so_far.0;
+              side_is = h.side_is;
+              data_is = all_came ∙ sym (append-nil h.so_far.got);
+              comes_to = (sym all_came, open_so_far.1);
+            },
+          ),
+        ) in
+        record {
+          newer = [];
+          none_said = refl;
+          seen_now = ended_view view;
+          comes = subst (λ (o : Outcome H). Comes step fails is_closed is_finished inbound_makes outbound_makes eager names peer role log fed sent after now past n (ended_view view) rest o) (sym is) (
+            around_event step fails is_closed is_finished inbound_makes outbound_makes eager names peer role log fed sent after now past n (ended_view view) rest (event.Broken n causes.Ended) refl was_due
+                (still same_session),
+            λ e. absurd (cc e),
+          );
+        }
+
+    failed : (outcome : Outcome H) (handler : H) (fault : HandlerFault) → old.stage ≡ stages.Serving handler → fails handler ToEnd fault.number → outcome ≡ outcomes.Broken (causes.Handler fault)
+        → after ≡ before → Ended outcome
+    failed outcome handler fault serves fails_by is same_session =
+        let was_due : IsDue step fails is_closed is_finished inbound_makes outbound_makes eager names peer role log (Says (event.Broken n (causes.Handler fault))) = (
+          h.over ∙ ap was_handed_out serves,
+          record {
+            there = record { so_far = h.so_far; stream = old; come = had_come; stands = h.stands };
+            handler = handler;
+            held = ap Rattle.streams.specs.State.handler_of serves;
+            request = ToEnd;
+            asked_for = (all_came, is_finished_then);
+            fails_by = fails_by;
+          },
+        ) in
+        record {
+          newer = [];
+          none_said = refl;
+          seen_now = ended_view view;
+          comes = subst (λ (o : Outcome H). Comes step fails is_closed is_finished inbound_makes outbound_makes eager names peer role log fed sent after now past n (ended_view view) rest o) (sym is) (
+            around_event step fails is_closed is_finished inbound_makes outbound_makes eager names peer role log fed sent after now past n (ended_view view) rest (event.Broken n (causes.Handler fault)) refl was_due
+                (still same_session),
+            λ e. absurd (cc e),
+          );
+        }
+
+    pub has_ended : (outcome : Outcome H) → Ends step fails is_closed is_finished role (items log) fed sent n h.so_far old before outcome after new → Ended outcome
+    unfolding told_end
+    has_ended outcome ends = by_talk (is_talking old.stage) refl where
+      by_hands : Rattle.routing.specs.Routing.Hands step fails is_closed is_finished role (items log) fed sent n ToEnd (record h.so_far { ended = true; left = None }) old before outcome after new → Ended outcome
+      by_hands (inl served) =
+          let held = told_end served.0 served.1 served.2 in
+          let now_it = went step fails is_closed is_finished inbound_makes outbound_makes eager names peer role acts_do acts_move log fed sent before after streams now past n (ended_view view) rest served.0 new
+          a held (λ off. refl) elsewhere here outcome served.3 in
+          record { newer = now_it.newer; none_said = now_it.none_said; seen_now = now_it.seen_now; comes = now_it.comes }
+      by_hands (inr f) = failed outcome f.1.0 f.1.1 f.1.2 f.1.3 f.1.4 f.0
+
+      by_talk : (b : Bool) → is_talking old.stage ≡ b → Ended outcome
+      by_talk true e = in_talk outcome e (ends.0 e).0 (ends.0 e).1
+      by_talk false e = by_hands (ends.1 e)

@@ -1,0 +1,9 @@
+pub mod Same
+pub mod Views
+pub mod StageKinds
+pub mod Served
+pub mod Comes
+pub mod Settling
+pub mod Ending
+pub mod Data
+pub mod Resetting

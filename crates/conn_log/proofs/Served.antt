@@ -1,0 +1,314 @@
+-- What serving a stream leaves of it and of the others, and why each act of it is due.
+use Rattle.std.proofs.Common.{◌≡◌, ◌≢◌, ◌⊎◌, inl, inr, ℕ, ◌<◌, ◌==◌, Bool, true, false, not, ◌&&◌, ◌||◌, cond, List, [], ◌∷◌, ◌++◌, map, Option, Some, None, refl, sym, ap, ◌∙◌, subst}
+use Rattle.std.specs.Prelude.{IfSome, IsSome}
+use Rattle.std.specs.List.{AllByRecursion}
+use Rattle.std.proofs.lemmas.List.{append-nil}
+use Rattle.handlers.specs.Calls.{HandlerCall, Asked}
+use Rattle.yamux_session.specs.declared.event.Role.{Role}
+use Rattle.yamux_session.specs.History.{Item, Act}
+use Rattle.yamux_session.specs.History.Item.{Did}
+use Rattle.yamux_session.specs.History.Act.{Start, Write, Taken, Close, Reset}
+use Rattle.yamux_session.specs.Openings.{is_live, closed, finished}
+use Rattle.yamux_session.specs.Windows.{credit, untaken}
+use Rattle.yamux_session.specs.Data.{inbound, written}
+use Rattle.yamux_session.specs.Events.{Told}
+use Rattle.yamux_session.specs.Seen.{Seen, seen, all_heard, hears, just_opened, AgreesOn, ActsDo, ActsMove}
+use Rattle.yamux_session.specs.State.{State, Stands as SessionStands}
+use Rattle.streams.specs.Streams.{Past}
+use Rattle.streams.specs.State.{Streaming, Stands}
+use Rattle.serving.specs.Served.{HasSent, IsDue as ActIsDue, AreDue, with_sent}
+use Rattle.conn_log.specs.declared.earlier.Earlier.{Earlier}
+use Rattle.conn_log.specs.Entries.{Entry, items, said, agreed, is_over, made_of, asked}
+use Rattle.conn_log.specs.Entries.Entry.{Of}
+use Rattle.conn_log.specs.Due.{IsSide, HasCome, IsThere, HasGiven, IsDue, AllDue}
+use Rattle.conn_log.specs.Held.{IsHeld, IsAtRest, IsPast}
+use Rattle.conn_log.specs.Routes.{IsNoOpening, EndsLast, Around}
+use Rattle.conn_log.proofs.Same.{Same, same_refl, same_trans, same_by_act, IsOn, side_same, at_rest_same, past_same}
+use Rattle.conn_log.proofs.Views.{done_by, wrote, shut, gone, does_is, moves_on, came_front}
+
+-- entries for these acts
+abbrev pub did : {H : Type 0} → List Act → List (Entry H)
+did [] = []
+did (act ∷ acts) = Of (Did act) ∷ did acts
+
+pub items_did : {H : Type 0} (acts : List Act) (log : List (Entry H)) → items (did acts ++ log) ≡ map Did acts ++ items log
+items_did [] log = refl
+items_did (act ∷ acts) log = ap (λ t. Did act ∷ t) (items_did acts log)
+
+pub said_did : {H : Type 0} (acts : List Act) → said {H = H} (did acts) ≡ []
+said_did [] = refl
+said_did (act ∷ acts) = said_did acts
+
+-- what is seen of the stream behind these acts
+abbrev pub view_by : List Act → Seen → Seen
+view_by [] view = view
+view_by (act ∷ acts) view = done_by act (view_by acts view)
+
+-- of the stream itself: acts change neither what came of it nor what was told
+pub record Own {H : Type 0} (role : Role) (log now : List (Entry H)) (n : ℕ) : Type 0 where
+  pub came_is : inbound role (items now) n ≡ inbound role (items log) n
+  pub ended_is : finished role (items now) n ≡ finished role (items log) n
+  pub agreed_is : agreed role now n ≡ agreed role log n
+  pub over_is : is_over role now n ≡ is_over role log n
+  pub made_is : made_of role now n ≡ made_of role log n
+  pub asked_is : asked now n ≡ asked log n
+
+own_trans : {H : Type 0} (role : Role) (log mid now : List (Entry H)) (n : ℕ) → Own role log mid n → Own role mid now n → Own role log now n
+own_trans role log mid now n a b = record {
+  came_is = b.came_is ∙ a.came_is;
+  ended_is = b.ended_is ∙ a.ended_is;
+  agreed_is = b.agreed_is ∙ a.agreed_is;
+  over_is = b.over_is ∙ a.over_is;
+  made_is = b.made_is ∙ a.made_is;
+  asked_is = b.asked_is ∙ a.asked_is;
+}
+
+module _ {H : Type 0} (acts_do : ActsDo) where
+  own_by : (role : Role) (log : List (Entry H)) (n : ℕ) (act : Act) → IsOn n act → Own role log (Of (Did act) ∷ log) n
+  own_by role log n (Write k pieces) on =
+      let is = acts_do role (items log) (Write k pieces) n ∙ does_is n (seen role (items log) n) (Write k pieces) on in
+      record { came_is = ap (λ (x : Seen). x.came) is; ended_is = ap (λ (x : Seen). x.ended) is; agreed_is = refl; over_is = refl; made_is = refl; asked_is = refl }
+  own_by role log n (Taken k count) on =
+      let is = acts_do role (items log) (Taken k count) n in
+      record { came_is = ap (λ (x : Seen). x.came) is; ended_is = ap (λ (x : Seen). x.ended) is; agreed_is = refl; over_is = refl; made_is = refl; asked_is = refl }
+  own_by role log n (Close k) on =
+      let is = acts_do role (items log) (Close k) n ∙ does_is n (seen role (items log) n) (Close k) on in
+      record { came_is = ap (λ (x : Seen). x.came) is; ended_is = ap (λ (x : Seen). x.ended) is; agreed_is = refl; over_is = refl; made_is = refl; asked_is = refl }
+  own_by role log n (Reset k) on =
+      let is = acts_do role (items log) (Reset k) n ∙ does_is n (seen role (items log) n) (Reset k) on in
+      record { came_is = ap (λ (x : Seen). x.came) is; ended_is = ap (λ (x : Seen). x.ended) is; agreed_is = refl; over_is = refl; made_is = refl; asked_is = refl }
+  own_by role log n (Start k) on = absurd on
+  own_by role log n (Act.GoAway code) on = absurd on
+
+module _ {P H : Type 0} (step : H → HandlerCall → H → Type 0) (fails : H → Asked → ℕ → Type 0)
+    (is_closed is_finished : H → Bool) (inbound_makes outbound_makes : P → ℕ → List ℕ → H → Type 0)
+    (eager : ℕ → Bool) (names : List (List ℕ)) (peer : List ℕ) (role : Role) (acts_do : ActsDo) (acts_move : ActsMove) where
+  on_of : (past : List Item) (n : ℕ) (so_far : Past H) (act : Act) → ActIsDue step is_closed is_finished role past n so_far act → IsOn n act
+  on_of past n so_far (Write m pieces) due = due.0
+  on_of past n so_far (Taken m count) due = due.0
+  on_of past n so_far (Close m) due = due.0
+  on_of past n so_far (Start m) due = absurd due
+  on_of past n so_far (Reset m) due = absurd due
+  on_of past n so_far (Act.GoAway code) due = absurd due
+
+  -- each act is on the stream
+  abbrev pub AllOn : ℕ → List Act → Type 0
+  AllOn n [] = Unit {0}
+  AllOn n (act ∷ acts) = IsOn n act × AllOn n acts
+
+  pub all_on : (past : List Item) (n : ℕ) (so_far : Past H) (acts : List Act) → AreDue step is_closed is_finished role past n so_far acts → AllOn n acts
+  all_on past n so_far [] due = tt
+  all_on past n so_far (act ∷ acts) due = (on_of _ n so_far act due.0, all_on past n so_far acts due.1)
+
+  pub did_own : (log : List (Entry H)) (n : ℕ) (acts : List Act) → AllOn n acts → Own role log (did acts ++ log) n
+  did_own log n [] on = record { came_is = refl; ended_is = refl; agreed_is = refl; over_is = refl; made_is = refl; asked_is = refl }
+  did_own log n (act ∷ acts) on = own_trans role log (did acts ++ log) _ n (did_own log n acts on.1) (own_by acts_do role (did acts ++ log) n act on.0)
+
+  pub did_same : (log : List (Entry H)) (n m : ℕ) (acts : List Act) → (n == m) ≡ false → AllOn n acts → Same role log (did acts ++ log) m
+  did_same log n m [] e on = same_refl role log m
+  did_same log n m (act ∷ acts) e on = same_trans role log (did acts ++ log) _ m (did_same log n m acts e on.1) (same_by_act acts_do acts_move role (did acts ++ log) n m act on.0 e)
+
+  pub did_heard : (log : List (Entry H)) (n : ℕ) (view : Seen) (rest : List Told) (acts : List Act) → AllOn n acts → AllByRecursion (IsNoOpening n) rest
+      → AgreesOn (seen role (items log) n) (all_heard n view rest) → AgreesOn (seen role (items (did acts ++ log)) n) (all_heard n (view_by acts view) rest)
+  did_heard log n view rest [] on none a = a
+  did_heard log n view rest (act ∷ acts) on none a = moves_on acts_do role (items (did acts ++ log)) n (view_by acts view) rest act on.0 none (did_heard log n view rest acts on.1 none a)
+
+  -- ---- what came
+
+  pub come_on : (log now : List (Entry H)) (n : ℕ) (so_far : Past H) (left : Option ℕ) → Own role log now n
+      → HasCome step fails is_closed is_finished inbound_makes outbound_makes eager names peer role log n so_far
+      → HasCome step fails is_closed is_finished inbound_makes outbound_makes eager names peer role now n (with_sent role (items now) n so_far left)
+  come_on log now n so_far left own c = record {
+    side_is = side_same role names log now n so_far.side own.asked_is c.side_is;
+    rest = c.rest;
+    got_is = own.came_is ∙ c.got_is;
+    ended_by = λ is. (own.ended_is ∙ (c.ended_by is).0, (c.ended_by is).1);
+    sent_is = refl;
+    made_is = c.made_is ∙ sym own.made_is;
+  }
+
+  -- ---- why each act is due
+
+  entry_due : (log : List (Entry H)) (n : ℕ) (so_far : Past H) (acts : List Act) (act : Act) → AllOn n acts → IsOn n act
+      → HasCome step fails is_closed is_finished inbound_makes outbound_makes eager names peer role log n so_far
+      → ActIsDue step is_closed is_finished role (items (did acts ++ log)) n so_far act
+      → IsDue step fails is_closed is_finished inbound_makes outbound_makes eager names peer role (did acts ++ log) (Of (Did act))
+  entry_due log n so_far acts (Write k pieces) all on c due =
+      let own = own_trans role log (did acts ++ log) _ n (did_own log n acts all) (own_by acts_do role (did acts ++ log) n (Write k pieces) on) in
+      let there : IsThere step fails is_closed is_finished inbound_makes outbound_makes eager names peer role (Of (Did (Write k pieces)) ∷ did acts ++ log) n = record {
+        so_far = with_sent role (Did (Write k pieces) ∷ items (did acts ++ log)) n so_far due.1.left;
+        stream = due.1.stream;
+        come = come_on log (Of (Did (Write k pieces)) ∷ did acts ++ log) n so_far due.1.left own c;
+        stands = due.1.stands;
+      } in
+      subst (λ m. IsThere step fails is_closed is_finished inbound_makes outbound_makes eager names peer role (Of (Did (Write k pieces)) ∷ did acts ++ log) m) (sym on) there
+  entry_due log n so_far acts (Taken k count) all on c due = subst (λ m. (count ≡ untaken role (items (did acts ++ log)) m)
+      × ((0 < credit role (items (did acts ++ log)) m) ⊎ (closed role (items (did acts ++ log)) m ≡ true))) (sym on) (due.1, due.2)
+  entry_due log n so_far acts (Close k) all on c due =
+      let given : HasGiven step fails is_closed is_finished inbound_makes outbound_makes eager names peer role (did acts ++ log) n = record {
+        there = record {
+          so_far = with_sent role (items (did acts ++ log)) n so_far due.1.left;
+          stream = due.1.stream;
+          come = come_on log (did acts ++ log) n so_far due.1.left (did_own log n acts all) c;
+          stands = due.1.stands;
+        };
+        none_waits = due.1.none_waits;
+        over = due.1.over;
+      } in
+      subst (λ m. HasGiven step fails is_closed is_finished inbound_makes outbound_makes eager names peer role (did acts ++ log) m) (sym on) given
+  entry_due log n so_far acts (Reset k) all on c due = absurd due
+  entry_due log n so_far acts (Start k) all on c due = absurd due
+  entry_due log n so_far acts (Act.GoAway code) all on c due = absurd due
+
+  pub did_due : (log : List (Entry H)) (n : ℕ) (so_far : Past H) (acts : List Act)
+      → HasCome step fails is_closed is_finished inbound_makes outbound_makes eager names peer role log n so_far
+      → AreDue step is_closed is_finished role (items log) n so_far acts
+      → AllDue step fails is_closed is_finished inbound_makes outbound_makes eager names peer role log
+      → AllDue step fails is_closed is_finished inbound_makes outbound_makes eager names peer role (did acts ++ log)
+  did_due log n so_far [] c due all = all
+  did_due log n so_far (act ∷ acts) c due all = (
+    entry_due log n so_far acts act (all_on (items log) n so_far acts due.1) (on_of _ n so_far act due.0) c
+        (subst (λ (t : List Item). ActIsDue step is_closed is_finished role t n so_far act) (sym (items_did acts log)) due.0),
+    did_due log n so_far acts c due.1 all,
+  )
+
+  -- ---- the view
+
+  pub view_came : (n : ℕ) (acts : List Act) (view : Seen) → AllOn n acts → (view_by acts view).came ≡ view.came
+  view_came n [] view on = refl
+  view_came n (act ∷ acts) view on = kept act (view_by acts view) on.0 ∙ view_came n acts view on.1 where
+    kept : (act : Act) (s : Seen) → IsOn n act → (done_by act s).came ≡ s.came
+    kept (Write k pieces) s on = refl
+    kept (Taken k count) s on = refl
+    kept (Close k) s on = refl
+    kept (Reset k) s on = refl
+    kept (Start k) s on = absurd on
+    kept (Act.GoAway code) s on = absurd on
+
+  pub view_ended : (n : ℕ) (acts : List Act) (view : Seen) → AllOn n acts → (view_by acts view).ended ≡ view.ended
+  view_ended n [] view on = refl
+  view_ended n (act ∷ acts) view on = kept act (view_by acts view) on.0 ∙ view_ended n acts view on.1 where
+    kept : (act : Act) (s : Seen) → IsOn n act → (done_by act s).ended ≡ s.ended
+    kept (Write k pieces) s on = refl
+    kept (Taken k count) s on = refl
+    kept (Close k) s on = refl
+    kept (Reset k) s on = refl
+    kept (Start k) s on = absurd on
+    kept (Act.GoAway code) s on = absurd on
+
+  -- acts that serve a stream end it only where the other end has ended it
+  pub view_over : (past : List Item) (n : ℕ) (so_far : Past H) (acts : List Act) (view : Seen) → AreDue step is_closed is_finished role past n so_far acts
+      → (view.live ≡ false → view.ended ≡ true) → (view_by acts view).live ≡ false → (view_by acts view).ended ≡ true
+  view_over past n so_far [] view due over = over
+  view_over past n so_far (act ∷ acts) view due over = kept act (view_by acts view) due.0 (view_over past n so_far acts view due.1 over) where
+    shut_over : (live ended : Bool) → (live ≡ false → ended ≡ true) → live && not ended ≡ false → ended ≡ true
+    shut_over live true over off = refl
+    shut_over true false over off = absurd (cc off)
+    shut_over false false over off = over refl
+
+    kept : (act : Act) (s : Seen) → ActIsDue step is_closed is_finished role (map Did acts ++ past) n so_far act → (s.live ≡ false → s.ended ≡ true) → (done_by act s).live ≡ false → (done_by act s).ended ≡ true
+    kept (Write m pieces) s due over = over
+    kept (Taken m count) s due over = over
+    kept (Close m) s due over = shut_over s.live s.ended over
+    kept (Start m) s due over = absurd due
+    kept (Reset m) s due over = absurd due
+    kept (Act.GoAway code) s due over = absurd due
+
+  -- ---- what came is what was seen, or will be
+
+  pub ended_stays : (n : ℕ) (view : Seen) (rest : List Told) → AllByRecursion (IsNoOpening n) rest → view.ended ≡ true → (all_heard n view rest).ended ≡ true
+  ended_stays n view [] none is = is
+  ended_stays n view (t ∷ rest) none is = ended_stays n (hears n view t) rest none.1 (kept t none.0) where
+    by_test : (b : Bool) (other : Seen) → other.ended ≡ true → (cond b other view).ended ≡ true
+    by_test true other e = e
+    by_test false other e = is
+
+    kept : (t : Told) → IsNoOpening n t → (hears n view t).ended ≡ true
+    kept (Told.Opened m) e = ap (λ b. (cond b just_opened view).ended) e ∙ is
+    kept (Told.Payload m b) e = by_test (m == n) (record view { came = view.came ++ b ∷ [] }) is
+    kept (Told.Ended m) e = by_test (m == n) (record view { ended = true; live = view.live && not view.closed }) refl
+    kept (Told.Reset m) e = by_test (m == n) (record view { live = false }) is
+    kept (Told.Accepted m) e = is
+    kept (Told.Credit m) e = is
+    kept (Told.GoAway code) e = is
+    kept (Told.Fault fault) e = is
+
+  pub none_behind : (n : ℕ) (view : Seen) (rest : List Told) → AllByRecursion (IsNoOpening n) rest → EndsLast true rest → (all_heard n view rest).came ≡ view.came
+  none_behind n view [] none last = refl
+  none_behind n view (Told.Opened m ∷ rest) none last =
+      none_behind n (hears n view (Told.Opened m)) rest none.1 last ∙ ap (λ b. (cond b just_opened view).came) none.0
+  none_behind n view (Told.Payload m b ∷ rest) none last = absurd (let e = last.0 in cc e)
+  none_behind n view (Told.Ended m ∷ rest) none last = none_behind n (hears n view (Told.Ended m)) rest none.1 last.1 ∙ by_test (m == n) where
+    by_test : (b : Bool) → (cond b (record view { ended = true; live = view.live && not view.closed }) view).came ≡ view.came
+    by_test true = refl
+    by_test false = refl
+  none_behind n view (Told.Reset m ∷ rest) none last = none_behind n (hears n view (Told.Reset m)) rest none.1 last ∙ by_test (m == n) where
+    by_test : (b : Bool) → (cond b (record view { live = false }) view).came ≡ view.came
+    by_test true = refl
+    by_test false = refl
+  none_behind n view (Told.Accepted m ∷ rest) none last = none_behind n view rest none.1 last
+  none_behind n view (Told.Credit m ∷ rest) none last = none_behind n view rest none.1 last
+  none_behind n view (Told.GoAway code ∷ rest) none last = none_behind n view rest none.1 last
+  none_behind n view (Told.Fault fault ∷ rest) none last = none_behind n view rest none.1 last
+
+  pub not_yet : {b : Bool} → b ≡ false → b ≡ true → ⊥
+  not_yet off on = absurd (let e : true ≡ false = sym on ∙ off in cc e)
+
+  pub come_of : (log : List (Entry H)) (n : ℕ) (view : Seen) (rest : List Told) (so_far : Past H) → IsSide role names log n so_far.side
+      → so_far.got ≡ view.came → so_far.ended ≡ view.ended → so_far.sent ≡ written role (items log) n → so_far.made ≡ made_of role log n
+      → AllByRecursion (IsNoOpening n) rest → EndsLast view.ended rest → AgreesOn (seen role (items log) n) (all_heard n view rest)
+      → HasCome step fails is_closed is_finished inbound_makes outbound_makes eager names peer role log n so_far
+  come_of log n view rest so_far side got ended sent made none last a = by_end view.ended refl where
+    by_end : (b : Bool) → view.ended ≡ b → HasCome step fails is_closed is_finished inbound_makes outbound_makes eager names peer role log n so_far
+    by_end true e = record {
+      side_is = side;
+      rest = [];
+      got_is = a.came ∙ none_behind n view rest none (subst (λ b. EndsLast b rest) e last) ∙ sym got ∙ sym (append-nil so_far.got);
+      ended_by = λ is. (a.ended (ended_stays n view rest none e), refl);
+      sent_is = sent;
+      made_is = made;
+    }
+    by_end false e =
+        let front = came_front n view rest none in
+        record {
+          side_is = side;
+          rest = front.0;
+          got_is = a.came ∙ front.1 ∙ ap (λ t. t ++ front.0) (sym got);
+          ended_by = λ is. absurd (not_yet e (sym ended ∙ is));
+          sent_is = sent;
+          made_is = made;
+        }
+
+  -- ---- all streams but this one
+
+  pub around_acts : (log : List (Entry H)) (fed sent : List ℕ) (before after : State) (streams now : ℕ → Option (Streaming H)) (past : List (Earlier H)) (n : ℕ) (view : Seen)
+      (rest : List Told) (so_far : Past H) (acts : List Act)
+      → Around step fails is_closed is_finished inbound_makes outbound_makes eager names peer role log fed sent before streams past n view rest
+      → HasCome step fails is_closed is_finished inbound_makes outbound_makes eager names peer role log n so_far
+      → AreDue step is_closed is_finished role (items log) n so_far acts
+      → SessionStands role (map Did acts ++ items log) fed sent after
+      → ((m : ℕ) → (n == m) ≡ false → now m ≡ streams m)
+      → Around step fails is_closed is_finished inbound_makes outbound_makes eager names peer role (did acts ++ log) fed sent after now past n (view_by acts view) rest
+  around_acts log fed sent before after streams now past n view rest so_far acts a c due there elsewhere =
+      let on = all_on (items log) n so_far acts due in
+      record {
+        session_stands = subst (λ (t : List Item). SessionStands role t fed sent after) (sym (items_did acts log)) there;
+        due = did_due log n so_far acts c due a.due;
+        others = λ m apart. subst (λ (t : Option (Streaming H)). IfSome t (λ it. IsAtRest step is_closed is_finished names role (did acts ++ log) m it)) (sym (elsewhere m apart))
+            (if_some (streams m) (λ it. at_rest_same step is_closed is_finished names role log (did acts ++ log) m it (did_same log n m acts apart on)) (a.others m apart));
+        others_held = λ m apart live. subst (λ (t : Option (Streaming H)). IsSome t) (sym (elsewhere m apart))
+            (a.others_held m apart (sym (ap (λ (x : Seen). x.live) (did_same log n m acts apart on).seen_is) ∙ live));
+        heard = did_heard log n view rest acts on a.opens_none a.heard;
+        opens_none = a.opens_none;
+        ends_last = subst (λ b. EndsLast b rest) (sym (view_ended n acts view on)) a.ends_last;
+        earlier = all_past past a.earlier;
+      }
+    where
+      if_some : {A : Type 0} {P Q : A → Type 0} (r : Option A) → ((x : A) → P x → Q x) → IfSome r P → IfSome r Q
+      if_some None f p = tt
+      if_some (Some x) f p = f x p
+
+      all_past : (past : List (Earlier H)) → AllByRecursion (λ it. IsPast step is_closed is_finished names role log it.number it.stream) past
+          → AllByRecursion (λ it. IsPast step is_closed is_finished names role (did acts ++ log) it.number it.stream) past
+      all_past [] all = tt
+      all_past (it ∷ past) all = (past_same step is_closed is_finished names role log (did acts) it.number it.stream all.0, all_past past all.1)

@@ -1,0 +1,130 @@
+-- Where the streams stand once one of them was given up, and once something was told of it.
+use Rattle.std.proofs.Common.{◌≡◌, ◌≢◌, ◌⊎◌, inl, inr, ℕ, ◌==◌, Bool, true, false, cond, List, [], ◌∷◌, ◌++◌, Option, Some, None, refl, sym, ap, ◌∙◌, subst}
+use Rattle.std.specs.Prelude.{IfSome, IsSome}
+use Rattle.std.specs.List.{AllByRecursion}
+use Rattle.std.proofs.lemmas.List.{append_assoc, append-nil}
+use Rattle.handlers.specs.Calls.{HandlerCall, Asked}
+use Rattle.yamux_session.specs.declared.event.Role.{Role}
+use Rattle.yamux_session.specs.History.{Item}
+use Rattle.yamux_session.specs.History.Item.{Did}
+use Rattle.yamux_session.specs.History.Act.{Reset}
+use Rattle.yamux_session.specs.Openings.{is_live}
+use Rattle.yamux_session.specs.Events.{Told}
+use Rattle.yamux_session.specs.Seen.{Seen, seen, all_heard, AgreesOn, ActsDo, ActsMove}
+use Rattle.yamux_session.specs.State.{State, Stands as SessionStands}
+use Rattle.streams.specs.declared.stop.Cause.TheVariants as causes
+use Rattle.streams.specs.State.{Streaming}
+use Rattle.routing.specs.declared.delivered.Outcome.{Outcome}
+use Rattle.routing.specs.declared.delivered.Outcome.TheVariants as outcomes
+use Rattle.conn_log.specs.declared.earlier.Earlier.{Earlier}
+use Rattle.conn_log.specs.declared.event.ConnEvent.{ConnEvent}
+use Rattle.conn_log.specs.declared.event.ConnEvent.TheVariants as event
+use Rattle.conn_log.specs.Entries.{Entry, items, said}
+use Rattle.conn_log.specs.Entries.Entry.{Of, Says, Made, Asks}
+use Rattle.conn_log.specs.Due.{IsGivenUp}
+use Rattle.conn_log.specs.Held.{IsAtRest, IsPast}
+use Rattle.conn_log.specs.Routes.{IsMoving, Around, Routes, Routed, Comes, Resets}
+use Rattle.conn_log.proofs.Same.{Same, same_by_act, at_rest_same, past_same}
+use Rattle.conn_log.proofs.Views.{gone, moves_on, agrees_gone, gone_first_all}
+
+pub said_append : {H : Type 0} (newer log : List (Entry H)) → said (newer ++ log) ≡ said log ++ said newer
+said_append [] log = sym (append-nil (said log))
+said_append (Of x ∷ newer) log = said_append newer log
+said_append (Says e ∷ newer) log = ap (λ t. t ++ e ∷ []) (said_append newer log) ∙ append_assoc (said log) (said newer) (e ∷ [])
+said_append (Made n handler ∷ newer) log = said_append newer log
+said_append (Asks n index ∷ newer) log = said_append newer log
+
+module _ {P H : Type 0} (step : H → HandlerCall → H → Type 0) (fails : H → Asked → ℕ → Type 0)
+    (is_closed is_finished : H → Bool) (inbound_makes outbound_makes : P → ℕ → List ℕ → H → Type 0)
+    (eager : ℕ → Bool) (names : List (List ℕ)) (peer : List ℕ) (role : Role) where
+  -- what was routed in two parts, of which the first told this
+  pub routed_behind : (log newer : List (Entry H)) (before mid after more : List (ConnEvent H)) (fed sent : List ℕ) (session : State) (streams : ℕ → Option (Streaming H))
+      (past : List (Earlier H)) (n : ℕ) (rest : List Told) → said newer ≡ more → mid ≡ before ++ more
+      → Routed step fails is_closed is_finished inbound_makes outbound_makes eager names peer role (newer ++ log) mid after fed sent session streams past n rest
+      → Routed step fails is_closed is_finished inbound_makes outbound_makes eager names peer role log before after fed sent session streams past n rest
+  routed_behind log newer before mid after more fed sent session streams past n rest first is r = record {
+    newer = r.newer ++ newer;
+    view = r.view;
+    told_is = r.told_is ∙ ap (λ t. t ++ said r.newer) (is ∙ ap (λ t. before ++ t) (sym first)) ∙ append_assoc before (said newer) (said r.newer) ∙ ap (λ t. before ++ t) (sym (said_append r.newer newer));
+    routes = subst (λ t. Routes step fails is_closed is_finished inbound_makes outbound_makes eager names peer role t fed sent session streams past n r.view rest)
+        (sym (append_assoc r.newer newer log)) r.routes;
+  }
+
+  pub routed_on : (log : List (Entry H)) (newer : List (Entry H)) (before after : List (ConnEvent H)) (fed sent : List ℕ) (session : State) (streams : ℕ → Option (Streaming H))
+      (past : List (Earlier H)) (n : ℕ) (rest : List Told) → said newer ≡ []
+      → Routed step fails is_closed is_finished inbound_makes outbound_makes eager names peer role (newer ++ log) before after fed sent session streams past n rest
+      → Routed step fails is_closed is_finished inbound_makes outbound_makes eager names peer role log before after fed sent session streams past n rest
+  routed_on log newer before after fed sent session streams past n rest none r =
+      routed_behind log newer before before after [] fed sent session streams past n rest none (sym (append-nil before)) r
+
+  module _ (acts_do : ActsDo) (acts_move : ActsMove) (log : List (Entry H)) (fed sent : List ℕ) (before after : State) (streams now : ℕ → Option (Streaming H))
+      (past : List (Earlier H)) (n : ℕ) (view : Seen) (rest : List Told)
+      (a : Around step fails is_closed is_finished inbound_makes outbound_makes eager names peer role log fed sent before streams past n view rest)
+      (given_up : IsGivenUp n log)
+      (elsewhere : (m : ℕ) → (n == m) ≡ false → now m ≡ streams m) (none_here : now n ≡ None) where
+    apart : (m : ℕ) → (n == m) ≡ false → Same role log (Of (Did (Reset n)) ∷ log) m
+    apart m e = same_by_act acts_do acts_move role log n m (Reset n) refl e
+
+    if_some : {A : Type 0} {P Q : A → Type 0} (r : Option A) → ((x : A) → P x → Q x) → IfSome r P → IfSome r Q
+    if_some None f p = tt
+    if_some (Some x) f p = f x p
+
+    all_past : (past : List (Earlier H)) → AllByRecursion (λ it. IsPast step is_closed is_finished names role log it.number it.stream) past
+        → AllByRecursion (λ it. IsPast step is_closed is_finished names role (Of (Did (Reset n)) ∷ log) it.number it.stream) past
+    all_past [] all = tt
+    all_past (it ∷ past) all = (past_same step is_closed is_finished names role log (Of (Did (Reset n)) ∷ []) it.number it.stream all.0, all_past past all.1)
+
+    -- it was live, and was reset
+    was_reset : SessionStands role (Did (Reset n) ∷ items log) fed sent after
+        → Routes step fails is_closed is_finished inbound_makes outbound_makes eager names peer role (Of (Did (Reset n)) ∷ log) fed sent after now past n (gone view) rest
+    was_reset there = record {
+      around = record {
+        session_stands = there;
+        due = (given_up, a.due);
+        others = λ m e. subst (λ (t : Option (Streaming H)). IfSome t (λ it. IsAtRest step is_closed is_finished names role (Of (Did (Reset n)) ∷ log) m it)) (sym (elsewhere m e))
+            (if_some (streams m) (λ it. at_rest_same step is_closed is_finished names role log (Of (Did (Reset n)) ∷ log) m it (apart m e)) (a.others m e));
+        others_held = λ m e live. subst (λ (t : Option (Streaming H)). IsSome t) (sym (elsewhere m e))
+            (a.others_held m e (sym (ap (λ (x : Seen). x.live) (apart m e).seen_is) ∙ live));
+        heard = moves_on acts_do role (items log) n view rest (Reset n) refl a.opens_none a.heard;
+        opens_none = a.opens_none;
+        ends_last = a.ends_last;
+        earlier = all_past past a.earlier;
+      };
+      own = subst (λ (t : Option (Streaming H)). IfSome t (λ it. IsMoving step fails is_closed is_finished inbound_makes outbound_makes eager names peer role
+          (Of (Did (Reset n)) ∷ log) n (gone view) rest it)) (sym none_here) tt;
+      own_held = λ live. absurd (cc live);
+    }
+
+    -- it wasn't live
+    was_gone : after ≡ before → is_live role (items log) n ≡ false
+        → Routes step fails is_closed is_finished inbound_makes outbound_makes eager names peer role log fed sent after now past n (gone view) rest
+    was_gone same_session off = record {
+      around = record {
+        session_stands = subst (λ (t : State). SessionStands role (items log) fed sent t) (sym same_session) a.session_stands;
+        due = a.due;
+        others = λ m e. subst (λ (t : Option (Streaming H)). IfSome t (λ it. IsAtRest step is_closed is_finished names role log m it)) (sym (elsewhere m e)) (a.others m e);
+        others_held = λ m e live. subst (λ (t : Option (Streaming H)). IsSome t) (sym (elsewhere m e)) (a.others_held m e live);
+        heard = subst (λ (x : Seen). AgreesOn (seen role (items log) n) x) (sym (gone_first_all n view rest a.opens_none))
+            (agrees_gone (seen role (items log) n) (all_heard n view rest) off a.heard);
+        opens_none = a.opens_none;
+        ends_last = a.ends_last;
+        earlier = a.earlier;
+      };
+      own = subst (λ (t : Option (Streaming H)). IfSome t (λ it. IsMoving step fails is_closed is_finished inbound_makes outbound_makes eager names peer role log n (gone view) rest it)) (sym none_here) tt;
+      own_held = λ live. absurd (cc live);
+    }
+
+    pub is_given_up : (told told_now : List (ConnEvent H)) → told_now ≡ told → Resets role (items log) fed sent n before after
+        → Routed step fails is_closed is_finished inbound_makes outbound_makes eager names peer role log told told_now fed sent after now past n rest
+    is_given_up told told_now same_told (inl there) = record {
+      newer = Of (Did (Reset n)) ∷ [];
+      view = gone view;
+      told_is = same_told ∙ sym (append-nil told);
+      routes = was_reset there;
+    }
+    is_given_up told told_now same_told (inr over) = record {
+      newer = [];
+      view = gone view;
+      told_is = same_told ∙ sym (append-nil told);
+      routes = was_gone over.0 over.1;
+    }

@@ -1,0 +1,170 @@
+-- Why each entry of a connection's list stands where it does: what came to a stream, and what was told and done then.
+-- Source: multistream-select 1.0, "Protocol Negotiation"; libp2p connections, "Opening new streams over a connection";
+-- hashicorp yamux, "Flow Control" and "Flag Field"; what a connection tells is this project's profile.
+use Rattle.std.specs.Prelude.{◌≡◌, ◌≢◌, ◌⊎◌, ℕ, ◌<◌, ◌-◌, Bool, true, false, if◌then◌else◌, List, [], ◌∷◌, ◌++◌, length, slice_get, Option, Some, None}
+use Rattle.handlers.specs.Calls.{HandlerCall, Asked, ToTake, ToGive, ToEnd}
+use Rattle.ms_select.specs.declared.fault.SelectFault.TheVariants as select_faults
+use Rattle.talks.specs.Talks.{Side, Asks as AsksFor, Answers, IsOpen, Agrees, IsTurnedDown, Faults}
+use Rattle.yamux_session.specs.declared.event.Role.{Role}
+use Rattle.yamux_session.specs.History.{Item, Act, is_own}
+use Rattle.yamux_session.specs.History.Item.{Came, Did}
+use Rattle.yamux_session.specs.History.Act.{Start, Write, Taken, Close, Reset}
+use Rattle.yamux_session.specs.Openings.{closed, finished}
+use Rattle.yamux_session.specs.Windows.{credit, untaken}
+use Rattle.yamux_session.specs.Events.{Told, events}
+use Rattle.yamux_session.specs.Received.{AreSinceOpening}
+use Rattle.yamux_session.specs.Data.{inbound, written}
+use Rattle.streams.specs.declared.stop.Cause.{Cause}
+use Rattle.streams.specs.declared.stop.Cause.TheVariants as causes
+use Rattle.streams.specs.Streams.{Past, IsServed}
+use Rattle.streams.specs.State.{Streaming, Stands, handler_of, has_closed}
+use Rattle.dispatch.specs.declared.direction.Direction.{Direction}
+use Rattle.dispatch.specs.declared.direction.Direction.TheVariants.{Inbound, Outbound}
+use Rattle.dispatch.specs.Dispatch.{made_by}
+use Rattle.conn_log.specs.declared.event.ConnEvent.TheVariants as event
+use Rattle.conn_log.specs.Entries.{Entry, items, agreed, is_over, made_of, asked}
+use Rattle.conn_log.specs.Entries.Entry.{Of, Says, Made, Asks}
+
+-- this end opened the streams that have its numbers
+abbrev pub direction_of : Role → ℕ → Direction
+direction_of role n = if is_own role n then Outbound else Inbound
+
+-- who opens a stream asks for the one name that was asked for; the other end answers with all of its names
+abbrev pub IsSide : {H : Type 0} → Role → List (List ℕ) → List (Entry H) → ℕ → Side → Type 0
+IsSide role names log n (AsksFor name index) =
+    (is_own role n ≡ true) × (asked log n ≡ Some index) × (slice_get names index ≡ Some name)
+IsSide role names log n (Answers known) = (is_own role n ≡ false) × (known ≡ names)
+
+-- The other end's reset of the stream was told since the opening.
+pub record WasReset (role : Role) (past : List Item) (n : ℕ) : Type 0 where
+  pub told : List Told
+  pub since_opening : AreSinceOpening n (events role past) told
+  pub before : List Told
+  pub after : List Told
+  pub told_is : told ≡ before ++ Told.Reset n ∷ after
+
+-- the newest entry gives the stream up, and the other end didn't reset it
+abbrev pub IsGivenUp : {H : Type 0} → ℕ → List (Entry H) → Type 0
+IsGivenUp n (Says (event.Refused m) ∷ log) = m ≡ n
+IsGivenUp n (Says (event.Broken m cause) ∷ log) = (m ≡ n) × (cause ≢ causes.Reset)
+IsGivenUp n log = ⊥
+
+-- the newest entry asks for the protocol of this stream
+abbrev pub WasAskedFor : {H : Type 0} → ℕ → List (Entry H) → Type 0
+WasAskedFor n (Asks m index ∷ log) = m ≡ n
+WasAskedFor n log = ⊥
+
+module _ {P H : Type 0} (step : H → HandlerCall → H → Type 0) (fails : H → Asked → ℕ → Type 0)
+    (is_closed is_finished : H → Bool) (inbound_makes outbound_makes : P → ℕ → List ℕ → H → Type 0)
+    (eager : ℕ → Bool) (names : List (List ℕ)) (peer : List ℕ) (role : Role) where
+  -- What came to a stream, and what was sent and made for it, is what the list says, or of its data a beginning.
+  pub record HasCome (log : List (Entry H)) (n : ℕ) (so_far : Past H) : Type 0 where
+    pub side_is : IsSide role names log n so_far.side
+    pub rest : List ℕ
+    pub got_is : inbound role (items log) n ≡ so_far.got ++ rest
+    pub ended_by : so_far.ended ≡ true → (finished role (items log) n ≡ true) × (rest ≡ [])
+    pub sent_is : so_far.sent ≡ written role (items log) n
+    pub made_is : so_far.made ≡ made_of role log n
+
+  -- the talk of the stream comes to this by a beginning of its data
+  pub record ComesTo (log : List (Entry H)) (n : ℕ) (fact : Side → List ℕ → List ℕ → Type 0) : Type 0 where
+    pub side : Side
+    pub first : List ℕ
+    pub rest : List ℕ
+    pub output : List ℕ
+    pub side_is : IsSide role names log n side
+    pub data_is : inbound role (items log) n ≡ first ++ rest
+    pub comes_to : fact side first output
+
+  -- a stream that stands where the list brings it
+  pub record IsThere (log : List (Entry H)) (n : ℕ) : Type 0 where
+    pub so_far : Past H
+    pub stream : Streaming H
+    pub come : HasCome log n so_far
+    pub stands : Stands step stream so_far
+
+  -- ---- handlers
+
+  -- the protocols make it for this stream, and for the protocol of this index
+  abbrev pub Makes : ℕ → ℕ → H → Type 0
+  Makes n index handler = (protocols : P)
+      × made_by (inbound_makes protocols) (outbound_makes protocols) (direction_of role n) peer index handler
+
+  -- the handler is asked for this where the stream stands: for what came next, for the end, or for as much as there is
+  -- credit behind what waits
+  abbrev pub IsAskedFor : List (Entry H) → ℕ → Past H → List ℕ → Asked → Type 0
+  IsAskedFor log n so_far waiting (ToTake bytes) =
+      (rest : List ℕ) × (inbound role (items log) n ≡ so_far.got ++ bytes ++ rest)
+  IsAskedFor log n so_far waiting ToEnd =
+      (inbound role (items log) n ≡ so_far.got) × (finished role (items log) n ≡ true)
+  IsAskedFor log n so_far waiting (ToGive room) = room ≡ credit role (items log) n - length waiting
+
+  -- its handler was asked for this, and failed with this number
+  pub record HandlerFails (log : List (Entry H)) (n : ℕ) (number : ℕ) : Type 0 where
+    pub there : IsThere log n
+    pub handler : H
+    pub held : handler_of there.stream.stage ≡ Some handler
+    pub request : Asked
+    pub asked_for : IsAskedFor log n there.so_far there.stream.waiting request
+    pub fails_by : fails handler request number
+
+  -- why a stream is given up
+  abbrev pub IsBroken : List (Entry H) → ℕ → Cause → Type 0
+  IsBroken log n (causes.Select fault) = (fault ≢ select_faults.OutOfMemory) × (agreed role log n ≡ None)
+      × ComesTo log n (λ side first output. Faults side first fault output)
+  IsBroken log n (causes.Handler fault) = HandlerFails log n fault.number
+  IsBroken log n causes.Reset = WasReset role (items log) n
+  IsBroken log n causes.Ended = (finished role (items log) n ≡ true) × (agreed role log n ≡ None)
+      × ComesTo log n (λ side first output. (first ≡ inbound role (items log) n) × IsOpen side first output)
+
+  -- ---- each entry where it stands
+
+  -- the handler was handed a beginning of its stream's data, and is finished
+  pub record IsDone (log : List (Entry H)) (n : ℕ) (handler : H) : Type 0 where
+    pub so_far : Past H
+    pub waiting : List ℕ
+    pub come : HasCome log n so_far
+    pub served : IsServed step so_far handler waiting
+    pub finished : is_finished handler ≡ true
+
+  -- the stream gives no more
+  pub record HasGiven (log : List (Entry H)) (n : ℕ) : Type 0 where
+    pub there : IsThere log n
+    pub none_waits : there.stream.waiting ≡ []
+    pub over : has_closed is_closed there.stream.stage ≡ true
+
+  -- why a handler is made: the newest entry agrees on its protocol, or opens the stream for an eager one
+  abbrev pub MayBeMade : List (Entry H) → ℕ → H → Type 0
+  MayBeMade (Says (event.Agreed m index) ∷ log) n handler =
+      (m ≡ n) × (made_of role log n ≡ None) × Makes n index handler
+  MayBeMade (Of (Did (Start m)) ∷ log) n handler = (m ≡ n)
+      × ((index : ℕ) × (asked log n ≡ Some index) × (eager index ≡ true) × Makes n index handler)
+  MayBeMade log n handler = ⊥
+
+  abbrev pub IsDue : List (Entry H) → Entry H → Type 0
+  IsDue log (Of (Came arrival)) = Unit {0}
+  IsDue log (Of (Did (Start n))) = WasAskedFor n log
+  -- what is written is what the stream gave
+  IsDue log (Of (Did (Write n pieces))) = IsThere (Of (Did (Write n pieces)) ∷ log) n
+  -- all that came is taken, where credit is left or this direction is closed
+  IsDue log (Of (Did (Taken n count))) = (count ≡ untaken role (items log) n)
+      × ((0 < credit role (items log) n) ⊎ (closed role (items log) n ≡ true))
+  IsDue log (Of (Did (Close n))) = HasGiven log n
+  IsDue log (Of (Did (Reset n))) = IsGivenUp n log
+  IsDue log (Of (Did (Act.GoAway code))) = ⊥
+  IsDue log (Says (event.Agreed n index)) = (agreed role log n ≡ None) × (is_over role log n ≡ false)
+      × ComesTo log n (λ side first output. Agrees side first index output)
+  IsDue log (Says (event.Refused n)) = (agreed role log n ≡ None) × (is_over role log n ≡ false)
+      × ComesTo log n (λ side first output. IsTurnedDown side first output)
+  IsDue log (Says (event.Done n handler)) = (agreed role log n ≢ None) × (is_over role log n ≡ false)
+      × IsDone log n handler
+  IsDue log (Says (event.Broken n cause)) = (is_over role log n ≡ false) × IsBroken log n cause
+  IsDue log (Says (event.Upgraded key)) = ⊥
+  IsDue log (Says (event.Fault fault)) = ⊥
+  IsDue log (Says event.Shut) = ⊥
+  IsDue log (Made n handler) = MayBeMade log n handler
+  IsDue log (Asks n index) = (index < length names) × (asked log n ≡ None)
+
+  abbrev pub AllDue : List (Entry H) → Type 0
+  AllDue [] = Unit {0}
+  AllDue (entry ∷ log) = IsDue log entry × AllDue log

@@ -1,0 +1,109 @@
+-- The list of a connection that is up: what came and was done in its session, and between it what was told of its
+-- streams, which handlers were made, and which protocols were asked for, each where it was. The newest stands first.
+-- Source: hashicorp yamux, "Framing"; what a connection tells is this project's profile.
+use Rattle.std.specs.Prelude.{◌≡◌, ℕ, Bool, true, false, ◌==◌, ◌||◌, if◌then◌else◌, List, [], ◌∷◌, ◌++◌, Option, Some, None}
+use Rattle.yamux_session.specs.declared.event.Role.{Role}
+use Rattle.yamux_session.specs.History.{Item}
+use Rattle.yamux_session.specs.Openings.{opens}
+use Rattle.conn_log.specs.declared.event.ConnEvent.{ConnEvent}
+use Rattle.conn_log.specs.declared.event.ConnEvent.TheVariants as event
+
+-- Of: an item of the session's list. Says: this was told. Made: the handler of the stream was made. Asks: the stream of
+-- this number is opened for the protocol of this index.
+pub data Entry (H : Type 0) : Type 0 where
+  Of : Item → Entry H
+  Says : ConnEvent H → Entry H
+  Made : ℕ → H → Entry H
+  Asks : ℕ → ℕ → Entry H
+
+-- the session's list
+abbrev pub items : {H : Type 0} → List (Entry H) → List Item
+items [] = []
+items (Of x ∷ log) = x ∷ items log
+items (Says e ∷ log) = items log
+items (Made n handler ∷ log) = items log
+items (Asks n index ∷ log) = items log
+
+-- what was told, in order
+abbrev pub said : {H : Type 0} → List (Entry H) → List (ConnEvent H)
+said [] = []
+said (Of x ∷ log) = said log
+said (Says e ∷ log) = said log ++ e ∷ []
+said (Made n handler ∷ log) = said log
+said (Asks n index ∷ log) = said log
+
+-- what was told and made since the stream was opened last
+abbrev pub since : {H : Type 0} → Role → List (Entry H) → ℕ → List (Entry H)
+since role [] n = []
+since role (Of x ∷ log) n = if opens role (items log) x n then [] else since role log n
+since role (Says e ∷ log) n = Says e ∷ since role log n
+since role (Made m handler ∷ log) n = Made m handler ∷ since role log n
+since role (Asks m index ∷ log) n = Asks m index ∷ since role log n
+
+-- what is told of an agreement, where there is one
+abbrev pub agreement : {H : Type 0} → ℕ → Option ℕ → List (ConnEvent H)
+agreement n None = []
+agreement n (Some index) = event.Agreed n index ∷ []
+
+-- ---- of a stream
+
+-- the index that an event tells to be agreed on
+abbrev pub agreed_by : {H : Type 0} → ℕ → ConnEvent H → Option ℕ → Option ℕ
+agreed_by n (event.Agreed m index) before = if m == n then Some index else before
+agreed_by n (event.Upgraded key) before = before
+agreed_by n (event.Refused m) before = before
+agreed_by n (event.Done m handler) before = before
+agreed_by n (event.Broken m cause) before = before
+agreed_by n (event.Fault fault) before = before
+agreed_by n event.Shut before = before
+
+abbrev pub agreed_in : {H : Type 0} → ℕ → List (Entry H) → Option ℕ
+agreed_in n [] = None
+agreed_in n (Of x ∷ log) = agreed_in n log
+agreed_in n (Says e ∷ log) = agreed_by n e (agreed_in n log)
+agreed_in n (Made m handler ∷ log) = agreed_in n log
+agreed_in n (Asks m index ∷ log) = agreed_in n log
+
+-- the protocol on which both ends were told to agree since the opening
+abbrev pub agreed : {H : Type 0} → Role → List (Entry H) → ℕ → Option ℕ
+agreed role log n = agreed_in n (since role log n)
+
+-- behind its Refused, Done or Broken a stream is told of no more
+abbrev pub is_last : {H : Type 0} → ℕ → ConnEvent H → Bool
+is_last n (event.Refused m) = m == n
+is_last n (event.Done m handler) = m == n
+is_last n (event.Broken m cause) = m == n
+is_last n (event.Upgraded key) = false
+is_last n (event.Agreed m index) = false
+is_last n (event.Fault fault) = false
+is_last n event.Shut = false
+
+abbrev pub over_in : {H : Type 0} → ℕ → List (Entry H) → Bool
+over_in n [] = false
+over_in n (Of x ∷ log) = over_in n log
+over_in n (Says e ∷ log) = is_last n e || over_in n log
+over_in n (Made m handler ∷ log) = over_in n log
+over_in n (Asks m index ∷ log) = over_in n log
+
+-- its last event was told since the opening
+abbrev pub is_over : {H : Type 0} → Role → List (Entry H) → ℕ → Bool
+is_over role log n = over_in n (since role log n)
+
+abbrev pub made_in : {H : Type 0} → ℕ → List (Entry H) → Option H
+made_in n [] = None
+made_in n (Of x ∷ log) = made_in n log
+made_in n (Says e ∷ log) = made_in n log
+made_in n (Made m handler ∷ log) = if m == n then Some handler else made_in n log
+made_in n (Asks m index ∷ log) = made_in n log
+
+-- its handler as it was made, where it was since the opening
+abbrev pub made_of : {H : Type 0} → Role → List (Entry H) → ℕ → Option H
+made_of role log n = made_in n (since role log n)
+
+-- the protocol for which this end opened the stream; it opens no number twice
+abbrev pub asked : {H : Type 0} → List (Entry H) → ℕ → Option ℕ
+asked [] n = None
+asked (Of x ∷ log) n = asked log n
+asked (Says e ∷ log) n = asked log n
+asked (Made m handler ∷ log) n = asked log n
+asked (Asks m index ∷ log) n = if m == n then Some index else asked log n

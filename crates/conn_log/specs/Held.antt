@@ -1,0 +1,48 @@
+-- What holds of a stream that a connection holds.
+-- Source: libp2p connections, "Opening new streams over a connection"; what a connection tells is this project's
+-- profile.
+use Rattle.std.specs.Prelude.{◌≡◌, ◌≢◌, ℕ, Bool, true, false, List, ◌++◌, None}
+use Rattle.handlers.specs.Calls.{HandlerCall}
+use Rattle.talks.specs.Talks.{Side}
+use Rattle.yamux_session.specs.declared.event.Role.{Role}
+use Rattle.yamux_session.specs.Openings.{is_live, finished}
+use Rattle.yamux_session.specs.Data.{inbound, written}
+use Rattle.streams.specs.Streams.{Past}
+use Rattle.streams.specs.State.{Streaming, Stands, is_talking, awaits_handler, has_finished, was_handed_out}
+use Rattle.serving.specs.Served.{IsSettled}
+use Rattle.conn_log.specs.Entries.{Entry, items, agreed, is_over, made_of}
+use Rattle.conn_log.specs.Due.{IsSide}
+
+module _ {H : Type 0} (step : H → HandlerCall → H → Type 0) (is_closed is_finished : H → Bool) (names : List (List ℕ))
+    (role : Role) where
+  -- A stream of which this came, by which it stands: what was sent on it and made for it is what the list says. Agreed
+  -- was told of it where its talk is over, and Done where its handler was handed out.
+  pub record IsHeld (log : List (Entry H)) (n : ℕ) (got : List ℕ) (ended : Bool) (stream : Streaming H) : Type 0 where
+    pub so_far : Past H
+    pub side_is : IsSide role names log n so_far.side
+    pub got_is : so_far.got ≡ got
+    pub ended_is : so_far.ended ≡ ended
+    pub sent_is : so_far.sent ≡ written role (items log) n
+    pub made_is : so_far.made ≡ made_of role log n
+    pub stands : Stands step stream so_far
+    pub talking : is_talking stream.stage ≡ true → agreed role log n ≡ None
+    pub agreed_on : is_talking stream.stage ≡ false → agreed role log n ≢ None
+    pub over : is_over role log n ≡ was_handed_out stream.stage
+    pub served : awaits_handler stream.stage ≡ false
+
+  -- A stream where a call returns: all that came was handed to it, the end too, and it was served.
+  pub record IsAtRest (log : List (Entry H)) (n : ℕ) (stream : Streaming H) : Type 0 where
+    pub held : IsHeld log n (inbound role (items log) n) (finished role (items log) n) stream
+    pub settled : is_live role (items log) n ≡ true
+        → IsSettled step is_closed is_finished role (items log) n held.so_far.left stream
+    pub unfinished : has_finished is_finished stream.stage ≡ false
+    -- it is live no more where both ends have ended their direction
+    pub over_by_end : is_live role (items log) n ≡ false → finished role (items log) n ≡ true
+
+  -- A stream of an earlier opening of its number, whose handler is held still: it is where its end left it.
+  pub record IsPast (log : List (Entry H)) (n : ℕ) (stream : Streaming H) : Type 0 where
+    pub newer : List (Entry H)
+    pub older : List (Entry H)
+    pub log_is : log ≡ newer ++ older
+    pub over : is_live role (items older) n ≡ false
+    pub at_rest : IsAtRest older n stream

@@ -1,0 +1,100 @@
+-- Where the streams of a connection stand while what a frame told is routed to the one that it names.
+-- Inside: no public clause of a connection cites it.
+use Rattle.std.specs.Prelude.{◌≡◌, ◌⊎◌, ℕ, ◌==◌, Bool, true, false, ◌≢◌, List, [], ◌∷◌, ◌++◌, Option, IfSome, IsSome}
+use Rattle.std.specs.List.{AllByRecursion}
+use Rattle.handlers.specs.Calls.{HandlerCall, Asked}
+use Rattle.yamux_session.specs.declared.event.Role.{Role}
+use Rattle.yamux_session.specs.History.{Item}
+use Rattle.yamux_session.specs.History.Item.{Did}
+use Rattle.yamux_session.specs.History.Act.{Reset}
+use Rattle.yamux_session.specs.Openings.{is_live}
+use Rattle.yamux_session.specs.Events.{Told}
+use Rattle.yamux_session.specs.Seen.{Seen, seen, all_heard, AgreesOn}
+use Rattle.yamux_session.specs.State.{State, Stands as SessionStands}
+use Rattle.streams.specs.State.{Streaming, has_finished}
+use Rattle.serving.specs.Served.{IsSettled}
+use Rattle.conn_log.specs.declared.earlier.Earlier.{Earlier}
+use Rattle.conn_log.specs.declared.event.ConnEvent.{ConnEvent}
+use Rattle.streams.specs.declared.stop.Cause.TheVariants as causes
+use Rattle.routing.specs.declared.delivered.Outcome.{Outcome}
+use Rattle.routing.specs.declared.delivered.Outcome.TheVariants.{Going, Done, Refused, Broken}
+use Rattle.conn_log.specs.declared.event.ConnEvent.TheVariants as event
+use Rattle.conn_log.specs.Entries.{Entry, items, said}
+use Rattle.conn_log.specs.Entries.Entry.{Says}
+use Rattle.conn_log.specs.Due.{AllDue}
+use Rattle.conn_log.specs.Held.{IsHeld, IsAtRest, IsPast}
+
+-- it asks nothing of the stream
+abbrev pub IsStill : Told → Type 0
+IsStill (Told.Accepted n) = Unit {0}
+IsStill (Told.GoAway code) = Unit {0}
+IsStill other = ⊥
+
+-- it opens no stream of this number
+abbrev pub IsNoOpening : ℕ → Told → Type 0
+IsNoOpening n (Told.Opened m) = (m == n) ≡ false
+IsNoOpening n other = Unit {0}
+
+-- the end is told once, and no data behind it
+abbrev pub EndsLast : Bool → List Told → Type 0
+EndsLast ended [] = Unit {0}
+EndsLast ended (Told.Payload m b ∷ rest) = (ended ≡ false) × EndsLast ended rest
+EndsLast ended (Told.Ended m ∷ rest) = (ended ≡ false) × EndsLast true rest
+EndsLast ended (other ∷ rest) = EndsLast ended rest
+
+-- The stream was reset where it was live; else nothing was done.
+abbrev pub Resets : Role → List Item → List ℕ → List ℕ → ℕ → State → State → Type 0
+Resets role past fed sent n old session = SessionStands role (Did (Reset n) ∷ past) fed sent session
+    ⊎ ((session ≡ old) × (is_live role past n ≡ false))
+
+module _ {P H : Type 0} (step : H → HandlerCall → H → Type 0) (fails : H → Asked → ℕ → Type 0)
+    (is_closed is_finished : H → Bool) (inbound_makes outbound_makes : P → ℕ → List ℕ → H → Type 0)
+    (eager : ℕ → Bool) (names : List (List ℕ)) (peer : List ℕ) (role : Role) where
+  -- the stream that is named, of which so much was seen: the rest of what was told is still to be routed to it
+  pub record IsMoving (log : List (Entry H)) (n : ℕ) (view : Seen) (rest : List Told) (stream : Streaming H) : Type 0
+    where
+      pub held : IsHeld step is_closed is_finished names role log n view.came view.ended stream
+      pub unfinished : has_finished is_finished stream.stage ≡ false
+      pub over_by_end : view.live ≡ false → view.ended ≡ true
+      pub settled : AllByRecursion IsStill rest → is_live role (items log) n ≡ true
+          → IsSettled step is_closed is_finished role (items log) n held.so_far.left stream
+
+  -- All streams but the one that is named are at rest, and of that one so much was seen.
+  pub record Around (log : List (Entry H)) (fed sent : List ℕ) (session : State) (streams : ℕ → Option (Streaming H))
+      (past : List (Earlier H)) (n : ℕ) (view : Seen) (rest : List Told) : Type 0 where
+    pub session_stands : SessionStands role (items log) fed sent session
+    pub due : AllDue step fails is_closed is_finished inbound_makes outbound_makes eager names peer role log
+    pub others : (m : ℕ) → (n == m) ≡ false
+        → IfSome (streams m) (λ it. IsAtRest step is_closed is_finished names role log m it)
+    pub others_held : (m : ℕ) → (n == m) ≡ false → is_live role (items log) m ≡ true → IsSome (streams m)
+    pub heard : AgreesOn (seen role (items log) n) (all_heard n view rest)
+    pub opens_none : AllByRecursion (IsNoOpening n) rest
+    pub ends_last : EndsLast view.ended rest
+    pub earlier : AllByRecursion (λ it. IsPast step is_closed is_finished names role log it.number it.stream) past
+
+  -- And that one moves.
+  pub record Routes (log : List (Entry H)) (fed sent : List ℕ) (session : State) (streams : ℕ → Option (Streaming H))
+      (past : List (Earlier H)) (n : ℕ) (view : Seen) (rest : List Told) : Type 0 where
+    pub around : Around log fed sent session streams past n view rest
+    pub own : IfSome (streams n) (λ it. IsMoving log n view rest it)
+    pub own_held : view.live ≡ true → IsSome (streams n)
+
+  -- Where the streams stand once the one that is named was served, and it came to this.
+  abbrev pub Comes : List (Entry H) → List ℕ → List ℕ → State → (ℕ → Option (Streaming H)) → List (Earlier H) → ℕ → Seen
+      → List Told → Outcome H → Type 0
+  Comes log fed sent session streams past n view rest Going = Routes log fed sent session streams past n view rest
+  Comes log fed sent session streams past n view rest (Done handler) =
+      Routes (Says (event.Done n handler) ∷ log) fed sent session streams past n view rest
+  Comes log fed sent session streams past n view rest Refused =
+      Around (Says (event.Refused n) ∷ log) fed sent session streams past n view rest
+  Comes log fed sent session streams past n view rest (Broken cause) =
+      Around (Says (event.Broken n cause) ∷ log) fed sent session streams past n view rest
+      × (cause ≢ causes.Reset)
+
+  -- What routing an event led to: the list has grown, what it says was told, and the rest is still to be routed.
+  pub record Routed (log : List (Entry H)) (before after : List (ConnEvent H)) (fed sent : List ℕ) (session : State)
+      (streams : ℕ → Option (Streaming H)) (past : List (Earlier H)) (n : ℕ) (rest : List Told) : Type 0 where
+    pub newer : List (Entry H)
+    pub view : Seen
+    pub told_is : after ≡ before ++ said newer
+    pub routes : Routes (newer ++ log) fed sent session streams past n view rest
