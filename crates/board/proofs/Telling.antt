@@ -12,6 +12,7 @@ use Rattle.conn_log.specs.declared.earlier.Earlier.{Earlier}
 use Rattle.conn_log.specs.declared.event.ConnEvent.{ConnEvent}
 use Rattle.conn_log.specs.Entries.{Entry, said}
 use Rattle.conn_log.specs.Entries.Entry.{Says}
+use Rattle.conn_log.specs.Held.{IsHeld}
 use Rattle.conn_log.specs.Routes.{IsMoving, Around, Routes, Routed}
 use Rattle.conn_log.proofs.Settling.{said_append}
 use Rattle.conn_log.proofs.Ending.{ended_view, end_came}
@@ -62,15 +63,12 @@ module _ {P H : Type 0} (step : H → HandlerCall → H → Type 0) (fails : H �
     earlier = r.around.earlier;
   }
 
-  -- of a stream that isn't held
-  pub credit_dropped : (view : Seen) → after ≡ before → streams n ≡ None
-      → Routes step fails is_closed is_finished inbound_makes outbound_makes eager names peer role log fed sent session streams past n view (Told.Credit n ∷ rest)
-      → Routed step fails is_closed is_finished inbound_makes outbound_makes eager names peer role log before after fed sent session streams past n rest
-  credit_dropped view same none r = told_none view same (record {
-    around = credit_came view r;
-    own = subst (λ (t : Option (Streaming H)). IfSome t (λ it. IsMoving step fails is_closed is_finished inbound_makes outbound_makes eager names peer role log n view rest it)) (sym none) tt;
-    own_held = r.own_held;
-  })
+  -- the stream that is named is held so
+  pub held_of : (view : Seen) (left : List Told) (r : Option (Streaming H))
+      → IfSome r (λ it. IsMoving step fails is_closed is_finished inbound_makes outbound_makes eager names peer role log n view left it)
+      → IfSome r (λ it. IsHeld step is_closed is_finished names role log n view.came view.ended it × (view.live ≡ false → view.ended ≡ true))
+  held_of view left None moving = tt
+  held_of view left (Some it) moving = (moving.held, moving.over_by_end)
 
   -- the end of a stream that isn't held
   pub end_dropped : (view : Seen) → after ≡ before → streams n ≡ None

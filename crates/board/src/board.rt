@@ -1,14 +1,16 @@
 //! The streams of a connection.
 
-ghost use Rattle.std.specs.Prelude.{◌≡◌, ◌≢◌, ℕ, Bool, List, [], ◌∷◌, ◌++◌, map, OnOk};
+ghost use Rattle.std.specs.Prelude.{◌≡◌, ◌≢◌, ◌⊎◌, ℕ, ◌==◌, if◌then◌else◌, Some, Bool, true, false, List, [], ◌∷◌, ◌++◌, map, OnOk, IfSome, IsSome};
 ghost use Rattle.std.specs.Ordering.{nat_cmp};
 ghost use Rattle.std.specs.BTreeMap as tree;
-ghost use Rattle.yamux_session.specs.History.{Item};
+ghost use Rattle.yamux_session.specs.History.{Item, is_own};
 ghost use Rattle.yamux_session.specs.Events.{Told};
-ghost use Rattle.yamux_session.specs.Seen.{Seen};
+ghost use Rattle.yamux_session.specs.Seen.{Seen, just_opened};
 ghost use Rattle.yamux_session.specs.State.{State, Stands as SessionStands};
-ghost use Rattle.conn_log.specs.Entries.{Entry, items, agreement};
+ghost use Rattle.streams.specs.State.{Streaming};
+ghost use Rattle.conn_log.specs.Entries.{Entry, items, agreement, since};
 ghost use Rattle.conn_log.specs.Due.{direction_of, IsGivenUp, WasReset};
+ghost use Rattle.conn_log.specs.Held.{IsHeld, IsPast};
 ghost use Rattle.conn_log.specs.Routes.{Around, Routes, Routed, Comes, Resets};
 ghost use Rattle.board.specs.Boards.{Keeps};
 
@@ -85,6 +87,45 @@ fn tell_agreement<H: Handler>(
     }
 }
 
+/// Puts the stream of an earlier opening of this number aside, where its handler never finished.
+fn put_aside<H: Handler>(
+    streams: &mut BTreeMap<u32, Stream<H>>,
+    past: &mut Vec<Earlier<H>>,
+    number: u32,
+) -> Result<(), AllocError>
+    ensures elsewhere { (m : ℕ) → (number == m) ≡ false
+        → tree.get nat_cmp streams.new m ≡ tree.get nat_cmp streams.old m }
+    ensures aside { OnOk result ((past.new.items ≡ past.old.items)
+        ⊎ ((stream : Streaming H) × (tree.get nat_cmp streams.old number ≡ Some stream)
+        × (past.new.items ≡ past.old.items ++ record { number = number; stream = stream } ∷ []))) }
+{
+    let Some(stream) = streams.remove(&number) else {
+        return Ok(());
+    };
+    if stream.was_handed_out() {
+        return Ok(());
+    }
+    match past.push(Earlier { number, stream }) {
+        Ok(()) => Ok(()),
+        Err(_) => Err(AllocError),
+    }
+}
+
+/// Puts a stream in.
+fn insert<H: Handler>(
+    streams: &mut BTreeMap<u32, Stream<H>>,
+    number: u32,
+    stream: Stream<H>,
+) -> Result<(), AllocError>
+    ensures { OnOk result ((m : ℕ) → tree.get nat_cmp streams.new m
+        ≡ (if tree.is_at (nat_cmp number) m then Some stream else tree.get nat_cmp streams.old m)) }
+{
+    match streams.insert(number, stream) {
+        Ok(_) => Ok(()),
+        Err(_) => Err(AllocError),
+    }
+}
+
 impl<P: Protocols> Board<P> {
     /// Gives a stream up: its handler is dropped, and the stream is reset where it is live.
     fn give_up(&mut self, session: &mut Session, number: u32) -> Result<(), AllocError>
@@ -136,6 +177,65 @@ impl<P: Protocols> Board<P> {
         }
     }
 
+    /// Serves a stream, where it is held, and tells what it came to.
+    fn serve(
+        &mut self,
+        session: &mut Session,
+        number: u32,
+        told: &mut Vec<ConnEvent<P::H>>,
+    ) -> Result<(), AllocError>
+        ensures keeps { Keeps P.listed P.is_eager self.old self.new }
+        ensures serves { (log : List (Entry P.H)) (fed sent : List ℕ) (view : Seen) (rest : List Told)
+            → Around P.H.steps P.H.fails P.H.is_closed P.H.is_finished P.makes_inbound P.makes_outbound
+            (P.is_eager self.old.protocols) (P.listed self.old.protocols) self.old.peer self.old.role log fed sent
+            session.old (tree.get nat_cmp self.old.streams) self.old.past.items number view rest
+            → IfSome (tree.get nat_cmp self.old.streams number) (λ it. IsHeld P.H.steps P.H.is_closed P.H.is_finished
+            (P.listed self.old.protocols) self.old.role log number view.came view.ended it
+            × (view.live ≡ false → view.ended ≡ true))
+            → (view.live ≡ true → IsSome (tree.get nat_cmp self.old.streams number))
+            → OnOk result (Routed P.H.steps P.H.fails P.H.is_closed P.H.is_finished P.makes_inbound P.makes_outbound
+            (P.is_eager self.old.protocols) (P.listed self.old.protocols) self.old.peer self.old.role log
+            told.old.items told.new.items fed sent session.new (tree.get nat_cmp self.new.streams)
+            self.new.past.items number rest) }
+    {
+        acts_tell();
+        let Some(stream) = self.streams.get_mut(&number) else {
+            return Ok(());
+        };
+        let outcome = deliver_credit(session, number, stream)?;
+        self.settle(session, number, outcome, told)
+    }
+
+    /// Routes the other end's opening of a stream: the stream answers, with all names of the connection. That of an
+    /// earlier opening of its number is put aside, where its handler never finished.
+    pub fn open(
+        &mut self,
+        alloc: Global,
+        session: &mut Session,
+        number: u32,
+        told: &mut Vec<ConnEvent<P::H>>,
+    ) -> Result<(), AllocError>
+        ensures keeps { Keeps P.listed P.is_eager self.old self.new }
+        ensures routes { (log : List (Entry P.H)) (fed sent : List ℕ) (rest : List Told)
+            → Around P.H.steps P.H.fails P.H.is_closed P.H.is_finished P.makes_inbound P.makes_outbound
+            (P.is_eager self.old.protocols) (P.listed self.old.protocols) self.old.peer self.old.role log fed sent
+            session.old (tree.get nat_cmp self.old.streams) self.old.past.items number just_opened rest
+            → IfSome (tree.get nat_cmp self.old.streams number) (λ it. IsPast P.H.steps P.H.is_closed P.H.is_finished
+            (P.listed self.old.protocols) self.old.role log number it)
+            → since self.old.role log number ≡ [] → is_own self.old.role number ≡ false
+            → OnOk result (Routed P.H.steps P.H.fails P.H.is_closed P.H.is_finished P.makes_inbound P.makes_outbound
+            (P.is_eager self.old.protocols) (P.listed self.old.protocols) self.old.peer self.old.role log
+            told.old.items told.new.items fed sent session.new (tree.get nat_cmp self.new.streams)
+            self.new.past.items number rest) }
+    {
+        let Ok(stream) = Stream::answer(alloc, self.protocols.names()) else {
+            return Err(AllocError);
+        };
+        put_aside(&mut self.streams, &mut self.past, number)?;
+        insert(&mut self.streams, number, stream)?;
+        self.serve(session, number, told)
+    }
+
     /// Routes credit to its stream: it is asked for as many bytes as there is credit now.
     pub fn credit(
         &mut self,
@@ -154,12 +254,7 @@ impl<P: Protocols> Board<P> {
             told.old.items told.new.items fed sent session.new (tree.get nat_cmp self.new.streams)
             self.new.past.items number rest) }
     {
-        acts_tell();
-        let Some(stream) = self.streams.get_mut(&number) else {
-            return Ok(());
-        };
-        let outcome = deliver_credit(session, number, stream)?;
-        self.settle(session, number, outcome, told)
+        self.serve(session, number, told)
     }
 
     /// Routes the end of the data to its stream: to its handler. Then the stream is served. An end within the talk

@@ -7,3 +7,4 @@ pub mod Settling
 pub mod Ending
 pub mod Data
 pub mod Resetting
+pub mod Opening

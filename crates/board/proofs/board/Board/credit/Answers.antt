@@ -1,27 +1,9 @@
-use Rattle.std.proofs.Common.{◌≡◌, ℕ, List, [], ◌∷◌, ◌++◌, Option, Some, None, IsSome, refl, sym, ap, ◌∙◌, subst}
-use Rattle.std.specs.Prelude.{IfSome}
+use Rattle.std.proofs.Common.{◌∷◌, Option}
 use Rattle.std.specs.Ordering.{nat_cmp}
 use Rattle.std.specs.BTreeMap as tree
 use Rattle.yamux_session.specs.Events.{Told}
-use Rattle.streams.specs.State.{Streaming}
-use Rattle.conn_log.specs.Entries.{items}
-use Rattle.conn_log.specs.Routes.{IsMoving, Routed}
-use Rattle.conn_log.proofs.Comes.{went}
-use Rattle.conn_log.proofs.Settling.{routed_on}
-use Rattle.board.proofs.Tables.{elsewhere, here}
-use Rattle.board.proofs.Telling.{on_ok, credit_came, credit_dropped}
+use Rattle.board.proofs.Telling.{credit_came, held_of}
 use Rattle.board.proofs.board.Board.credit.Goals as goal
-
-pub returns-in_default-clause-routes : goal.returns-in_default-clause-routes
-returns-in_default-clause-routes g c = λ log fed sent view rest r.
-    let H = g.P.H.Handler in
-    let makes = g.P.Protocols in
-    let board = c.args.self.now in
-    subst (λ (f : ℕ → Option (Streaming _)). Routed H.steps H.fails H.is_closed H.is_finished makes.makes_inbound makes.makes_outbound (makes.is_eager board.protocols) (makes.listed board.protocols)
-    board.peer board.role log c.args.told.now.items c.args.told.now.items fed sent c.args.session.now f board.past.items c.args.number rest)
-    (ap (tree.get nat_cmp) (sym c.get_mut.follows.holds-at-none))
-    (credit_dropped H.steps H.fails H.is_closed H.is_finished makes.makes_inbound makes.makes_outbound (makes.is_eager board.protocols) (makes.listed board.protocols) board.peer board.role log
-    c.args.told.now.items c.args.told.now.items fed sent c.args.session.now (tree.get nat_cmp board.streams) board.past.items c.args.number rest view refl (sym c.in_default.ensures.value) r)
 
 pub returns-clause-routes : goal.returns-clause-routes
 returns-clause-routes g c = λ log fed sent view rest r.
@@ -30,19 +12,8 @@ returns-clause-routes g c = λ log fed sent view rest r.
     let board = c.args.self.now in
     let n = c.args.number in
     let old = tree.get nat_cmp board.streams in
-    let found : old n ≡ Some c.in-Some.stream.now = sym c.in-Some.ensures.value in
-    let some : IsSome (old n) = rw found refl in
-    let updates = (c.get_mut.follows.holds c.deliver_credit.new.stream).3 some in
-    let moving = subst (λ (t : Option (Streaming _)). IfSome t (λ it. IsMoving H.steps H.fails H.is_closed H.is_finished makes.makes_inbound makes.makes_outbound (makes.is_eager board.protocols)
-    (makes.listed board.protocols) board.peer board.role log n view (Told.Credit n ∷ rest) it)) found r.own in
     let around = credit_came H.steps H.fails H.is_closed H.is_finished makes.makes_inbound makes.makes_outbound (makes.is_eager board.protocols) (makes.listed board.protocols) board.peer board.role log
     c.args.told.now.items c.args.told.now.items fed sent c.args.session.now old board.past.items n rest view r in
-    let came = c.in_ok-outcome.ensures.came board.role (items log) fed sent moving.held.so_far around.session_stands moving.held.stands moving.held.sent_is in
-    let now = went H.steps H.fails H.is_closed H.is_finished makes.makes_inbound makes.makes_outbound (makes.is_eager board.protocols) (makes.listed board.protocols) board.peer board.role
-    c.acts_tell.ensures.seen c.acts_tell.ensures.windows log fed sent c.args.session.now c.deliver_credit.new.session old _ board.past.items n view rest c.in-Some.stream.now c.deliver_credit.new.stream
-    around moving.held moving.over_by_end (elsewhere old _ n (Some c.deliver_credit.new.stream) updates.0) (here old _ n (Some c.deliver_credit.new.stream) updates.0)
-    c.in_ok-outcome.outcome came in
-    on_ok c.settle.result
-    (λ routed. routed_on H.steps H.fails H.is_closed H.is_finished makes.makes_inbound makes.makes_outbound (makes.is_eager board.protocols) (makes.listed board.protocols) board.peer board.role log
-    now.newer c.args.told.now.items c.settle.new.told.items fed sent c.settle.new.session (tree.get nat_cmp c.settle.new.self.streams) c.settle.new.self.past.items n rest now.none_said routed)
-    (c.settle.ensures.settles (now.newer ++ log) fed sent now.seen_now rest now.comes)
+    let it = held_of H.steps H.fails H.is_closed H.is_finished makes.makes_inbound makes.makes_outbound (makes.is_eager board.protocols) (makes.listed board.protocols) board.peer board.role log
+    c.args.told.now.items c.args.told.now.items fed sent c.args.session.now old board.past.items n rest view (Told.Credit n ∷ rest) (old n) r.own in
+    c.serve.ensures.serves log fed sent view rest around it r.own_held

@@ -1,0 +1,36 @@
+use Rattle.std.proofs.Common.{◌≡◌, ◌⊎◌, inl, inr, ℕ, true, false, List, [], ◌∷◌, ◌++◌, map, Option, Some, None, IsSome, refl, sym, ap, ◌∙◌, subst}
+use Rattle.std.specs.Prelude.{IfSome}
+use Rattle.std.specs.List.{AllByRecursion}
+use Rattle.std.specs.Ordering.{nat_cmp}
+use Rattle.std.specs.BTreeMap as tree
+use Rattle.yamux_session.specs.Seen.{just_opened}
+use Rattle.streams.specs.State.{Streaming}
+use Rattle.conn_log.specs.declared.earlier.Earlier.{Earlier}
+use Rattle.conn_log.specs.Held.{IsHeld, IsPast}
+use Rattle.conn_log.proofs.Opening.{put_aside, is_fresh, earlier_on}
+use Rattle.board.proofs.Tables.{elsewhere, here}
+use Rattle.board.proofs.board.Board.open.Goals as goal
+
+pub returns-clause-routes : goal.returns-clause-routes
+returns-clause-routes g c = λ log fed sent rest a earlier none theirs.
+    let H = g.P.H.Handler in
+    let makes = g.P.Protocols in
+    let board = c.args.self.now in
+    let n = c.args.number in
+    let old = tree.get nat_cmp board.streams in
+    let middle = tree.get nat_cmp c.put_aside.new.streams in
+    let now = tree.get nat_cmp c.insert.new.streams in
+    let updates = c.in_ok-insert.ensures in
+    let stream = c.in-Ok.stream in
+    let around = put_aside H.steps H.fails H.is_closed H.is_finished makes.makes_inbound makes.makes_outbound (makes.is_eager board.protocols) (makes.listed board.protocols) board.peer board.role log
+    fed sent c.args.session.now old now board.past.items c.put_aside.new.past.items n rest a
+    (λ m apart. elsewhere middle now n (Some stream) updates m apart ∙ c.put_aside.ensures.elsewhere m apart)
+    (earlier_on H.steps H.is_closed H.is_finished (makes.listed board.protocols) board.role log board.past.items c.put_aside.new.past.items n (old n) a.earlier earlier
+    c.in_ok-put_aside.ensures.aside) in
+    let fresh_one = is_fresh H.steps H.fails H.is_closed H.is_finished makes.makes_inbound makes.makes_outbound (makes.is_eager board.protocols) (makes.listed board.protocols) board.peer board.role log
+    fed sent c.args.session.now old now board.past.items c.put_aside.new.past.items n rest a stream _ c.names.ensures.names c.in-Ok.ensures.stands c.in-Ok.ensures.talks.0 none theirs in
+    let placed : now n ≡ Some stream = here middle now n (Some stream) updates in
+    c.serve.ensures.serves log fed sent just_opened rest around
+    (subst (λ (t : Option (Streaming _)). IfSome t (λ it. IsHeld H.steps H.is_closed H.is_finished (makes.listed board.protocols) board.role log n just_opened.came just_opened.ended it
+    × (just_opened.live ≡ false → just_opened.ended ≡ true))) (sym placed) (fresh_one, λ off. absurd (cc off)))
+    (λ live. subst (λ (t : Option (Streaming _)). IsSome t) (sym placed) refl)

@@ -1,0 +1,53 @@
+use Rattle.std.proofs.Common.{◌≡◌, ℕ, true, false, List, [], ◌∷◌, ◌++◌, Option, Some, None, IsSome, refl, sym, ap, ◌∙◌, subst}
+use Rattle.std.specs.Prelude.{IfSome}
+use Rattle.std.specs.Ordering.{nat_cmp}
+use Rattle.std.specs.BTreeMap as tree
+use Rattle.yamux_session.specs.Events.{Told}
+use Rattle.streams.specs.State.{Streaming}
+use Rattle.conn_log.specs.Entries.{items}
+use Rattle.conn_log.specs.Held.{IsHeld}
+use Rattle.conn_log.specs.Routes.{IsMoving, Routed}
+use Rattle.conn_log.proofs.Comes.{went}
+use Rattle.conn_log.proofs.Settling.{routed_on}
+use Rattle.board.proofs.Tables.{elsewhere, here}
+use Rattle.board.proofs.Telling.{on_ok, told_none}
+use Rattle.board.proofs.board.Board.serve.Goals as goal
+
+pub returns-in_default-clause-serves : goal.returns-in_default-clause-serves
+returns-in_default-clause-serves g c = λ log fed sent view rest a held own.
+    let H = g.P.H.Handler in
+    let makes = g.P.Protocols in
+    let board = c.args.self.now in
+    let none : tree.get nat_cmp board.streams c.args.number ≡ None = sym c.in_default.ensures.value in
+    subst (λ (f : ℕ → Option (Streaming _)). Routed H.steps H.fails H.is_closed H.is_finished makes.makes_inbound makes.makes_outbound (makes.is_eager board.protocols) (makes.listed board.protocols)
+    board.peer board.role log c.args.told.now.items c.args.told.now.items fed sent c.args.session.now f board.past.items c.args.number rest)
+    (ap (tree.get nat_cmp) (sym c.get_mut.follows.holds-at-none))
+    (told_none H.steps H.fails H.is_closed H.is_finished makes.makes_inbound makes.makes_outbound (makes.is_eager board.protocols) (makes.listed board.protocols) board.peer board.role log
+    c.args.told.now.items c.args.told.now.items fed sent c.args.session.now (tree.get nat_cmp board.streams) board.past.items c.args.number rest view refl (record {
+      around = a;
+      own = subst (λ (t : Option (Streaming _)). IfSome t (λ it. IsMoving H.steps H.fails H.is_closed H.is_finished makes.makes_inbound makes.makes_outbound (makes.is_eager board.protocols)
+          (makes.listed board.protocols) board.peer board.role log c.args.number view rest it)) (sym none) tt;
+      own_held = own;
+    }))
+
+pub returns-clause-serves : goal.returns-clause-serves
+returns-clause-serves g c = λ log fed sent view rest a is_held own.
+    let H = g.P.H.Handler in
+    let makes = g.P.Protocols in
+    let board = c.args.self.now in
+    let n = c.args.number in
+    let old = tree.get nat_cmp board.streams in
+    let found : old n ≡ Some c.in-Some.stream.now = sym c.in-Some.ensures.value in
+    let some : IsSome (old n) = rw found refl in
+    let updates = (c.get_mut.follows.holds c.deliver_credit.new.stream).3 some in
+    let both = subst (λ (t : Option (Streaming _)). IfSome t (λ it. IsHeld H.steps H.is_closed H.is_finished (makes.listed board.protocols) board.role log n view.came view.ended it × (view.live ≡ false → view.ended ≡ true))) found is_held in
+    let held = both.0 in
+    let came = c.in_ok-outcome.ensures.came board.role (items log) fed sent held.so_far a.session_stands held.stands held.sent_is in
+    let now = went H.steps H.fails H.is_closed H.is_finished makes.makes_inbound makes.makes_outbound (makes.is_eager board.protocols) (makes.listed board.protocols) board.peer board.role
+    c.acts_tell.ensures.seen c.acts_tell.ensures.windows log fed sent c.args.session.now c.deliver_credit.new.session old _ board.past.items n view rest c.in-Some.stream.now c.deliver_credit.new.stream
+    a held both.1 (elsewhere old _ n (Some c.deliver_credit.new.stream) updates.0) (here old _ n (Some c.deliver_credit.new.stream) updates.0)
+    c.in_ok-outcome.outcome came in
+    on_ok c.settle.result
+    (λ routed. routed_on H.steps H.fails H.is_closed H.is_finished makes.makes_inbound makes.makes_outbound (makes.is_eager board.protocols) (makes.listed board.protocols) board.peer board.role log
+    now.newer c.args.told.now.items c.settle.new.told.items fed sent c.settle.new.session (tree.get nat_cmp c.settle.new.self.streams) c.settle.new.self.past.items n rest now.none_said routed)
+    (c.settle.ensures.settles (now.newer ++ log) fed sent now.seen_now rest now.comes)
