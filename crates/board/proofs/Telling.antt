@@ -57,6 +57,7 @@ module _ {P H : Type 0} (step : H → HandlerCall → H → Type 0) (fails : H �
     due = r.around.due;
     others = r.around.others;
     others_held = r.around.others_held;
+    others_kept = r.around.others_kept;
     heard = r.around.heard;
     opens_none = r.around.opens_none.1;
     ends_last = r.around.ends_last;
@@ -78,6 +79,7 @@ module _ {P H : Type 0} (step : H → HandlerCall → H → Type 0) (fails : H �
     around = end_came step fails is_closed is_finished inbound_makes outbound_makes eager names peer role log fed sent session streams past n view rest r.around;
     own = subst (λ (t : Option (Streaming H)). IfSome t (λ it. IsMoving step fails is_closed is_finished inbound_makes outbound_makes eager names peer role log n (ended_view view) rest it)) (sym none) tt;
     own_held = λ live. r.own_held (was_live view.live (not view.closed) live);
+    own_kept = r.own_kept;
   }) where
     was_live : (b c : Bool) → b && c ≡ true → b ≡ true
     was_live true c e = refl
@@ -91,4 +93,5 @@ module _ {P H : Type 0} (step : H → HandlerCall → H → Type 0) (fails : H �
     around = data_came step fails is_closed is_finished inbound_makes outbound_makes eager names peer role log fed sent session streams past n view bytes rest r.around;
     own = subst (λ (t : Option (Streaming H)). IfSome t (λ it. IsMoving step fails is_closed is_finished inbound_makes outbound_makes eager names peer role log n (with_bytes bytes view) rest it)) (sym none) tt;
     own_held = r.own_held;
+    own_kept = r.own_kept;
   })

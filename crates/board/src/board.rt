@@ -1,17 +1,16 @@
 //! The streams of a connection.
 
-ghost use Rattle.std.specs.Prelude.{◌≡◌, ◌≢◌, ◌⊎◌, ℕ, ◌==◌, if◌then◌else◌, Some, Bool, true, false, List, [], ◌∷◌, ◌++◌, map, OnOk, IfSome, IsSome};
+ghost use Rattle.std.specs.Prelude.{◌≡◌, ◌≢◌, ℕ, ◌==◌, if◌then◌else◌, Some, None, Bool, true, false, List, [], ◌∷◌, ◌++◌, map, OnOk, IfSome, IsSome};
 ghost use Rattle.std.specs.Ordering.{nat_cmp};
 ghost use Rattle.std.specs.BTreeMap as tree;
 ghost use Rattle.yamux_session.specs.History.{Item, is_own};
 ghost use Rattle.yamux_session.specs.Events.{Told};
 ghost use Rattle.yamux_session.specs.Seen.{Seen, just_opened};
 ghost use Rattle.yamux_session.specs.State.{State, Stands as SessionStands};
-ghost use Rattle.streams.specs.State.{Streaming};
-ghost use Rattle.conn_log.specs.Entries.{Entry, items, agreement, since};
+ghost use Rattle.conn_log.specs.Entries.{Entry, items, agreement, since, made_of, is_over};
 ghost use Rattle.conn_log.specs.Due.{direction_of, IsGivenUp, WasReset};
 ghost use Rattle.conn_log.specs.Held.{IsHeld, IsPast};
-ghost use Rattle.conn_log.specs.Routes.{Around, Routes, Routed, Comes, Resets};
+ghost use Rattle.conn_log.specs.Routes.{Around, Routes, Routed, Comes, Resets, set_aside};
 ghost use Rattle.board.specs.Boards.{Keeps};
 
 use conn_log::{ConnEvent, Earlier};
@@ -95,9 +94,8 @@ fn put_aside<H: Handler>(
 ) -> Result<(), AllocError>
     ensures elsewhere { (m : ℕ) → (number == m) ≡ false
         → tree.get nat_cmp streams.new m ≡ tree.get nat_cmp streams.old m }
-    ensures aside { OnOk result ((past.new.items ≡ past.old.items)
-        ⊎ ((stream : Streaming H) × (tree.get nat_cmp streams.old number ≡ Some stream)
-        × (past.new.items ≡ past.old.items ++ record { number = number; stream = stream } ∷ []))) }
+    ensures aside { OnOk result (past.new.items
+        ≡ past.old.items ++ set_aside number (tree.get nat_cmp streams.old number)) }
 {
     let Some(stream) = streams.remove(&number) else {
         return Ok(());
@@ -130,6 +128,7 @@ impl<P: Protocols> Board<P> {
     /// Gives a stream up: its handler is dropped, and the stream is reset where it is live.
     fn give_up(&mut self, session: &mut Session, number: u32) -> Result<(), AllocError>
         ensures keeps { Keeps P.listed P.is_eager self.old self.new }
+        ensures past { self.new.past.items ≡ self.old.past.items }
         ensures gives_up { (log : List (Entry P.H)) (fed sent : List ℕ) (view : Seen) (rest : List Told)
             (told : List (ConnEvent P.H))
             → Around P.H.steps P.H.fails P.H.is_closed P.H.is_finished P.makes_inbound P.makes_outbound
@@ -154,6 +153,7 @@ impl<P: Protocols> Board<P> {
         told: &mut Vec<ConnEvent<P::H>>,
     ) -> Result<(), AllocError>
         ensures keeps { Keeps P.listed P.is_eager self.old self.new }
+        ensures past { self.new.past.items ≡ self.old.past.items }
         ensures settles { (log : List (Entry P.H)) (fed sent : List ℕ) (view : Seen) (rest : List Told)
             → Comes P.H.steps P.H.fails P.H.is_closed P.H.is_finished P.makes_inbound P.makes_outbound
             (P.is_eager self.old.protocols) (P.listed self.old.protocols) self.old.peer self.old.role log fed sent
@@ -185,6 +185,7 @@ impl<P: Protocols> Board<P> {
         told: &mut Vec<ConnEvent<P::H>>,
     ) -> Result<(), AllocError>
         ensures keeps { Keeps P.listed P.is_eager self.old self.new }
+        ensures past { self.new.past.items ≡ self.old.past.items }
         ensures serves { (log : List (Entry P.H)) (fed sent : List ℕ) (view : Seen) (rest : List Told)
             → Around P.H.steps P.H.fails P.H.is_closed P.H.is_finished P.makes_inbound P.makes_outbound
             (P.is_eager self.old.protocols) (P.listed self.old.protocols) self.old.peer self.old.role log fed sent
@@ -193,6 +194,8 @@ impl<P: Protocols> Board<P> {
             (P.listed self.old.protocols) self.old.role log number view.came view.ended it
             × (view.live ≡ false → view.ended ≡ true))
             → (view.live ≡ true → IsSome (tree.get nat_cmp self.old.streams number))
+            → (made_of self.old.role log number ≢ None → is_over self.old.role log number ≡ false
+            → IsSome (tree.get nat_cmp self.old.streams number))
             → OnOk result (Routed P.H.steps P.H.fails P.H.is_closed P.H.is_finished P.makes_inbound P.makes_outbound
             (P.is_eager self.old.protocols) (P.listed self.old.protocols) self.old.peer self.old.role log
             told.old.items told.new.items fed sent session.new (tree.get nat_cmp self.new.streams)
@@ -216,6 +219,9 @@ impl<P: Protocols> Board<P> {
         told: &mut Vec<ConnEvent<P::H>>,
     ) -> Result<(), AllocError>
         ensures keeps { Keeps P.listed P.is_eager self.old self.new }
+        // A handler that never finished stays held.
+        ensures aside { OnOk result (self.new.past.items
+            ≡ self.old.past.items ++ set_aside number (tree.get nat_cmp self.old.streams number)) }
         ensures routes { (log : List (Entry P.H)) (fed sent : List ℕ) (rest : List Told)
             → Around P.H.steps P.H.fails P.H.is_closed P.H.is_finished P.makes_inbound P.makes_outbound
             (P.is_eager self.old.protocols) (P.listed self.old.protocols) self.old.peer self.old.role log fed sent
@@ -244,6 +250,7 @@ impl<P: Protocols> Board<P> {
         told: &mut Vec<ConnEvent<P::H>>,
     ) -> Result<(), AllocError>
         ensures keeps { Keeps P.listed P.is_eager self.old self.new }
+        ensures past { self.new.past.items ≡ self.old.past.items }
         ensures routes { (log : List (Entry P.H)) (fed sent : List ℕ) (view : Seen) (rest : List Told)
             → Routes P.H.steps P.H.fails P.H.is_closed P.H.is_finished P.makes_inbound P.makes_outbound
             (P.is_eager self.old.protocols) (P.listed self.old.protocols) self.old.peer self.old.role log fed sent
@@ -266,6 +273,7 @@ impl<P: Protocols> Board<P> {
         told: &mut Vec<ConnEvent<P::H>>,
     ) -> Result<(), AllocError>
         ensures keeps { Keeps P.listed P.is_eager self.old self.new }
+        ensures past { self.new.past.items ≡ self.old.past.items }
         ensures routes { (log : List (Entry P.H)) (fed sent : List ℕ) (view : Seen) (rest : List Told)
             → Routes P.H.steps P.H.fails P.H.is_closed P.H.is_finished P.makes_inbound P.makes_outbound
             (P.is_eager self.old.protocols) (P.listed self.old.protocols) self.old.peer self.old.role log fed sent
@@ -287,6 +295,7 @@ impl<P: Protocols> Board<P> {
     /// Routes the other end's reset to its stream, which is given up, unless its handler was handed out before.
     pub fn reset(&mut self, number: u32, told: &mut Vec<ConnEvent<P::H>>) -> Result<(), AllocError>
         ensures keeps { Keeps P.listed P.is_eager self.old self.new }
+        ensures past { self.new.past.items ≡ self.old.past.items }
         ensures routes { (log : List (Entry P.H)) (fed sent : List ℕ) (session : State) (view : Seen) (rest : List Told)
             → Routes P.H.steps P.H.fails P.H.is_closed P.H.is_finished P.makes_inbound P.makes_outbound
             (P.is_eager self.old.protocols) (P.listed self.old.protocols) self.old.peer self.old.role log fed sent
@@ -317,6 +326,7 @@ impl<P: Protocols> Board<P> {
         told: &mut Vec<ConnEvent<P::H>>,
     ) -> Result<(), AllocError>
         ensures keeps { Keeps P.listed P.is_eager self.old self.new }
+        ensures past { self.new.past.items ≡ self.old.past.items }
         ensures routes { (log : List (Entry P.H)) (fed sent : List ℕ) (view : Seen) (rest : List Told)
             → Routes P.H.steps P.H.fails P.H.is_closed P.H.is_finished P.makes_inbound P.makes_outbound
             (P.is_eager self.old.protocols) (P.listed self.old.protocols) self.old.peer self.old.role log fed sent

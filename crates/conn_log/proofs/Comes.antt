@@ -52,6 +52,7 @@ module _ {P H : Type 0} (step : H → HandlerCall → H → Type 0) (fails : H �
     due = (is_due, a.due);
     others = λ m apart. if_some (streams m) (λ it. at_rest_same step is_closed is_finished names role log (Says told ∷ log) m it (same_by_event role log n m told of apart)) (a.others m apart);
     others_held = a.others_held;
+    others_kept = λ m apart made going. let s = same_by_event role log n m told of apart in a.others_kept m apart (λ none. made (s.made_is ∙ none)) (sym s.over_is ∙ going);
     heard = a.heard;
     opens_none = a.opens_none;
     ends_last = a.ends_last;
@@ -137,6 +138,7 @@ module _ {P H : Type 0} (step : H → HandlerCall → H → Type 0) (fails : H �
           around = around_served None s;
           own = subst (λ (t : Option (Streaming H)). IfSome t (λ it. IsMoving step fails is_closed is_finished inbound_makes outbound_makes eager names peer role log_now n seen_now rest it)) (sym here) moving;
           own_held = λ live. subst (λ (t : Option (Streaming H)). IsSome t) (sym here) refl;
+          own_kept = λ made going. subst (λ (t : Option (Streaming H)). IsSome t) (sym here) refl;
         }
 
     -- its handler is handed out
@@ -189,6 +191,7 @@ module _ {P H : Type 0} (step : H → HandlerCall → H → Type 0) (fails : H �
           own = subst (λ (t : Option (Streaming H)). IfSome t (λ it. IsMoving step fails is_closed is_finished inbound_makes outbound_makes eager names peer role
               (Says (event.Done n handler) ∷ log_now) n seen_now rest it)) (sym here) moving;
           own_held = λ live. subst (λ (t : Option (Streaming H)). IsSome t) (sym here) refl;
+          own_kept = λ made going. subst (λ (t : Option (Streaming H)). IsSome t) (sym here) refl;
         }
 
     -- nothing was done
@@ -198,6 +201,7 @@ module _ {P H : Type 0} (step : H → HandlerCall → H → Type 0) (fails : H �
       due = a.due;
       others = λ m apart. subst (λ (t : Option (Streaming H)). IfSome t (λ it. IsAtRest step is_closed is_finished names role log m it)) (sym (elsewhere m apart)) (a.others m apart);
       others_held = λ m apart live. subst (λ (t : Option (Streaming H)). IsSome t) (sym (elsewhere m apart)) (a.others_held m apart live);
+      others_kept = λ m apart made going. subst (λ (t : Option (Streaming H)). IsSome t) (sym (elsewhere m apart)) (a.others_kept m apart made going);
       heard = a.heard;
       opens_none = a.opens_none;
       ends_last = a.ends_last;

@@ -81,6 +81,7 @@ module _ {P H : Type 0} (step : H → HandlerCall → H → Type 0) (fails : H �
     due = a.due;
     others = a.others;
     others_held = a.others_held;
+    others_kept = a.others_kept;
     heard = subst (λ (x : Seen). AgreesOn (seen role (items log) n) x) (heard_bytes n view bytes rest) a.heard;
     opens_none = none_opened n bytes rest a.opens_none;
     ends_last = still_last view.ended n bytes rest a.ends_last;
@@ -97,6 +98,7 @@ module _ {P H : Type 0} (step : H → HandlerCall → H → Type 0) (fails : H �
     due = (is_due, a.due);
     others = λ m apart. if_some (streams m) (λ it. at_rest_same step is_closed is_finished names role log (Made n made ∷ log) m it (same_by_making role log n m made apart)) (a.others m apart);
     others_held = a.others_held;
+    others_kept = λ m apart had going. let s = same_by_making role log n m made apart in a.others_kept m apart (λ none. had (s.made_is ∙ none)) (sym s.over_is ∙ going);
     heard = a.heard;
     opens_none = a.opens_none;
     ends_last = a.ends_last;
@@ -129,6 +131,7 @@ module _ {P H : Type 0} (step : H → HandlerCall → H → Type 0) (fails : H �
       due = a.due;
       others = λ m apart. subst (λ (t : Option (Streaming H)). IfSome t (λ it. IsAtRest step is_closed is_finished names role log m it)) (sym (elsewhere m apart)) (a.others m apart);
       others_held = λ m apart live. subst (λ (t : Option (Streaming H)). IsSome t) (sym (elsewhere m apart)) (a.others_held m apart live);
+      others_kept = λ m apart made going. subst (λ (t : Option (Streaming H)). IsSome t) (sym (elsewhere m apart)) (a.others_kept m apart made going);
       heard = a.heard;
       opens_none = a.opens_none;
       ends_last = a.ends_last;

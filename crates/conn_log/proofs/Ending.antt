@@ -68,6 +68,7 @@ module _ {P H : Type 0} (step : H → HandlerCall → H → Type 0) (fails : H �
     due = a.due;
     others = a.others;
     others_held = a.others_held;
+    others_kept = a.others_kept;
     heard = subst (λ (x : Seen). AgreesOn (seen role (items log) n) (all_heard n x rest)) (heard_end n view) a.heard;
     opens_none = a.opens_none.1;
     ends_last = a.ends_last.1;
@@ -125,6 +126,7 @@ module _ {P H : Type 0} (step : H → HandlerCall → H → Type 0) (fails : H �
       due = a.due;
       others = λ m apart. subst (λ (t : Option (Streaming H)). IfSome t (λ it. Rattle.conn_log.specs.Held.IsAtRest step is_closed is_finished names role log m it)) (sym (elsewhere m apart)) (a.others m apart);
       others_held = λ m apart live. subst (λ (t : Option (Streaming H)). IsSome t) (sym (elsewhere m apart)) (a.others_held m apart live);
+      others_kept = λ m apart made going. subst (λ (t : Option (Streaming H)). IsSome t) (sym (elsewhere m apart)) (a.others_kept m apart made going);
       heard = a.heard;
       opens_none = a.opens_none;
       ends_last = a.ends_last;

@@ -2,6 +2,7 @@
 use Rattle.std.proofs.Common.{◌≡◌, ◌≢◌, ◌⊎◌, inl, inr, ℕ, ◌==◌, Bool, true, false, not, ◌&&◌, cond, List, [], ◌∷◌, ◌++◌, Option, Some, None, refl, sym, ap, ◌∙◌, subst}
 use Rattle.std.specs.Prelude.{IfSome, IsSome}
 use Rattle.std.specs.List.{AllByRecursion}
+use Rattle.std.proofs.lemmas.List.{append-nil}
 use Rattle.handlers.specs.Calls.{HandlerCall, Asked}
 use Rattle.talks.specs.Talks.{Answers}
 use Rattle.yamux_session.specs.declared.event.Role.{Role}
@@ -11,11 +12,11 @@ use Rattle.yamux_session.specs.Events.{Told}
 use Rattle.yamux_session.specs.Seen.{Seen, seen, hears, all_heard, just_opened, AgreesOn}
 use Rattle.yamux_session.specs.State.{State}
 use Rattle.streams.specs.Streams.{fresh}
-use Rattle.streams.specs.State.{Streaming, Stands, is_talking}
+use Rattle.streams.specs.State.{Streaming, Stands, is_talking, was_handed_out}
 use Rattle.conn_log.specs.declared.earlier.Earlier.{Earlier}
 use Rattle.conn_log.specs.Entries.{Entry, items, since, agreed_in, over_in, made_in}
 use Rattle.conn_log.specs.Held.{IsHeld, IsAtRest, IsPast}
-use Rattle.conn_log.specs.Routes.{IsNoOpening, Around}
+use Rattle.conn_log.specs.Routes.{IsNoOpening, Around, set_aside}
 use Rattle.conn_log.proofs.StageKinds.{talking_kind, talking_awaits}
 
 -- what is heard changes nothing of what was sent
@@ -49,6 +50,7 @@ module _ {P H : Type 0} (step : H → HandlerCall → H → Type 0) (fails : H �
     due = a.due;
     others = λ m apart. subst (λ (t : Option (Streaming H)). IfSome t (λ it. IsAtRest step is_closed is_finished names role log m it)) (sym (elsewhere m apart)) (a.others m apart);
     others_held = λ m apart live. subst (λ (t : Option (Streaming H)). IsSome t) (sym (elsewhere m apart)) (a.others_held m apart live);
+    others_kept = λ m apart made going. subst (λ (t : Option (Streaming H)). IsSome t) (sym (elsewhere m apart)) (a.others_kept m apart made going);
     heard = a.heard;
     opens_none = a.opens_none;
     ends_last = a.ends_last;
@@ -79,12 +81,16 @@ all_and Q (y ∷ xs) x all q = (all.0, all_and Q xs x all.1 q)
 -- the streams of earlier openings, where one was put aside
 pub earlier_on : {H : Type 0} (step : H → HandlerCall → H → Type 0) (is_closed is_finished : H → Bool) (names : List (List ℕ)) (role : Role) (log : List (Entry H)) (past later : List (Earlier H)) (n : ℕ)
     (held : Option (Streaming H)) → AllByRecursion (λ it. IsPast step is_closed is_finished names role log it.number it.stream) past
-    → IfSome held (λ it. IsPast step is_closed is_finished names role log n it)
-    → (later ≡ past) ⊎ ((stream : Streaming H) × (held ≡ Some stream) × (later ≡ past ++ record { number = n; stream = stream } ∷ []))
+    → IfSome held (λ it. IsPast step is_closed is_finished names role log n it) → later ≡ past ++ set_aside n held
     → AllByRecursion (λ it. IsPast step is_closed is_finished names role log it.number it.stream) later
-earlier_on step is_closed is_finished names role log past later n held all one (inl same_list) =
-    subst (λ (t : List (Earlier _)). AllByRecursion (λ it. IsPast step is_closed is_finished names role log it.number it.stream) t) (sym same_list) all
-earlier_on step is_closed is_finished names role log past later n held all one (inr aside) =
-    let it = subst (λ (t : Option (Streaming _)). IfSome t (λ it. IsPast step is_closed is_finished names role log n it)) aside.1 one in
-    subst (λ (t : List (Earlier _)). AllByRecursion (λ it. IsPast step is_closed is_finished names role log it.number it.stream) t) (sym aside.2)
-    (all_and (λ (it : Earlier _). IsPast step is_closed is_finished names role log it.number it.stream) past (record { number = n; stream = aside.0 }) all it)
+earlier_on step is_closed is_finished names role log past later n held all one is =
+    subst (λ (t : List (Earlier _)). AllByRecursion (λ it. IsPast step is_closed is_finished names role log it.number it.stream) t) (sym is) (by_held held one) where
+      by_end : (stream : Streaming _) → IsPast step is_closed is_finished names role log n stream → (b : Bool)
+          → AllByRecursion (λ (it : Earlier _). IsPast step is_closed is_finished names role log it.number it.stream) (past ++ cond b [] (record { number = n; stream = stream } ∷ []))
+      by_end stream one true = subst (λ (t : List (Earlier _)). AllByRecursion (λ it. IsPast step is_closed is_finished names role log it.number it.stream) t) (sym (append-nil past)) all
+      by_end stream one false = all_and (λ (it : Earlier _). IsPast step is_closed is_finished names role log it.number it.stream) past (record { number = n; stream = stream }) all one
+
+      by_held : (held : Option (Streaming _)) → IfSome held (λ it. IsPast step is_closed is_finished names role log n it)
+          → AllByRecursion (λ (it : Earlier _). IsPast step is_closed is_finished names role log it.number it.stream) (past ++ set_aside n held)
+      by_held None one = subst (λ (t : List (Earlier _)). AllByRecursion (λ it. IsPast step is_closed is_finished names role log it.number it.stream) t) (sym (append-nil past)) all
+      by_held (Some stream) one = by_end stream one (was_handed_out stream.stage)

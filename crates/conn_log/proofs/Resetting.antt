@@ -1,5 +1,5 @@
 -- Where the streams stand once the other end's reset of one of them was told.
-use Rattle.std.proofs.Common.{◌≡◌, ◌≢◌, ℕ, ◌==◌, Bool, true, false, cond, List, [], ◌∷◌, Option, Some, None, refl, sym, ap, ◌∙◌, subst}
+use Rattle.std.proofs.Common.{◌≡◌, ◌≢◌, ℕ, ◌==◌, Bool, true, false, ◌||◌, cond, List, [], ◌∷◌, Option, Some, None, refl, sym, ap, ◌∙◌, subst}
 use Rattle.std.specs.Prelude.{IfSome, IsSome}
 use Rattle.handlers.specs.Calls.{HandlerCall, Asked}
 use Rattle.yamux_session.specs.declared.event.Role.{Role}
@@ -10,7 +10,7 @@ use Rattle.streams.specs.declared.stop.Cause.TheVariants as causes
 use Rattle.streams.specs.State.{Streaming, was_handed_out}
 use Rattle.conn_log.specs.declared.earlier.Earlier.{Earlier}
 use Rattle.conn_log.specs.declared.event.ConnEvent.TheVariants as event
-use Rattle.conn_log.specs.Entries.{Entry, items}
+use Rattle.conn_log.specs.Entries.{Entry, items, is_over, made_of}
 use Rattle.conn_log.specs.Entries.Entry.{Says}
 use Rattle.conn_log.specs.Due.{WasReset}
 use Rattle.conn_log.specs.Held.{IsAtRest}
@@ -33,6 +33,7 @@ module _ {P H : Type 0} (step : H → HandlerCall → H → Type 0) (fails : H �
     due = a.due;
     others = λ m apart. subst (λ (t : Option (Streaming H)). IfSome t (λ it. IsAtRest step is_closed is_finished names role log m it)) (sym (elsewhere m apart)) (a.others m apart);
     others_held = λ m apart live. subst (λ (t : Option (Streaming H)). IsSome t) (sym (elsewhere m apart)) (a.others_held m apart live);
+    others_kept = λ m apart made going. subst (λ (t : Option (Streaming H)). IsSome t) (sym (elsewhere m apart)) (a.others_kept m apart made going);
     heard = subst (λ (x : Seen). AgreesOn (seen role (items log) n) (all_heard n x rest)) (heard_reset n view) a.heard;
     opens_none = a.opens_none.1;
     ends_last = subst (λ b. Rattle.conn_log.specs.Routes.EndsLast b rest) refl a.ends_last;
@@ -40,16 +41,19 @@ module _ {P H : Type 0} (step : H → HandlerCall → H → Type 0) (fails : H �
   }
 
   without : (then : List (Entry H)) → Around step fails is_closed is_finished inbound_makes outbound_makes eager names peer role then fed sent session now past n (gone view) rest
+      → (made_of role then n ≢ None → is_over role then n ≡ false → ⊥)
       → Routes step fails is_closed is_finished inbound_makes outbound_makes eager names peer role then fed sent session now past n (gone view) rest
-  without then around = record {
+  without then around not_kept = record {
     around = around;
     own = subst (λ (t : Option (Streaming H)). IfSome t (λ it. IsMoving step fails is_closed is_finished inbound_makes outbound_makes eager names peer role then n (gone view) rest it)) (sym none_here) tt;
     own_held = λ live. absurd (cc live);
+    own_kept = λ made going. absurd (not_kept made going);
   }
 
   -- a stream that isn't held, or whose handler was handed out, is told of no more
-  pub forgotten : Routes step fails is_closed is_finished inbound_makes outbound_makes eager names peer role log fed sent session now past n (gone view) rest
-  forgotten = without log reset_came
+  pub forgotten : (made_of role log n ≢ None → is_over role log n ≡ false → ⊥)
+      → Routes step fails is_closed is_finished inbound_makes outbound_makes eager names peer role log fed sent session now past n (gone view) rest
+  forgotten not_kept = without log reset_came not_kept
 
   -- one that is held is given up
   pub was_broken : (old : Streaming H) → IsMoving step fails is_closed is_finished inbound_makes outbound_makes eager names peer role log n view (Told.Reset n ∷ rest) old
@@ -58,3 +62,4 @@ module _ {P H : Type 0} (step : H → HandlerCall → H → Type 0) (fails : H �
   was_broken old moving held reset = without (Says (event.Broken n causes.Reset) ∷ log)
       (around_event step fails is_closed is_finished inbound_makes outbound_makes eager names peer role log fed sent session now past n (gone view) rest (event.Broken n causes.Reset) refl
       (moving.held.over ∙ held, reset) reset_came)
+      (λ made going. absurd (let e : true ≡ false = sym (ap (λ b. b || is_over role log n) (same n)) ∙ going in cc e))

@@ -298,6 +298,8 @@ module _ {P H : Type 0} (step : H → HandlerCall → H → Type 0) (fails : H �
             (if_some (streams m) (λ it. at_rest_same step is_closed is_finished names role log (did acts ++ log) m it (did_same log n m acts apart on)) (a.others m apart));
         others_held = λ m apart live. subst (λ (t : Option (Streaming H)). IsSome t) (sym (elsewhere m apart))
             (a.others_held m apart (sym (ap (λ (x : Seen). x.live) (did_same log n m acts apart on).seen_is) ∙ live));
+        others_kept = λ m apart made going. subst (λ (t : Option (Streaming H)). IsSome t) (sym (elsewhere m apart))
+            (let s = did_same log n m acts apart on in a.others_kept m apart (λ none. made (s.made_is ∙ none)) (sym s.over_is ∙ going));
         heard = did_heard log n view rest acts on a.opens_none a.heard;
         opens_none = a.opens_none;
         ends_last = subst (λ b. EndsLast b rest) (sym (view_ended n acts view on)) a.ends_last;

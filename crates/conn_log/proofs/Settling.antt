@@ -1,5 +1,5 @@
 -- Where the streams stand once one of them was given up, and once something was told of it.
-use Rattle.std.proofs.Common.{◌≡◌, ◌≢◌, ◌⊎◌, inl, inr, ℕ, ◌==◌, Bool, true, false, cond, List, [], ◌∷◌, ◌++◌, Option, Some, None, refl, sym, ap, ◌∙◌, subst}
+use Rattle.std.proofs.Common.{◌≡◌, ◌≢◌, ◌⊎◌, inl, inr, ℕ, ◌==◌, Bool, true, false, ◌||◌, cond, List, [], ◌∷◌, ◌++◌, Option, Some, None, refl, sym, ap, ◌∙◌, subst}
 use Rattle.std.specs.Prelude.{IfSome, IsSome}
 use Rattle.std.specs.List.{AllByRecursion}
 use Rattle.std.proofs.lemmas.List.{append_assoc, append-nil}
@@ -19,13 +19,13 @@ use Rattle.routing.specs.declared.delivered.Outcome.TheVariants as outcomes
 use Rattle.conn_log.specs.declared.earlier.Earlier.{Earlier}
 use Rattle.conn_log.specs.declared.event.ConnEvent.{ConnEvent}
 use Rattle.conn_log.specs.declared.event.ConnEvent.TheVariants as event
-use Rattle.conn_log.specs.Entries.{Entry, items, said}
+use Rattle.conn_log.specs.Entries.{Entry, items, said, is_over}
 use Rattle.conn_log.specs.Entries.Entry.{Of, Says, Made, Asks}
 use Rattle.conn_log.specs.Due.{IsGivenUp}
 use Rattle.conn_log.specs.Held.{IsAtRest, IsPast}
 use Rattle.conn_log.specs.Routes.{IsMoving, Around, Routes, Routed, Comes, Resets}
 use Rattle.conn_log.proofs.Same.{Same, same_by_act, at_rest_same, past_same}
-use Rattle.conn_log.proofs.Views.{gone, moves_on, agrees_gone, gone_first_all}
+use Rattle.conn_log.proofs.Views.{gone, its_own, moves_on, agrees_gone, gone_first_all}
 
 pub said_append : {H : Type 0} (newer log : List (Entry H)) → said (newer ++ log) ≡ said log ++ said newer
 said_append [] log = sym (append-nil (said log))
@@ -33,6 +33,9 @@ said_append (Of x ∷ newer) log = said_append newer log
 said_append (Says e ∷ newer) log = ap (λ t. t ++ e ∷ []) (said_append newer log) ∙ append_assoc (said log) (said newer) (e ∷ [])
 said_append (Made n handler ∷ newer) log = said_append newer log
 said_append (Asks n index ∷ newer) log = said_append newer log
+
+over_by : {n : ℕ} (m : ℕ) (before : Bool) → m ≡ n → (m == n) || before ≡ false → ⊥
+over_by {n = n} m before is going = absurd (let e : true ≡ false = sym (ap (λ b. b || before) (its_own m n is)) ∙ going in cc e)
 
 module _ {P H : Type 0} (step : H → HandlerCall → H → Type 0) (fails : H → Asked → ℕ → Type 0)
     (is_closed is_finished : H → Bool) (inbound_makes outbound_makes : P → ℕ → List ℕ → H → Type 0)
@@ -62,6 +65,19 @@ module _ {P H : Type 0} (step : H → HandlerCall → H → Type 0) (fails : H �
       (a : Around step fails is_closed is_finished inbound_makes outbound_makes eager names peer role log fed sent before streams past n view rest)
       (given_up : IsGivenUp n log)
       (elsewhere : (m : ℕ) → (n == m) ≡ false → now m ≡ streams m) (none_here : now n ≡ None) where
+    not_going : (then : List (Entry H)) → IsGivenUp n then → is_over role then n ≡ false → ⊥
+    not_going [] g going = absurd g
+    not_going (Of x ∷ then) g going = absurd g
+    not_going (Says (event.Refused m) ∷ then) g going = absurd (over_by m (is_over role then n) g going)
+    not_going (Says (event.Broken m cause) ∷ then) g going = absurd (over_by m (is_over role then n) g.0 going)
+    not_going (Says (event.Agreed m index) ∷ then) g going = absurd g
+    not_going (Says (event.Done m handler) ∷ then) g going = absurd g
+    not_going (Says (event.Upgraded key) ∷ then) g going = absurd g
+    not_going (Says (event.Fault fault) ∷ then) g going = absurd g
+    not_going (Says event.Shut ∷ then) g going = absurd g
+    not_going (Made m handler ∷ then) g going = absurd g
+    not_going (Asks m index ∷ then) g going = absurd g
+
     apart : (m : ℕ) → (n == m) ≡ false → Same role log (Of (Did (Reset n)) ∷ log) m
     apart m e = same_by_act acts_do acts_move role log n m (Reset n) refl e
 
@@ -85,6 +101,8 @@ module _ {P H : Type 0} (step : H → HandlerCall → H → Type 0) (fails : H �
             (if_some (streams m) (λ it. at_rest_same step is_closed is_finished names role log (Of (Did (Reset n)) ∷ log) m it (apart m e)) (a.others m e));
         others_held = λ m e live. subst (λ (t : Option (Streaming H)). IsSome t) (sym (elsewhere m e))
             (a.others_held m e (sym (ap (λ (x : Seen). x.live) (apart m e).seen_is) ∙ live));
+        others_kept = λ m e made going. subst (λ (t : Option (Streaming H)). IsSome t) (sym (elsewhere m e))
+            (a.others_kept m e (λ none. made ((apart m e).made_is ∙ none)) (sym (apart m e).over_is ∙ going));
         heard = moves_on acts_do role (items log) n view rest (Reset n) refl a.opens_none a.heard;
         opens_none = a.opens_none;
         ends_last = a.ends_last;
@@ -93,6 +111,7 @@ module _ {P H : Type 0} (step : H → HandlerCall → H → Type 0) (fails : H �
       own = subst (λ (t : Option (Streaming H)). IfSome t (λ it. IsMoving step fails is_closed is_finished inbound_makes outbound_makes eager names peer role
           (Of (Did (Reset n)) ∷ log) n (gone view) rest it)) (sym none_here) tt;
       own_held = λ live. absurd (cc live);
+      own_kept = λ made going. absurd (not_going log given_up going);
     }
 
     -- it wasn't live
@@ -104,6 +123,7 @@ module _ {P H : Type 0} (step : H → HandlerCall → H → Type 0) (fails : H �
         due = a.due;
         others = λ m e. subst (λ (t : Option (Streaming H)). IfSome t (λ it. IsAtRest step is_closed is_finished names role log m it)) (sym (elsewhere m e)) (a.others m e);
         others_held = λ m e live. subst (λ (t : Option (Streaming H)). IsSome t) (sym (elsewhere m e)) (a.others_held m e live);
+        others_kept = λ m e made going. subst (λ (t : Option (Streaming H)). IsSome t) (sym (elsewhere m e)) (a.others_kept m e made going);
         heard = subst (λ (x : Seen). AgreesOn (seen role (items log) n) x) (sym (gone_first_all n view rest a.opens_none))
             (agrees_gone (seen role (items log) n) (all_heard n view rest) off a.heard);
         opens_none = a.opens_none;
@@ -112,6 +132,7 @@ module _ {P H : Type 0} (step : H → HandlerCall → H → Type 0) (fails : H �
       };
       own = subst (λ (t : Option (Streaming H)). IfSome t (λ it. IsMoving step fails is_closed is_finished inbound_makes outbound_makes eager names peer role log n (gone view) rest it)) (sym none_here) tt;
       own_held = λ live. absurd (cc live);
+      own_kept = λ made going. absurd (not_going log given_up going);
     }
 
     pub is_given_up : (told told_now : List (ConnEvent H)) → told_now ≡ told → Resets role (items log) fed sent n before after

@@ -31,7 +31,7 @@ done_by (Close m) s = shut s
 done_by (Reset m) s = gone s
 done_by other s = s
 
-its_own : (k n : ℕ) → k ≡ n → (k == n) ≡ true
+pub its_own : (k n : ℕ) → k ≡ n → (k == n) ≡ true
 its_own k n is = ap (λ x. x == n) is ∙ same n
 
 pub does_is : (n : ℕ) (s : Seen) (act : Act) → IsOn n act → does n s act ≡ done_by act s

@@ -1,6 +1,6 @@
 -- Where the streams of a connection stand while what a frame told is routed to the one that it names.
 -- Inside: no public clause of a connection cites it.
-use Rattle.std.specs.Prelude.{◌≡◌, ◌⊎◌, ℕ, ◌==◌, Bool, true, false, ◌≢◌, List, [], ◌∷◌, ◌++◌, Option, IfSome, IsSome}
+use Rattle.std.specs.Prelude.{◌≡◌, ◌⊎◌, ℕ, ◌==◌, Bool, true, false, ◌≢◌, List, [], ◌∷◌, ◌++◌, if◌then◌else◌, Option, Some, None, IfSome, IsSome}
 use Rattle.std.specs.List.{AllByRecursion}
 use Rattle.handlers.specs.Calls.{HandlerCall, Asked}
 use Rattle.yamux_session.specs.declared.event.Role.{Role}
@@ -11,7 +11,7 @@ use Rattle.yamux_session.specs.Openings.{is_live}
 use Rattle.yamux_session.specs.Events.{Told}
 use Rattle.yamux_session.specs.Seen.{Seen, seen, all_heard, AgreesOn}
 use Rattle.yamux_session.specs.State.{State, Stands as SessionStands}
-use Rattle.streams.specs.State.{Streaming, has_finished}
+use Rattle.streams.specs.State.{Streaming, has_finished, was_handed_out}
 use Rattle.serving.specs.Served.{IsSettled}
 use Rattle.conn_log.specs.declared.earlier.Earlier.{Earlier}
 use Rattle.conn_log.specs.declared.event.ConnEvent.{ConnEvent}
@@ -19,7 +19,7 @@ use Rattle.streams.specs.declared.stop.Cause.TheVariants as causes
 use Rattle.routing.specs.declared.delivered.Outcome.{Outcome}
 use Rattle.routing.specs.declared.delivered.Outcome.TheVariants.{Going, Done, Refused, Broken}
 use Rattle.conn_log.specs.declared.event.ConnEvent.TheVariants as event
-use Rattle.conn_log.specs.Entries.{Entry, items, said}
+use Rattle.conn_log.specs.Entries.{Entry, items, said, is_over, made_of}
 use Rattle.conn_log.specs.Entries.Entry.{Says}
 use Rattle.conn_log.specs.Due.{AllDue}
 use Rattle.conn_log.specs.Held.{IsHeld, IsAtRest, IsPast}
@@ -41,6 +41,11 @@ EndsLast ended [] = Unit {0}
 EndsLast ended (Told.Payload m b ∷ rest) = (ended ≡ false) × EndsLast ended rest
 EndsLast ended (Told.Ended m ∷ rest) = (ended ≡ false) × EndsLast true rest
 EndsLast ended (other ∷ rest) = EndsLast ended rest
+
+-- what is put aside of a stream whose number is opened anew: it is kept, unless its handler was handed out
+abbrev pub set_aside : {H : Type 0} → ℕ → Option (Streaming H) → List (Earlier H)
+set_aside n None = []
+set_aside n (Some it) = if was_handed_out it.stage then [] else record { number = n; stream = it } ∷ []
 
 -- The stream was reset where it was live; else nothing was done.
 abbrev pub Resets : Role → List Item → List ℕ → List ℕ → ℕ → State → State → Type 0
@@ -67,6 +72,9 @@ module _ {P H : Type 0} (step : H → HandlerCall → H → Type 0) (fails : H �
     pub others : (m : ℕ) → (n == m) ≡ false
         → IfSome (streams m) (λ it. IsAtRest step is_closed is_finished names role log m it)
     pub others_held : (m : ℕ) → (n == m) ≡ false → is_live role (items log) m ≡ true → IsSome (streams m)
+    -- a handler that was made is held until the last event of its stream
+    pub others_kept : (m : ℕ) → (n == m) ≡ false → made_of role log m ≢ None → is_over role log m ≡ false
+        → IsSome (streams m)
     pub heard : AgreesOn (seen role (items log) n) (all_heard n view rest)
     pub opens_none : AllByRecursion (IsNoOpening n) rest
     pub ends_last : EndsLast view.ended rest
@@ -78,6 +86,7 @@ module _ {P H : Type 0} (step : H → HandlerCall → H → Type 0) (fails : H �
     pub around : Around log fed sent session streams past n view rest
     pub own : IfSome (streams n) (λ it. IsMoving log n view rest it)
     pub own_held : view.live ≡ true → IsSome (streams n)
+    pub own_kept : made_of role log n ≢ None → is_over role log n ≡ false → IsSome (streams n)
 
   -- Where the streams stand once the one that is named was served, and it came to this.
   abbrev pub Comes : List (Entry H) → List ℕ → List ℕ → State → (ℕ → Option (Streaming H)) → List (Earlier H) → ℕ → Seen

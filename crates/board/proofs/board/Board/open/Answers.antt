@@ -34,3 +34,4 @@ returns-clause-routes g c = λ log fed sent rest a earlier none theirs.
     (subst (λ (t : Option (Streaming _)). IfSome t (λ it. IsHeld H.steps H.is_closed H.is_finished (makes.listed board.protocols) board.role log n just_opened.came just_opened.ended it
     × (just_opened.live ≡ false → just_opened.ended ≡ true))) (sym placed) (fresh_one, λ off. absurd (cc off)))
     (λ live. subst (λ (t : Option (Streaming _)). IsSome t) (sym placed) refl)
+    (λ made going. subst (λ (t : Option (Streaming _)). IsSome t) (sym placed) refl)

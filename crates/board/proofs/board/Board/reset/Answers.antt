@@ -9,7 +9,7 @@ use Rattle.conn_log.specs.declared.event.ConnEvent.TheVariants as event
 use Rattle.conn_log.specs.Routes.{IsMoving}
 use Rattle.conn_log.proofs.Views.{gone}
 use Rattle.conn_log.proofs.Resetting.{forgotten, was_broken}
-use Rattle.board.proofs.Tables.{elsewhere, here}
+use Rattle.board.proofs.Tables.{elsewhere, here, not_some, not_both}
 use Rattle.board.proofs.Telling.{on_ok, told_none, told_at}
 use Rattle.board.proofs.board.Board.reset.Goals as goal
 
@@ -23,7 +23,8 @@ returns-in_default-clause-routes g c = λ log fed sent session view rest r reset
     told_none H.steps H.fails H.is_closed H.is_finished makes.makes_inbound makes.makes_outbound (makes.is_eager board.protocols) (makes.listed board.protocols) board.peer board.role log
     c.args.told.now.items c.args.told.now.items fed sent session _ board.past.items n rest (gone view) refl
     (forgotten H.steps H.fails H.is_closed H.is_finished makes.makes_inbound makes.makes_outbound (makes.is_eager board.protocols) (makes.listed board.protocols) board.peer board.role log
-    fed sent session old _ board.past.items n view rest r.around (elsewhere old _ n None c.remove.ensures.updates.0) (here old _ n None c.remove.ensures.updates.0))
+    fed sent session old _ board.past.items n view rest r.around (elsewhere old _ n None c.remove.ensures.updates.0) (here old _ n None c.remove.ensures.updates.0)
+    (λ made going. not_some (old n) (r.own_kept made going) (sym c.in_default.ensures.value)))
 
 pub returns-then-was_handed_out-clause-routes : goal.returns-then-was_handed_out-clause-routes
 returns-then-was_handed_out-clause-routes g c = λ log fed sent session view rest r reset.
@@ -32,10 +33,13 @@ returns-then-was_handed_out-clause-routes g c = λ log fed sent session view res
     let board = c.args.self.now in
     let n = c.args.number in
     let old = tree.get nat_cmp board.streams in
+    let moving = subst (λ (t : Option (Streaming _)). IfSome t (λ it. IsMoving H.steps H.fails H.is_closed H.is_finished makes.makes_inbound makes.makes_outbound (makes.is_eager board.protocols)
+    (makes.listed board.protocols) board.peer board.role log n view (Told.Reset n ∷ rest) it)) (sym c.in-Some.ensures.value) r.own in
     told_none H.steps H.fails H.is_closed H.is_finished makes.makes_inbound makes.makes_outbound (makes.is_eager board.protocols) (makes.listed board.protocols) board.peer board.role log
     c.args.told.now.items c.args.told.now.items fed sent session _ board.past.items n rest (gone view) refl
     (forgotten H.steps H.fails H.is_closed H.is_finished makes.makes_inbound makes.makes_outbound (makes.is_eager board.protocols) (makes.listed board.protocols) board.peer board.role log
-    fed sent session old _ board.past.items n view rest r.around (elsewhere old _ n None c.remove.ensures.updates.0) (here old _ n None c.remove.ensures.updates.0))
+    fed sent session old _ board.past.items n view rest r.around (elsewhere old _ n None c.remove.ensures.updates.0) (here old _ n None c.remove.ensures.updates.0)
+    (λ made going. not_both (sym c.was_handed_out.ensures ∙ c.if-was_handed_out.true) (sym moving.held.over ∙ going)))
 
 pub returns-clause-routes : goal.returns-clause-routes
 returns-clause-routes g c = λ log fed sent session view rest r reset.

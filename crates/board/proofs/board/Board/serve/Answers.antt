@@ -14,7 +14,7 @@ use Rattle.board.proofs.Telling.{on_ok, told_none}
 use Rattle.board.proofs.board.Board.serve.Goals as goal
 
 pub returns-in_default-clause-serves : goal.returns-in_default-clause-serves
-returns-in_default-clause-serves g c = λ log fed sent view rest a held own.
+returns-in_default-clause-serves g c = λ log fed sent view rest a held own kept.
     let H = g.P.H.Handler in
     let makes = g.P.Protocols in
     let board = c.args.self.now in
@@ -28,10 +28,11 @@ returns-in_default-clause-serves g c = λ log fed sent view rest a held own.
       own = subst (λ (t : Option (Streaming _)). IfSome t (λ it. IsMoving H.steps H.fails H.is_closed H.is_finished makes.makes_inbound makes.makes_outbound (makes.is_eager board.protocols)
           (makes.listed board.protocols) board.peer board.role log c.args.number view rest it)) (sym none) tt;
       own_held = own;
+      own_kept = kept;
     }))
 
 pub returns-clause-serves : goal.returns-clause-serves
-returns-clause-serves g c = λ log fed sent view rest a is_held own.
+returns-clause-serves g c = λ log fed sent view rest a is_held own kept.
     let H = g.P.H.Handler in
     let makes = g.P.Protocols in
     let board = c.args.self.now in
