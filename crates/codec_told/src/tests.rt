@@ -1,329 +1,492 @@
 use super::*;
-use ms_select::{Answer, SelectFault, Step};
-use multiaddr::AddrFault;
+use ms_select::{Answer, SelectFault, Step, Talk};
+use multiaddr::{AddrFault, Multiaddr};
 use peer_ids::{KeyFault, KeyType, PeerId, PublicKey};
-use plaintext_x::ExchangeFault;
+use plaintext_x::{ExchangeFault, Exchanged, Proven};
+use std::alloc::{AllocError, Global};
 use std::test::*;
 use varint_proto::{IncomingRefused, WireFault};
 
+// ---- numbers
+
+static EARLY: [(&[u8], Result<Option<(u64, usize)>, WireFault>); 3] = [
+    (&[172, 2, 9], Ok(Some((300, 2)))),
+    (&[172], Ok(None)),
+    (&[172, 0], Err(WireFault::NotShortest)),
+];
+
+static TO_THE_END: [(&[u8], Option<u64>); 2] = [(&[172, 2], Some(300)), (&[172, 2, 9], None)];
+
 #[test]
-fn numbers_are_read(rt: HostRuntime) -> Result<(), Fail> {
-    assert_eq!(rt; varints::read_early(&[172, 2, 9]), Ok(Some((300, 2))));
-    assert_eq!(rt; varints::read_early(&[172]), Ok(None));
-    assert_eq!(rt; varints::read_early(&[172, 0]), Err(WireFault::NotShortest));
-    assert_eq!(rt; varints::read_to_the_end(&[172, 2]), Some(300));
-    assert_eq!(rt; varints::read_to_the_end(&[172, 2, 9]), None);
-    Ok(())
+fn numbers_are_read(rt: HostRuntime) {
+    for (row, (bytes, outcome)) in EARLY.iter().enumerate() {
+        assert_eq!(rt; varints::read_early(*bytes), *outcome, "early row {row}");
+    }
+    for (row, (bytes, number)) in TO_THE_END.iter().enumerate() {
+        assert_eq!(rt; varints::read_to_the_end(*bytes), *number, "row {row}");
+    }
+}
+
+/// Whether the number is spelt so, and is read back before another byte.
+fn is_spelt(alloc: Global, number: u64, spelling: &[u8]) -> Result<bool, AllocError> {
+    let mut bytes = Vec::from_slice(alloc, spelling)?;
+    bytes.push(9)?;
+    let again = varints::written_again(alloc, &bytes).ok().flatten();
+    let back = varints::read_back(alloc, number, &[9]).ok();
+    let (spelt, len) = varints::spelt(number);
+    let is_spelt = again.as_deref() == Some(spelling) && spelt.get(..len) == Some(spelling);
+    Ok(is_spelt && back == Some(Ok(Some((number, spelling.len())))))
 }
 
 #[test]
 fn numbers_are_written(rt: HostRuntime) -> Result<(), Fail> {
-    let spelling = varints::written_again(rt.alloc(), &[172, 2, 9])
-        .ok()
-        .flatten()
-        .ok_or("ample memory")?;
-    assert_eq!(rt; spelling.as_slice(), [172, 2].as_slice());
-    let read = varints::read_back(rt.alloc(), 300, &[9])
-        .ok()
-        .ok_or("ample memory")?;
-    assert_eq!(rt; read, Ok(Some((300, 2))));
-    let (spelling, len) = varints::spelt(300);
-    assert_eq!(rt; &spelling[..len], [172, 2].as_slice());
+    let held = is_spelt(rt.alloc(), 300, &[172, 2])?;
+    assert!(rt; held);
     Ok(())
 }
+
+// ---- messages
+
+static COUNTED: [(&[u8], Option<usize>); 2] = [
+    (&[8, 1, 18, 1, 7], Some(2)),
+    (&[8, 1, 18, 1], None),
+];
 
 #[test]
 fn messages_are_read(rt: HostRuntime) -> Result<(), Fail> {
-    assert_eq!(rt; messages::counted(&[8, 1, 18, 1, 7]), Some(2));
-    assert_eq!(rt; messages::counted(&[8, 1, 18, 1]), None);
-    let pair = messages::pair_back(rt.alloc(), 300, b"seven")?;
-    assert_eq!(rt; pair.number, Some(300));
-    assert_eq!(rt; pair.body, Some(5));
-    Ok(())
-}
-
-#[test]
-fn messages_are_heard(rt: HostRuntime) -> Result<(), Fail> {
-    let fed = messages::fed_early(rt.alloc(), 8, &[2, 5, 6, 7])
-        .ok()
-        .ok_or("ample memory")?;
-    assert!(rt; fed.whole);
-    assert_eq!(rt; fed.used, 3);
-    assert_eq!(rt; fed.incoming.body(), [5, 6].as_slice());
-    let sent = messages::sent_is_heard(rt.alloc(), b"seven")
-        .ok()
-        .ok_or("ample memory")?;
-    assert!(rt; !sent.before);
-    assert!(rt; sent.behind);
-    assert_eq!(rt; sent.incoming.body(), b"seven".as_slice());
-    Ok(())
-}
-
-#[test]
-fn lengths_are_heard(rt: HostRuntime) -> Result<(), Fail> {
-    for (row, (bytes, used, announced, whole)) in [
-        (&[][..], 0, None, false),
-        (&[172], 1, None, false),
-        (&[172, 2, 5, 6], 2, Some(300), false),
-        (&[2, 5, 6, 7], 1, Some(2), false),
-        (&[0, 7], 1, Some(0), true),
-    ]
-    .iter()
-    .enumerate()
-    {
-        let fed = messages::length_fed(rt.alloc(), 300, *bytes)
-            .ok()
-            .ok_or("ample memory")?;
-        assert_eq!(rt; fed.used, *used, "row {row}");
-        assert_eq!(rt; fed.incoming.announced(), *announced, "row {row}");
-        assert_eq!(rt; fed.whole, *whole, "row {row}");
+    for (row, (bytes, count)) in COUNTED.iter().enumerate() {
+        assert_eq!(rt; messages::counted(*bytes), *count, "row {row}");
     }
-    let long = messages::length_fed(rt.alloc(), 299, &[172, 2]);
-    assert_eq!(rt; long.err(), Some(IncomingRefused::TooLong));
-    let spelt = messages::length_fed(rt.alloc(), 300, &[172, 0, 7]);
-    assert_eq!(rt; spelt.err(), Some(IncomingRefused::BadLength));
+    let pair = messages::pair_back(rt.alloc(), 300, b"seven")?;
+    assert_eq!(rt; (pair.number, pair.body), (Some(300), Some(5)));
     Ok(())
 }
 
+fn is_fed_early(alloc: Global) -> bool {
+    match messages::fed_early(alloc, 8, &[2, 5, 6, 7]) {
+        Ok(fed) => fed.whole && fed.used == 3 && fed.incoming.body() == [5, 6].as_slice(),
+        Err(_) => false,
+    }
+}
+
+fn is_heard(alloc: Global, body: &[u8]) -> bool {
+    match messages::sent_is_heard(alloc, body) {
+        Ok(sent) => !sent.before && sent.behind && sent.incoming.body() == body,
+        Err(_) => false,
+    }
+}
+
 #[test]
-fn keys_are_read(rt: HostRuntime) -> Result<(), Fail> {
-    let key = PublicKey::ed25519(rt.alloc(), &[0; 32])?;
-    let message = key.canonical()?;
-    let read = keys::key_read(rt.alloc(), &message)
-        .ok()
-        .ok_or("ample memory")?;
-    assert_eq!(rt; read.body(), [0; 32].as_slice());
-    assert_eq!(rt;
-        keys::key_read(rt.alloc(), &[8]).err(),
-        Some(KeyFault::Wire)
-    );
+fn messages_are_heard(rt: HostRuntime) {
+    assert!(rt; is_fed_early(rt.alloc()));
+    assert!(rt; is_heard(rt.alloc(), b"seven"));
+}
+
+/// How many bytes are used, the length where it is known, and whether the message is whole.
+type Fed = (usize, Option<usize>, bool);
+
+/// A limit, and bytes.
+static LENGTHS: [(usize, &[u8], Result<Fed, IncomingRefused>); 7] = [
+    (300, &[], Ok((0, None, false))),
+    (300, &[172], Ok((1, None, false))),
+    (300, &[172, 2, 5, 6], Ok((2, Some(300), false))),
+    (300, &[2, 5, 6, 7], Ok((1, Some(2), false))),
+    (300, &[0, 7], Ok((1, Some(0), true))),
+    (299, &[172, 2], Err(IncomingRefused::TooLong)),
+    (300, &[172, 0, 7], Err(IncomingRefused::BadLength)),
+];
+
+#[test]
+fn lengths_are_heard(rt: HostRuntime) {
+    for (row, (limit, bytes, outcome)) in LENGTHS.iter().enumerate() {
+        let fed = messages::length_fed(rt.alloc(), *limit, *bytes).map(|fed| (
+            fed.used,
+            fed.incoming.announced(),
+            fed.whole,
+        ));
+        assert_eq!(rt; fed, *outcome, "row {row}");
+    }
+}
+
+// ---- keys
+
+/// The message of the Ed25519 key of 32 zeros.
+const ZEROS: &[u8] =
+    b"\x08\x01\x12\x20\0\0\0\0\0\0\0\0\0\0\0\0\0\0\0\0\0\0\0\0\0\0\0\0\0\0\0\0\0\0\0\0";
+
+static KEYS: [(&[u8], Result<&[u8], KeyFault>); 2] = [
+    (ZEROS, Ok(&[0; 32])),
+    (&[8], Err(KeyFault::Wire)),
+];
+
+fn is_key(read: Result<PublicKey, KeyFault>, outcome: Result<&[u8], KeyFault>) -> bool {
+    match read {
+        Ok(key) => outcome == Ok(key.body()),
+        Err(fault) => outcome == Err(fault),
+    }
+}
+
+#[test]
+fn keys_are_read(rt: HostRuntime) {
+    for (row, (message, outcome)) in KEYS.iter().enumerate() {
+        let held = is_key(keys::key_read(rt.alloc(), *message), *outcome);
+        assert!(rt; held, "row {row}");
+    }
     let id = PeerId::of_ed25519(&[0; 32]);
     assert_eq!(rt; keys::id_told(id.as_bytes()), Some(id));
     assert_eq!(rt; keys::id_told(&[7]), None);
-    Ok(())
 }
 
-#[test]
-fn ids_have_texts(rt: HostRuntime) -> Result<(), Fail> {
-    let id = PeerId::of_ed25519(&[0; 32]);
-    let texts = keys::texts_of(rt.alloc(), &id, &PeerId::of_ed25519(&[255; 32]))?;
-    assert_eq!(rt;
-        texts.text.as_str(),
-        "bafzaajaiaejcaaaaaaaaaaaaaaaaaaaaaaaaaaaaaaaaaaaaaaaaaaaaaaaaaaaa"
-    );
-    assert!(rt; !texts.same);
-    assert!(rt; keys::texts_of(rt.alloc(), &id, &id)?.same);
-    Ok(())
-}
-
-#[test]
-fn addresses_are_read(rt: HostRuntime) -> Result<(), Fail> {
-    let local = [4, 127, 0, 0, 1, 6, 15, 161];
-    let read = addresses::address_read(rt.alloc(), &local)
-        .ok()
-        .ok_or("ample memory")?;
-    assert_eq!(rt; read.bytes(), local.as_slice());
-    let parsed = addresses::address_parsed(rt.alloc(), "/ip4/127.0.0.1/tcp/4001")
-        .ok()
-        .ok_or("ample memory")?;
-    assert_eq!(rt; parsed.bytes(), local.as_slice());
-    let cut = addresses::address_read(rt.alloc(), &local[..3]);
-    assert_eq!(rt; cut.err(), Some(AddrFault::Cut));
-    let empty = addresses::address_parsed(rt.alloc(), "");
-    assert_eq!(rt; empty.err(), Some(AddrFault::Empty));
-    Ok(())
+/// Whether 33 bytes are a key of this type, which comes back, or aren't.
+fn comes_back(alloc: Global, kind: KeyType, good: bool) -> Result<bool, AllocError> {
+    let body = Vec::from_slice(alloc, &[7; 33])?;
+    match keys::key_back(alloc, kind, body) {
+        Ok(Some(key)) => Ok(good && key.kind() == kind && key.body() == [7; 33].as_slice()),
+        Ok(None) => Ok(!good),
+        Err(_) => Ok(false),
+    }
 }
 
 #[test]
 fn keys_are_written_and_read(rt: HostRuntime) -> Result<(), Fail> {
-    let body = Vec::from_slice(rt.alloc(), &[7; 33])?;
-    let read = keys::key_back(rt.alloc(), KeyType::Secp256k1, body)
-        .ok()
-        .flatten()
-        .ok_or("ample memory")?;
-    assert_eq!(rt; read.kind(), KeyType::Secp256k1);
-    assert_eq!(rt; read.body(), [7; 33].as_slice());
-    let body = Vec::from_slice(rt.alloc(), &[7; 33])?;
-    let none = keys::key_back(rt.alloc(), KeyType::Ed25519, body)
-        .ok()
-        .ok_or("ample memory")?;
-    assert!(rt; none.is_none());
+    for (kind, good) in [(KeyType::Secp256k1, true), (KeyType::Ed25519, false)] {
+        let held = comes_back(rt.alloc(), kind, good)?;
+        assert!(rt; held, "{kind:?}");
+    }
     Ok(())
 }
 
+/// The text of the id of zeros, beside that of the id of this byte: whether it is the same.
+fn has_text(alloc: Global, byte: u8, same: bool) -> Result<bool, AllocError> {
+    let id = PeerId::of_ed25519(&[0; 32]);
+    let texts = keys::texts_of(alloc, &id, &PeerId::of_ed25519(&[byte; 32]))?;
+    let text = "bafzaajaiaejcaaaaaaaaaaaaaaaaaaaaaaaaaaaaaaaaaaaaaaaaaaaaaaaaaaaa";
+    Ok(texts.text.as_str() == text && texts.same == same)
+}
+
 #[test]
-fn addresses_are_printed(rt: HostRuntime) -> Result<(), Fail> {
-    let local = [4, 127, 0, 0, 1, 6, 15, 161];
-    let back = addresses::printed_back(rt.alloc(), &local)
-        .ok()
-        .ok_or("ample memory")?;
-    assert_eq!(rt; back.bytes(), local.as_slice());
-    // A code that isn't in the table.
-    let opaque = addresses::printed_back(rt.alloc(), &[7]);
-    assert_eq!(rt; opaque.err(), Some(AddrFault::UnknownProtocol));
-    let printed = addresses::printed_both(rt.alloc(), &local, &[4, 127, 0, 0, 1, 6, 15, 160])
-        .ok()
-        .ok_or("ample memory")?;
-    assert_eq!(rt; printed.text.as_str(), "/ip4/127.0.0.1/tcp/4001");
-    assert!(rt; !printed.same);
-    let printed = addresses::printed_both(rt.alloc(), &local, &local)
-        .ok()
-        .ok_or("ample memory")?;
-    assert!(rt; printed.same);
+fn ids_have_texts(rt: HostRuntime) -> Result<(), Fail> {
+    for (byte, same) in [(255, false), (0, true)] {
+        let held = has_text(rt.alloc(), byte, same)?;
+        assert!(rt; held, "{byte}");
+    }
     Ok(())
 }
+
+// ---- addresses
+
+const LOCAL: &[u8] = &[4, 127, 0, 0, 1, 6, 15, 161];
+
+/// How an address comes: it is read, parsed, or read and printed and parsed.
+#[derive(Clone, Copy)]
+enum Address {
+    Read(&'static [u8]),
+    Parsed(&'static str),
+    Printed(&'static [u8]),
+}
+
+static ADDRESSES: [(Address, Result<&[u8], AddrFault>); 6] = [
+    (Address::Read(LOCAL), Ok(LOCAL)),
+    (Address::Parsed("/ip4/127.0.0.1/tcp/4001"), Ok(LOCAL)),
+    (Address::Read(&[4, 127, 0]), Err(AddrFault::Cut)),
+    (Address::Parsed(""), Err(AddrFault::Empty)),
+    (Address::Printed(LOCAL), Ok(LOCAL)),
+    // A code that isn't in the table.
+    (Address::Printed(&[7]), Err(AddrFault::UnknownProtocol)),
+];
+
+fn is_address(alloc: Global, address: Address, outcome: Result<&[u8], AddrFault>) -> bool {
+    let came: Result<Multiaddr, AddrFault> = match address {
+        Address::Read(bytes) => addresses::address_read(alloc, bytes),
+        Address::Parsed(text) => addresses::address_parsed(alloc, text),
+        Address::Printed(bytes) => addresses::printed_back(alloc, bytes),
+    };
+    match came {
+        Ok(address) => outcome == Ok(address.bytes()),
+        Err(fault) => outcome == Err(fault),
+    }
+}
+
+#[test]
+fn addresses_are_read(rt: HostRuntime) {
+    for (row, (address, outcome)) in ADDRESSES.iter().enumerate() {
+        let held = is_address(rt.alloc(), *address, *outcome);
+        assert!(rt; held, "row {row}");
+    }
+}
+
+/// An address beside the local one: whether it has the same text.
+static BOTH: [(&[u8], bool); 2] = [(&[4, 127, 0, 0, 1, 6, 15, 160], false), (LOCAL, true)];
+
+fn is_printed(alloc: Global, other: &[u8], same: bool) -> bool {
+    match addresses::printed_both(alloc, LOCAL, other) {
+        Ok(printed) => printed.text.as_str() == "/ip4/127.0.0.1/tcp/4001" && printed.same == same,
+        Err(_) => false,
+    }
+}
+
+#[test]
+fn addresses_are_printed(rt: HostRuntime) {
+    for (row, (other, same)) in BOTH.iter().enumerate() {
+        assert!(rt; is_printed(rt.alloc(), *other, *same), "row {row}");
+    }
+}
+
+// ---- talks
 
 /// The header and the proposal or the echo of x, as they are sent.
 const M_X: &[u8] = b"\x13/multistream/1.0.0\n\x03/x\n";
 
 const M_NA_X: &[u8] = b"\x13/multistream/1.0.0\n\x03na\n\x03/x\n";
 
-#[test]
-fn ends_agree(rt: HostRuntime) -> Result<(), Fail> {
-    let ends = negotiations::agreed(rt.alloc(), &["/y", "/x"], &["/z", "/x"])
-        .ok()
-        .flatten()
-        .ok_or("ample memory")?;
-    assert_eq!(rt; ends.dialer, Answer::Agreed(1));
-    assert_eq!(rt; ends.listener, Answer::Agreed(1));
-    let ends = negotiations::agreed(rt.alloc(), &["/y", "/w"], &["/z", "/x"])
-        .ok()
-        .flatten()
-        .ok_or("ample memory")?;
-    assert_eq!(rt; ends.dialer, Answer::NoneLeft);
-    assert_eq!(rt; ends.listener, Answer::Going);
-    let none = negotiations::agreed(rt.alloc(), &[], &["/x"])
-        .ok()
-        .ok_or("ample memory")?;
-    assert!(rt; none.is_none());
-    Ok(())
+/// Names that are asked for, names that are known, and what both ends answer.
+struct Agree {
+    dialed: &'static [&'static str],
+    served: &'static [&'static str],
+    answers: Option<(Answer, Answer)>,
 }
 
+static AGREE: [Agree; 3] = [
+    Agree {
+        dialed: &["/y", "/x"],
+        served: &["/z", "/x"],
+        answers: Some((Answer::Agreed(1), Answer::Agreed(1))),
+    },
+    Agree {
+        dialed: &["/y", "/w"],
+        served: &["/z", "/x"],
+        answers: Some((Answer::NoneLeft, Answer::Going)),
+    },
+    Agree {
+        dialed: &[],
+        served: &["/x"],
+        answers: None,
+    },
+];
+
 #[test]
-fn one_name_is_asked_for_at_once(rt: HostRuntime) -> Result<(), Fail> {
-    for (row, (bytes, step)) in [
-        (
-            &b""[..],
-            Ok(Step {
-                used: 0,
-                answer: Answer::Going,
-            }),
-        ),
-        (
-            M_X,
-            Ok(Step {
-                used: 24,
-                answer: Answer::Agreed(0),
-            }),
-        ),
-        (
-            M_NA_X,
-            Ok(Step {
-                used: 24,
-                answer: Answer::NoneLeft,
-            }),
-        ),
-        (&M_X[20..], Err(SelectFault::BadHeader)),
-    ]
-    .iter()
-    .enumerate()
-    {
-        let asked = negotiations::asked(rt.alloc(), "/x", *bytes)
-            .ok()
-            .ok_or("ample memory")?;
-        assert_eq!(rt; asked.before.as_slice(), M_X, "row {row}");
-        assert_eq!(rt; asked.step, *step, "row {row}");
-        assert!(rt; asked.behind.is_empty(), "row {row}");
+fn ends_agree(rt: HostRuntime) {
+    for (row, agree) in AGREE.iter().enumerate() {
+        let ends = negotiations::agreed(rt.alloc(), agree.dialed, agree.served).map(|ends| ends.map(
+            |ends| (ends.dialer, ends.listener),
+        ));
+        assert_eq!(rt; ends, Ok(agree.answers), "row {row}");
     }
-    Ok(())
 }
 
-#[test]
-fn ends_are_told_bytes(rt: HostRuntime) -> Result<(), Fail> {
-    let heard = negotiations::listened(rt.alloc(), &["/z", "/x"], M_X)
-        .ok()
-        .ok_or("ample memory")?;
-    assert_eq!(rt;
-        heard.step,
-        Ok(Step {
+/// Who is told bytes: a dialer of one name whose output is taken before and behind them, a dialer, or a listener.
+#[derive(Clone, Copy)]
+enum End {
+    Asked,
+    Dialed,
+    Listened,
+    Greeted,
+}
+
+/// What an end that has these names, of which the first alone is asked for, makes of bytes, and all its output.
+struct Told {
+    end: End,
+    names: &'static [&'static str],
+    bytes: &'static [u8],
+    step: Result<Step, SelectFault>,
+    output: &'static [u8],
+}
+
+static TOLD: [Told; 7] = [
+    Told {
+        end: End::Asked,
+        names: &["/x"],
+        bytes: b"",
+        step: Ok(Step {
+            used: 0,
+            answer: Answer::Going,
+        }),
+        output: M_X,
+    },
+    Told {
+        end: End::Asked,
+        names: &["/x"],
+        bytes: M_X,
+        step: Ok(Step {
             used: 24,
-            answer: Answer::Agreed(1)
-        })
-    );
-    assert_eq!(rt; heard.output.as_slice(), M_X);
-    let heard = negotiations::dialed(rt.alloc(), &["/z", "/x"], M_NA_X)
-        .ok()
-        .ok_or("ample memory")?;
-    assert_eq!(rt;
-        heard.step,
-        Ok(Step {
+            answer: Answer::Agreed(0),
+        }),
+        output: M_X,
+    },
+    Told {
+        end: End::Asked,
+        names: &["/x"],
+        bytes: M_NA_X,
+        step: Ok(Step {
+            used: 24,
+            answer: Answer::NoneLeft,
+        }),
+        output: M_X,
+    },
+    Told {
+        end: End::Asked,
+        names: &["/x"],
+        bytes: b"\x03/x\n",
+        step: Err(SelectFault::BadHeader),
+        output: M_X,
+    },
+    Told {
+        end: End::Listened,
+        names: &["/z", "/x"],
+        bytes: M_X,
+        step: Ok(Step {
+            used: 24,
+            answer: Answer::Agreed(1),
+        }),
+        output: M_X,
+    },
+    Told {
+        end: End::Dialed,
+        names: &["/z", "/x"],
+        bytes: M_NA_X,
+        step: Ok(Step {
             used: 28,
-            answer: Answer::Agreed(1)
-        })
-    );
-    let heard = negotiations::greeted(rt.alloc(), &["/x"], b"\x03/x\n")
-        .ok()
-        .ok_or("ample memory")?;
-    assert_eq!(rt; heard.step, Err(SelectFault::BadHeader));
-    Ok(())
+            answer: Answer::Agreed(1),
+        }),
+        output: b"\x13/multistream/1.0.0\n\x03/z\n\x03/x\n",
+    },
+    Told {
+        end: End::Greeted,
+        names: &["/x"],
+        bytes: b"\x03/x\n",
+        step: Err(SelectFault::BadHeader),
+        output: b"\x13/multistream/1.0.0\n",
+    },
+];
+
+/// Whether a dialer of one name has written all before the bytes, and nothing since.
+fn is_asked(alloc: Global, told: &Told) -> bool {
+    let name = told.names.first().copied().unwrap_or("");
+    match negotiations::asked(alloc, name, told.bytes) {
+        Ok(asked) => {
+            let is_written = asked.before.as_slice() == told.output && asked.behind.is_empty();
+            is_written && asked.step == told.step
+        }
+        Err(_) => false,
+    }
+}
+
+fn is_told(alloc: Global, told: &Told) -> bool {
+    let heard = match told.end {
+        End::Asked => return is_asked(alloc, told),
+        End::Dialed => negotiations::dialed(alloc, told.names, told.bytes),
+        End::Listened => negotiations::listened(alloc, told.names, told.bytes),
+        End::Greeted => negotiations::greeted(alloc, told.names, told.bytes),
+    };
+    match heard {
+        Ok(heard) => heard.step == told.step && heard.output.as_slice() == told.output,
+        Err(_) => false,
+    }
 }
 
 #[test]
-fn ends_are_told_the_same_however_it_is_cut(rt: HostRuntime) -> Result<(), Fail> {
+fn ends_are_told_bytes(rt: HostRuntime) {
+    for (row, told) in TOLD.iter().enumerate() {
+        assert!(rt; is_told(rt.alloc(), told), "row {row}");
+    }
+}
+
+/// Whether both talks have this answer, and the same output.
+fn are_alike(
+    whole: Result<Talk, SelectFault>,
+    parts: Result<Talk, SelectFault>,
+    answer: Answer,
+) -> bool {
+    let Ok(whole) = whole else {
+        return false;
+    };
+    match parts {
+        Ok(parts) => {
+            let is_same = whole.output == parts.output;
+            is_same && whole.answer == answer && parts.answer == answer
+        }
+        Err(_) => false,
+    }
+}
+
+#[test]
+fn ends_are_told_the_same_however_it_is_cut(rt: HostRuntime) {
     for cut in 0..30 {
         let (whole, parts) = negotiations::listened_cut(rt.alloc(), &["/x"], M_NA_X, cut);
-        let (whole, parts) = (whole.ok().ok_or("memory")?, parts.ok().ok_or("memory")?);
-        assert_eq!(rt; whole.answer, Answer::Agreed(0), "cut at {cut}");
-        assert_eq!(rt; parts.answer, Answer::Agreed(0), "cut at {cut}");
-        assert_eq!(rt;
-            whole.output.as_slice(),
-            parts.output.as_slice(),
-            "cut at {cut}"
-        );
+        let is_listened = are_alike(whole, parts, Answer::Agreed(0));
         let (whole, parts) = negotiations::dialed_cut(rt.alloc(), &["/y", "/x"], M_NA_X, cut);
-        let (whole, parts) = (whole.ok().ok_or("memory")?, parts.ok().ok_or("memory")?);
-        assert_eq!(rt; whole.answer, Answer::Agreed(1), "cut at {cut}");
-        assert_eq!(rt; parts.answer, Answer::Agreed(1), "cut at {cut}");
-        assert_eq!(rt;
-            whole.output.as_slice(),
-            parts.output.as_slice(),
-            "cut at {cut}"
-        );
+        let is_dialed = are_alike(whole, parts, Answer::Agreed(1));
+        assert!(rt; is_listened && is_dialed, "cut at {cut}");
     }
-    Ok(())
+}
+
+// ---- exchanges
+
+/// The message of the Ed25519 key of 32 bytes of this value.
+fn message(alloc: Global, byte: u8) -> Result<Vec<u8>, AllocError> {
+    PublicKey::ed25519(alloc, &[byte; 32])?.canonical()
+}
+
+fn is_of(proven: &Option<Proven>, byte: u8) -> bool {
+    match proven {
+        Some(proven) => proven.key().body() == [byte; 32].as_slice(),
+        None => false,
+    }
+}
+
+fn are_exchanged(alloc: Global) -> Result<bool, AllocError> {
+    let one = message(alloc, 0)?;
+    let other = message(alloc, 1)?;
+    let refused = exchanges::both_proven(alloc, &one, &[8]).err();
+    match exchanges::both_proven(alloc, &one, &other) {
+        Ok(both) => {
+            let are_proven = is_of(&both.one_proven, 0) && is_of(&both.other_proven, 1);
+            Ok(are_proven && refused == Some(ExchangeFault::BadKey))
+        }
+        Err(_) => Ok(false),
+    }
 }
 
 #[test]
 fn keys_are_exchanged(rt: HostRuntime) -> Result<(), Fail> {
-    let one = PublicKey::ed25519(rt.alloc(), &[0; 32])?.canonical()?;
-    let other = PublicKey::ed25519(rt.alloc(), &[1; 32])?.canonical()?;
-    let both = exchanges::both_proven(rt.alloc(), &one, &other)
-        .ok()
-        .ok_or("ample memory")?;
-    let proven = both.one_proven.as_ref().ok_or("proven")?;
-    assert_eq!(rt; proven.key().body(), [0; 32].as_slice());
-    let proven = both.other_proven.as_ref().ok_or("proven")?;
-    assert_eq!(rt; proven.key().body(), [1; 32].as_slice());
-    let bad = exchanges::both_proven(rt.alloc(), &one, &[8]);
-    assert_eq!(rt; bad.err(), Some(ExchangeFault::BadKey));
+    let held = are_exchanged(rt.alloc())?;
+    assert!(rt; held);
     Ok(())
+}
+
+/// What the holder of the key of 32 zeros writes, who is told nothing and has proven nothing.
+fn written(alloc: Global, own: &PublicKey) -> Option<Vec<u8>> {
+    let nothing = exchanges::exchanged(alloc, own, b"").ok()?;
+    if nothing.proven.is_some() {
+        return None;
+    }
+    Some(nothing.output)
+}
+
+fn is_proven(came: Result<Exchanged, ExchangeFault>) -> bool {
+    match came {
+        Ok(came) => came.proven.is_some(),
+        Err(_) => false,
+    }
+}
+
+/// Whether a proof is one also where it comes in two pieces.
+fn is_cut(alloc: Global, cut: usize) -> Result<bool, Fail> {
+    let own = PublicKey::ed25519(alloc, &[0; 32])?;
+    let message = written(alloc, &own).ok_or("a message")?;
+    let (whole, parts) = exchanges::exchanged_cut(alloc, &own, &message, cut);
+    let is_whole = is_proven(whole);
+    Ok(is_proven(parts) && is_whole)
 }
 
 #[test]
 fn keys_are_told_however_they_are_cut(rt: HostRuntime) -> Result<(), Fail> {
-    let own = PublicKey::ed25519(rt.alloc(), &[0; 32])?;
-    let nothing = exchanges::exchanged(rt.alloc(), &own, b"")
-        .ok()
-        .ok_or("ample memory")?;
-    assert!(rt; nothing.proven.is_none());
-    let message = nothing.output;
-    for cut in 0..9 {
-        let (whole, parts) = exchanges::exchanged_cut(rt.alloc(), &own, &message, cut * 10);
-        let (whole, parts) = (whole.ok().ok_or("memory")?, parts.ok().ok_or("memory")?);
-        assert!(rt; whole.proven.is_some(), "cut at {cut}");
-        assert!(rt; parts.proven.is_some(), "cut at {cut}");
+    for cut in [0, 10, 20, 30, 40, 50, 60, 70, 80] {
+        let held = is_cut(rt.alloc(), cut)?;
+        assert!(rt; held, "cut at {cut}");
     }
-    let refused = exchanges::exchanged(rt.alloc(), &own, b"\x01\x08");
-    assert_eq!(rt; refused.err(), Some(ExchangeFault::Wire));
+    let own = PublicKey::ed25519(rt.alloc(), &[0; 32])?;
+    let refused = exchanges::exchanged(rt.alloc(), &own, b"\x01\x08").err();
+    assert_eq!(rt; refused, Some(ExchangeFault::Wire));
     Ok(())
 }

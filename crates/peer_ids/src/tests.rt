@@ -1,6 +1,5 @@
 use super::*;
-use std::alloc::AllocGlobal;
-use std::process::Abort;
+use std::alloc::{AllocError, Global};
 use std::test::*;
 
 const ZEROS: &str = "bafzaajaiaejcaaaaaaaaaaaaaaaaaaaaaaaaaaaaaaaaaaaaaaaaaaaaaaaaaaaa";
@@ -9,321 +8,462 @@ const ONES: &str = "bafzaajaiaejcb7777777777777777777777777777777777777777777777
 
 const DIGEST_OF_ZEROS: &str = "bafzbeiaaaaaaaaaaaaaaaaaaaaaaaaaaaaaaaaaaaaaaaaaaaaaaaaaaaa";
 
-/// The key of a message: `front`, and then so many bytes of one value.
-fn key_of<R: Abort + AllocGlobal>(
-    rt: &R,
-    front: &[u8],
-    fill: u8,
-    count: usize,
-) -> Result<PublicKey, Fail> {
-    let mut message = Vec::new(rt.alloc());
-    message.extend_from_slice(front)?;
+/// Bytes, and behind them so many of one value.
+type Bytes = (&'static [u8], u8, usize);
+
+fn filled(alloc: Global, bytes: Bytes) -> Result<Vec<u8>, AllocError> {
+    let (front, fill, count) = bytes;
+    let mut all = Vec::from_slice(alloc, front)?;
     for _ in 0..count {
-        message.push(fill)?;
+        all.push(fill)?;
     }
-    let Ok(key) = PublicKey::read(rt.alloc(), &message) else {
-        return Err("the message is a key".into());
-    };
-    Ok(key)
+    Ok(all)
+}
+
+/// Whether the id has this text, and is read from it and from its own bytes.
+fn has_text(alloc: Global, id: PeerId, text: &str) -> Result<bool, AllocError> {
+    let told = id.to_text(alloc)?;
+    let shown = format!(in alloc; "{id}")?;
+    let is_told = told.as_str() == text && shown.as_str() == text;
+    let is_read = PeerId::from_text(text) == Ok(id) && text.parse::<PeerId>() == Ok(id);
+    Ok(is_told && is_read && PeerId::from_bytes(id.as_bytes()) == Ok(id))
+}
+
+// ---- keys
+
+/// The message of a key, whose bytes are those of one value that it ends in. Then the key's type, what the canonical
+/// message has before these bytes, how long the id is, how it begins, and its text where the id isn't the message.
+#[derive(Clone, Copy)]
+struct Key {
+    message: Bytes,
+    kind: KeyType,
+    canonical: &'static [u8],
+    len: usize,
+    id: &'static [u8],
+    text: Option<&'static str>,
+}
+
+/// The key of 32 zeros, and that of 32 bytes of 255.
+const OF_ZEROS: Key = Key {
+    message: (&[0x08, 0x01, 0x12, 0x20], 0, 32),
+    kind: KeyType::Ed25519,
+    canonical: &[0x08, 0x01, 0x12, 0x20],
+    len: 38,
+    id: &[0x00, 0x24, 0x08, 0x01, 0x12, 0x20],
+    text: Some(ZEROS),
+};
+
+const OF_ONES: Key = Key {
+    message: (&[0x08, 0x01, 0x12, 0x20], 0xff, 32),
+    text: Some(ONES),
+    ..OF_ZEROS
+};
+
+static KEYS: [Key; 11] = [
+    OF_ZEROS,
+    OF_ONES,
+    // Long varints, and unknown fields.
+    Key {
+        message: (&[0x08, 0x81, 0x00, 0x12, 0x20], 0xff, 32),
+        ..OF_ONES
+    },
+    Key {
+        message: (&[0x08, 0x81, 0x80, 0x00, 0x12, 0x20], 0xff, 32),
+        ..OF_ONES
+    },
+    Key {
+        message: (
+            &[
+                0x08, 0x01, 0x29, 0, 0, 0, 0, 0, 0, 0, 0, 0x2d, 0, 0, 0, 0, 0x12, 0x20,
+            ],
+            0xff,
+            32,
+        ),
+        ..OF_ONES
+    },
+    // The last type and the last data count.
+    Key {
+        message: (
+            &[
+                0x08, 0x00, 0x12, 0x01, 0x07, 0x0a, 0x00, 0x08, 0x01, 0x12, 0x20,
+            ],
+            0,
+            32,
+        ),
+        ..OF_ZEROS
+    },
+    // A key of at most 42 canonical bytes is its id. That of 43 is the digest, as coreutils' sha256sum has it.
+    Key {
+        message: (&[0x08, 0x00, 0x12, 0x26], 0, 38),
+        kind: KeyType::Rsa,
+        canonical: &[0x08, 0x00, 0x12, 0x26],
+        len: 44,
+        id: &[0x00, 0x2a, 0x08, 0x00, 0x12, 0x26],
+        text: None,
+    },
+    Key {
+        message: (&[0x08, 0x00, 0x12, 0x27], 0, 39),
+        kind: KeyType::Rsa,
+        canonical: &[0x08, 0x00, 0x12, 0x27],
+        len: 34,
+        id: &[0x12, 0x20],
+        text: Some("bafzbeibk5grzhwgyw4alg4l6bv7uulvdmn6osbjyi6olydnwtsxzdm6kxu"),
+    },
+    // The numbers of the other types.
+    Key {
+        message: (&[0x08, 0, 0x12, 0x01], 7, 1),
+        kind: KeyType::Rsa,
+        canonical: &[0x08, 0, 0x12, 0x01],
+        len: 7,
+        id: &[0x00, 0x05, 0x08, 0, 0x12, 0x01, 7],
+        text: None,
+    },
+    Key {
+        message: (&[0x08, 2, 0x12, 0x01], 7, 1),
+        kind: KeyType::Secp256k1,
+        canonical: &[0x08, 2, 0x12, 0x01],
+        len: 7,
+        id: &[0x00, 0x05, 0x08, 2, 0x12, 0x01, 7],
+        text: None,
+    },
+    Key {
+        message: (&[0x08, 3, 0x12, 0x01], 7, 1),
+        kind: KeyType::Ecdsa,
+        canonical: &[0x08, 3, 0x12, 0x01],
+        len: 7,
+        id: &[0x00, 0x05, 0x08, 3, 0x12, 0x01, 7],
+        text: None,
+    },
+];
+
+/// Whether the key has this type and these bytes.
+fn has_body(alloc: Global, key: &PublicKey, row: &Key) -> Result<bool, AllocError> {
+    let (_, fill, count) = row.message;
+    let body = filled(alloc, (&[], fill, count))?;
+    Ok(key.kind() == row.kind && key.body() == body.as_slice())
+}
+
+/// Whether the key is written as its canonical message.
+fn is_written(alloc: Global, key: &PublicKey, row: &Key) -> Result<bool, AllocError> {
+    let (_, fill, count) = row.message;
+    let canonical = filled(alloc, (row.canonical, fill, count))?;
+    Ok(key.canonical()? == canonical)
+}
+
+fn is_id(alloc: Global, id: PeerId, row: &Key) -> Result<bool, AllocError> {
+    let bytes = id.as_bytes();
+    let copy: Result<PeerId, AllocError> = id.clone();
+    let held = bytes.len() == row.len && bytes.starts_with(row.id) && copy == Ok(id);
+    match row.text {
+        Some(text) => Ok(has_text(alloc, id, text)? && held),
+        None => Ok(held),
+    }
+}
+
+fn is_key(alloc: Global, key: &PublicKey, row: &Key) -> Result<bool, AllocError> {
+    let held = has_body(alloc, key, row)? && is_written(alloc, key, row)?;
+    Ok(is_id(alloc, PeerId::of_key(key), row)? && held)
+}
+
+fn is_read(alloc: Global, row: &Key) -> Result<bool, AllocError> {
+    let message = filled(alloc, row.message)?;
+    match PublicKey::read(alloc, &message) {
+        Ok(key) => is_key(alloc, &key, row),
+        Err(_) => Ok(false),
+    }
 }
 
 #[test]
-fn ids_of_ed25519_keys(rt: HostRuntime) -> Result<(), Fail> {
-    let shortest = [0x08, 0x01, 0x12, 0x20];
-    let long_varint = [0x08, 0x81, 0x00, 0x12, 0x20];
-    let unknown_fields = [
-        0x08, 0x01, 0x29, 0, 0, 0, 0, 0, 0, 0, 0, 0x2d, 0, 0, 0, 0, 0x12, 0x20,
-    ];
-    let rows: [(&[u8], u8, &str); 4] = [
-        (&shortest, 0, ZEROS),
-        (&shortest, 0xff, ONES),
-        (&long_varint, 0xff, ONES),
-        (&unknown_fields, 0xff, ONES),
-    ];
-    for (front, fill, text) in rows {
-        let id = PeerId::of_key(&key_of(&rt, front, fill, 32)?);
-        assert_eq!(rt; id.to_text(rt.alloc())?.as_str(), text, "{front:?}");
-        assert_eq!(rt; format!(in rt.alloc(); "{id}")?.as_str(), text, "{front:?}");
-        assert_eq!(rt; PeerId::from_text(text), Ok(id), "{front:?}");
-        assert_eq!(rt; text.parse::<PeerId>(), Ok(id), "{front:?}");
-        let copy: Result<PeerId, _> = id.clone();
-        assert_eq!(rt; copy, Ok(id));
-        assert_eq!(rt; PeerId::from_bytes(id.as_bytes()), Ok(id));
-        assert!(rt;
-            id.as_bytes()
-                .starts_with(&[0x00, 0x24, 0x08, 0x01, 0x12, 0x20])
-        );
+fn keys_and_their_ids(rt: HostRuntime) -> Result<(), Fail> {
+    for (number, row) in KEYS.iter().enumerate() {
+        let held = is_read(rt.alloc(), row)?;
+        assert!(rt; held, "row {number}");
     }
     Ok(())
 }
 
-#[test]
-fn canonical_message_of_a_key_with_long_varints(rt: HostRuntime) -> Result<(), Fail> {
-    let key = key_of(&rt, &[0x08, 0x81, 0x80, 0x00, 0x12, 0x20], 0xff, 32)?;
-    let canonical = key.canonical()?;
-    assert_eq!(rt; canonical.len(), 36);
-    assert_eq!(rt; &canonical[..5], [0x08, 0x01, 0x12, 0x20, 0xff].as_slice());
-    Ok(())
-}
+static BAD_KEYS: [(Bytes, KeyFault); 8] = [
+    ((&[0x12, 0x01, 0x00], 0, 0), KeyFault::NoType),
+    ((&[0x08, 0x01], 0, 0), KeyFault::NoData),
+    ((&[0x08, 0x04], 0, 0), KeyFault::NoData),
+    ((&[0x08, 0x04, 0x12, 0x00], 0, 0), KeyFault::UnknownType),
+    ((&[0x08, 0x01, 0x12, 0x00], 0, 0), KeyFault::BadLength),
+    ((&[0x08], 0, 0), KeyFault::Wire),
+    ((&[0x0b], 0, 0), KeyFault::Wire),
+    ((&[0x08, 0x01, 0x12, 0x1f], 0, 31), KeyFault::BadLength),
+];
 
-#[test]
-fn keys_of_at_most_42_canonical_bytes_are_their_id(rt: HostRuntime) -> Result<(), Fail> {
-    let identity = PeerId::of_key(&key_of(&rt, &[0x08, 0x00, 0x12, 0x26], 0, 38)?);
-    assert_eq!(rt; &identity.as_bytes()[..2], [0x00, 0x2a].as_slice());
-    let digest = PeerId::of_key(&key_of(&rt, &[0x08, 0x00, 0x12, 0x27], 0, 39)?);
-    assert_eq!(rt; digest.as_bytes().len(), 34);
-    assert_eq!(rt; &digest.as_bytes()[..2], [0x12, 0x20].as_slice());
-    // The digest of the 43 bytes, as coreutils' sha256sum has it.
-    let text = digest.to_text(rt.alloc())?;
-    assert_eq!(rt;
-        text.as_str(),
-        "bafzbeibk5grzhwgyw4alg4l6bv7uulvdmn6osbjyi6olydnwtsxzdm6kxu"
-    );
-    assert!(rt; identity < digest);
-    assert!(rt; identity != digest);
-    Ok(())
+fn is_bad(alloc: Global, message: Bytes, fault: KeyFault) -> Result<bool, AllocError> {
+    let message = filled(alloc, message)?;
+    Ok(PublicKey::read(alloc, &message).err() == Some(fault))
 }
 
 #[test]
 fn faults_of_keys(rt: HostRuntime) -> Result<(), Fail> {
-    let mut short = Vec::new(rt.alloc());
-    short.extend_from_slice(&[0x08, 0x01, 0x12, 0x1f])?;
-    for _ in 0..31 {
-        short.push(0)?;
-    }
-    let rows: [(&[u8], KeyFault); 8] = [
-        (&[0x12, 0x01, 0x00], KeyFault::NoType),
-        (&[0x08, 0x01], KeyFault::NoData),
-        (&[0x08, 0x04], KeyFault::NoData),
-        (&[0x08, 0x04, 0x12, 0x00], KeyFault::UnknownType),
-        (&[0x08, 0x01, 0x12, 0x00], KeyFault::BadLength),
-        (&[0x08], KeyFault::Wire),
-        (&[0x0b], KeyFault::Wire),
-        (&short, KeyFault::BadLength),
-    ];
-    for (bytes, fault) in rows {
-        match PublicKey::read(rt.alloc(), bytes) {
-            Ok(_) => assert!(rt; false, "{bytes:?} were read as a key"),
-            Err(found) => assert_eq!(rt; found, fault, "{bytes:?}"),
-        }
+    for (row, (message, fault)) in BAD_KEYS.iter().enumerate() {
+        let held = is_bad(rt.alloc(), *message, *fault)?;
+        assert!(rt; held, "row {row}");
     }
     Ok(())
 }
 
-#[test]
-fn the_last_type_and_the_last_data_count(rt: HostRuntime) -> Result<(), Fail> {
-    let front = [
-        0x08, 0x00, 0x12, 0x01, 0x07, 0x0a, 0x00, 0x08, 0x01, 0x12, 0x20,
-    ];
-    let key = key_of(&rt, &front, 0, 32)?;
-    assert_eq!(rt; key.kind(), KeyType::Ed25519);
-    assert_eq!(rt; key.body().len(), 32);
-    Ok(())
+/// A type, how many bytes a key has, and whether it may.
+static LENGTHS: [(KeyType, usize, bool); 14] = [
+    (KeyType::Rsa, 0, false),
+    (KeyType::Rsa, 1, true),
+    (KeyType::Rsa, 4096, true),
+    (KeyType::Rsa, 4097, false),
+    (KeyType::Secp256k1, 0, false),
+    (KeyType::Secp256k1, 1, true),
+    (KeyType::Secp256k1, 4096, true),
+    (KeyType::Secp256k1, 4097, false),
+    (KeyType::Ecdsa, 0, false),
+    (KeyType::Ecdsa, 1, true),
+    (KeyType::Ecdsa, 4096, true),
+    (KeyType::Ecdsa, 4097, false),
+    (KeyType::Ed25519, 31, false),
+    (KeyType::Ed25519, 32, true),
+];
+
+/// Whether so many bytes are a key of this type.
+fn allows(alloc: Global, kind: KeyType, len: usize) -> Result<bool, AllocError> {
+    let body = vec![in alloc; 0; len]?;
+    Ok(PublicKey::new(kind, body).is_some())
 }
 
 #[test]
-fn types_have_numbers_and_lengths(rt: HostRuntime) -> Result<(), Fail> {
-    for (number, kind) in [
-        (0, KeyType::Rsa),
-        (2, KeyType::Secp256k1),
-        (3, KeyType::Ecdsa),
-    ] {
-        let key = key_of(&rt, &[0x08, number, 0x12, 0x01], 7, 1)?;
-        assert_eq!(rt; key.kind(), kind, "number {number}");
-        assert!(rt;
-            PublicKey::new(kind, Vec::new(rt.alloc())).is_none(),
-            "number {number}"
-        );
-        assert!(rt;
-            PublicKey::new(kind, vec![in rt.alloc(); 0; 4096]?).is_some(),
-            "number {number}"
-        );
-        assert!(rt;
-            PublicKey::new(kind, vec![in rt.alloc(); 0; 4097]?).is_none(),
-            "number {number}"
-        );
+fn lengths_of_keys(rt: HostRuntime) -> Result<(), Fail> {
+    for (row, (kind, len, good)) in LENGTHS.iter().enumerate() {
+        let held = allows(rt.alloc(), *kind, *len)? == *good;
+        assert!(rt; held, "row {row}");
     }
     Ok(())
 }
 
-#[test]
-fn keys_made_of_parts(rt: HostRuntime) -> Result<(), Fail> {
-    let body = vec![in rt.alloc(); 0; 32]?;
-    let Some(key) = PublicKey::new(KeyType::Ed25519, body) else {
-        return Err("32 bytes are a key".into());
+/// Whether this is the key of 32 bytes of this value.
+fn is_ed25519(key: &PublicKey, byte: u8) -> bool {
+    let is_key = key.kind() == KeyType::Ed25519 && key.body() == [byte; 32].as_slice();
+    is_key && PeerId::of_key(key) == PeerId::of_ed25519(&[byte; 32])
+}
+
+/// Whether the key of 32 bytes of this value is made in each way, and has the id of this text.
+fn is_of(alloc: Global, byte: u8, text: &str) -> Result<bool, AllocError> {
+    let is_key = is_ed25519(&PublicKey::ed25519(alloc, &[byte; 32])?, byte);
+    let is_made = match PublicKey::new(KeyType::Ed25519, vec![in alloc; byte; 32]?) {
+        Some(key) => is_ed25519(&key, byte),
+        None => false,
     };
-    assert_eq!(rt;
-        PeerId::of_key(&key),
-        ZEROS.parse::<PeerId>().ok().ok_or("an id")?
-    );
-    assert!(rt; PublicKey::new(KeyType::Ed25519, vec![in rt.alloc(); 0; 31]?).is_none());
-    assert!(rt; PublicKey::new(KeyType::Rsa, Vec::new(rt.alloc())).is_none());
-    assert!(rt; PublicKey::new(KeyType::Rsa, vec![in rt.alloc(); 0; 4096]?).is_some());
-    assert!(rt; PublicKey::new(KeyType::Rsa, vec![in rt.alloc(); 0; 4097]?).is_none());
-    Ok(())
+    Ok(has_text(alloc, PeerId::of_ed25519(&[byte; 32]), text)? && is_key && is_made)
 }
 
 #[test]
 fn keys_and_ids_of_32_bytes(rt: HostRuntime) -> Result<(), Fail> {
     for (byte, text) in [(0, ZEROS), (0xff, ONES)] {
-        let key = PublicKey::ed25519(rt.alloc(), &[byte; 32])?;
-        assert_eq!(rt; key.kind(), KeyType::Ed25519);
-        assert_eq!(rt; key.body(), [byte; 32].as_slice());
-        assert_eq!(rt; PeerId::of_key(&key), PeerId::of_ed25519(&[byte; 32]));
-        assert_eq!(rt;
-            PeerId::from_text(text),
-            Ok(PeerId::of_ed25519(&[byte; 32]))
-        );
+        let held = is_of(rt.alloc(), byte, text)?;
+        assert!(rt; held, "{byte}");
     }
     Ok(())
 }
 
-#[test]
-fn a_digest_is_printed_and_read(rt: HostRuntime) -> Result<(), Fail> {
-    let mut multihash = [0; 34];
-    multihash[0] = 0x12;
-    multihash[1] = 0x20;
-    let Ok(id) = PeerId::from_bytes(&multihash) else {
-        return Err("a multihash".into());
-    };
-    assert_eq!(rt; id.to_text(rt.alloc())?.as_str(), DIGEST_OF_ZEROS);
-    assert_eq!(rt; PeerId::from_text(DIGEST_OF_ZEROS), Ok(id));
-    Ok(())
+// ---- ids
+
+static TEXTS: [(&str, IdFault); 10] = [
+    ("", IdFault::NotB),
+    (
+        "afzbeiaaaaaaaaaaaaaaaaaaaaaaaaaaaaaaaaaaaaaaaaaaaaaaaaaaaa",
+        IdFault::NotB,
+    ),
+    ("bAFZBEI", IdFault::NotBase32),
+    ("bafz1eiaa", IdFault::NotBase32),
+    (
+        "baaaaaaaaaaaaaaaaaaaaaaaaaaaaaaaaaaaaaaaaaaaaaaaaaaaaaaaaaaaaaaaaaaaaaaaaaaaa",
+        IdFault::BadLength,
+    ),
+    ("ba", IdFault::BadLength),
+    ("bafzbeiaa=", IdFault::NotBase32),
+    ("baa", IdFault::BadPrefix),
+    ("bafzaa", IdFault::BadHash),
+    (
+        "bafzbeiaaaaaaaaaaaaaaaaaaaaaaaaaaaaaaaaaaaaaaaaaaaaaaaaaaab",
+        IdFault::TrailingBits,
+    ),
+];
+
+fn is_no_id(text: &str, fault: IdFault) -> bool {
+    PeerId::from_text(text) == Err(fault) && text.parse::<PeerId>() == Err(fault)
 }
 
 #[test]
 fn faults_of_texts(rt: HostRuntime) {
-    let rows = [
-        ("", IdFault::NotB),
-        (
-            "afzbeiaaaaaaaaaaaaaaaaaaaaaaaaaaaaaaaaaaaaaaaaaaaaaaaaaaaa",
-            IdFault::NotB,
-        ),
-        ("bAFZBEI", IdFault::NotBase32),
-        ("bafz1eiaa", IdFault::NotBase32),
-        (
-            "baaaaaaaaaaaaaaaaaaaaaaaaaaaaaaaaaaaaaaaaaaaaaaaaaaaaaaaaaaaaaaaaaaaaaaaaaaaa",
-            IdFault::BadLength,
-        ),
-        ("ba", IdFault::BadLength),
-        ("bafzbeiaa=", IdFault::NotBase32),
-        ("baa", IdFault::BadPrefix),
-        ("bafzaa", IdFault::BadHash),
-        (
-            "bafzbeiaaaaaaaaaaaaaaaaaaaaaaaaaaaaaaaaaaaaaaaaaaaaaaaaaaab",
-            IdFault::TrailingBits,
-        ),
-    ];
-    for (text, fault) in rows {
-        assert_eq!(rt; PeerId::from_text(text), Err(fault), "at {text}");
-        assert_eq!(rt; text.parse::<PeerId>(), Err(fault), "at {text}");
+    for (row, (text, fault)) in TEXTS.iter().enumerate() {
+        assert!(rt; is_no_id(*text, *fault), "row {row}");
+    }
+}
+
+/// Bytes, and the text of the id that they are, if they are one.
+static MULTIHASHES: [(Bytes, Option<&str>); 10] = [
+    ((&[0x12, 0x20], 0, 32), Some(DIGEST_OF_ZEROS)),
+    ((&[0x00, 0x00], 0, 0), Some("bafzaaaa")),
+    ((&[], 0, 0), None),
+    ((&[0x00], 0, 0), None),
+    ((&[0x00, 0x01], 0, 0), None),
+    ((&[0x00, 0x00, 0x00], 0, 0), None),
+    ((&[0x12, 0x20, 0x00], 0, 0), None),
+    // An identity of 43 bytes, a digest of 33, and a byte behind a digest.
+    ((&[0x00], 43, 44), None),
+    ((&[0x12], 33, 34), None),
+    ((&[0x12], 0x20, 34), None),
+];
+
+fn is_multihash(alloc: Global, bytes: Bytes, text: Option<&str>) -> Result<bool, AllocError> {
+    let id = PeerId::from_bytes(&filled(alloc, bytes)?);
+    match (id, text) {
+        (Ok(id), Some(text)) => has_text(alloc, id, text),
+        (Err(fault), None) => Ok(fault == IdFault::BadHash),
+        _ => Ok(false),
     }
 }
 
 #[test]
-fn faults_of_bytes(rt: HostRuntime) {
-    let mut identity_of_43 = [43; 45];
-    identity_of_43[0] = 0;
-    let mut digest_of_33 = [33; 35];
-    digest_of_33[0] = 0x12;
-    let mut byte_behind_the_digest = [0x20; 35];
-    byte_behind_the_digest[0] = 0x12;
-    let rows: [&[u8]; 8] = [
-        &[],
-        &[0x00],
-        &[0x00, 0x01],
-        &[0x00, 0x00, 0x00],
-        &[0x12, 0x20, 0x00],
-        &identity_of_43,
-        &digest_of_33,
-        &byte_behind_the_digest,
-    ];
-    for bytes in rows {
-        assert_eq!(rt;
-            PeerId::from_bytes(bytes),
-            Err(IdFault::BadHash),
-            "{bytes:?}"
-        );
+fn ids_are_multihashes(rt: HostRuntime) -> Result<(), Fail> {
+    for (row, (bytes, text)) in MULTIHASHES.iter().enumerate() {
+        let held = is_multihash(rt.alloc(), *bytes, *text)?;
+        assert!(rt; held, "row {row}");
     }
-    assert!(rt; PeerId::from_bytes(&[0x00, 0x00]).is_ok());
+    Ok(())
+}
+
+/// Ids from the lowest on: the bytes decide in turn. The last is the digest of a key.
+static ORDER: [Bytes; 8] = [
+    (&[0x00, 0x00], 0, 0),
+    (&[0x00, 0x01, 0x09], 0, 0),
+    (&[0x00, 0x02, 0x00, 0x09], 0, 0),
+    (&[0x00, 0x02, 0x01, 0x00], 0, 0),
+    (&[0x00, 0x03, 0x00, 0x00, 0x00], 0, 0),
+    (&[0x00, 0x2a, 0x08, 0x00, 0x12, 0x26], 0, 38),
+    (&[0x12, 0x20], 0, 32),
+    (
+        b"\x12\x20\x2a\xe9\xa3\x93\xd8\xd8\xb7\x00\xb3\x71\x7e\x0d\x7f\x4a\x2e\xa3\
+        \x63\x7c\xe9\x05\x38\x47\x9c\xbc\x0d\xb6\x9c\xaf\x91\xb3\xca\xbd",
+        0,
+        0,
+    ),
+];
+
+fn id_of(alloc: Global, bytes: Bytes) -> Result<PeerId, Fail> {
+    let bytes = filled(alloc, bytes)?;
+    Ok(PeerId::from_bytes(&bytes).ok().ok_or("a multihash")?)
+}
+
+/// Whether the id of this row is below those behind it, above those before it, and equal to itself alone.
+fn is_in_order(alloc: Global, row: usize, bytes: Bytes) -> Result<bool, Fail> {
+    let low = id_of(alloc, bytes)?;
+    let mut held = true;
+    for (place, bytes) in ORDER.iter().enumerate() {
+        let high = id_of(alloc, *bytes)?;
+        held = held && (low < high) == (row < place) && low.cmp(&high) == row.cmp(&place);
+        held = held && (low == high) == (row == place);
+    }
+    Ok(held)
 }
 
 #[test]
 fn ids_are_ordered_from_the_first_byte_on(rt: HostRuntime) -> Result<(), Fail> {
-    let mut digest = [0; 34];
-    digest[0] = 0x12;
-    digest[1] = 0x20;
-    let rows: [&[u8]; 6] = [
-        &[0x00, 0x00],
-        &[0x00, 0x01, 0x09],
-        &[0x00, 0x02, 0x00, 0x09],
-        &[0x00, 0x02, 0x01, 0x00],
-        &[0x00, 0x03, 0x00, 0x00, 0x00],
-        &digest,
-    ];
-    for (index, low) in rows.iter().enumerate() {
-        let low = PeerId::from_bytes(low).ok().ok_or("a multihash")?;
-        for (place, high) in rows.iter().enumerate() {
-            let high = PeerId::from_bytes(high).ok().ok_or("a multihash")?;
-            assert_eq!(rt; low < high, index < place, "{index} and {place}");
-            assert_eq!(rt; low.cmp(&high), index.cmp(&place), "{index} and {place}");
-        }
+    for (row, bytes) in ORDER.iter().enumerate() {
+        let held = is_in_order(rt.alloc(), row, *bytes)?;
+        assert!(rt; held, "row {row}");
     }
     Ok(())
+}
+
+/// Whether the identity of so many zeros has one text, from which it is read.
+fn is_printed(alloc: Global, length: u8) -> Result<bool, Fail> {
+    let mut multihash = [0; 44];
+    multihash[1] = length;
+    let bytes = &multihash[..usize::from(length.min(42)) + 2];
+    let id = PeerId::from_bytes(bytes).ok().ok_or("a multihash")?;
+    let text = id.to_text(alloc)?;
+    Ok(has_text(alloc, id, text.as_str())?)
 }
 
 #[test]
 fn ids_of_every_length_are_printed(rt: HostRuntime) -> Result<(), Fail> {
-    let mut multihash = [0; 44];
     for length in 0..43u8 {
-        multihash[1] = length;
-        let id = PeerId::from_bytes(&multihash[..usize::from(length) + 2])
-            .ok()
-            .ok_or("a multihash")?;
-        let text = id.to_text(rt.alloc())?;
-        assert_eq!(rt; format!(in rt.alloc(); "{id}")?, text, "{length} bytes");
-        assert_eq!(rt; text.as_str().parse::<PeerId>(), Ok(id), "{length} bytes");
+        let held = is_printed(rt.alloc(), length)?;
+        assert!(rt; held, "{length} bytes");
+    }
+    Ok(())
+}
+
+// ---- faults
+
+static KEY_FAULTS: [(KeyFault, usize, &str); 6] = [
+    (KeyFault::Wire, 1, "a key is no protobuf message"),
+    (KeyFault::NoType, 2, "a key has no type"),
+    (KeyFault::NoData, 3, "a key has no data"),
+    (KeyFault::UnknownType, 4, "a key has an unknown type"),
+    (KeyFault::BadLength, 5, "a key has data of a wrong length"),
+    (KeyFault::OutOfMemory, 6, "out of memory"),
+];
+
+static ID_FAULTS: [(IdFault, usize, &str); 6] = [
+    (IdFault::NotB, 1, "a peer id doesn't begin with b"),
+    (
+        IdFault::NotBase32,
+        2,
+        "a peer id has a letter that isn't base32",
+    ),
+    (
+        IdFault::BadLength,
+        3,
+        "a peer id has a wrong number of letters",
+    ),
+    (IdFault::TrailingBits, 4, "a peer id has unused bits set"),
+    (IdFault::BadPrefix, 5, "a peer id doesn't begin with 01 72"),
+    (IdFault::BadHash, 6, "a peer id has no multihash of one"),
+];
+
+/// Whether the fault is equal to that of this number alone.
+fn is_key_fault(fault: KeyFault, number: usize) -> bool {
+    let mut held = fault as usize == number;
+    for (other, place, _) in KEY_FAULTS.iter() {
+        held = held && (fault == *other) == (number == *place);
+    }
+    held
+}
+
+fn is_id_fault(fault: IdFault, number: usize) -> bool {
+    let mut held = fault as usize == number;
+    for (other, place, _) in ID_FAULTS.iter() {
+        held = held && (fault == *other) == (number == *place);
+    }
+    held
+}
+
+fn tells_key_fault(alloc: Global, fault: KeyFault, text: &str) -> Result<bool, AllocError> {
+    let told = format!(in alloc; "{fault}")?;
+    Ok(told.as_str() == text)
+}
+
+fn tells_id_fault(alloc: Global, fault: IdFault, text: &str) -> Result<bool, AllocError> {
+    let told = format!(in alloc; "{fault}")?;
+    Ok(told.as_str() == text)
+}
+
+#[test]
+fn faults_of_keys_are_told(rt: HostRuntime) -> Result<(), Fail> {
+    for (fault, number, text) in KEY_FAULTS.iter() {
+        let held = tells_key_fault(rt.alloc(), *fault, *text)? && is_key_fault(*fault, *number);
+        assert!(rt; held, "fault {number}");
     }
     Ok(())
 }
 
 #[test]
-fn numbers_and_texts_of_faults(rt: HostRuntime) -> Result<(), Fail> {
-    let of_keys = [
-        (KeyFault::Wire, "a key is no protobuf message"),
-        (KeyFault::NoType, "a key has no type"),
-        (KeyFault::NoData, "a key has no data"),
-        (KeyFault::UnknownType, "a key has an unknown type"),
-        (KeyFault::BadLength, "a key has data of a wrong length"),
-        (KeyFault::OutOfMemory, "out of memory"),
-    ];
-    for (index, (fault, text)) in of_keys.iter().enumerate() {
-        assert_eq!(rt; *fault as usize, index + 1);
-        assert_eq!(rt; format!(in rt.alloc(); "{fault}")?.as_str(), *text);
-        for (place, (other, _)) in of_keys.iter().enumerate() {
-            assert_eq!(rt; fault == other, index == place);
-        }
-    }
-    let of_ids = [
-        (IdFault::NotB, "a peer id doesn't begin with b"),
-        (
-            IdFault::NotBase32,
-            "a peer id has a letter that isn't base32",
-        ),
-        (
-            IdFault::BadLength,
-            "a peer id has a wrong number of letters",
-        ),
-        (IdFault::TrailingBits, "a peer id has unused bits set"),
-        (IdFault::BadPrefix, "a peer id doesn't begin with 01 72"),
-        (IdFault::BadHash, "a peer id has no multihash of one"),
-    ];
-    for (index, (fault, text)) in of_ids.iter().enumerate() {
-        assert_eq!(rt; *fault as usize, index + 1);
-        assert_eq!(rt; format!(in rt.alloc(); "{fault}")?.as_str(), *text);
-        for (place, (other, _)) in of_ids.iter().enumerate() {
-            assert_eq!(rt; fault == other, index == place);
-        }
+fn faults_of_ids_are_told(rt: HostRuntime) -> Result<(), Fail> {
+    for (fault, number, text) in ID_FAULTS.iter() {
+        let held = tells_id_fault(rt.alloc(), *fault, *text)? && is_id_fault(*fault, *number);
+        assert!(rt; held, "fault {number}");
     }
     Ok(())
 }

@@ -1,5 +1,6 @@
 use super::*;
 use peer_ids::{KeyType, PublicKey};
+use std::alloc::{AllocError, Global};
 use std::test::*;
 
 /// The message of the Ed25519 key of 32 zeros.
@@ -12,30 +13,38 @@ const ID: &[u8] =
 
 /// The exchange of that key.
 const MESSAGE: &[u8] =
-    b"\x4e\x0a\x26\0\x24\x08\x01\x12\x20\0\0\0\0\0\0\0\0\0\0\0\0\0\0\0\0\0\0\0\0\0\0\0\0\0\0\0\0\0\0\0\0\x12\x24\x08\x01\x12\x20\0\0\0\0\0\0\0\0\0\0\0\0\0\0\0\0\0\0\0\0\0\0\0\0\0\0\0\0\0\0\0\0";
+    b"\x4e\x0a\x26\0\x24\x08\x01\x12\x20\0\0\0\0\0\0\0\0\0\0\0\0\0\0\0\0\0\0\0\0\0\0\0\0\0\0\0\0\0\0\0\0\
+    \x12\x24\x08\x01\x12\x20\0\0\0\0\0\0\0\0\0\0\0\0\0\0\0\0\0\0\0\0\0\0\0\0\0\0\0\0\0\0\0\0";
 
 const MESSAGE_AND_MORE: &[u8] =
-    b"\x4e\x0a\x26\0\x24\x08\x01\x12\x20\0\0\0\0\0\0\0\0\0\0\0\0\0\0\0\0\0\0\0\0\0\0\0\0\0\0\0\0\0\0\0\0\x12\x24\x08\x01\x12\x20\0\0\0\0\0\0\0\0\0\0\0\0\0\0\0\0\0\0\0\0\0\0\0\0\0\0\0\0\0\0\0\0\x07";
+    b"\x4e\x0a\x26\0\x24\x08\x01\x12\x20\0\0\0\0\0\0\0\0\0\0\0\0\0\0\0\0\0\0\0\0\0\0\0\0\0\0\0\0\0\0\0\0\
+    \x12\x24\x08\x01\x12\x20\0\0\0\0\0\0\0\0\0\0\0\0\0\0\0\0\0\0\0\0\0\0\0\0\0\0\0\0\0\0\0\0\x07";
 
 /// The same with its key in two fields, the second of which holds the last byte.
 const KEY_IN_PARTS: &[u8] =
-    b"\x50\x0a\x26\0\x24\x08\x01\x12\x20\0\0\0\0\0\0\0\0\0\0\0\0\0\0\0\0\0\0\0\0\0\0\0\0\0\0\0\0\0\0\0\0\x12\x23\x08\x01\x12\x20\0\0\0\0\0\0\0\0\0\0\0\0\0\0\0\0\0\0\0\0\0\0\0\0\0\0\0\0\0\0\0\x12\x01\0";
+    b"\x50\x0a\x26\0\x24\x08\x01\x12\x20\0\0\0\0\0\0\0\0\0\0\0\0\0\0\0\0\0\0\0\0\0\0\0\0\0\0\0\0\0\0\0\0\
+    \x12\x23\x08\x01\x12\x20\0\0\0\0\0\0\0\0\0\0\0\0\0\0\0\0\0\0\0\0\0\0\0\0\0\0\0\0\0\0\0\x12\x01\0";
 
 /// The id of another key, with that key.
 const OTHER_ID: &[u8] =
-    b"\x4e\x0a\x26\0\x24\x08\x01\x12\x20\xff\xff\xff\xff\xff\xff\xff\xff\xff\xff\xff\xff\xff\xff\xff\xff\xff\xff\xff\xff\xff\xff\xff\xff\xff\xff\xff\xff\xff\xff\xff\xff\x12\x24\x08\x01\x12\x20\0\0\0\0\0\0\0\0\0\0\0\0\0\0\0\0\0\0\0\0\0\0\0\0\0\0\0\0\0\0\0\0";
+    b"\x4e\x0a\x26\0\x24\x08\x01\x12\x20\xff\xff\xff\xff\xff\xff\xff\xff\xff\xff\xff\xff\xff\xff\xff\xff\
+    \xff\xff\xff\xff\xff\xff\xff\xff\xff\xff\xff\xff\xff\xff\xff\xff\x12\x24\x08\x01\x12\x20\0\0\0\0\0\0\
+    \0\0\0\0\0\0\0\0\0\0\0\0\0\0\0\0\0\0\0\0\0\0\0\0\0\0";
 
-fn fresh(rt: &HostRuntime) -> Result<Exchange, Fail> {
-    let key = PublicKey::read(rt.alloc(), KEY).ok().ok_or("a key")?;
-    Ok(Exchange::new(rt.alloc(), &key).ok().ok_or("memory")?)
+fn own_key(alloc: Global) -> Option<PublicKey> {
+    PublicKey::read(alloc, KEY).ok()
 }
 
-/// Feeds the input in pieces of this size: whether the other end is proven, and how many bytes were used.
-fn came(
-    exchange: &mut Exchange,
-    input: &[u8],
-    size: usize,
-) -> Result<(usize, bool), ExchangeFault> {
+fn fresh(alloc: Global) -> Option<Exchange> {
+    let key = own_key(alloc)?;
+    Exchange::new(alloc, &key).ok()
+}
+
+/// How many bytes were used, and whether the other end is proven, or the fault.
+type Came = Result<(usize, bool), ExchangeFault>;
+
+/// Feeds the input in pieces of this size.
+fn came(exchange: &mut Exchange, input: &[u8], size: usize) -> Came {
     let mut used = 0usize;
     let mut proven = false;
     for piece in input.chunks(size.max(1)) {
@@ -46,144 +55,143 @@ fn came(
     Ok((used, proven))
 }
 
+// ---- inputs, however they are cut
+
+static ROWS: [(&[u8], Came); 12] = [
+    (MESSAGE, Ok((79, true))),
+    // What follows isn't used.
+    (MESSAGE_AND_MORE, Ok((79, true))),
+    (KEY_IN_PARTS, Ok((81, true))),
+    // A message of 8192 bytes may come, and none of 8193.
+    (b"\x80\x40", Ok((2, false))),
+    (b"\x81\x40", Err(ExchangeFault::TooLong)),
+    (b"\x80\x00", Err(ExchangeFault::Wire)),
+    (b"\x01\x00", Err(ExchangeFault::Wire)),
+    (b"\x02\x12\x00", Err(ExchangeFault::NoId)),
+    (b"\x00", Err(ExchangeFault::NoId)),
+    (b"\x02\x0a\x00", Err(ExchangeFault::NoKey)),
+    (
+        b"\x08\x0a\x00\x12\x04\x08\x07\x12\x00",
+        Err(ExchangeFault::BadKey),
+    ),
+    (OTHER_ID, Err(ExchangeFault::Differs)),
+];
+
+/// Whether the exchange hands out what the key proves.
+fn proves(exchange: Exchange) -> bool {
+    match exchange.into_proven() {
+        Ok(proven) => { proven.peer().as_bytes() == ID && proven.key().kind() == KeyType::Ed25519 }
+        Err(_) => false,
+    }
+}
+
+/// Whether the exchange stays where it came to, and hands out what that is.
+fn stays(exchange: Exchange, outcome: Came) -> bool {
+    let mut exchange = exchange;
+    match outcome {
+        Ok((_, true)) => {
+            let is_over = exchange.feed(b"more") == Ok((0, true));
+            proves(exchange) && is_over
+        }
+        Ok((_, false)) => exchange.into_proven().is_err(),
+        Err(_) => {
+            let has_failed = exchange.feed(MESSAGE) == Err(ExchangeFault::Failed);
+            exchange.into_proven().is_err() && has_failed
+        }
+    }
+}
+
+fn comes_to(alloc: Global, input: &[u8], size: usize, outcome: Came) -> Option<bool> {
+    let mut exchange = fresh(alloc)?;
+    let is_written = exchange.take_output().as_slice() == MESSAGE;
+    let came = came(&mut exchange, input, size);
+    Some(stays(exchange, outcome) && is_written && came == outcome)
+}
+
 #[test]
-fn writes_its_message_and_reads_it_however_it_is_cut(rt: HostRuntime) -> Result<(), Fail> {
-    for (row, (input, used)) in [
-        (MESSAGE, 79),
-        // What follows isn't used.
-        (MESSAGE_AND_MORE, 79),
-        (KEY_IN_PARTS, 81),
-    ]
-    .iter()
-    .enumerate()
-    {
+fn inputs_however_they_are_cut(rt: HostRuntime) {
+    for (row, (input, outcome)) in ROWS.iter().enumerate() {
         for size in [1, 7, 1024] {
-            let mut exchange = fresh(&rt)?;
-            assert_eq!(rt; exchange.take_output().as_slice(), MESSAGE, "row {row}");
-            assert_eq!(rt;
-                came(&mut exchange, *input, size),
-                Ok((*used, true)),
-                "row {row} in pieces of {size}"
-            );
-            assert_eq!(rt;
-                exchange.feed(b"more"),
-                Ok((0, true)),
-                "row {row} in pieces of {size}"
-            );
-            let proven = exchange.into_proven().ok().ok_or("a proof")?;
-            assert_eq!(rt;
-                proven.peer().as_bytes(),
-                ID,
-                "row {row} in pieces of {size}"
-            );
-            assert_eq!(rt;
-                proven.key().kind(),
-                KeyType::Ed25519,
-                "row {row} in pieces of {size}"
-            );
+            let held = comes_to(rt.alloc(), *input, size, *outcome) == Some(true);
+            assert!(rt; held, "row {row} in pieces of {size}");
         }
     }
-    Ok(())
+}
+
+/// Whether the last of two ids counts.
+fn is_last_id(alloc: Global) -> Option<bool> {
+    let mut input = Vec::new(alloc);
+    input.extend_from_slice(b"\x50\x0a\x00").ok()?;
+    input.extend_from_slice(MESSAGE.get(1..)?).ok()?;
+    comes_to(alloc, &input, 7, Ok((81, true)))
 }
 
 #[test]
-fn faults_however_the_input_is_cut(rt: HostRuntime) -> Result<(), Fail> {
-    for (row, (input, fault)) in [
-        // 8193
-        (b"\x81\x40".as_slice(), ExchangeFault::TooLong),
-        (b"\x80\x00".as_slice(), ExchangeFault::Wire),
-        (b"\x01\x00".as_slice(), ExchangeFault::Wire),
-        (b"\x02\x12\x00".as_slice(), ExchangeFault::NoId),
-        (b"\x00".as_slice(), ExchangeFault::NoId),
-        (b"\x02\x0a\x00".as_slice(), ExchangeFault::NoKey),
-        (
-            b"\x08\x0a\x00\x12\x04\x08\x07\x12\x00".as_slice(),
-            ExchangeFault::BadKey,
-        ),
-        (OTHER_ID, ExchangeFault::Differs),
-    ]
-    .iter()
-    .enumerate()
-    {
-        for size in [1, 7, 1024] {
-            let mut exchange = fresh(&rt)?;
-            assert_eq!(rt;
-                came(&mut exchange, *input, size),
-                Err(*fault),
-                "row {row} in pieces of {size}"
-            );
-            assert_eq!(rt;
-                exchange.feed(*input),
-                Err(ExchangeFault::Failed),
-                "row {row} in pieces of {size}"
-            );
-            assert!(rt;
-                exchange.into_proven().is_err(),
-                "row {row} in pieces of {size}"
-            );
-        }
+fn the_last_id_counts(rt: HostRuntime) {
+    assert!(rt; is_last_id(rt.alloc()) == Some(true));
+}
+
+/// Whether an exchange that was fed all but the last byte is handed back, and proves by that byte.
+fn is_handed_back(alloc: Global) -> Option<bool> {
+    let mut exchange = fresh(alloc)?;
+    let (front, last) = MESSAGE.split_at_checked(78)?;
+    let came = came(&mut exchange, front, 7);
+    let mut exchange = exchange.into_proven().err()?;
+    let is_written = exchange.take_output().as_slice() == MESSAGE;
+    let is_over = exchange.feed(last) == Ok((1, true));
+    Some(proves(exchange) && is_written && is_over && came == Ok((78, false)))
+}
+
+#[test]
+fn hands_itself_back_before_the_proof(rt: HostRuntime) {
+    assert!(rt; is_handed_back(rt.alloc()) == Some(true));
+}
+
+fn is_whole(alloc: Global) -> Option<bool> {
+    let key = own_key(alloc)?;
+    let (front, rest) = MESSAGE.split_at_checked(40)?;
+    let done = exchange_keys(alloc, &key, &[front, rest, b"more"]).ok()?;
+    let is_written = done.output.as_slice() == MESSAGE;
+    let proven = done.proven?;
+    Some(proven.peer().as_bytes() == ID && is_written)
+}
+
+#[test]
+fn a_whole_exchange(rt: HostRuntime) {
+    assert!(rt; is_whole(rt.alloc()) == Some(true));
+}
+
+// ---- faults
+
+static FAULTS: [(ExchangeFault, usize, &str); 8] = [
+    (ExchangeFault::Failed, 1, "the exchange failed before"),
+    (ExchangeFault::TooLong, 2, "the message is too long"),
+    (ExchangeFault::Wire, 3, "the message is badly spelt"),
+    (ExchangeFault::NoId, 4, "the message has no id"),
+    (ExchangeFault::NoKey, 5, "the message has no key"),
+    (ExchangeFault::BadKey, 6, "the key is not read"),
+    (ExchangeFault::Differs, 7, "the id is not that of the key"),
+    (ExchangeFault::OutOfMemory, 8, "out of memory"),
+];
+
+/// Whether the fault is equal to that of this number alone.
+fn is_alone(fault: ExchangeFault, number: usize) -> bool {
+    let mut held = fault as usize == number;
+    for (other, place, _) in FAULTS.iter() {
+        held = held && (fault == *other) == (number == *place);
     }
-    Ok(())
+    held
+}
+
+fn has_text(alloc: Global, fault: ExchangeFault, text: &str) -> Result<bool, AllocError> {
+    let told = format!(in alloc; "{fault}")?;
+    Ok(told.as_str() == text)
 }
 
 #[test]
-fn a_message_of_8192_bytes_may_come(rt: HostRuntime) -> Result<(), Fail> {
-    let mut exchange = fresh(&rt)?;
-    assert_eq!(rt; came(&mut exchange, b"\x80\x40", 1), Ok((2, false)));
-    Ok(())
-}
-
-#[test]
-fn the_last_id_counts(rt: HostRuntime) -> Result<(), Fail> {
-    let mut input = Vec::new(rt.alloc());
-    input.extend_from_slice(b"\x50\x0a\x00")?;
-    input.extend_from_slice(&MESSAGE[1..])?;
-    let mut exchange = fresh(&rt)?;
-    assert_eq!(rt; came(&mut exchange, &input, 7), Ok((81, true)));
-    Ok(())
-}
-
-#[test]
-fn hands_itself_back_before_the_proof(rt: HostRuntime) -> Result<(), Fail> {
-    let mut exchange = fresh(&rt)?;
-    assert_eq!(rt; came(&mut exchange, &MESSAGE[..78], 7), Ok((78, false)));
-    let mut exchange = exchange.into_proven().err().ok_or("no proof yet")?;
-    assert_eq!(rt; exchange.take_output().as_slice(), MESSAGE);
-    assert_eq!(rt; exchange.feed(&MESSAGE[78..]), Ok((1, true)));
-    assert!(rt; exchange.into_proven().is_ok());
-    Ok(())
-}
-
-#[test]
-fn a_whole_exchange(rt: HostRuntime) -> Result<(), Fail> {
-    let key = PublicKey::read(rt.alloc(), KEY).ok().ok_or("a key")?;
-    let done = exchange_keys(rt.alloc(), &key, &[&MESSAGE[..40], &MESSAGE[40..], b"more"])
-        .ok()
-        .ok_or("an exchange")?;
-    assert_eq!(rt; done.output.as_slice(), MESSAGE);
-    let proven = done.proven.ok_or("a proof")?;
-    assert_eq!(rt; proven.peer().as_bytes(), ID);
-    Ok(())
-}
-
-#[test]
-fn numbers_and_texts_of_faults(rt: HostRuntime) -> Result<(), Fail> {
-    let faults = [
-        (ExchangeFault::Failed, "the exchange failed before"),
-        (ExchangeFault::TooLong, "the message is too long"),
-        (ExchangeFault::Wire, "the message is badly spelt"),
-        (ExchangeFault::NoId, "the message has no id"),
-        (ExchangeFault::NoKey, "the message has no key"),
-        (ExchangeFault::BadKey, "the key is not read"),
-        (ExchangeFault::Differs, "the id is not that of the key"),
-        (ExchangeFault::OutOfMemory, "out of memory"),
-    ];
-    for (index, (fault, text)) in faults.iter().enumerate() {
-        assert_eq!(rt; *fault as usize, index + 1, "{text}");
-        assert_eq!(rt; format!(in rt.alloc(); "{fault}")?.as_str(), *text);
-        for (place, (other, _)) in faults.iter().enumerate() {
-            assert_eq!(rt; fault == other, index == place, "{text}, place {place}");
-        }
+fn numbers_and_texts_of_faults(rt: HostRuntime) {
+    for (fault, number, text) in FAULTS.iter() {
+        let is_told = has_text(rt.alloc(), *fault, *text) == Ok(true);
+        assert!(rt; is_told && is_alone(*fault, *number), "fault {number}");
     }
-    Ok(())
 }

@@ -1,6 +1,5 @@
 use super::*;
 use peer_ids::PeerId;
-use std::process::Abort;
 use std::test::*;
 
 /// The id of the Ed25519 key of 32 bytes that are all `byte`.
@@ -8,470 +7,576 @@ fn peer(byte: u8) -> PeerId {
     PeerId::of_ed25519(&[byte; 32])
 }
 
-/// The agent of a name.
-fn agent(name: &str) -> Result<Agent, Fail> {
-    let agent = Agent::from_bytes(name.as_bytes()).ok_or("a name")?;
-    Ok(agent)
+// ---- scripts
+
+/// A call that names a peer by the byte of its key, and an agent by its text.
+#[derive(Clone, Copy)]
+enum Asked {
+    Dial(Option<u8>),
+    Accept,
+    Settle(u32, u8),
+    Ask(u32, u8),
+    Done(u32, u8),
+    HangUp(u8),
+    Block(u8),
+    Unblock(u8),
+    Gone(u32),
+    Allow(u8),
+    Disallow(u8),
+    Note(u32, &'static str),
 }
 
-/// The widest limits, from the first number and front, for the node whose id is that of zeros.
-fn config() -> Result<Config, Fail> {
-    let limits = Limits::new(256, 8, 64, 64, 256, 256, 64).ok_or("in range")?;
-    Ok(Config {
+fn peer_if(byte: Option<u8>) -> Option<PeerId> {
+    match byte {
+        Some(byte) => Some(peer(byte)),
+        None => None,
+    }
+}
+
+fn call(asked: Asked) -> Option<Call> {
+    let call = match asked {
+        Asked::Dial(byte) => Call::Dial(peer_if(byte)),
+        Asked::Accept => Call::Accept,
+        Asked::Settle(conn, byte) => Call::Settle(conn, peer(byte)),
+        Asked::Ask(conn, index) => Call::Ask(conn, index),
+        Asked::Done(conn, index) => Call::Done(conn, index),
+        Asked::HangUp(byte) => Call::HangUp(peer(byte)),
+        Asked::Block(byte) => Call::Block(peer(byte)),
+        Asked::Unblock(byte) => Call::Unblock(peer(byte)),
+        Asked::Gone(conn) => Call::Gone(conn),
+        Asked::Allow(byte) => Call::Allow(peer(byte)),
+        Asked::Disallow(byte) => Call::Disallow(peer(byte)),
+        Asked::Note(conn, name) => Call::Note(conn, Agent::from_bytes(name.as_bytes())?),
+    };
+    Some(call)
+}
+
+/// A connection on which nothing is asked for: its number, the side, the phase, the peer and the agent.
+struct Stood(u32, ConnSide, Phase, Option<u8>, Option<&'static str>);
+
+fn agent_if(name: Option<&str>) -> Option<Agent> {
+    match name {
+        Some(name) => Agent::from_bytes(name.as_bytes()),
+        None => None,
+    }
+}
+
+fn row(stood: &Stood) -> Row {
+    let Stood(conn, role, phase, byte, name) = stood;
+    Row {
+        conn: *conn,
+        role: *role,
+        phase: *phase,
+        peer: peer_if(*byte),
+        asked: [0; 3],
+        done: [0; 3],
+        agent: agent_if(*name),
+    }
+}
+
+enum Step {
+    /// The call is answered so.
+    Call(Asked, Reply),
+    /// The call is made so often, and is answered by the connections from 1 on.
+    Admits(Asked, u32),
+    /// These calls are made in turn, so many times, and are answered so.
+    Turns(u32, &'static [(Asked, Reply)]),
+    /// The peers of these bytes, up to the last, are blocked and allowed in turn.
+    Lists(u8, u8),
+    /// There are this front, these rows, and these peers, who are blocked and who are allowed.
+    Shows(u64, &'static [Stood], &'static [u8], &'static [u8]),
+    /// There are so many rows, and so many peers, who are blocked and who are allowed, the same ones.
+    Counts(usize, usize),
+}
+
+/// What happens to a pool of the node whose id is that of zeros.
+#[derive(Clone, Copy)]
+struct Script {
+    limits: [usize; 7],
+    first_conn: u32,
+    first_front: u64,
+    allow_only: bool,
+    steps: &'static [Step],
+}
+
+/// The widest limits, from the first number and front.
+const WIDEST: Script = Script {
+    limits: [256, 8, 64, 64, 256, 256, 64],
+    first_conn: 1,
+    first_front: 0,
+    allow_only: false,
+    steps: &[],
+};
+
+static SCRIPTS: [Script; 16] = [
+    // Each refusal, in the order of their numbers.
+    Script {
+        limits: [2, 1, 1, 1, 256, 256, 64],
+        steps: &[
+            Step::Call(Asked::Dial(Some(0x11)), Reply::Conn(1)),
+            Step::Call(Asked::Dial(Some(0x11)), Reply::Refused(Refusal::PeerFull)),
+            Step::Call(Asked::Accept, Reply::Conn(2)),
+            Step::Call(Asked::Accept, Reply::Refused(Refusal::Full)),
+            Step::Call(Asked::Settle(2, 0x11), Reply::Refused(Refusal::PeerFull)),
+            Step::Call(Asked::Settle(1, 0x22), Reply::Refused(Refusal::Mismatch)),
+            Step::Call(Asked::Settle(1, 0x11), Reply::Done),
+            Step::Call(Asked::Settle(1, 0x11), Reply::Refused(Refusal::NotPending)),
+            Step::Call(Asked::Ask(1, 2), Reply::Done),
+            Step::Call(Asked::Ask(1, 2), Reply::Refused(Refusal::StreamsFull)),
+            Step::Call(Asked::Done(1, 0), Reply::Refused(Refusal::NothingAsked)),
+            Step::Call(Asked::Done(1, 2), Reply::Done),
+            Step::Call(Asked::Ask(2, 0), Reply::Refused(Refusal::NotLive)),
+            Step::Call(Asked::Block(0x22), Reply::Count(0)),
+            Step::Call(Asked::Block(0x33), Reply::Refused(Refusal::BlockFull)),
+            Step::Call(Asked::Block(0x22), Reply::Count(0)),
+            Step::Call(Asked::Settle(2, 0x22), Reply::Refused(Refusal::Blocked)),
+            Step::Call(Asked::HangUp(0x11), Reply::Count(1)),
+            Step::Call(Asked::Ask(1, 2), Reply::Refused(Refusal::Closing)),
+            Step::Call(Asked::Unblock(0x22), Reply::Count(1)),
+            Step::Call(Asked::Gone(1), Reply::Done),
+            Step::Call(Asked::Gone(1), Reply::Refused(Refusal::NoConn)),
+            Step::Call(Asked::Dial(Some(0)), Reply::Refused(Refusal::SelfPeer)),
+            Step::Shows(
+                23,
+                &[Stood(2, ConnSide::Listener, Phase::Pending, None, None)],
+                &[],
+                &[],
+            ),
+        ],
+        ..WIDEST
+    },
+    // A block closes pending rows.
+    Script {
+        steps: &[
+            Step::Call(Asked::Dial(Some(0x11)), Reply::Conn(1)),
+            Step::Call(Asked::Accept, Reply::Conn(2)),
+            Step::Call(Asked::Block(0x11), Reply::Count(1)),
+            Step::Call(Asked::Settle(1, 0x11), Reply::Refused(Refusal::Closing)),
+            Step::Call(Asked::Settle(2, 0x11), Reply::Refused(Refusal::Blocked)),
+            Step::Shows(
+                5,
+                &[
+                    Stood(1, ConnSide::Dialer, Phase::Closing, Some(0x11), None),
+                    Stood(2, ConnSide::Listener, Phase::Pending, None, None),
+                ],
+                &[0x11],
+                &[],
+            ),
+            Step::Call(Asked::HangUp(0x22), Reply::Count(0)),
+            Step::Call(Asked::HangUp(0), Reply::Refused(Refusal::SelfPeer)),
+            Step::Call(Asked::Settle(2, 0x22), Reply::Done),
+            Step::Call(Asked::Ask(2, 3), Reply::Refused(Refusal::BadProtocol)),
+        ],
+        ..WIDEST
+    },
+    // The last front, and the last number.
+    Script {
+        first_front: u64::MAX - 1,
+        steps: &[
+            Step::Call(Asked::Dial(None), Reply::Conn(1)),
+            Step::Call(Asked::Block(0x11), Reply::Refused(Refusal::Spent)),
+            Step::Shows(
+                u64::MAX,
+                &[Stood(1, ConnSide::Dialer, Phase::Pending, None, None)],
+                &[],
+                &[],
+            ),
+        ],
+        ..WIDEST
+    },
+    Script {
+        first_conn: u32::MAX,
+        steps: &[
+            Step::Call(Asked::Accept, Reply::Conn(u32::MAX)),
+            Step::Call(Asked::Accept, Reply::Refused(Refusal::IdsExhausted)),
+        ],
+        ..WIDEST
+    },
+    // Allowed peers alone.
+    Script {
+        limits: [64, 8, 64, 64, 1, 256, 1],
+        allow_only: true,
+        steps: &[
+            Step::Call(Asked::Accept, Reply::Conn(1)),
+            Step::Call(Asked::Accept, Reply::Refused(Refusal::SideFull)),
+            Step::Call(Asked::Dial(Some(0x11)), Reply::Refused(Refusal::NotAllowed)),
+            Step::Call(Asked::Allow(0x11), Reply::Count(1)),
+            Step::Call(Asked::Allow(0x11), Reply::Count(0)),
+            Step::Call(Asked::Allow(0x22), Reply::Refused(Refusal::AllowFull)),
+            Step::Call(Asked::Dial(Some(0x11)), Reply::Conn(2)),
+            Step::Call(Asked::Settle(1, 0x22), Reply::Refused(Refusal::NotAllowed)),
+            Step::Call(Asked::Settle(1, 0x11), Reply::Done),
+            Step::Call(Asked::Disallow(0x11), Reply::Count(2)),
+            Step::Call(Asked::Settle(2, 0x11), Reply::Refused(Refusal::Closing)),
+            Step::Shows(
+                11,
+                &[
+                    Stood(1, ConnSide::Listener, Phase::Closing, Some(0x11), None),
+                    Stood(2, ConnSide::Dialer, Phase::Closing, Some(0x11), None),
+                ],
+                &[],
+                &[],
+            ),
+        ],
+        ..WIDEST
+    },
+    // A full table, and sides that are full.
+    Script {
+        steps: &[
+            Step::Admits(Asked::Accept, 256),
+            Step::Call(Asked::Accept, Reply::Refused(Refusal::Full)),
+            Step::Counts(256, 0),
+        ],
+        ..WIDEST
+    },
+    Script {
+        limits: [256, 8, 64, 64, 255, 256, 64],
+        steps: &[
+            Step::Admits(Asked::Accept, 255),
+            Step::Call(Asked::Accept, Reply::Refused(Refusal::SideFull)),
+            Step::Call(Asked::Dial(None), Reply::Conn(256)),
+            Step::Call(Asked::Accept, Reply::Refused(Refusal::Full)),
+        ],
+        ..WIDEST
+    },
+    Script {
+        limits: [256, 8, 64, 64, 256, 255, 64],
+        steps: &[
+            Step::Admits(Asked::Dial(None), 255),
+            Step::Call(Asked::Dial(None), Reply::Refused(Refusal::SideFull)),
+            Step::Call(Asked::Accept, Reply::Conn(256)),
+            Step::Call(Asked::Dial(None), Reply::Refused(Refusal::Full)),
+        ],
+        ..WIDEST
+    },
+    Script {
+        steps: &[
+            Step::Admits(Asked::Dial(None), 256),
+            Step::Call(Asked::Dial(None), Reply::Refused(Refusal::Full)),
+        ],
+        ..WIDEST
+    },
+    // A peer has eight connections.
+    Script {
+        steps: &[
+            Step::Admits(Asked::Dial(Some(0x11)), 8),
+            Step::Call(Asked::Dial(Some(0x11)), Reply::Refused(Refusal::PeerFull)),
+            Step::Call(Asked::Accept, Reply::Conn(9)),
+            Step::Call(Asked::Settle(9, 0x11), Reply::Refused(Refusal::PeerFull)),
+            Step::Call(Asked::Settle(8, 0x11), Reply::Done),
+            Step::Call(Asked::HangUp(0x11), Reply::Count(8)),
+        ],
+        ..WIDEST
+    },
+    // A connection has 64 streams.
+    Script {
+        steps: &[
+            Step::Call(Asked::Accept, Reply::Conn(1)),
+            Step::Call(Asked::Settle(1, 0x11), Reply::Done),
+            Step::Turns(
+                21,
+                &[
+                    (Asked::Ask(1, 0), Reply::Done),
+                    (Asked::Ask(1, 1), Reply::Done),
+                    (Asked::Ask(1, 2), Reply::Done),
+                ],
+            ),
+            Step::Call(Asked::Ask(1, 0), Reply::Done),
+            Step::Call(Asked::Ask(1, 1), Reply::Refused(Refusal::StreamsFull)),
+            Step::Call(Asked::Done(1, 2), Reply::Done),
+            Step::Call(Asked::Ask(1, 1), Reply::Done),
+            Step::Call(Asked::Ask(1, 2), Reply::Refused(Refusal::StreamsFull)),
+        ],
+        ..WIDEST
+    },
+    // Each list has 64 peers.
+    Script {
+        steps: &[
+            Step::Lists(0x40, 0x7f),
+            Step::Call(Asked::Block(0x11), Reply::Refused(Refusal::BlockFull)),
+            Step::Call(Asked::Allow(0x11), Reply::Refused(Refusal::AllowFull)),
+            Step::Call(Asked::Block(0x7f), Reply::Count(0)),
+            Step::Call(Asked::Allow(0x7f), Reply::Count(0)),
+            Step::Call(Asked::Unblock(0x7f), Reply::Count(1)),
+            Step::Call(Asked::Disallow(0x7f), Reply::Count(0)),
+            Step::Call(Asked::Block(0x11), Reply::Count(0)),
+            Step::Call(Asked::Allow(0x11), Reply::Count(1)),
+            Step::Counts(0, 64),
+        ],
+        ..WIDEST
+    },
+    // An agent is noted while the connection is live.
+    Script {
+        steps: &[
+            Step::Call(Asked::Dial(None), Reply::Conn(1)),
+            Step::Call(Asked::Note(1, "x"), Reply::Refused(Refusal::NotLive)),
+            Step::Call(Asked::Settle(1, 0x11), Reply::Done),
+            Step::Call(Asked::Note(1, "a b"), Reply::Done),
+            Step::Shows(
+                4,
+                &[Stood(1, ConnSide::Dialer, Phase::Live, Some(0x11), Some("a b"))],
+                &[],
+                &[],
+            ),
+            Step::Call(Asked::Note(2, "x"), Reply::Refused(Refusal::NoConn)),
+            Step::Call(Asked::HangUp(0x11), Reply::Count(1)),
+            Step::Call(Asked::Note(1, "y"), Reply::Refused(Refusal::Closing)),
+        ],
+        ..WIDEST
+    },
+    // No call leads to this node itself.
+    Script {
+        steps: &[
+            Step::Call(Asked::Accept, Reply::Conn(1)),
+            Step::Call(Asked::Dial(Some(0)), Reply::Refused(Refusal::SelfPeer)),
+            Step::Call(Asked::Settle(1, 0), Reply::Refused(Refusal::SelfPeer)),
+            Step::Call(Asked::HangUp(0), Reply::Refused(Refusal::SelfPeer)),
+            Step::Call(Asked::Block(0), Reply::Refused(Refusal::SelfPeer)),
+            Step::Call(Asked::Unblock(0), Reply::Refused(Refusal::SelfPeer)),
+            Step::Call(Asked::Allow(0), Reply::Refused(Refusal::SelfPeer)),
+            Step::Call(Asked::Disallow(0), Reply::Refused(Refusal::SelfPeer)),
+            Step::Shows(
+                8,
+                &[Stood(1, ConnSide::Listener, Phase::Pending, None, None)],
+                &[],
+                &[],
+            ),
+        ],
+        ..WIDEST
+    },
+    // A connection that has ended, and is gone.
+    Script {
+        steps: &[
+            Step::Call(Asked::Dial(Some(0x11)), Reply::Conn(1)),
+            Step::Call(Asked::Accept, Reply::Conn(2)),
+            Step::Call(Asked::Block(0x11), Reply::Count(1)),
+            Step::Call(Asked::Gone(2), Reply::Done),
+            Step::Call(Asked::Gone(2), Reply::Refused(Refusal::NoConn)),
+        ],
+        ..WIDEST
+    },
+    // The front comes to its end.
+    Script {
+        first_front: u64::MAX - 4,
+        steps: &[
+            Step::Call(Asked::Accept, Reply::Conn(1)),
+            Step::Call(Asked::Settle(1, 0x11), Reply::Done),
+            Step::Call(Asked::Settle(1, 0x11), Reply::Refused(Refusal::NotPending)),
+            Step::Call(Asked::Block(0x11), Reply::Count(1)),
+            Step::Call(Asked::Gone(1), Reply::Refused(Refusal::Spent)),
+            Step::Shows(
+                u64::MAX,
+                &[Stood(1, ConnSide::Listener, Phase::Closing, Some(0x11), None)],
+                &[0x11],
+                &[],
+            ),
+        ],
+        ..WIDEST
+    },
+];
+
+/// A pool, one that is told each reply, and a copy of the listing that follows.
+#[derive(Drop)]
+struct Pools {
+    pool: Pool,
+    told: Pool,
+    copy: Listing,
+}
+
+fn limits(of: [usize; 7]) -> Option<Limits> {
+    Limits::new(of[0], of[1], of[2], of[3], of[4], of[5], of[6])
+}
+
+fn begin(script: &Script) -> Option<Pools> {
+    let config = Config {
         own: peer(0),
-        limits,
-        first_conn: 1,
-        first_front: 0,
-        allow_only: false,
+        limits: limits(script.limits)?,
+        first_conn: script.first_conn,
+        first_front: script.first_front,
+        allow_only: script.allow_only,
+    };
+    let pool = Pool::new(config);
+    let copy = pool.listing();
+    Some(Pools {
+        pool,
+        told: Pool::new(config),
+        copy,
     })
 }
 
-/// The row of a connection on which nothing was asked for.
-fn row(conn: u32, role: ConnSide, phase: Phase, peer: Option<PeerId>) -> Row {
-    Row {
-        conn,
-        role,
-        phase,
-        peer,
-        asked: [0; 3],
-        done: [0; 3],
-        agent: None,
+impl Pools {
+    /// Whether the call is answered so, also beforehand, and the other pool and the copy show the same then.
+    fn answers(&mut self, asked: Asked, reply: Reply) -> Option<bool> {
+        let call = call(asked)?;
+        let is_answered = self.pool.reply(call) == reply && self.pool.apply(call) == reply;
+        self.told.commit(&call, &reply);
+        self.copy.add(call, reply);
+        let is_shown = self.told.show() == self.pool.show();
+        Some(is_answered && is_shown && self.copy.copied() == self.pool.listing())
+    }
+
+    fn admits(&mut self, asked: Asked, count: u32) -> Option<bool> {
+        let mut held = true;
+        for before in 0..count {
+            held = self.answers(asked, Reply::Conn(before.saturating_add(1)))? && held;
+        }
+        Some(held)
+    }
+
+    fn takes_turns(&mut self, times: u32, calls: &[(Asked, Reply)]) -> Option<bool> {
+        let mut held = true;
+        for _ in 0..times {
+            for (asked, reply) in calls {
+                held = self.answers(*asked, *reply)? && held;
+            }
+        }
+        Some(held)
+    }
+
+    fn lists(&mut self, first: u8, last: u8) -> Option<bool> {
+        let mut held = true;
+        for byte in first..=last {
+            held = self.answers(Asked::Block(byte), Reply::Count(0))? && held;
+            held = self.answers(Asked::Allow(byte), Reply::Count(1))? && held;
+        }
+        Some(held)
+    }
+
+    fn shows(&self, front: u64, stood: &[Stood], blocked: &[u8], allowed: &[u8]) -> bool {
+        let listing = self.pool.listing();
+        let mut held = listing.front == front && listing.conns.len() == stood.len();
+        for (place, stood) in stood.iter().enumerate() {
+            held = held && listing.conns.get(place) == Some(&row(stood));
+        }
+        held && are_peers(&listing.blocked, blocked) && are_peers(&listing.allowed, allowed)
+    }
+
+    fn counts(&self, rows: usize, peers: usize) -> bool {
+        let listing = self.pool.listing();
+        let is_same = listing.blocked == listing.allowed;
+        listing.conns.len() == rows && listing.blocked.len() == peers && is_same
+    }
+
+    fn plays(&mut self, step: &Step) -> Option<bool> {
+        match step {
+            Step::Call(asked, reply) => self.answers(*asked, *reply),
+            Step::Admits(asked, count) => self.admits(*asked, *count),
+            Step::Turns(times, calls) => self.takes_turns(*times, *calls),
+            Step::Lists(first, last) => self.lists(*first, *last),
+            Step::Shows(front, rows, blocked, allowed) => {
+                Some(self.shows(*front, *rows, *blocked, *allowed))
+            }
+            Step::Counts(rows, peers) => Some(self.counts(*rows, *peers)),
+        }
     }
 }
 
-/// Makes the calls in turn. Each is answered as `reply` says beforehand, and as the table says.
-fn run(rt: &impl Abort, pool: &mut Pool, script: &[(Call, Reply)]) {
-    for (call, reply) in script {
-        assert_eq!(rt; pool.reply(*call), *reply, "reply to {call:?}");
-        assert_eq!(rt; pool.apply(*call), *reply, "{call:?}");
+fn are_peers(peers: &[PeerId], bytes: &[u8]) -> bool {
+    let mut held = peers.len() == bytes.len();
+    for (place, byte) in bytes.iter().enumerate() {
+        held = held && peers.get(place) == Some(&peer(*byte));
+    }
+    held
+}
+
+#[test]
+fn scripts(rt: HostRuntime) -> Result<(), Fail> {
+    for (number, script) in SCRIPTS.iter().enumerate() {
+        let mut pools = begin(script).ok_or("limits in range")?;
+        for (row, step) in script.steps.iter().enumerate() {
+            let held = pools.plays(step) == Some(true);
+            assert!(rt; held, "script {number}, row {row}");
+        }
+    }
+    Ok(())
+}
+
+// ---- parts
+
+/// A name, and whether it is an agent's.
+static AGENTS: [(&[u8], bool); 6] = [
+    (b"node/1.0.0", true),
+    (&[b'~'; 64], true),
+    (&[b'~'; 65], false),
+    (&[], false),
+    (&[0x1f], false),
+    (&[0x7f], false),
+];
+
+#[test]
+fn agents_have_printable_names(rt: HostRuntime) {
+    for (row, (name, good)) in AGENTS.iter().enumerate() {
+        let held = match Agent::from_bytes(*name) {
+            Some(agent) => *good && agent.as_bytes() == *name,
+            None => !*good,
+        };
+        assert!(rt; held, "row {row}");
     }
 }
 
-fn refused(refusal: Refusal) -> Reply {
-    Reply::Refused(refusal)
-}
-
-#[test]
-fn refusals_in_order(rt: HostRuntime) -> Result<(), Fail> {
-    let limits = Limits::new(2, 1, 1, 1, 256, 256, 64).ok_or("in range")?;
-    let mut pool = Pool::new(Config {
-        limits,
-        ..config()?
-    });
-    let (own, first, second) = (peer(0), peer(0x11), peer(0x22));
-    let script = [
-        (Call::Dial(Some(first)), Reply::Conn(1)),
-        (Call::Dial(Some(first)), refused(Refusal::PeerFull)),
-        (Call::Accept, Reply::Conn(2)),
-        (Call::Accept, refused(Refusal::Full)),
-        (Call::Settle(2, first), refused(Refusal::PeerFull)),
-        (Call::Settle(1, second), refused(Refusal::Mismatch)),
-        (Call::Settle(1, first), Reply::Done),
-        (Call::Settle(1, first), refused(Refusal::NotPending)),
-        (Call::Ask(1, 2), Reply::Done),
-        (Call::Ask(1, 2), refused(Refusal::StreamsFull)),
-        (Call::Done(1, 0), refused(Refusal::NothingAsked)),
-        (Call::Done(1, 2), Reply::Done),
-        (Call::Ask(2, 0), refused(Refusal::NotLive)),
-        (Call::Block(second), Reply::Count(0)),
-        (Call::Block(peer(0x33)), refused(Refusal::BlockFull)),
-        (Call::Block(second), Reply::Count(0)),
-        (Call::Settle(2, second), refused(Refusal::Blocked)),
-        (Call::HangUp(first), Reply::Count(1)),
-        (Call::Ask(1, 2), refused(Refusal::Closing)),
-        (Call::Unblock(second), Reply::Count(1)),
-        (Call::Gone(1), Reply::Done),
-        (Call::Gone(1), refused(Refusal::NoConn)),
-        (Call::Dial(Some(own)), refused(Refusal::SelfPeer)),
-    ];
-    run(&rt, &mut pool, &script);
-    let listing = pool.listing();
-    assert_eq!(rt; listing.front, 23);
-    let rows = [row(2, ConnSide::Listener, Phase::Pending, None)];
-    assert_eq!(rt; listing.conns.as_slice(), rows.as_slice());
-    assert!(rt; listing.blocked.is_empty() && listing.allowed.is_empty());
-    Ok(())
-}
-
-#[test]
-fn a_block_closes_pending_rows(rt: HostRuntime) -> Result<(), Fail> {
-    let mut pool = Pool::new(config()?);
-    let (first, second) = (peer(0x11), peer(0x22));
-    let script = [
-        (Call::Dial(Some(first)), Reply::Conn(1)),
-        (Call::Accept, Reply::Conn(2)),
-        (Call::Block(first), Reply::Count(1)),
-        (Call::Settle(1, first), refused(Refusal::Closing)),
-        (Call::Settle(2, first), refused(Refusal::Blocked)),
-    ];
-    run(&rt, &mut pool, &script);
-    let listing = pool.listing();
-    assert_eq!(rt; listing.front, 5);
-    let rows = [
-        row(1, ConnSide::Dialer, Phase::Closing, Some(first)),
-        row(2, ConnSide::Listener, Phase::Pending, None),
-    ];
-    assert_eq!(rt; listing.conns.as_slice(), rows.as_slice());
-    assert_eq!(rt; listing.blocked.as_slice(), [first].as_slice());
-    let script = [
-        (Call::HangUp(second), Reply::Count(0)),
-        (Call::HangUp(peer(0)), refused(Refusal::SelfPeer)),
-        (Call::Settle(2, second), Reply::Done),
-        (Call::Ask(2, 3), refused(Refusal::BadProtocol)),
-    ];
-    run(&rt, &mut pool, &script);
-    Ok(())
-}
-
-#[test]
-fn the_last_front(rt: HostRuntime) -> Result<(), Fail> {
-    let mut pool = Pool::new(Config {
-        first_front: u64::MAX - 1,
-        ..config()?
-    });
-    let script = [
-        (Call::Dial(None), Reply::Conn(1)),
-        (Call::Block(peer(0x11)), refused(Refusal::Spent)),
-    ];
-    run(&rt, &mut pool, &script);
-    let listing = pool.listing();
-    assert_eq!(rt; listing.front, u64::MAX);
-    let rows = [row(1, ConnSide::Dialer, Phase::Pending, None)];
-    assert_eq!(rt; listing.conns.as_slice(), rows.as_slice());
-    assert!(rt; listing.blocked.is_empty());
-    Ok(())
-}
-
-#[test]
-fn the_last_number(rt: HostRuntime) -> Result<(), Fail> {
-    let mut pool = Pool::new(Config {
-        first_conn: u32::MAX,
-        ..config()?
-    });
-    let script = [
-        (Call::Accept, Reply::Conn(u32::MAX)),
-        (Call::Accept, refused(Refusal::IdsExhausted)),
-    ];
-    run(&rt, &mut pool, &script);
-    Ok(())
-}
-
-#[test]
-fn allowed_peers_alone(rt: HostRuntime) -> Result<(), Fail> {
-    let limits = Limits::new(64, 8, 64, 64, 1, 256, 1).ok_or("in range")?;
-    let mut pool = Pool::new(Config {
-        limits,
-        allow_only: true,
-        ..config()?
-    });
-    let (first, second) = (peer(0x11), peer(0x22));
-    let script = [
-        (Call::Accept, Reply::Conn(1)),
-        (Call::Accept, refused(Refusal::SideFull)),
-        (Call::Dial(Some(first)), refused(Refusal::NotAllowed)),
-        (Call::Allow(first), Reply::Count(1)),
-        (Call::Allow(first), Reply::Count(0)),
-        (Call::Allow(second), refused(Refusal::AllowFull)),
-        (Call::Dial(Some(first)), Reply::Conn(2)),
-        (Call::Settle(1, second), refused(Refusal::NotAllowed)),
-        (Call::Settle(1, first), Reply::Done),
-        (Call::Disallow(first), Reply::Count(2)),
-        (Call::Settle(2, first), refused(Refusal::Closing)),
-    ];
-    run(&rt, &mut pool, &script);
-    let listing = pool.listing();
-    assert_eq!(rt; listing.front, 11);
-    let rows = [
-        row(1, ConnSide::Listener, Phase::Closing, Some(first)),
-        row(2, ConnSide::Dialer, Phase::Closing, Some(first)),
-    ];
-    assert_eq!(rt; listing.conns.as_slice(), rows.as_slice());
-    assert!(rt; listing.allowed.is_empty());
-    Ok(())
-}
-
-#[test]
-fn a_full_table(rt: HostRuntime) -> Result<(), Fail> {
-    let mut pool = Pool::new(config()?);
-    for conn in 1..257 {
-        assert_eq!(rt; pool.apply(Call::Accept), Reply::Conn(conn));
-    }
-    assert_eq!(rt; pool.apply(Call::Accept), refused(Refusal::Full));
-    assert_eq!(rt; pool.listing().conns.len(), 256);
-    Ok(())
-}
-
-/// A pool whose limit of one side, or of the other, is one below that of all.
-fn one_sided(inbound: usize, outbound: usize) -> Result<Pool, Fail> {
-    let limits = Limits::new(256, 8, 64, 64, inbound, outbound, 64).ok_or("in range")?;
-    Ok(Pool::new(Config {
-        limits,
-        ..config()?
-    }))
-}
-
-/// So many calls are admitted, from connection 1 on.
-fn admit(rt: &impl Abort, pool: &mut Pool, call: &Call, count: u32) {
-    for before in 0..count {
-        let conn = before.saturating_add(1);
-        assert_eq!(rt; pool.apply(*call), Reply::Conn(conn), "connection {conn}");
-    }
-}
-
-#[test]
-fn each_side_is_full_at_its_limit(rt: HostRuntime) -> Result<(), Fail> {
-    for (call, other, mut pool) in [
-        (Call::Accept, Call::Dial(None), one_sided(255, 256)?),
-        (Call::Dial(None), Call::Accept, one_sided(256, 255)?),
-    ] {
-        admit(&rt, &mut pool, &call, 255);
-        assert_eq!(rt; pool.apply(call), refused(Refusal::SideFull), "{call:?}");
-        assert_eq!(rt; pool.apply(other), Reply::Conn(256), "{other:?}");
-        assert_eq!(rt; pool.apply(call), refused(Refusal::Full), "{call:?}");
-    }
-    let mut pool = one_sided(256, 256)?;
-    admit(&rt, &mut pool, &Call::Dial(None), 256);
-    assert_eq!(rt; pool.apply(Call::Dial(None)), refused(Refusal::Full));
-    Ok(())
-}
-
-#[test]
-fn a_peer_has_eight_connections(rt: HostRuntime) -> Result<(), Fail> {
-    let mut pool = Pool::new(config()?);
-    let first = peer(0x11);
-    admit(&rt, &mut pool, &Call::Dial(Some(first)), 8);
-    let script = [
-        (Call::Dial(Some(first)), refused(Refusal::PeerFull)),
-        (Call::Accept, Reply::Conn(9)),
-        (Call::Settle(9, first), refused(Refusal::PeerFull)),
-        (Call::Settle(8, first), Reply::Done),
-        (Call::HangUp(first), Reply::Count(8)),
-    ];
-    run(&rt, &mut pool, &script);
-    Ok(())
-}
-
-#[test]
-fn a_connection_has_64_streams(rt: HostRuntime) -> Result<(), Fail> {
-    let mut pool = Pool::new(config()?);
-    let script = [
-        (Call::Accept, Reply::Conn(1)),
-        (Call::Settle(1, peer(0x11)), Reply::Done),
-    ];
-    run(&rt, &mut pool, &script);
-    for stream in 0..64 {
-        assert_eq!(rt;
-            pool.apply(Call::Ask(1, stream % 3)),
-            Reply::Done,
-            "stream {stream}"
-        );
-    }
-    let script = [
-        (Call::Ask(1, 1), refused(Refusal::StreamsFull)),
-        (Call::Done(1, 2), Reply::Done),
-        (Call::Ask(1, 1), Reply::Done),
-        (Call::Ask(1, 2), refused(Refusal::StreamsFull)),
-    ];
-    run(&rt, &mut pool, &script);
-    Ok(())
-}
-
-#[test]
-fn each_list_has_64_peers(rt: HostRuntime) -> Result<(), Fail> {
-    let mut pool = Pool::new(config()?);
-    for byte in 0x40..0x80 {
-        let peer = peer(byte);
-        assert_eq!(rt;
-            pool.apply(Call::Block(peer)),
-            Reply::Count(0),
-            "block {byte}"
-        );
-        assert_eq!(rt;
-            pool.apply(Call::Allow(peer)),
-            Reply::Count(1),
-            "allow {byte}"
-        );
-    }
-    let (first, last) = (peer(0x11), peer(0x7f));
-    let script = [
-        (Call::Block(first), refused(Refusal::BlockFull)),
-        (Call::Allow(first), refused(Refusal::AllowFull)),
-        (Call::Block(last), Reply::Count(0)),
-        (Call::Allow(last), Reply::Count(0)),
-        (Call::Unblock(last), Reply::Count(1)),
-        (Call::Disallow(last), Reply::Count(0)),
-        (Call::Block(first), Reply::Count(0)),
-        (Call::Allow(first), Reply::Count(1)),
-    ];
-    run(&rt, &mut pool, &script);
-    let listing = pool.listing();
-    assert_eq!(rt; (listing.blocked.len(), listing.allowed.len()), (64, 64));
-    assert!(rt; listing.blocked == listing.allowed);
-    Ok(())
-}
-
-#[test]
-fn an_agent_is_noted_while_live(rt: HostRuntime) -> Result<(), Fail> {
-    let mut pool = Pool::new(config()?);
-    let first = peer(0x11);
-    let script = [
-        (Call::Dial(None), Reply::Conn(1)),
-        (Call::Note(1, agent("x")?), refused(Refusal::NotLive)),
-        (Call::Settle(1, first), Reply::Done),
-        (Call::Note(1, agent("a b")?), Reply::Done),
-    ];
-    run(&rt, &mut pool, &script);
-    let listing = pool.listing();
-    assert_eq!(rt; listing.front, 4);
-    let rows = [Row {
-        agent: Some(agent("a b")?),
-        ..row(1, ConnSide::Dialer, Phase::Live, Some(first))
-    }];
-    assert_eq!(rt; listing.conns.as_slice(), rows.as_slice());
-    let script = [
-        (Call::Note(2, agent("x")?), refused(Refusal::NoConn)),
-        (Call::HangUp(first), Reply::Count(1)),
-        (Call::Note(1, agent("y")?), refused(Refusal::Closing)),
-    ];
-    run(&rt, &mut pool, &script);
-    Ok(())
-}
-
-#[test]
-fn agents_have_printable_names(rt: HostRuntime) -> Result<(), Fail> {
-    let longest = [b'~'; 64];
-    assert_eq!(rt; agent("node/1.0.0")?.as_bytes(), b"node/1.0.0".as_slice());
-    assert!(rt; Agent::from_bytes(&longest).is_some());
-    assert!(rt; Agent::from_bytes(&[b'~'; 65]).is_none());
-    assert!(rt; Agent::from_bytes(&[]).is_none());
-    assert!(rt; Agent::from_bytes(&[0x1f]).is_none());
-    assert!(rt; Agent::from_bytes(&[0x7f]).is_none());
-    Ok(())
-}
+/// Limits, and whether each is in range.
+static LIMITS: [([usize; 7], bool); 11] = [
+    ([1, 1, 1, 0, 0, 0, 0], true),
+    ([257, 8, 64, 64, 256, 256, 64], false),
+    ([0, 8, 64, 64, 256, 256, 64], false),
+    ([64, 9, 64, 64, 256, 256, 64], false),
+    ([64, 0, 64, 64, 256, 256, 64], false),
+    ([64, 8, 65, 64, 256, 256, 64], false),
+    ([64, 8, 0, 64, 256, 256, 64], false),
+    ([64, 8, 64, 65, 256, 256, 64], false),
+    ([64, 8, 64, 64, 257, 256, 64], false),
+    ([64, 8, 64, 64, 256, 257, 64], false),
+    ([64, 8, 64, 64, 256, 256, 65], false),
+];
 
 #[test]
 fn limits_have_ranges(rt: HostRuntime) {
-    assert!(rt; Limits::new(1, 1, 1, 0, 0, 0, 0).is_some());
-    assert!(rt; Limits::new(257, 8, 64, 64, 256, 256, 64).is_none());
-    assert!(rt; Limits::new(0, 8, 64, 64, 256, 256, 64).is_none());
-    assert!(rt; Limits::new(64, 9, 64, 64, 256, 256, 64).is_none());
-    assert!(rt; Limits::new(64, 0, 64, 64, 256, 256, 64).is_none());
-    assert!(rt; Limits::new(64, 8, 65, 64, 256, 256, 64).is_none());
-    assert!(rt; Limits::new(64, 8, 0, 64, 256, 256, 64).is_none());
-    assert!(rt; Limits::new(64, 8, 64, 65, 256, 256, 64).is_none());
-    assert!(rt; Limits::new(64, 8, 64, 64, 257, 256, 64).is_none());
-    assert!(rt; Limits::new(64, 8, 64, 64, 256, 257, 64).is_none());
-    assert!(rt; Limits::new(64, 8, 64, 64, 256, 256, 65).is_none());
+    for (row, (of, good)) in LIMITS.iter().enumerate() {
+        assert!(rt; limits(*of).is_some() == *good, "row {row}");
+    }
 }
 
 #[test]
 fn common_limits(rt: HostRuntime) {
     let common = Limits::default();
-    assert_eq!(rt; common.conns, 64);
-    assert_eq!(rt; common.per_peer, 8);
-    assert_eq!(rt; common.streams, 64);
-    assert_eq!(rt; common.blocked, 64);
-    assert_eq!(rt; common.inbound, 256);
-    assert_eq!(rt; common.outbound, 256);
-    assert_eq!(rt; common.allowed, 64);
-    let named = Limits::new(64, 8, 64, 64, 256, 256, 64);
-    assert_eq!(rt; named, Some(common));
+    let of = [
+        common.conns,
+        common.per_peer,
+        common.streams,
+        common.blocked,
+        common.inbound,
+        common.outbound,
+        common.allowed,
+    ];
+    assert_eq!(rt; of, [64, 8, 64, 64, 256, 256, 64]);
+    assert_eq!(rt; limits(of), Some(common));
 }
 
-#[test]
-fn a_copy_follows_the_pool(rt: HostRuntime) -> Result<(), Fail> {
-    let mut pool = Pool::new(config()?);
-    let mut kept = pool.listing();
-    let first = peer(0x11);
-    let calls = [
-        Call::Dial(Some(first)),
-        Call::Accept,
-        Call::Block(first),
-        Call::Gone(2),
-        Call::Gone(2),
-    ];
-    for call in calls {
-        let reply = pool.apply(call);
-        kept.add(call, reply);
-        assert_eq!(rt; kept.copied(), pool.listing());
-    }
-    Ok(())
-}
-
-#[test]
-fn a_commit_is_the_rest_of_a_call(rt: HostRuntime) -> Result<(), Fail> {
-    let mut pool = Pool::new(Config {
-        first_front: u64::MAX - 4,
-        ..config()?
-    });
-    let mut other = Pool::new(Config {
-        first_front: u64::MAX - 4,
-        ..config()?
-    });
-    let first = peer(0x11);
-    let calls = [
-        (Call::Accept, Reply::Conn(1)),
-        (Call::Settle(1, first), Reply::Done),
-        (Call::Settle(1, first), refused(Refusal::NotPending)),
-        (Call::Block(first), Reply::Count(1)),
-        (Call::Gone(1), refused(Refusal::Spent)),
-    ];
-    for (call, reply) in calls {
-        other.commit(&call, &reply);
-        assert_eq!(rt; pool.apply(call), reply, "{call:?}");
-        assert!(rt; other.show() == pool.show(), "behind {call:?}");
-    }
-    assert_eq!(rt; pool.show().front, u64::MAX);
-    assert_eq!(rt; pool.show().conns.len(), 1);
-    Ok(())
-}
-
-#[test]
-fn no_call_leads_to_this_node_itself(rt: HostRuntime) -> Result<(), Fail> {
-    let mut pool = Pool::new(config()?);
-    let own = peer(0);
-    let script = [
-        (Call::Accept, Reply::Conn(1)),
-        (Call::Dial(Some(own)), refused(Refusal::SelfPeer)),
-        (Call::Settle(1, own), refused(Refusal::SelfPeer)),
-        (Call::HangUp(own), refused(Refusal::SelfPeer)),
-        (Call::Block(own), refused(Refusal::SelfPeer)),
-        (Call::Unblock(own), refused(Refusal::SelfPeer)),
-        (Call::Allow(own), refused(Refusal::SelfPeer)),
-        (Call::Disallow(own), refused(Refusal::SelfPeer)),
-    ];
-    run(&rt, &mut pool, &script);
-    let listing = pool.listing();
-    assert_eq!(rt; listing.front, 8);
-    let rows = [row(1, ConnSide::Listener, Phase::Pending, None)];
-    assert_eq!(rt; listing.conns.as_slice(), rows.as_slice());
-    Ok(())
-}
+static REFUSALS: [(Refusal, u8); 19] = [
+    (Refusal::Spent, 1),
+    (Refusal::OutOfMemory, 2),
+    (Refusal::NoConn, 3),
+    (Refusal::Closing, 4),
+    (Refusal::NotPending, 5),
+    (Refusal::NotLive, 6),
+    (Refusal::BadProtocol, 7),
+    (Refusal::SelfPeer, 8),
+    (Refusal::Mismatch, 9),
+    (Refusal::Blocked, 10),
+    (Refusal::Full, 11),
+    (Refusal::PeerFull, 12),
+    (Refusal::StreamsFull, 13),
+    (Refusal::NothingAsked, 14),
+    (Refusal::BlockFull, 15),
+    (Refusal::IdsExhausted, 16),
+    (Refusal::SideFull, 17),
+    (Refusal::NotAllowed, 18),
+    (Refusal::AllowFull, 19),
+];
 
 #[test]
 fn refusals_have_numbers(rt: HostRuntime) {
-    let refusals = [
-        Refusal::Spent,
-        Refusal::OutOfMemory,
-        Refusal::NoConn,
-        Refusal::Closing,
-        Refusal::NotPending,
-        Refusal::NotLive,
-        Refusal::BadProtocol,
-        Refusal::SelfPeer,
-        Refusal::Mismatch,
-        Refusal::Blocked,
-        Refusal::Full,
-        Refusal::PeerFull,
-        Refusal::StreamsFull,
-        Refusal::NothingAsked,
-        Refusal::BlockFull,
-        Refusal::IdsExhausted,
-        Refusal::SideFull,
-        Refusal::NotAllowed,
-        Refusal::AllowFull,
-    ];
-    for (number, refusal) in (1_u8..20).zip(refusals) {
-        assert_eq!(rt; refusal.number(), number);
+    for (refusal, number) in REFUSALS.iter() {
+        assert!(rt; refusal.number() == *number, "{number}");
     }
 }

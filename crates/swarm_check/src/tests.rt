@@ -9,10 +9,9 @@ mod threads;
 
 use peer_ids::{PeerId, PublicKey};
 use plaintext_x::{Exchange, Proven, exchange_keys};
-use pool_state::{Call, Config, Limits, Reply};
+use pool_state::{Agent, Call, Config, Limits, Reply};
 use std::alloc::Global;
 use std::marker::Brand;
-use std::process::Abort;
 use std::sync::Wait;
 use std::sync::ledger::Ledger;
 use std::test::*;
@@ -51,6 +50,48 @@ fn config(per_peer: usize) -> Result<Config, Fail> {
     })
 }
 
+/// A call, which names a peer by the byte of its key, and an agent by its text.
+#[derive(Clone, Copy)]
+enum Asked {
+    Dial(Option<u8>),
+    Accept,
+    Settle(u32, u8),
+    Ask(u32, u8),
+    Done(u32, u8),
+    HangUp(u8),
+    Block(u8),
+    Unblock(u8),
+    Gone(u32),
+    Allow(u8),
+    Disallow(u8),
+    Note(u32, &'static str),
+}
+
+fn peer_if(byte: Option<u8>) -> Option<PeerId> {
+    match byte {
+        Some(byte) => Some(peer(byte)),
+        None => None,
+    }
+}
+
+fn call(asked: Asked) -> Option<Call> {
+    let call = match asked {
+        Asked::Dial(byte) => Call::Dial(peer_if(byte)),
+        Asked::Accept => Call::Accept,
+        Asked::Settle(conn, byte) => Call::Settle(conn, peer(byte)),
+        Asked::Ask(conn, index) => Call::Ask(conn, index),
+        Asked::Done(conn, index) => Call::Done(conn, index),
+        Asked::HangUp(byte) => Call::HangUp(peer(byte)),
+        Asked::Block(byte) => Call::Block(peer(byte)),
+        Asked::Unblock(byte) => Call::Unblock(peer(byte)),
+        Asked::Gone(conn) => Call::Gone(conn),
+        Asked::Allow(byte) => Call::Allow(peer(byte)),
+        Asked::Disallow(byte) => Call::Disallow(peer(byte)),
+        Asked::Note(conn, name) => Call::Note(conn, Agent::from_bytes(name.as_bytes())?),
+    };
+    Some(call)
+}
+
 /// Makes the call, but for a Settle, for which it makes an Accept.
 fn make<G: Gate, J: Identity, L: Ledgers, R: Wait>(
     rt: &R,
@@ -75,12 +116,13 @@ fn make<G: Gate, J: Identity, L: Ledgers, R: Wait>(
 
 /// What a test of one thread does with a swarm.
 trait Script {
-    fn play<J: Identity, L: Ledgers, R: Wait + Abort>(
+    /// How many of its rows hold, from the first on.
+    fn play<J: Identity, L: Ledgers, R: Wait>(
         &self,
         rt: &R,
         swarm: Swarm<NoGate, J, L>,
         passes: Vec<Pass<J, L>>,
-    ) -> Result<(), Fail>;
+    ) -> usize;
 }
 
 /// Makes a swarm, and plays the script on it, or says why there is no swarm.
@@ -95,7 +137,7 @@ fn run<
     L7: Ledger,
     L8: Ledger,
     S: Script,
-    R: Wait + Abort,
+    R: Wait,
 >(
     rt: &R,
     alloc: Global,
@@ -104,7 +146,7 @@ fn run<
     history: BlankHistory,
     ledgers: BlankLedgers,
     script: &S,
-) -> Result<Option<NewRefused>, Fail>
+) -> Result<usize, NewRefused>
     requires history { history ≡ J.book }
     requires config { config ≡ J.config }
     requires callers { callers ≡ J.callers }
@@ -121,22 +163,19 @@ fn run<
         rt, alloc, config, callers, NoGate, history, ledgers,
     );
     match made {
-        Ok((swarm, passes)) => {
-            script.play(rt, swarm, passes)?;
-            Ok(None)
-        }
-        Err(refused) => Ok(Some(refused)),
+        Ok((swarm, passes)) => Ok(script.play(rt, swarm, passes)),
+        Err(refused) => Err(refused),
     }
 }
 
 /// The same, with a new history and new ledgers.
-fn play<S: Script, R: Wait + Abort>(
+fn play<S: Script, R: Wait>(
     rt: &R,
     alloc: Global,
     config: Config,
     callers: usize,
     script: &S,
-) -> Result<Option<NewRefused>, Fail> {
+) -> Result<usize, NewRefused> {
     run::<Brand, Brand, Brand, Brand, Brand, Brand, Brand, Brand, Brand, S, R>(
         rt,
         alloc,

@@ -1,11 +1,12 @@
 -- The definitions at worked bytes.
-use Rattle.std.proofs.Common.{◌≡◌, ℕ, ◌+◌, ◌-◌, ◌%◌, ◌^◌, ◌<◌, ◌≤◌, List, [], ◌∷◌, ◌++◌, replicate, refl, sym, ◌∙◌, ap, subst, length, inl, inr, arith}
+use Rattle.std.proofs.Common.{◌≡◌, ℕ, zero, suc, ◌+◌, ◌-◌, ◌%◌, ◌^◌, ◌<◌, ◌≤◌, List, [], ◌∷◌, ◌++◌, replicate, take, get_or, refl, sym, ◌∙◌, ap, subst, length, inl, inr, arith}
 use Rattle.std.proofs.lemmas.List.{length-replicate, append-nil}
 use Rattle.varint_proto.specs.declared.fault.WireFault.TheVariants.{TooLong, NotShortest, BadWire}
 use Rattle.varint_proto.specs.Varint.{IsSpelling, IsUnended, BeginsWide, BeginsShortest, shortest, shortest_within}
 use Rattle.varint_proto.specs.Message.{entry, Varint, IsTag, ValueFault, FieldFault}
+use Rattle.varint_proto.specs.Incoming.{AsksMemory}
 use Rattle.varint_proto.proofs.Front.{one_begins}
-use Rattle.varint_proto.specs.Rows.{VarintRows, WideRows, FieldRows, FieldFaultRows, FramedRows}
+use Rattle.varint_proto.specs.Rows.{VarintRows, WideRows, FieldRows, FieldFaultRows, FramedRows, RoomRows, StandRows}
 
 pub varint_rows : VarintRows
 unfolding shortest shortest_within
@@ -83,6 +84,13 @@ field_rows = record {
   number_written = refl;
   largest_writable = ((omega arith, omega arith), omega arith);
   bytes_writable = ((omega arith, omega arith), omega (arith, length-replicate {A = ℕ} 300 7));
+  eight_writable = ((omega arith, omega arith), refl);
+  four_writable = ((omega arith, omega arith), refl);
+  seven_unwritable = λ w. let wrong : 7 ≡ 8 = w.1 in omega (arith, wrong);
+  five_unwritable = λ w. let wrong : 5 ≡ 4 = w.1 in omega (arith, wrong);
+  number_0_unwritable = λ w. let wrong : 8 ≤ 0 = w.0.0 in omega (arith, wrong);
+  large_number_unwritable = λ w. let wrong : 2 ^ 32 < 2 ^ 32 = w.0.1 in omega (arith, wrong);
+  large_varint_unwritable = λ w. let wrong : 2 ^ 64 < 2 ^ 64 = w.1 in omega (arith, wrong);
   body_written = refl;
 }
 
@@ -162,4 +170,44 @@ framed_rows = record {
   behind_the_length = λ asks.
       let same = one_begins (172 ∷ 2 ∷ 7 ∷ []) asks.0 300 [] (7 ∷ []) asks.1.begins (three_hundred (7 ∷ [])) in omega (arith, ap length same.1);
   past_the_limit = λ asks. let same = one_begins (3 ∷ []) asks.0 3 [] [] asks.1.begins (short_length 3 [] (omega arith)) in omega (arith, asks.1.allowed, same.0);
+}
+
+-- of one byte that is refused it is that byte
+body_at : (n : ℕ) → n < 1 → AsksMemory 300 0 ((172 ∷ 2 ∷ []) ++ take (n + 1) (7 ∷ [])) → ⊥
+body_at zero lt asks =
+    let same = one_begins (172 ∷ 2 ∷ 7 ∷ []) asks.0 300 [] (7 ∷ []) asks.1.begins (three_hundred (7 ∷ [])) in omega (arith, ap length same.1)
+body_at (suc n) lt asks = absurd (omega arith)
+
+room_at : (n : ℕ) → n < 1 → AsksMemory 300 300 ((172 ∷ []) ++ take (n + 1) (2 ∷ [])) → ⊥
+room_at zero lt asks = framed_rows.room_is_there asks
+room_at (suc n) lt asks = absurd (omega arith)
+
+limit_at : (n : ℕ) → n < 1 → AsksMemory 2 0 (take (n + 1) (3 ∷ [])) → ⊥
+limit_at zero lt asks = framed_rows.past_the_limit asks
+limit_at (suc n) lt asks = absurd (omega arith)
+
+pub room_rows : RoomRows
+room_rows = record {
+  at_the_last_byte = (1, omega arith, inl ((omega arith, tt), omega arith), framed_rows.asks);
+  in_a_second_piece = (0, omega arith, inl ((omega arith, tt), omega arith), framed_rows.asks);
+  no_byte = λ r. let within = r.1 in absurd (omega (arith, within));
+  room_is_there = λ r. room_at r.0 r.1 r.3;
+  in_the_body = λ r. body_at r.0 r.1 r.3;
+  past_the_limit = λ r. limit_at r.0 r.1 r.3;
+}
+
+pub stand_rows : StandRows
+stand_rows = record {
+  at_first = record { going = refl; holds = ((tt, omega arith), refl, refl) };
+  in_the_length = record { going = refl; holds = (((omega arith, tt), omega arith), refl, refl) };
+  in_the_body = record { going = refl; holds = (record { begins = short_length 2 _ (omega arith); allowed = omega arith }, omega arith) };
+  whole = record { going = refl; holds = (record { begins = short_length 2 _ (omega arith); allowed = omega arith }, omega arith) };
+  failed = λ s. absurd (let wrong = s.going in cc wrong);
+  another_length = λ s. let firsts : 173 ≡ 172 = ap (λ (t : List ℕ). get_or t 0 0) s.holds.1 in omega (arith, firsts);
+  body_before_its_length = λ s. absurd (let wrong = s.holds.2 in cc wrong);
+  another_body = λ s.
+      let same = one_begins (2 ∷ 7 ∷ []) 2 2 (8 ∷ []) (7 ∷ []) s.holds.0.begins (short_length 2 (7 ∷ []) (omega arith)) in
+      let firsts : 8 ≡ 7 = ap (λ (t : List ℕ). get_or t 0 0) same.1 in omega (arith, firsts);
+  past_its_end = λ s. let most : 2 ≤ 1 = s.holds.1 in omega (arith, most);
+  past_the_limit = λ s. let most : 3 ≤ 2 = s.holds.0.allowed in omega (arith, most);
 }

@@ -1,11 +1,13 @@
 -- Worked rows of the definitions (multiformats unsigned-varint; Protocol Buffers, "Encoding").
-use Rattle.std.specs.Prelude.{◌≡◌, ◌-◌, ◌^◌, List, [], ◌∷◌, ◌++◌, replicate, Some, None, Ok, Err}
+use Rattle.std.specs.Prelude.{◌≡◌, ℕ, ◌-◌, ◌^◌, true, false, List, [], ◌∷◌, ◌++◌, replicate}
+use Rattle.std.specs.Prelude.{Option, Some, None, Ok, Err}
 use Rattle.varint_proto.specs.declared.fault.WireFault.TheVariants.{TooLong, NotShortest, Cut, BadNumber, BadWire}
 use Rattle.varint_proto.specs.declared.fault.IncomingRefused.TheVariants as incoming
 use Rattle.varint_proto.specs.Varint.{ReadsShortest, BeginsWide, WideFault, shortest}
-use Rattle.varint_proto.specs.Message.{Entry, entry, Varint, Fixed64, Bytes, Fixed32, Begins, FieldFault, IsMessage, IsWritable}
+use Rattle.varint_proto.specs.Message.{Entry, entry, Varint, Fixed64, Bytes, Fixed32, Begins, FieldFault}
+use Rattle.varint_proto.specs.Message.{IsMessage, IsWritable}
 use Rattle.varint_proto.specs.Message.{FaultIn, all_varints, all_bodies, last_varint, last_body, shortest_field}
-use Rattle.varint_proto.specs.Incoming.{ReadsFramed, AsksMemory}
+use Rattle.varint_proto.specs.Incoming.{ReadsFramed, AsksMemory, RefusesRoom, Arriving, Stands}
 
 -- Varints of multiformats
 pub record VarintRows : Type 0 where
@@ -51,6 +53,13 @@ pub record FieldRows : Type 0 where
   -- the largest number and the largest field that are written
   pub largest_writable : IsWritable (entry 536870911 (Varint (2 ^ 64 - 1)))
   pub bytes_writable : IsWritable (entry 1 (Bytes (replicate 300 7)))
+  pub eight_writable : IsWritable (entry 2 (Fixed64 (replicate 8 7)))
+  pub four_writable : IsWritable (entry 2 (Fixed32 (replicate 4 7)))
+  pub seven_unwritable : ¬ IsWritable (entry 2 (Fixed64 (replicate 7 7)))
+  pub five_unwritable : ¬ IsWritable (entry 2 (Fixed32 (replicate 5 7)))
+  pub number_0_unwritable : ¬ IsWritable (entry 0 (Varint 1))
+  pub large_number_unwritable : ¬ IsWritable (entry 536870912 (Varint 1))
+  pub large_varint_unwritable : ¬ IsWritable (entry 1 (Varint (2 ^ 64)))
   pub body_written : shortest_field (entry 2 (Bytes (97 ∷ 98 ∷ []))) ≡ 18 ∷ 2 ∷ 97 ∷ 98 ∷ []
 
 -- What keeps bytes from beginning with a field
@@ -107,3 +116,36 @@ pub record FramedRows : Type 0 where
   pub length_begun : ¬ AsksMemory 300 0 (172 ∷ [])
   pub behind_the_length : ¬ AsksMemory 300 0 (172 ∷ 2 ∷ 7 ∷ [])
   pub past_the_limit : ¬ AsksMemory 2 0 (3 ∷ [])
+
+-- Where memory is refused behind an input: at the last byte of a length alone
+pub record RoomRows : Type 0 where
+  pub at_the_last_byte : RefusesRoom 300 299 [] (172 ∷ 2 ∷ 7 ∷ [])
+  pub in_a_second_piece : RefusesRoom 300 299 (172 ∷ []) (2 ∷ [])
+  pub no_byte : ¬ RefusesRoom 300 0 (172 ∷ 2 ∷ []) []
+  pub room_is_there : ¬ RefusesRoom 300 300 (172 ∷ []) (2 ∷ [])
+  pub in_the_body : ¬ RefusesRoom 300 0 (172 ∷ 2 ∷ []) (7 ∷ [])
+  pub past_the_limit : ¬ RefusesRoom 2 0 [] (3 ∷ [])
+
+-- a message whose body may have up to two bytes
+abbrev pub arriving : List ℕ → Option ℕ → List ℕ → Arriving
+arriving spelling expected body = record {
+  limit = 2;
+  spelling = spelling;
+  expected = expected;
+  body = body;
+  room = 2;
+  failed = false;
+}
+
+-- What is held of an input: nothing but the part of a length, or of a body as long as was announced at most
+pub record StandRows : Type 0 where
+  pub at_first : Stands [] (arriving [] None [])
+  pub in_the_length : Stands (172 ∷ []) (arriving (172 ∷ []) None [])
+  pub in_the_body : Stands (2 ∷ 7 ∷ []) (arriving [] (Some 2) (7 ∷ []))
+  pub whole : Stands (2 ∷ 7 ∷ 8 ∷ []) (arriving [] (Some 2) (7 ∷ 8 ∷ []))
+  pub failed : ¬ Stands [] (record (arriving [] None []) { failed = true })
+  pub another_length : ¬ Stands (172 ∷ []) (arriving (173 ∷ []) None [])
+  pub body_before_its_length : ¬ Stands (172 ∷ []) (arriving (172 ∷ []) None (7 ∷ []))
+  pub another_body : ¬ Stands (2 ∷ 7 ∷ []) (arriving [] (Some 2) (8 ∷ []))
+  pub past_its_end : ¬ Stands (1 ∷ 7 ∷ 8 ∷ []) (arriving [] (Some 1) (7 ∷ 8 ∷ []))
+  pub past_the_limit : ¬ Stands (3 ∷ []) (arriving [] (Some 3) [])

@@ -4,3 +4,4 @@ pub mod Front
 pub mod Readings
 pub mod Ends
 pub mod OneAnswer
+pub mod Rows

@@ -3,8 +3,18 @@
 ghost use Rattle.std.specs.Prelude.{◌≡◌};
 ghost use Rattle.yamux_frames.specs.Frames.{OneReading, SomeReading};
 ghost use Rattle.yamux_frames.specs.OneAnswer.{AreAllowed, OneAnswer, AnswerOrFault, OneFault};
+ghost use Rattle.yamux_frames.specs.Rows.{HeaderRows, HeaderFaultRows, FrameRows, EndRows, PlaceRows};
 
 use crate::header::Header;
+
+/// The definitions say of worked bytes what the specification says.
+pub fn worked_rows()
+    ensures headers { HeaderRows }
+    ensures faults { HeaderFaultRows }
+    ensures frames { FrameRows }
+    ensures ends { EndRows }
+    ensures places { PlaceRows }
+{}
 
 /// No bytes are read in two ways: their frames, the fault among them, and what is left over are determined.
 pub fn one_reading()

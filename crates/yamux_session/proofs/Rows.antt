@@ -1,6 +1,10 @@
 -- Worked rows of sessions, computed by the definitions.
-use Rattle.std.proofs.Common.{◌≡◌, ◌<◌, ℕ, refl, arith}
-use Rattle.yamux_session.specs.Rows.{OpeningRows, EarlyRows, LeavingRows, EndingRows, WindowRows, AnswerRows, FlagRows, NamingRows, GrowthRows}
+use Rattle.std.proofs.Common.{◌≡◌, ◌<◌, ◌≤◌, ℕ, [], ◌∷◌, refl, arith}
+use Rattle.yamux_session.specs.declared.event.Fault.TheVariants.{BadFrame}
+use Rattle.yamux_session.specs.History.Item.{Did}
+use Rattle.yamux_session.specs.History.Act.{Start, Close}
+use Rattle.yamux_session.specs.Runs.Point.{At}
+use Rattle.yamux_session.specs.Rows.{OpeningRows, EarlyRows, LeavingRows, EndingRows, AnsweredRows, WindowRows, OtherRows, AnswerRows, FlagRows, NamingRows, GrowthRows, FirstFaultRows, RunRows}
 
 pub opening_rows : OpeningRows
 opening_rows = record {
@@ -19,15 +23,21 @@ opening_rows = record {
   opened_and_reset = refl;
   opened_again = refl;
   untold_behind_leaving = refl;
+  second_behind_leaving = refl;
+  behind_leaving_and_a_call = refl;
   refused_behind_leaving = refl;
   twelve_live = refl;
   first_of_a_client = refl;
   first_of_a_server = refl;
   next_of_a_server = refl;
+  next_behind_a_frame = refl;
+  next_behind_a_call = refl;
   a_number_left = refl;
   no_number_left = refl;
   gone_away_first = refl;
   gone_away_with_a_code = refl;
+  gone_away_before_a_frame = refl;
+  gone_away_before_a_call = refl;
   data_accepted = refl;
   payload_behind_leaving = refl;
   started_by_a_client = refl;
@@ -42,6 +52,11 @@ opening_rows = record {
   reopened_window = refl;
   reopened_untaken = refl;
   reopened_inbound = refl;
+  reopened_with_credit = refl;
+  reopened_with_much_credit = refl;
+  reopened_with_data = refl;
+  reopened_with_too_much_data = refl;
+  reopened_and_charged = refl;
   reopened_goes_on = refl;
 }
 
@@ -86,6 +101,7 @@ ending_rows = record {
   closed_and_finished = refl;
   finished_and_closed = refl;
   closed_and_going_on = refl;
+  live_behind_the_close = refl;
   closed_refuses = refl;
   ended_once = refl;
   ended_behind_its_data = refl;
@@ -95,6 +111,10 @@ ending_rows = record {
   reset_here = refl;
   reset_here_refuses = refl;
   reset_within_a_frame = refl;
+  close_within_a_frame = refl;
+  closed_within_the_last_frame = refl;
+  leaving_within_a_frame = refl;
+  reset_of_another_within_a_frame = refl;
   finished_is_live = refl;
   finished_can_write = refl;
   closed_is_live = refl;
@@ -108,17 +128,49 @@ ending_rows = record {
   reset_sent = refl;
 }
 
+pub answered_rows : AnsweredRows
+answered_rows = record {
+  next_number = (refl, refl);
+  another_number = λ a. let e : 3 ≡ 1 = a.1 in omega (arith, e);
+  started_behind_leaving = λ a. absurd (cc a.0);
+  written = (refl, ((omega arith, omega arith), tt), omega arith);
+  nothing_written = (refl, tt, omega arith);
+  without_credit = λ a. let some : 1 ≤ 0 = a.2 in omega (arith, some);
+  empty_piece = λ a. let some : 0 < 0 = a.1.0.0 in omega (arith, some);
+  written_behind_the_close = λ a. absurd (cc a.0);
+  all_taken = (refl, omega arith);
+  more_taken = λ a. let most : 3 ≤ 2 = a.1 in omega (arith, most);
+  taken_behind_the_close = (refl, omega arith);
+  taken_of_the_unknown = λ a. absurd (cc a.0);
+  closed = refl;
+  closed_twice = λ a. absurd (cc a);
+  reset_behind_the_close = refl;
+  reset_of_the_unknown = λ a. absurd (cc a);
+  largest_code = omega arith;
+  larger_code = λ a. omega (arith, a);
+  in_turn = (refl, ((refl, refl), tt));
+  not_the_last = λ a. let e : 3 ≡ 1 = a.0.1 in omega (arith, e);
+  not_the_first = λ a. let e : 3 ≡ 1 = a.1.0.1 in omega (arith, e);
+  not_behind_a_frame = λ a. let e : 3 ≡ 1 = a.0.1 in omega (arith, e);
+}
+
 pub window_rows : WindowRows
 window_rows = record {
   handed_out = refl;
   unknown_stream_skipped = refl;
   first_credit = refl;
+  credit_behind_data = refl;
+  window_behind_credit = refl;
   no_credit_untold = refl;
   used_up = refl;
   exceeded = refl;
   exceeded_at_once = refl;
   not_given_back_yet = refl;
   given_back_from_half = refl;
+  given_back_of_three = refl;
+  given_back_once = refl;
+  given_back_twice = refl;
+  not_given_back_for_the_opening_before = refl;
   not_given_back_behind_the_end = refl;
   data_behind_the_end = refl;
   credit_too_large = refl;
@@ -126,6 +178,7 @@ window_rows = record {
   written = refl;
   credit_left = refl;
   credit_of_another = refl;
+  shortest_piece = (omega arith, omega arith);
   longest_piece = (omega arith, omega arith);
   too_long_a_piece = λ is. absurd (let most = is.1 in omega arith);
   empty_piece = λ is. absurd (let some = is.0 in omega arith);
@@ -133,6 +186,7 @@ window_rows = record {
   credit_of_the_closed = refl;
   no_credit_shown = refl;
   credit_of_the_unknown = refl;
+  data_beside_the_most_credit = refl;
   most_credit = refl;
   too_large_at_once = refl;
   credit_behind_the_end = refl;
@@ -150,6 +204,22 @@ window_rows = record {
   not_taken_yet = refl;
   taken_of_another = refl;
   data_arrived = refl;
+}
+
+pub other_rows : OtherRows
+other_rows = record {
+  close_of_one = refl;
+  close_leaves_another_open = refl;
+  reset_of_one_here = refl;
+  end_of_one = refl;
+  credit_of_one = refl;
+  data_of_one = refl;
+  bytes_of_one = refl;
+  inbound_of_one = refl;
+  given_back_for_one = refl;
+  owed_for_one = refl;
+  written_on_one = refl;
+  accepted_of_one = refl;
 }
 
 pub answer_rows : AnswerRows
@@ -204,6 +274,15 @@ flag_rows = record {
   gone_away_on_a_stream_counts = refl;
   gone_away_with_flags = refl;
   gone_away_with_flags_counts = refl;
+  ping_resets_nothing = refl;
+  live_behind_a_ping = refl;
+  ping_ends_nothing = refl;
+  ping_accepts_nothing = refl;
+  gone_away_resets_nothing = refl;
+  live_behind_going_away = refl;
+  gone_away_ends_nothing = refl;
+  gone_away_accepts_nothing = refl;
+  data_behind_a_ping = refl;
   gone_away_twice = refl;
   ping_on_a_stream = refl;
   ping_with_every_flag = refl;
@@ -237,4 +316,46 @@ growth_rows = record {
   ping_sent = let some : 0 < 12 = omega arith in some;
   unknown_unsent = λ more. let none : 0 < 0 = more in omega arith;
   answer_unsent = λ more. let none : 0 < 0 = more in omega arith;
+}
+
+pub first_fault_rows : FirstFaultRows
+first_fault_rows = record {
+  nothing = tt;
+  no_fault = (refl, (refl, tt));
+  the_newest = λ h. absurd (let e = h.0 in cc e);
+  one_before = λ h. absurd (let e = h.1.1.1.0 in cc e);
+  first = ((BadFrame, refl), (refl, (refl, tt)));
+  second = λ f. absurd (let e = f.1.0 in cc e);
+  behind_a_fault = λ f. absurd (let e = f.0.1 in cc e);
+  none = λ f. absurd (let e = f.0.1 in cc e);
+  none_of_nothing = λ f. f;
+}
+
+pub run_rows : RunRows
+run_rows = record {
+  started = ((refl, refl), refl);
+  another_number = λ next a. let e : 3 ≡ 1 = a.0.1 in omega (arith, e);
+  start_refused = (refl, refl);
+  all_taken = ((refl, omega arith), refl);
+  no_more_taken = λ a. absurd (let e = a.1 in cc e);
+  take_refused = (refl, (λ e. absurd (cc e)), refl);
+  nothing_given_back = λ next a. let some : 0 < 0 = a.1 refl in omega (arith, some);
+  closed = (refl, refl);
+  close_refused = (refl, refl);
+  close_for_want_of_memory = (refl, refl);
+  not_closed = λ next a. absurd (let e = a.0 in cc e);
+  refused_and_closed = λ a. absurd (let e = a.1 in cc e);
+  reset = (refl, refl);
+  reset_refused = (refl, refl);
+  left = (omega arith, refl);
+  leaving_for_want_of_memory = (refl, refl);
+  leaving_refused = λ next a. absurd (let e = a.0 in cc e);
+  answer_of_another = λ next a. a;
+  failed = (refl, refl);
+  failed_by_one = λ next a. absurd (let e = a.0 in cc e);
+  output_lost = λ a. absurd (let e = a.1 in cc e);
+  in_turn = (At (Did (Start 1) ∷ []) [], ((refl, refl), refl), (At (Did (Close 1) ∷ Did (Start 1) ∷ []) [], (refl, refl), refl));
+  one_answer_less = λ last a. a;
+  output_while_it_goes = refl;
+  output_of_the_failed = refl;
 }

@@ -14,14 +14,21 @@ use Rattle.yamux_session.specs.History.Act.{Start, Write, Taken, Close, Reset}
 use Rattle.yamux_session.specs.Openings.{live, is_live}
 use Rattle.yamux_session.specs.Windows.{credit, receiving_window, untaken}
 use Rattle.yamux_session.specs.Acts.{IsPiece, frames_length, open_credit, next_own, start_refusal, stream_refusal, direction_refusal}
+use Rattle.yamux_session.specs.Acts.{IsAnswered, AreAnswered}
 use Rattle.yamux_session.specs.Events.{events, TellsMore}
-use Rattle.yamux_session.specs.Data.{inbound}
+use Rattle.yamux_session.specs.Data.{inbound, written}
 use Rattle.yamux_session.specs.Output.{output, SendsMore}
 use Rattle.yamux_session.specs.Events.{Told}
 use Rattle.std.specs.List.{AllByRecursion}
 use Rattle.yamux_session.specs.declared.event.Event.TheVariants as event
 use Rattle.yamux_session.specs.Seen.{IsQuiet}
 use Rattle.yamux_session.specs.Naming.{NamesOne}
+use Rattle.yamux_session.specs.Faults.{HasNoFault}
+use Rattle.yamux_session.specs.State.{FirstFaults}
+use Rattle.yamux_session.specs.declared.calls.Act.TheVariants as call
+use Rattle.yamux_session.specs.declared.calls.ActAnswer.TheVariants.{Stream, Done, Refused}
+use Rattle.yamux_session.specs.Runs.{Point, Answers, AnswersAll, output_at_point}
+use Rattle.yamux_session.specs.Runs.Point.{At, Over}
 use Rattle.yamux_session.specs.Arrives.{HasData}
 
 abbrev pub header : FrameKind → ℕ → ℕ → ℕ → Arrival
@@ -55,10 +62,18 @@ reopened = in_order (bare Window 1 1 0 ∷ (Came Tail ∷ Came (Byte 7) ∷ Came
     (Did (Write 1 ((7 ∷ 8 ∷ []) ∷ [])) ∷ []) ∷ (Did (Close 1) ∷ []) ∷ bare Window 4 1 0 ∷ bare Window 1
     1 0 ∷ [])
 
+-- a stream that both ends have ended
+abbrev pub closed_and_ended : List Item
+closed_and_ended = in_order (bare Window 1 1 0 ∷ (Did (Close 1) ∷ []) ∷ bare Window 4 1 0 ∷ [])
+
 -- a stream with two bytes that came in one frame
 abbrev pub two_bytes : List Item
 two_bytes = in_order (bare Window 1 1 0 ∷ (Came Tail ∷ Came (Byte 99) ∷ Came (Byte 98) ∷ Came
     (header Payload 0 1 2) ∷ []) ∷ [])
+
+-- a stream of which one byte less was taken than is given back, and which was reset and opened again
+abbrev pub opened_behind_takes : List Item
+opened_behind_takes = bare Window 1 1 0 ++ Did (Reset 1) ∷ Did (Taken 1 131071) ∷ Came Tail ∷ full_window
 
 -- How streams are opened
 pub record OpeningRows : Type 0 where
@@ -82,6 +97,10 @@ pub record OpeningRows : Type 0 where
   pub opened_again : events Server (in_order (bare Window 1 1 0 ∷ (Did (Close 1) ∷ []) ∷ bare Window 4 1 0 ∷
       bare Window 1 1 0 ∷ [])) ≡ Told.Opened 1 ∷ Told.Ended 1 ∷ Told.Opened 1 ∷ []
   pub untold_behind_leaving : events Server (in_order ((Did (Act.GoAway 0) ∷ []) ∷ bare Window 1 1 0 ∷ [])) ≡ []
+  pub second_behind_leaving : events Server (in_order ((Did (Act.GoAway 0) ∷ []) ∷ bare Window 1 1 0 ∷
+      bare Window 1 3 0 ∷ [])) ≡ []
+  pub behind_leaving_and_a_call : events Server (in_order ((Did (Act.GoAway 0) ∷ []) ∷ (Did (Start 2) ∷ []) ∷
+      bare Window 1 1 0 ∷ [])) ≡ []
   pub refused_behind_leaving : output Server (in_order ((Did (Act.GoAway 2) ∷ []) ∷ bare Window 1 1 0 ∷ []))
       ≡ 0 ∷ 3 ∷ 0 ∷ 0 ∷ 0 ∷ 0 ∷ 0 ∷ 0 ∷ 0 ∷ 0 ∷ 0 ∷ 2 ∷ 0 ∷ 1 ∷ 0 ∷ 8 ∷ 0 ∷ 0 ∷ 0
       ∷ 1 ∷ 0 ∷ 0 ∷ 0 ∷ 0 ∷ []
@@ -90,11 +109,17 @@ pub record OpeningRows : Type 0 where
   pub first_of_a_client : next_own Client [] ≡ 1
   pub first_of_a_server : next_own Server [] ≡ 2
   pub next_of_a_server : next_own Server (Did (Start 2) ∷ []) ≡ 4
+  pub next_behind_a_frame : next_own Client (bare Window 2 1 0 ++ Did (Start 1) ∷ []) ≡ 3
+  pub next_behind_a_call : next_own Client (Did (Close 1) ∷ Did (Start 1) ∷ []) ≡ 3
   pub a_number_left : start_refusal Client (Did (Start 4294967293) ∷ []) ≡ None
   pub no_number_left : start_refusal Client (Did (Start 4294967295) ∷ []) ≡ Some refused.StreamsExhausted
   pub gone_away_first : start_refusal Client (in_order ((Did (Start 4294967295) ∷ []) ∷ bare GoAway 0 0 0 ∷ []))
       ≡ Some refused.GoneAway
   pub gone_away_with_a_code : start_refusal Client (bare GoAway 0 0 2) ≡ Some refused.GoneAway
+  pub gone_away_before_a_frame : start_refusal Client (in_order (bare GoAway 0 0 0 ∷ bare Ping 1 0 7 ∷ []))
+      ≡ Some refused.GoneAway
+  pub gone_away_before_a_call : start_refusal Client (Did (Act.GoAway 0) ∷ bare GoAway 0 0 0)
+      ≡ Some refused.GoneAway
   pub data_accepted : output Server (Came Tail ∷ Came (Byte 7) ∷ Came (header Payload 1 1 1) ∷ [])
       ≡ 0 ∷ 1 ∷ 0 ∷ 2 ∷ 0 ∷ 0 ∷ 0 ∷ 1 ∷ 0 ∷ 0 ∷ 0 ∷ 0 ∷ []
   pub payload_behind_leaving : events Server (in_order ((Did (Act.GoAway 0) ∷ []) ∷
@@ -117,6 +142,19 @@ pub record OpeningRows : Type 0 where
   pub reopened_window : receiving_window Server reopened 1 ≡ 262144
   pub reopened_untaken : untaken Server reopened 1 ≡ 0
   pub reopened_inbound : inbound Server reopened 1 ≡ []
+  -- what an opening brings is measured against the first windows, whatever the opening before left
+  pub reopened_with_credit : events Server (in_order (bare Window 1 1 4294705151 ∷ bare Window 8 1 0 ∷
+      bare Window 1 1 5 ∷ []))
+      ≡ Told.Opened 1 ∷ Told.Credit 1 ∷ Told.Reset 1 ∷ Told.Opened 1 ∷ Told.Credit 1 ∷ []
+  pub reopened_with_much_credit : events Server (in_order (bare Window 1 1 0 ∷
+      (Did (Write 1 ((7 ∷ 8 ∷ []) ∷ [])) ∷ []) ∷ bare Window 8 1 0 ∷
+      (Came (header Window 1 1 4294705152) ∷ []) ∷ []))
+      ≡ Told.Opened 1 ∷ Told.Reset 1 ∷ Told.Fault WindowTooLarge ∷ []
+  pub reopened_with_data : events Server (in_order (full_window ∷ (Came Tail ∷ []) ∷ bare Window 8 1 0 ∷
+      (Came (header Payload 1 1 262144) ∷ []) ∷ [])) ≡ Told.Opened 1 ∷ Told.Reset 1 ∷ Told.Opened 1 ∷ []
+  pub reopened_with_too_much_data : events Server (Came (header Payload 1 1 262145) ∷ closed_and_ended)
+      ≡ Told.Opened 1 ∷ Told.Ended 1 ∷ Told.Fault WindowExceeded ∷ []
+  pub reopened_and_charged : receiving_window Server (Came (header Payload 1 1 2) ∷ closed_and_ended) 1 ≡ 262142
   pub reopened_goes_on : events Server ((Came Tail ∷ Came (Byte 9) ∷ Came (header Payload 0 1 1) ∷ [])
       ++ reopened)
       ≡ Told.Opened 1 ∷ Told.Payload 1 7 ∷ Told.Ended 1 ∷ Told.Opened 1 ∷ Told.Payload 1 9 ∷ []
@@ -161,6 +199,8 @@ pub record EndingRows : Type 0 where
   pub closed_and_going_on : events Server (in_order (bare Window 1 1 0 ∷ (Did (Close 1) ∷ []) ∷
       (Came Tail ∷ Came (Byte 7) ∷ Came (header Payload 0 1 1) ∷ []) ∷ []))
       ≡ Told.Opened 1 ∷ Told.Payload 1 7 ∷ []
+  pub live_behind_the_close : is_live Server (in_order (bare Window 1 1 0 ∷ (Did (Close 1) ∷ []) ∷
+      (Came Tail ∷ Came (Byte 7) ∷ Came (header Payload 0 1 1) ∷ []) ∷ [])) 1 ≡ true
   pub closed_refuses : direction_refusal Server (Did (Close 1) ∷ bare Window 1 1 0) 1 ≡ Some refused.Ended
   pub ended_once : events Server (in_order (bare Window 1 1 0 ∷ bare Window 4 1 0 ∷ bare Window 4 1 0 ∷ []))
       ≡ Told.Opened 1 ∷ Told.Ended 1 ∷ []
@@ -179,6 +219,19 @@ pub record EndingRows : Type 0 where
       (Came (Byte 7) ∷ Came (header Payload 4 1 2) ∷ []) ∷ (Did (Reset 1) ∷ []) ∷
       (Came Tail ∷ Came (Byte 8) ∷ []) ∷ []))
       ≡ Told.Opened 1 ∷ Told.Payload 1 7 ∷ []
+  -- what is done within a frame cuts it off only where it resets the stream
+  pub close_within_a_frame : events Server (in_order (bare Window 1 1 0 ∷
+      (Came (Byte 7) ∷ Came (header Payload 4 1 2) ∷ []) ∷ (Did (Close 1) ∷ []) ∷
+      (Came Tail ∷ Came (Byte 8) ∷ []) ∷ []))
+      ≡ Told.Opened 1 ∷ Told.Payload 1 7 ∷ Told.Payload 1 8 ∷ Told.Ended 1 ∷ []
+  pub closed_within_the_last_frame : is_live Server (in_order (bare Window 1 1 0 ∷
+      (Came (header Payload 4 1 1) ∷ []) ∷ (Did (Close 1) ∷ []) ∷ (Came Tail ∷ Came (Byte 8) ∷ []) ∷ [])) 1 ≡ false
+  pub leaving_within_a_frame : events Server (in_order ((Came (header Payload 1 1 1) ∷ []) ∷
+      (Did (Act.GoAway 0) ∷ []) ∷ (Came Tail ∷ Came (Byte 7) ∷ []) ∷ []))
+      ≡ Told.Opened 1 ∷ Told.Payload 1 7 ∷ []
+  pub reset_of_another_within_a_frame : events Server (in_order (bare Window 1 1 0 ∷ bare Window 1 3 0 ∷
+      (Came (header Payload 0 1 1) ∷ []) ∷ (Did (Reset 3) ∷ []) ∷ (Came Tail ∷ Came (Byte 7) ∷ []) ∷ []))
+      ≡ Told.Opened 1 ∷ Told.Opened 3 ∷ Told.Payload 1 7 ∷ []
   pub finished_is_live : is_live Server (in_order (bare Window 1 1 0 ∷ bare Window 4 1 0 ∷ [])) 1 ≡ true
   pub finished_can_write : direction_refusal Server (in_order (bare Window 1 1 0 ∷ bare Window 4 1 0 ∷ [])) 1
       ≡ None
@@ -196,6 +249,32 @@ pub record EndingRows : Type 0 where
   pub reset_sent : output Server (Did (Reset 3) ∷ [])
       ≡ 0 ∷ 1 ∷ 0 ∷ 8 ∷ 0 ∷ 0 ∷ 0 ∷ 3 ∷ 0 ∷ 0 ∷ 0 ∷ 0 ∷ []
 
+-- Which acts an end may do
+pub record AnsweredRows : Type 0 where
+  pub next_number : IsAnswered Client [] (Start 1)
+  pub another_number : ¬ IsAnswered Client [] (Start 3)
+  pub started_behind_leaving : ¬ IsAnswered Client (bare GoAway 0 0 0) (Start 1)
+  pub written : IsAnswered Server two_bytes (Write 1 ((7 ∷ []) ∷ []))
+  pub nothing_written : IsAnswered Client all_written (Write 1 [])
+  pub without_credit : ¬ IsAnswered Client all_written (Write 1 ((7 ∷ []) ∷ []))
+  pub empty_piece : ¬ IsAnswered Server two_bytes (Write 1 ([] ∷ []))
+  pub written_behind_the_close : ¬ IsAnswered Server (Did (Close 1) ∷ two_bytes) (Write 1 [])
+  pub all_taken : IsAnswered Server two_bytes (Taken 1 2)
+  pub more_taken : ¬ IsAnswered Server two_bytes (Taken 1 3)
+  pub taken_behind_the_close : IsAnswered Server (Did (Close 1) ∷ two_bytes) (Taken 1 2)
+  pub taken_of_the_unknown : ¬ IsAnswered Server two_bytes (Taken 3 0)
+  pub closed : IsAnswered Server two_bytes (Close 1)
+  pub closed_twice : ¬ IsAnswered Server (Did (Close 1) ∷ two_bytes) (Close 1)
+  pub reset_behind_the_close : IsAnswered Server (Did (Close 1) ∷ two_bytes) (Reset 1)
+  pub reset_of_the_unknown : ¬ IsAnswered Server two_bytes (Reset 3)
+  pub largest_code : IsAnswered Client [] (Act.GoAway 4294967295)
+  pub larger_code : ¬ IsAnswered Client [] (Act.GoAway 4294967296)
+  -- each act of a list, where it was done
+  pub in_turn : AreAnswered Client (Did (Close 1) ∷ Did (Start 1) ∷ [])
+  pub not_the_last : ¬ AreAnswered Client (Did (Start 3) ∷ [])
+  pub not_the_first : ¬ AreAnswered Client (Did (Act.GoAway 0) ∷ Did (Start 3) ∷ [])
+  pub not_behind_a_frame : ¬ AreAnswered Client (bare Ping 1 0 7 ++ Did (Start 3) ∷ [])
+
 -- What the windows let through
 pub record WindowRows : Type 0 where
   pub handed_out : events Server (in_order (bare Window 1 1 0 ∷
@@ -206,6 +285,8 @@ pub record WindowRows : Type 0 where
       bare Window 0 1 5 ∷ []))
       ≡ Told.Opened 1 ∷ Told.Credit 1 ∷ []
   pub first_credit : credit Server (bare Window 1 1 5) 1 ≡ 262149
+  pub credit_behind_data : credit Server two_bytes 1 ≡ 262144
+  pub window_behind_credit : receiving_window Server (bare Window 1 1 5) 1 ≡ 262144
   pub no_credit_untold : events Server (in_order (bare Window 1 1 0 ∷ bare Window 0 1 0 ∷ []))
       ≡ Told.Opened 1 ∷ []
   pub used_up : receiving_window Server full_window 1 ≡ 0
@@ -215,6 +296,16 @@ pub record WindowRows : Type 0 where
   pub not_given_back_yet : output Server (Did (Taken 1 131071) ∷ full_window) ≡ output Server full_window
   pub given_back_from_half : output Server (Did (Taken 1 1) ∷ Did (Taken 1 131071) ∷ full_window)
       ≡ output Server full_window ++ (0 ∷ 1 ∷ 0 ∷ 0 ∷ 0 ∷ 0 ∷ 0 ∷ 1 ∷ 0 ∷ 2 ∷ 0 ∷ 0 ∷ [])
+  -- what was taken adds up until it is given back, and then begins anew
+  pub given_back_of_three : output Server (Did (Taken 1 1) ∷ Did (Taken 1 65535) ∷ Did (Taken 1 65536) ∷ full_window)
+      ≡ output Server (Did (Taken 1 131072) ∷ full_window)
+  pub given_back_once : output Server (Did (Taken 1 1) ∷ Did (Taken 1 131072) ∷ full_window)
+      ≡ output Server (Did (Taken 1 131072) ∷ full_window)
+  pub given_back_twice : output Server (Did (Taken 1 131072) ∷ Did (Taken 1 131072) ∷ full_window)
+      ≡ output Server full_window ++ (0 ∷ 1 ∷ 0 ∷ 0 ∷ 0 ∷ 0 ∷ 0 ∷ 1 ∷ 0 ∷ 2 ∷ 0 ∷ 0 ∷ [])
+      ++ (0 ∷ 1 ∷ 0 ∷ 0 ∷ 0 ∷ 0 ∷ 0 ∷ 1 ∷ 0 ∷ 2 ∷ 0 ∷ 0 ∷ [])
+  pub not_given_back_for_the_opening_before : output Server (Did (Taken 1 1) ∷ opened_behind_takes)
+      ≡ output Server opened_behind_takes
   pub not_given_back_behind_the_end : output Server (Did (Taken 1 262144) ∷ bare Window 4 1 0
       ++ Came Tail ∷ full_window) ≡ output Server full_window
   pub data_behind_the_end : credit Server (in_order (bare Window 1 1 0 ∷ bare Window 4 1 0 ∷ bare Window 4 1 0 ∷
@@ -231,6 +322,7 @@ pub record WindowRows : Type 0 where
       ≡ 262141
   pub credit_of_another : credit Client (Did (Write 3 ((7 ∷ []) ∷ [])) ∷ Did (Start 3) ∷ Did (Start 1) ∷ []) 1
       ≡ 262144
+  pub shortest_piece : IsPiece (0 ∷ [])
   pub longest_piece : IsPiece (replicate 16384 0)
   pub too_long_a_piece : IsPiece (replicate 16385 0) → ⊥
   pub empty_piece : IsPiece [] → ⊥
@@ -238,6 +330,9 @@ pub record WindowRows : Type 0 where
   pub credit_of_the_closed : open_credit Server (Did (Close 1) ∷ bare Window 1 1 5) 1 ≡ None
   pub no_credit_shown : open_credit Client all_written 1 ≡ Some 0
   pub credit_of_the_unknown : open_credit Server [] 1 ≡ None
+  pub data_beside_the_most_credit : events Server (in_order (bare Window 1 1 4294705151 ∷
+      (Came Tail ∷ Came (Byte 7) ∷ Came (header Payload 0 1 1) ∷ []) ∷ []))
+      ≡ Told.Opened 1 ∷ Told.Credit 1 ∷ Told.Payload 1 7 ∷ []
   pub most_credit : events Server (bare Window 1 1 4294705151) ≡ Told.Opened 1 ∷ Told.Credit 1 ∷ []
   pub too_large_at_once : events Server (Came (header Window 1 1 4294705152) ∷ [])
       ≡ Told.Fault WindowTooLarge ∷ []
@@ -260,6 +355,33 @@ pub record WindowRows : Type 0 where
   pub not_taken_yet : untaken Server (Did (Taken 1 1) ∷ two_bytes) 1 ≡ 1
   pub taken_of_another : untaken Server (Did (Taken 3 1) ∷ two_bytes) 1 ≡ 2
   pub data_arrived : inbound Server two_bytes 1 ≡ 98 ∷ 99 ∷ []
+
+-- the streams 1 and 3, of the other end
+abbrev pub two_streams : List Item
+two_streams = in_order (bare Window 1 1 0 ∷ bare Window 1 3 0 ∷ [])
+
+-- and a window that Data has used up on the first
+abbrev pub one_full : List Item
+one_full = Came (header Payload 0 1 262144) ∷ two_streams
+
+-- What happens to one stream leaves another as it is
+pub record OtherRows : Type 0 where
+  pub close_of_one : live Server (Did (Close 1) ∷ in_order (two_streams ∷ bare Window 4 1 0 ∷ bare Window 4 3 0 ∷ []))
+      ≡ 3 ∷ []
+  pub close_leaves_another_open : direction_refusal Server (Did (Close 1) ∷ two_streams) 3 ≡ None
+  pub reset_of_one_here : live Server (Did (Reset 1) ∷ two_streams) ≡ 3 ∷ []
+  pub end_of_one : events Server (in_order (two_streams ∷ bare Window 4 3 0 ∷
+      (Came Tail ∷ Came (Byte 7) ∷ Came (header Payload 0 1 1) ∷ []) ∷ []))
+      ≡ Told.Opened 1 ∷ Told.Opened 3 ∷ Told.Ended 3 ∷ Told.Payload 1 7 ∷ []
+  pub credit_of_one : credit Server (in_order (two_streams ∷ bare Window 0 3 5 ∷ [])) 1 ≡ 262144
+  pub data_of_one : receiving_window Server one_full 3 ≡ 262144
+  pub bytes_of_one : untaken Server (in_order (bare Window 1 3 0 ∷ two_bytes ∷ [])) 3 ≡ 0
+  pub inbound_of_one : inbound Server (in_order (bare Window 1 3 0 ∷ two_bytes ∷ [])) 3 ≡ []
+  pub given_back_for_one : receiving_window Server (Did (Taken 1 131072) ∷ one_full) 3 ≡ 262144
+  pub owed_for_one : output Server (Did (Taken 3 1) ∷ Did (Taken 1 131071) ∷ one_full) ≡ output Server one_full
+  pub written_on_one : written Server (Did (Write 1 ((7 ∷ []) ∷ [])) ∷ two_streams) 3 ≡ []
+  pub accepted_of_one : events Client (in_order ((Did (Start 1) ∷ []) ∷ (Did (Start 3) ∷ []) ∷ bare Window 2 1 0 ∷
+      bare Window 2 3 0 ∷ [])) ≡ Told.Accepted 1 ∷ Told.Accepted 3 ∷ []
 
 -- What is about no stream, and what is accepted
 pub record AnswerRows : Type 0 where
@@ -349,6 +471,23 @@ pub record FlagRows : Type 0 where
   pub gone_away_on_a_stream_counts : start_refusal Client (bare GoAway 0 5 0) ≡ Some refused.GoneAway
   pub gone_away_with_flags : events Server (bare GoAway 15 0 2) ≡ Told.GoAway 2 ∷ []
   pub gone_away_with_flags_counts : start_refusal Client (bare GoAway 15 0 0) ≡ Some refused.GoneAway
+  -- what is about no stream leaves a live one as it is, though it names it
+  pub ping_resets_nothing : events Server (in_order (bare Window 1 1 0 ∷ bare Ping 8 1 7 ∷ []))
+      ≡ Told.Opened 1 ∷ []
+  pub live_behind_a_ping : is_live Server (in_order (bare Window 1 1 0 ∷ bare Ping 8 1 7 ∷ [])) 1 ≡ true
+  pub ping_ends_nothing : events Server (in_order (bare Window 1 1 0 ∷ bare Ping 4 1 7 ∷ []))
+      ≡ Told.Opened 1 ∷ []
+  pub ping_accepts_nothing : events Client (in_order ((Did (Start 1) ∷ []) ∷ bare Ping 2 1 7 ∷ [])) ≡ []
+  pub gone_away_resets_nothing : events Server (in_order (bare Window 1 1 0 ∷ bare GoAway 8 1 0 ∷ []))
+      ≡ Told.Opened 1 ∷ Told.GoAway 0 ∷ []
+  pub live_behind_going_away : is_live Server (in_order (bare Window 1 1 0 ∷ bare GoAway 8 1 0 ∷ [])) 1 ≡ true
+  pub gone_away_ends_nothing : events Server (in_order (bare Window 1 1 0 ∷ bare GoAway 4 1 0 ∷ []))
+      ≡ Told.Opened 1 ∷ Told.GoAway 0 ∷ []
+  pub gone_away_accepts_nothing : events Client (in_order ((Did (Start 1) ∷ []) ∷ bare GoAway 2 1 0 ∷ []))
+      ≡ Told.GoAway 0 ∷ []
+  pub data_behind_a_ping : events Server (in_order (bare Window 1 1 0 ∷ bare Ping 1 0 7 ∷
+      (Came Tail ∷ Came (Byte 7) ∷ Came (header Payload 0 1 1) ∷ []) ∷ []))
+      ≡ Told.Opened 1 ∷ Told.Payload 1 7 ∷ []
   pub gone_away_twice : events Server (in_order (bare GoAway 0 0 0 ∷ bare GoAway 0 0 2 ∷ []))
       ≡ Told.GoAway 0 ∷ Told.GoAway 2 ∷ []
   pub ping_on_a_stream : output Server (bare Ping 1 5 7)
@@ -412,3 +551,59 @@ pub record GrowthRows : Type 0 where
   pub ping_sent : SendsMore Server [] (bare Ping 1 0 7)
   pub unknown_unsent : ¬ SendsMore Server [] (bare Window 0 9 5)
   pub answer_unsent : ¬ SendsMore Server [] (bare Ping 2 0 7)
+
+-- bytes that are no header
+abbrev pub garbled : List Item
+garbled = Came (Garbled (1 ∷ [])) ∷ []
+
+-- A list has no fault where no item has one, and its newest item has the first where those before it have none
+pub record FirstFaultRows : Type 0 where
+  pub nothing : HasNoFault Server []
+  pub no_fault : HasNoFault Server (bare Window 1 1 0)
+  pub the_newest : ¬ HasNoFault Server (garbled ++ bare Window 1 1 0)
+  pub one_before : ¬ HasNoFault Server (in_order (garbled ∷ bare Ping 1 0 7 ∷ (Did (Act.GoAway 0) ∷ []) ∷ []))
+  pub first : FirstFaults Server (garbled ++ bare Window 1 1 0)
+  pub second : ¬ FirstFaults Server (garbled ++ garbled)
+  pub behind_a_fault : ¬ FirstFaults Server (Did (Act.GoAway 0) ∷ garbled)
+  pub none : ¬ FirstFaults Server (bare Window 1 1 0)
+  pub none_of_nothing : ¬ FirstFaults Server []
+
+-- a run that has come to this list, fed nothing
+abbrev pub at : List Item → Point
+at past = At past []
+
+-- What a call of a run is answered, and where it leads
+pub record RunRows : Type 0 where
+  pub started : Answers Client (at []) call.Start (Stream 1) (at (Did (Start 1) ∷ []))
+  pub another_number : (next : Point) → ¬ Answers Client (at []) call.Start (Stream 3) next
+  pub start_refused : Answers Client (at (bare GoAway 0 0 0)) call.Start (Refused refused.GoneAway)
+      (at (bare GoAway 0 0 0))
+  pub all_taken : Answers Server (at two_bytes) (call.Taken 1 5) Done (at (Did (Taken 1 2) ∷ two_bytes))
+  pub no_more_taken : ¬ Answers Server (at two_bytes) (call.Taken 1 5) Done (at (Did (Taken 1 5) ∷ two_bytes))
+  pub take_refused : Answers Server (at []) (call.Taken 1 0) (Refused refused.NoStream) (at [])
+  -- where nothing is given back no memory is asked for
+  pub nothing_given_back : (next : Point)
+      → ¬ Answers Server (at two_bytes) (call.Taken 1 2) (Refused refused.OutOfMemory) next
+  pub closed : Answers Server (at two_bytes) (call.Close 1) Done (at (Did (Close 1) ∷ two_bytes))
+  pub close_refused : Answers Server (at []) (call.Close 1) (Refused refused.NoStream) (at [])
+  pub close_for_want_of_memory : Answers Server (at two_bytes) (call.Close 1) (Refused refused.OutOfMemory)
+      (at two_bytes)
+  pub not_closed : (next : Point) → ¬ Answers Server (at []) (call.Close 1) Done next
+  -- what is refused leads nowhere
+  pub refused_and_closed : ¬ Answers Server (at two_bytes) (call.Close 1) (Refused refused.OutOfMemory)
+      (at (Did (Close 1) ∷ two_bytes))
+  pub reset : Answers Server (at two_bytes) (call.Reset 1) Done (at (Did (Reset 1) ∷ two_bytes))
+  pub reset_refused : Answers Server (at []) (call.Reset 1) (Refused refused.NoStream) (at [])
+  pub left : Answers Server (at []) (call.GoAway 7) Done (at (Did (Act.GoAway 7) ∷ []))
+  pub leaving_for_want_of_memory : Answers Server (at []) (call.GoAway 7) (Refused refused.OutOfMemory) (at [])
+  pub leaving_refused : (next : Point) → ¬ Answers Server (at []) (call.GoAway 7) (Refused refused.Ended) next
+  pub answer_of_another : (next : Point) → ¬ Answers Server (at two_bytes) (call.Close 1) (Stream 1) next
+  -- after a fault each call is refused, and the output stays
+  pub failed : Answers Server (Over (7 ∷ [])) (call.Close 1) (Refused refused.Failed) (Over (7 ∷ []))
+  pub failed_by_one : (next : Point) → ¬ Answers Server (Over (7 ∷ [])) (call.Close 1) (Refused refused.NoStream) next
+  pub output_lost : ¬ Answers Server (Over (7 ∷ [])) (call.Close 1) (Refused refused.Failed) (Over [])
+  pub in_turn : AnswersAll Client (at []) (call.Start ∷ call.Close 1 ∷ []) (Stream 1 ∷ Done ∷ [])
+      (at (Did (Close 1) ∷ Did (Start 1) ∷ []))
+  pub one_answer_less : (last : Point) → ¬ AnswersAll Client (at []) (call.Start ∷ []) [] last
+  pub output_while_it_goes : output_at_point Client (at (Did (Start 1) ∷ [])) ≡ output Client (Did (Start 1) ∷ [])
+  pub output_of_the_failed : output_at_point Client (Over (7 ∷ [])) ≡ 7 ∷ []

@@ -9,8 +9,9 @@ ghost use Rattle.yamux_session.specs.Joined.{AllBeforeTheEnd, Balance, BothGoOn,
 ghost use Rattle.yamux_session.specs.OneOutcome.{OneOutcome};
 ghost use Rattle.yamux_session.specs.Runs.{OneCall, RunIsLegal};
 ghost use Rattle.yamux_session.specs.Tied.{ActGoesOn, FeedGoesOn, WantOfMemoryStops};
-ghost use Rattle.yamux_session.specs.Rows.{AnswerRows, EarlyRows, EndingRows, FlagRows, GrowthRows};
-ghost use Rattle.yamux_session.specs.Rows.{LeavingRows, NamingRows, OpeningRows, WindowRows};
+ghost use Rattle.yamux_session.specs.Rows.{AnswerRows, AnsweredRows, EarlyRows, EndingRows, FirstFaultRows};
+ghost use Rattle.yamux_session.specs.Rows.{FlagRows, GrowthRows, LeavingRows, NamingRows, OpeningRows, OtherRows};
+ghost use Rattle.yamux_session.specs.Rows.{RunRows, WindowRows};
 
 /// The definitions say of worked histories what the specification says.
 pub fn worked_rows()
@@ -18,11 +19,15 @@ pub fn worked_rows()
     ensures early { EarlyRows }
     ensures leaving { LeavingRows }
     ensures endings { EndingRows }
+    ensures answered { AnsweredRows }
     ensures windows { WindowRows }
+    ensures others { OtherRows }
     ensures answers { AnswerRows }
     ensures flags { FlagRows }
     ensures naming { NamingRows }
     ensures growth { GrowthRows }
+    ensures first_faults { FirstFaultRows }
+    ensures runs { RunRows }
 {}
 
 /// At most 256 streams of each end are live.

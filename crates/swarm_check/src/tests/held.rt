@@ -1,10 +1,10 @@
 //! What the gate holds, and when.
 
 use super::gate::Watch;
-use super::{make, peer, proven};
-use pool_state::{Agent, Call, Refusal, Reply};
+use super::{Asked, call, make, proven};
+use plaintext_x::Proven;
+use pool_state::{Refusal, Reply};
 use std::alloc::Global;
-use std::process::Abort;
 use std::rt::Clock;
 use std::sync::Wait;
 use std::test::*;
@@ -23,51 +23,98 @@ pub fn wait_for_the_first<C: Clock>(clock: &C, watch: &Watch) {
 }
 
 /// Each call but Settle.
-fn calls() -> Result<[Call; 11], Fail> {
-    let (first, second) = (peer(0x11), peer(0x22));
-    let agent = Agent::from_bytes(b"x").ok_or("a name")?;
-    Ok([
-        Call::Dial(None),
-        Call::Accept,
-        Call::Ask(1, 0),
-        Call::Done(1, 0),
-        Call::HangUp(first),
-        Call::Block(second),
-        Call::Unblock(second),
-        Call::Gone(1),
-        Call::Allow(first),
-        Call::Disallow(first),
-        Call::Note(2, agent),
-    ])
+static CALLS: [Asked; 11] = [
+    Asked::Dial(None),
+    Asked::Accept,
+    Asked::Ask(1, 0),
+    Asked::Done(1, 0),
+    Asked::HangUp(0x11),
+    Asked::Block(0x22),
+    Asked::Unblock(0x22),
+    Asked::Gone(1),
+    Asked::Allow(0x11),
+    Asked::Disallow(0x11),
+    Asked::Note(2, "x"),
+];
+
+/// Makes the call. Whether the gate has held so many calls then, of caller 1 and of caller 2.
+fn is_held<G: Gate, J: Identity, L: Ledgers, R: Wait>(
+    rt: &R,
+    swarm: &Swarm<G, J, L>,
+    pass: &mut Pass<J, L>,
+    asked: Asked,
+    watch: &Watch,
+    held: (u64, u64),
+) -> bool {
+    let Some(call) = call(asked) else {
+        return false;
+    };
+    make(rt, swarm, pass, &call);
+    watch.held() == (held.0, held.1, 0)
+}
+
+/// How many calls are held as they must be, each of which both callers make.
+fn hold_in_turn<G: Gate, J: Identity, L: Ledgers, R: Wait>(
+    rt: &R,
+    swarm: &Swarm<G, J, L>,
+    one: &mut Pass<J, L>,
+    two: &mut Pass<J, L>,
+    watch: &Watch,
+) -> usize {
+    for (index, asked) in CALLS.iter().enumerate() {
+        let before = index as u64;
+        let behind = before.saturating_add(1);
+        let first = is_held(rt, swarm, one, *asked, watch, (behind, before));
+        let second = is_held(rt, swarm, two, *asked, watch, (behind, behind));
+        if !first || !second {
+            return index;
+        }
+    }
+    CALLS.len()
+}
+
+/// Whether a Settle of each is held, and then the front is at its end, and no call is held any more.
+fn hold_settles<G: Gate, J: Identity, L: Ledgers, R: Wait>(
+    rt: &R,
+    swarm: &Swarm<G, J, L>,
+    one: &mut Pass<J, L>,
+    two: &mut Pass<J, L>,
+    proven: &Proven,
+    watch: &Watch,
+) -> bool {
+    swarm.settle(rt, one, 1, proven);
+    swarm.settle(rt, two, 2, proven);
+    let are_held = watch.held() == (12, 12, 0);
+    let spent = Reply::Refused(Refusal::Spent);
+    let is_spent = swarm.accept(rt, one) == spent && swarm.settle(rt, two, 2, proven) == spent;
+    are_held && is_spent && watch.held() == (12, 12, 0)
+}
+
+fn hold_all<G: Gate, J: Identity, L: Ledgers, R: Wait>(
+    rt: &R,
+    swarm: &Swarm<G, J, L>,
+    passes: &mut [Pass<J, L>],
+    proven: &Proven,
+    watch: &Watch,
+) -> usize {
+    let [one, two] = passes else {
+        return 0;
+    };
+    let held = hold_in_turn(rt, swarm, one, two, watch);
+    let are_settled = hold_settles(rt, swarm, one, two, proven, watch);
+    held.saturating_add(are_settled as usize)
 }
 
 /// Each call of either caller is held once, with its caller's number, and refused or not. One that is turned away isn't
-/// held.
-pub fn hold_each_call<G: Gate, J: Identity, L: Ledgers, R: Wait + Abort>(
+/// held. Gives how many kinds of calls are held so.
+pub fn hold_each_call<G: Gate, J: Identity, L: Ledgers, R: Wait>(
     rt: &R,
     alloc: Global,
     swarm: Swarm<G, J, L>,
     passes: Vec<Pass<J, L>>,
     watch: &Watch,
-) -> Result<(), Fail> {
-    let mut passes = passes;
-    let (Some(mut two), Some(mut one)) = (passes.pop(), passes.pop()) else {
-        return Err(Fail::from("two passes"));
-    };
+) -> Result<usize, Fail> {
     let proven = proven(alloc, 0x11)?;
-    for (index, call) in calls()?.iter().enumerate() {
-        let before = index as u64;
-        make(rt, &swarm, &mut one, call);
-        assert_eq!(rt; watch.held(), (before + 1, before, 0), "{index}");
-        make(rt, &swarm, &mut two, call);
-        assert_eq!(rt; watch.held(), (before + 1, before + 1, 0), "{index}");
-    }
-    swarm.settle(rt, &mut one, 1, &proven);
-    swarm.settle(rt, &mut two, 2, &proven);
-    assert_eq!(rt; watch.held(), (12, 12, 0));
-    let spent = Reply::Refused(Refusal::Spent);
-    assert_eq!(rt; swarm.accept(rt, &mut one), spent);
-    assert_eq!(rt; swarm.settle(rt, &mut two, 2, &proven), spent);
-    assert_eq!(rt; watch.held(), (12, 12, 0));
-    Ok(())
+    let mut passes = passes;
+    Ok(hold_all(rt, &swarm, passes.as_mut_slice(), &proven, watch))
 }

@@ -1,24 +1,20 @@
 //! Worked rows.
 
-use super::{Script, config, make, peer, play, proven};
-use peer_ids::PeerId;
+use super::{Asked, Script, call, config, make, peer_if, play, proven};
 use plaintext_x::Proven;
-use pool_state::{Agent, Call, Config, ConnSide, Phase, Pool, Refusal, Reply, Row};
+use pool_state::{Call, Config, ConnSide, Phase, Pool, Refusal, Reply, Row};
 use std::alloc::Global;
-use std::process::Abort;
 use std::sync::Wait;
 use std::test::*;
 use swarm_calls::{Closed, Identity, Ledgers, NewRefused, NoGate, Pass, Swarm};
 
-fn refused(refusal: Refusal) -> Reply {
-    Reply::Refused(refusal)
-}
+// ---- two callers
 
 /// What one of two callers does, or both.
-#[derive(Clone, Copy, Drop)]
+#[derive(Clone, Copy)]
 enum Act {
     /// This caller makes a call, which is answered so.
-    Make(usize, Call, Reply),
+    Make(usize, Asked, Reply),
     /// This caller lists.
     List(usize),
     /// Both meet.
@@ -26,51 +22,118 @@ enum Act {
 }
 
 /// An act, and the fronts of both passes behind it.
-#[derive(Clone, Copy, Drop)]
-struct Beat {
-    act: Act,
-    fronts: (u64, u64),
-}
+struct Beat(Act, u64, u64);
 
-fn then(act: Act, one: u64, two: u64) -> Beat {
-    Beat {
-        act,
-        fronts: (one, two),
-    }
-}
-
-/// What two callers do in turn, the rows that both list behind that, and how many calls they made.
-#[derive(Drop)]
+/// What two callers do in turn, the rows that both list behind that, and how many calls they made. A row is told by its
+/// number, its side and its peer: nothing was asked for on it.
 struct TwoCallers {
-    beats: Vec<Beat>,
-    rows: Vec<Row>,
+    beats: &'static [Beat],
+    rows: &'static [(u32, ConnSide, Option<u8>)],
     calls: u64,
 }
 
+static TWO_CALLERS: [TwoCallers; 3] = [
+    // Caller 1 dials, and both list it; then both dial another peer, of whom one connection may stand.
+    TwoCallers {
+        beats: &[
+            Beat(Act::Make(1, Asked::Dial(Some(0x11)), Reply::Conn(1)), 1, 0),
+            Beat(Act::List(1), 1, 0),
+            Beat(Act::List(2), 1, 1),
+            Beat(Act::Make(2, Asked::Dial(Some(0x22)), Reply::Conn(2)), 1, 2),
+            Beat(
+                Act::Make(
+                    1,
+                    Asked::Dial(Some(0x22)),
+                    Reply::Refused(Refusal::PeerFull),
+                ),
+                3,
+                2,
+            ),
+            Beat(Act::Meet, 3, 3),
+        ],
+        rows: &[
+            (1, ConnSide::Dialer, Some(0x11)),
+            (2, ConnSide::Dialer, Some(0x22)),
+        ],
+        calls: 3,
+    },
+    // They meet where nobody has called, and again behind a call of each; then the front of one stays while the other
+    // calls.
+    TwoCallers {
+        beats: &[
+            Beat(Act::Meet, 0, 0),
+            Beat(Act::Make(1, Asked::Dial(Some(0x11)), Reply::Conn(1)), 1, 0),
+            Beat(Act::Make(2, Asked::Accept, Reply::Conn(2)), 1, 2),
+            Beat(Act::Meet, 2, 2),
+            Beat(Act::List(1), 2, 2),
+            Beat(Act::Make(2, Asked::HangUp(0x22), Reply::Count(0)), 2, 3),
+            Beat(Act::Make(2, Asked::Block(0x22), Reply::Count(0)), 2, 4),
+            Beat(Act::List(2), 2, 4),
+            Beat(Act::List(1), 4, 4),
+        ],
+        rows: &[
+            (1, ConnSide::Dialer, Some(0x11)),
+            (2, ConnSide::Listener, None),
+        ],
+        calls: 4,
+    },
+    // A dial of one and an accept of the other: behind a meeting both fronts are 2, and each lists both.
+    TwoCallers {
+        beats: &[
+            Beat(Act::Make(1, Asked::Dial(Some(0x11)), Reply::Conn(1)), 1, 0),
+            Beat(Act::Make(2, Asked::Accept, Reply::Conn(2)), 1, 2),
+            Beat(Act::Meet, 2, 2),
+        ],
+        rows: &[
+            (1, ConnSide::Dialer, Some(0x11)),
+            (2, ConnSide::Listener, None),
+        ],
+        calls: 2,
+    },
+];
+
 impl Script for TwoCallers {
-    fn play<J: Identity, L: Ledgers, R: Wait + Abort>(
+    fn play<J: Identity, L: Ledgers, R: Wait>(
         &self,
         rt: &R,
         swarm: Swarm<NoGate, J, L>,
         passes: Vec<Pass<J, L>>,
-    ) -> Result<(), Fail> {
+    ) -> usize {
         let mut passes = passes;
-        let (Some(mut two), Some(mut one)) = (passes.pop(), passes.pop()) else {
-            return Err(Fail::from("two passes"));
-        };
-        for (row, beat) in self.beats.iter().enumerate() {
-            let is_so = goes_so(rt, &swarm, &mut one, &mut two, &beat.act);
-            let fronts = (one.front(), two.front());
-            assert!(rt; is_so && fronts == beat.fronts, "row {row}: {fronts:?}");
+        let held = go(rt, &swarm, passes.as_mut_slice(), self);
+        if held <= self.beats.len() {
+            return held;
         }
-        let listing = swarm.list(&mut one);
-        assert_eq!(rt; listing.conns.as_slice(), self.rows.as_slice());
-        assert!(rt; swarm.list(&mut two) == listing);
-        let closed = close(rt, swarm, passes, one, two)?;
-        assert_eq!(rt; closed.calls, self.calls);
-        assert_eq!(rt; closed.listing.conns.as_slice(), self.rows.as_slice());
-        Ok(())
+        match close(rt, swarm, passes) {
+            Some(closed) => held.saturating_add(self.is_closed(&closed) as usize),
+            None => held,
+        }
     }
+}
+
+impl TwoCallers {
+    fn is_closed(&self, closed: &Closed) -> bool {
+        closed.calls == self.calls && are_rows(closed.listing.conns.as_slice(), self.rows)
+    }
+}
+
+/// How many beats go so, and one more where both callers list the rows then.
+fn go<J: Identity, L: Ledgers, R: Wait>(
+    rt: &R,
+    swarm: &Swarm<NoGate, J, L>,
+    passes: &mut [Pass<J, L>],
+    script: &TwoCallers,
+) -> usize {
+    let [one, two] = passes else {
+        return 0;
+    };
+    for (row, beat) in script.beats.iter().enumerate() {
+        if !goes_so(rt, swarm, one, two, beat) {
+            return row;
+        }
+    }
+    let are_listed = list_both(swarm, one, two, script.rows);
+    script.beats.len().saturating_add(are_listed as usize)
 }
 
 /// Whether the act comes to what it says.
@@ -79,11 +142,12 @@ fn goes_so<J: Identity, L: Ledgers, R: Wait>(
     swarm: &Swarm<NoGate, J, L>,
     one: &mut Pass<J, L>,
     two: &mut Pass<J, L>,
-    act: &Act,
+    beat: &Beat,
 ) -> bool {
-    match act {
-        Act::Make(1, call, reply) => make(rt, swarm, one, call) == *reply,
-        Act::Make(_, call, reply) => make(rt, swarm, two, call) == *reply,
+    let Beat(act, first, second) = beat;
+    let is_so = match act {
+        Act::Make(1, asked, reply) => makes(rt, swarm, one, *asked, *reply),
+        Act::Make(_, asked, reply) => makes(rt, swarm, two, *asked, *reply),
         Act::List(1) => swarm.list(one).front == one.front(),
         Act::List(_) => {
             swarm.renew(two);
@@ -93,200 +157,336 @@ fn goes_so<J: Identity, L: Ledgers, R: Wait>(
             swarm.meet(rt, one, two);
             one.front() == two.front()
         }
+    };
+    is_so && one.front() == *first && two.front() == *second
+}
+
+fn makes<J: Identity, L: Ledgers, R: Wait>(
+    rt: &R,
+    swarm: &Swarm<NoGate, J, L>,
+    pass: &mut Pass<J, L>,
+    asked: Asked,
+    reply: Reply,
+) -> bool {
+    match call(asked) {
+        Some(call) => make(rt, swarm, pass, &call) == reply,
+        None => false,
     }
 }
 
-/// Both passes end the swarm, and either alone doesn't, nor does none.
-fn close<J: Identity, L: Ledgers, R: Wait + Abort>(
-    rt: &R,
-    swarm: Swarm<NoGate, J, L>,
-    passes: Vec<Pass<J, L>>,
-    one: Pass<J, L>,
-    two: Pass<J, L>,
-) -> Result<Closed, Fail> {
-    let Err((swarm, mut passes)) = swarm.close(rt, passes) else {
-        panic!(rt; "both passes are missing");
-    };
-    passes.push(two)?;
-    let Err((swarm, mut passes)) = swarm.close(rt, passes) else {
-        panic!(rt; "the first pass is missing");
-    };
-    let two = passes.pop().ok_or("a pass")?;
-    passes.push(one)?;
-    let Err((swarm, mut passes)) = swarm.close(rt, passes) else {
-        panic!(rt; "the second pass is missing");
-    };
-    passes.push(two)?;
-    let Ok(closed) = swarm.close(rt, passes) else {
-        panic!(rt; "both passes are there");
-    };
-    Ok(closed)
+fn list_both<J: Identity, L: Ledgers>(
+    swarm: &Swarm<NoGate, J, L>,
+    one: &mut Pass<J, L>,
+    two: &mut Pass<J, L>,
+    rows: &[(u32, ConnSide, Option<u8>)],
+) -> bool {
+    let listing = swarm.list(one);
+    swarm.list(two) == listing && are_rows(listing.conns.as_slice(), rows)
 }
 
-/// A row of a connection on which nothing was asked for.
-fn pending(conn: u32, role: ConnSide, peer: Option<PeerId>) -> Row {
+fn are_rows(shown: &[Row], rows: &[(u32, ConnSide, Option<u8>)]) -> bool {
+    let mut held = shown.len() == rows.len();
+    for (place, row) in rows.iter().enumerate() {
+        held = held && shown.get(place) == Some(&pending(*row));
+    }
+    held
+}
+
+fn pending(row: (u32, ConnSide, Option<u8>)) -> Row {
+    let (conn, role, byte) = row;
     Row {
         conn,
         role,
         phase: Phase::Pending,
-        peer,
+        peer: peer_if(byte),
         ..Row::default()
     }
 }
 
-/// Caller 1 dials, and both list it; then both dial another peer, of whom one connection may stand.
-#[test]
-fn two_callers_share_one_history(rt: HostRuntime) -> Result<(), Fail> {
-    let (first, second) = (peer(0x11), peer(0x22));
-    let again = Call::Dial(Some(second));
-    let beats = [
-        then(Act::Make(1, Call::Dial(Some(first)), Reply::Conn(1)), 1, 0),
-        then(Act::List(1), 1, 0),
-        then(Act::List(2), 1, 1),
-        then(Act::Make(2, again, Reply::Conn(2)), 1, 2),
-        then(Act::Make(1, again, refused(Refusal::PeerFull)), 3, 2),
-        then(Act::Meet, 3, 3),
-    ];
-    let rows = [
-        pending(1, ConnSide::Dialer, Some(first)),
-        pending(2, ConnSide::Dialer, Some(second)),
-    ];
-    let script = TwoCallers {
-        beats: Vec::from_array(rt.alloc(), beats)?,
-        rows: Vec::from_array(rt.alloc(), rows)?,
-        calls: 3,
-    };
-    assert_eq!(rt; play(&rt, rt.alloc(), config(1)?, 2, &script)?, None);
-    Ok(())
-}
+/// What is there where a swarm isn't closed.
+type Open<J, L> = (Swarm<NoGate, J, L>, Vec<Pass<J, L>>);
 
-/// They meet where nobody has called, and again behind a call of each; then the front of one stays while the other
-/// calls.
-#[test]
-fn fronts_behind_meetings(rt: HostRuntime) -> Result<(), Fail> {
-    let first = peer(0x11);
-    let beats = [
-        then(Act::Meet, 0, 0),
-        then(Act::Make(1, Call::Dial(Some(first)), Reply::Conn(1)), 1, 0),
-        then(Act::Make(2, Call::Accept, Reply::Conn(2)), 1, 2),
-        then(Act::Meet, 2, 2),
-        then(Act::List(1), 2, 2),
-        then(
-            Act::Make(2, Call::HangUp(peer(0x22)), Reply::Count(0)),
-            2,
-            3,
-        ),
-        then(Act::Make(2, Call::Block(peer(0x22)), Reply::Count(0)), 2, 4),
-        then(Act::List(2), 2, 4),
-        then(Act::List(1), 4, 4),
-    ];
-    let rows = [
-        pending(1, ConnSide::Dialer, Some(first)),
-        pending(2, ConnSide::Listener, None),
-    ];
-    let script = TwoCallers {
-        beats: Vec::from_array(rt.alloc(), beats)?,
-        rows: Vec::from_array(rt.alloc(), rows)?,
-        calls: 4,
-    };
-    assert_eq!(rt; play(&rt, rt.alloc(), config(1)?, 2, &script)?, None);
-    Ok(())
-}
-
-/// A dial of one and an accept of the other: behind a meeting both fronts are 2, and each lists both.
-#[test]
-fn each_lists_both_behind_a_meeting(rt: HostRuntime) -> Result<(), Fail> {
-    let first = peer(0x11);
-    let beats = [
-        then(Act::Make(1, Call::Dial(Some(first)), Reply::Conn(1)), 1, 0),
-        then(Act::Make(2, Call::Accept, Reply::Conn(2)), 1, 2),
-        then(Act::Meet, 2, 2),
-    ];
-    let rows = [
-        pending(1, ConnSide::Dialer, Some(first)),
-        pending(2, ConnSide::Listener, None),
-    ];
-    let script = TwoCallers {
-        beats: Vec::from_array(rt.alloc(), beats)?,
-        rows: Vec::from_array(rt.alloc(), rows)?,
-        calls: 2,
-    };
-    assert_eq!(rt; play(&rt, rt.alloc(), config(1)?, 2, &script)?, None);
-    Ok(())
-}
-
-/// A call, who makes it, and the reply that is wanted.
-#[derive(Clone, Copy, Drop)]
-struct Step {
-    caller: usize,
-    call: Call,
-    reply: Reply,
-}
-
-fn by(caller: usize, call: Call, reply: Reply) -> Step {
-    Step {
-        caller,
-        call,
-        reply,
+/// No pass at all doesn't end the swarm.
+fn stays_without_all<J: Identity, L: Ledgers, R: Wait>(
+    rt: &R,
+    swarm: Swarm<NoGate, J, L>,
+    passes: Vec<Pass<J, L>>,
+) -> Option<Open<J, L>> {
+    let mut passes = passes;
+    let none = passes.split_off(passes.len()).ok()?;
+    match swarm.close(rt, none) {
+        Ok(_) => None,
+        Err((swarm, _)) => Some((swarm, passes)),
     }
 }
 
-/// Calls in turn. A Settle settles what the proof proves. Each reply and each listing after a call are those of a pool
-/// of one thread as well.
-#[derive(Drop)]
-struct Steps {
-    config: Config,
-    proven: Proven,
-    steps: Vec<Step>,
-    calls: u64,
+/// Puts the pass behind the others again.
+fn with_last<J: Identity, L: Ledgers>(open: Open<J, L>, last: Pass<J, L>) -> Option<Open<J, L>> {
+    let (swarm, mut passes) = open;
+    passes.push(last).ok()?;
+    Some((swarm, passes))
 }
 
-impl Script for Steps {
-    fn play<J: Identity, L: Ledgers, R: Wait + Abort>(
+/// Nor do the passes without the last.
+fn stays_without_last<J: Identity, L: Ledgers, R: Wait>(
+    rt: &R,
+    swarm: Swarm<NoGate, J, L>,
+    passes: Vec<Pass<J, L>>,
+) -> Option<Open<J, L>> {
+    let mut passes = passes;
+    let last = passes.pop()?;
+    let open = swarm.close(rt, passes).err()?;
+    with_last(open, last)
+}
+
+/// Both passes end the swarm, and either alone doesn't, nor does none.
+fn close<J: Identity, L: Ledgers, R: Wait>(
+    rt: &R,
+    swarm: Swarm<NoGate, J, L>,
+    passes: Vec<Pass<J, L>>,
+) -> Option<Closed> {
+    let (swarm, passes) = stays_without_all(rt, swarm, passes)?;
+    let (swarm, mut passes) = stays_without_last(rt, swarm, passes)?;
+    passes.reverse();
+    let (swarm, mut passes) = stays_without_last(rt, swarm, passes)?;
+    passes.reverse();
+    swarm.close(rt, passes).ok()
+}
+
+#[test]
+fn two_callers_share_one_history(rt: HostRuntime) -> Result<(), Fail> {
+    for (number, script) in TWO_CALLERS.iter().enumerate() {
+        let held = play(&rt, rt.alloc(), config(1)?, 2, script);
+        let all = script.beats.len().saturating_add(2);
+        assert_eq!(rt; held, Ok(all), "script {number}: so many rows hold");
+    }
+    Ok(())
+}
+
+// ---- calls in turn
+
+/// So many callers, and calls in turn: who makes it, and what it is answered. A Settle settles what a proof of the key
+/// of bytes 11 proves. Then how many calls are made, or why there is no swarm.
+#[derive(Clone, Copy)]
+struct Steps {
+    per_peer: usize,
+    first_front: u64,
+    allow_only: bool,
+    callers: usize,
+    steps: &'static [(usize, Asked, Reply)],
+    calls: u64,
+    refused: Option<NewRefused>,
+}
+
+const STEPS_OF_TWO: Steps = Steps {
+    per_peer: 1,
+    first_front: 0,
+    allow_only: false,
+    callers: 2,
+    steps: &[],
+    calls: 0,
+    refused: None,
+};
+
+static STEPS: [Steps; 7] = [
+    // One caller settles nothing.
+    Steps {
+        callers: 1,
+        steps: &[
+            (1, Asked::HangUp(0x22), Reply::Count(0)),
+            (1, Asked::Block(0x22), Reply::Count(0)),
+            (1, Asked::Unblock(0x22), Reply::Count(1)),
+            (1, Asked::Settle(1, 0x11), Reply::Refused(Refusal::NoConn)),
+        ],
+        calls: 4,
+        ..STEPS_OF_TWO
+    },
+    // Each call is made.
+    Steps {
+        steps: &[
+            (1, Asked::Accept, Reply::Conn(1)),
+            (2, Asked::Ask(1, 0), Reply::Refused(Refusal::NotLive)),
+            (1, Asked::Dial(Some(0x22)), Reply::Conn(2)),
+            (2, Asked::Settle(2, 0x11), Reply::Refused(Refusal::Mismatch)),
+            (1, Asked::Settle(1, 0x11), Reply::Done),
+            (2, Asked::Ask(1, 2), Reply::Done),
+            (1, Asked::Done(1, 2), Reply::Done),
+            (1, Asked::Done(1, 0), Reply::Refused(Refusal::NothingAsked)),
+            (2, Asked::Note(1, "x"), Reply::Done),
+            (1, Asked::HangUp(0x22), Reply::Count(1)),
+            (1, Asked::Block(0x11), Reply::Count(1)),
+            (2, Asked::Dial(Some(0x11)), Reply::Refused(Refusal::Blocked)),
+            (2, Asked::Unblock(0x11), Reply::Count(1)),
+            (1, Asked::Allow(0x11), Reply::Count(1)),
+            (2, Asked::Disallow(0x11), Reply::Count(0)),
+            (2, Asked::Gone(2), Reply::Done),
+            (1, Asked::Gone(2), Reply::Refused(Refusal::NoConn)),
+        ],
+        calls: 17,
+        ..STEPS_OF_TWO
+    },
+    // Allowed peers alone.
+    Steps {
+        per_peer: 8,
+        allow_only: true,
+        steps: &[
+            (
+                1,
+                Asked::Dial(Some(0x11)),
+                Reply::Refused(Refusal::NotAllowed),
+            ),
+            (2, Asked::Accept, Reply::Conn(1)),
+            (
+                1,
+                Asked::Settle(1, 0x11),
+                Reply::Refused(Refusal::NotAllowed),
+            ),
+            (2, Asked::Allow(0x11), Reply::Count(1)),
+            (1, Asked::Allow(0x11), Reply::Count(0)),
+            (1, Asked::Settle(1, 0x11), Reply::Done),
+            (
+                2,
+                Asked::Dial(Some(0x22)),
+                Reply::Refused(Refusal::NotAllowed),
+            ),
+            (2, Asked::Dial(None), Reply::Conn(2)),
+            (1, Asked::Disallow(0x22), Reply::Count(0)),
+            (2, Asked::Disallow(0x11), Reply::Count(1)),
+            (1, Asked::Ask(1, 0), Reply::Refused(Refusal::Closing)),
+            (
+                1,
+                Asked::Settle(2, 0x11),
+                Reply::Refused(Refusal::NotAllowed),
+            ),
+        ],
+        calls: 12,
+        ..STEPS_OF_TWO
+    },
+    // The call at the last front has its reply.
+    Steps {
+        first_front: u64::MAX - 1,
+        steps: &[
+            (1, Asked::Dial(None), Reply::Conn(1)),
+            (2, Asked::Block(0x11), Reply::Refused(Refusal::Spent)),
+        ],
+        calls: 1,
+        ..STEPS_OF_TWO
+    },
+    // A swarm has one to eight callers.
+    Steps {
+        callers: 0,
+        refused: Some(NewRefused::BadCallers),
+        ..STEPS_OF_TWO
+    },
+    Steps {
+        callers: 9,
+        refused: Some(NewRefused::BadCallers),
+        ..STEPS_OF_TWO
+    },
+    Steps {
+        callers: 8,
+        ..STEPS_OF_TWO
+    },
+];
+
+impl Steps {
+    /// How many rows hold, and one more where the end is as it must be.
+    fn outcome(&self) -> Result<usize, NewRefused> {
+        match self.refused {
+            Some(refused) => Err(refused),
+            None => Ok(self.steps.len().saturating_add(1)),
+        }
+    }
+}
+
+/// Calls in turn. Each reply and each listing after a call are those of a pool of one thread as well.
+#[derive(Drop)]
+struct Playing<'a> {
+    config: Config,
+    proven: Proven,
+    script: &'a Steps,
+}
+
+impl Script for Playing<'_> {
+    fn play<J: Identity, L: Ledgers, R: Wait>(
         &self,
         rt: &R,
         swarm: Swarm<NoGate, J, L>,
         passes: Vec<Pass<J, L>>,
-    ) -> Result<(), Fail> {
+    ) -> usize {
         let mut passes = passes;
         let mut pool = Pool::new(self.config);
-        for (row, step) in self.steps.iter().enumerate() {
-            let index = step.caller.wrapping_sub(1);
-            let Some(pass) = passes.as_mut_slice().get_mut(index) else {
-                return Err(Fail::from("a caller"));
-            };
-            take(rt, &swarm, pass, &self.proven, step, &mut pool, row);
+        let held = self.go(rt, &swarm, passes.as_mut_slice(), &mut pool);
+        if held < self.script.steps.len() {
+            return held;
         }
-        let Ok(closed) = swarm.close(rt, passes) else {
-            panic!(rt; "all passes are there");
-        };
-        assert_eq!(rt; closed.calls, self.calls);
-        assert!(rt; closed.listing == pool.listing());
-        Ok(())
+        match swarm.close(rt, passes).ok() {
+            Some(closed) => held.saturating_add(self.is_closed(&closed, &pool) as usize),
+            None => held,
+        }
     }
 }
 
-/// Makes the call, and again where memory was refused, which has then changed nothing.
-fn take<J: Identity, L: Ledgers, R: Wait + Abort>(
+impl Playing<'_> {
+    fn is_closed(&self, closed: &Closed, pool: &Pool) -> bool {
+        closed.calls == self.script.calls && closed.listing == pool.listing()
+    }
+
+    /// How many steps go so.
+    fn go<J: Identity, L: Ledgers, R: Wait>(
+        &self,
+        rt: &R,
+        swarm: &Swarm<NoGate, J, L>,
+        passes: &mut [Pass<J, L>],
+        pool: &mut Pool,
+    ) -> usize {
+        for (row, (caller, asked, reply)) in self.script.steps.iter().enumerate() {
+            let Some(pass) = passes.get_mut(caller.wrapping_sub(1)) else {
+                return row;
+            };
+            let Some(call) = call(*asked) else {
+                return row;
+            };
+            if !takes(rt, swarm, pass, &self.proven, &call, *reply, pool) {
+                return row;
+            }
+        }
+        self.script.steps.len()
+    }
+}
+
+/// Whether the call is answered so, and the pass lists what the pool does then.
+fn takes<J: Identity, L: Ledgers, R: Wait>(
     rt: &R,
     swarm: &Swarm<NoGate, J, L>,
     pass: &mut Pass<J, L>,
     proven: &Proven,
-    step: &Step,
+    call: &Call,
+    reply: Reply,
     pool: &mut Pool,
-    row: usize,
-) {
+) -> bool {
+    let came = make_at_last(rt, swarm, pass, proven, call);
+    let is_answered = came == Some(reply) && pool.apply(*call) == reply;
+    is_answered && pass.listing() == pool.show() && swarm.list(pass) == pool.listing()
+}
+
+/// Makes the call, and again where memory was refused, unless that has changed something.
+fn make_at_last<J: Identity, L: Ledgers, R: Wait>(
+    rt: &R,
+    swarm: &Swarm<NoGate, J, L>,
+    pass: &mut Pass<J, L>,
+    proven: &Proven,
+    call: &Call,
+) -> Option<Reply> {
     let (before, front) = (swarm.list(pass), pass.front());
-    let mut reply = make_or_settle(rt, swarm, pass, proven, &step.call);
-    if reply == refused(Refusal::OutOfMemory) {
-        let same = swarm.list(pass) == before && pass.front() == front;
-        assert!(rt; same, "row {row}");
-        reply = make_or_settle(rt, swarm, pass, proven, &step.call);
+    let reply = make_or_settle(rt, swarm, pass, proven, call);
+    if reply != Reply::Refused(Refusal::OutOfMemory) {
+        return Some(reply);
     }
-    assert_eq!(rt; reply, step.reply, "row {row}");
-    assert_eq!(rt; pool.apply(step.call), step.reply, "row {row}");
-    assert!(rt; pass.listing() == pool.show(), "row {row}");
-    assert!(rt; swarm.list(pass) == pool.listing(), "row {row}");
+    if swarm.list(pass) != before || pass.front() != front {
+        return None;
+    }
+    Some(make_or_settle(rt, swarm, pass, proven, call))
 }
 
 fn make_or_settle<J: Identity, L: Ledgers, R: Wait>(
@@ -302,121 +502,34 @@ fn make_or_settle<J: Identity, L: Ledgers, R: Wait>(
     }
 }
 
-/// Plays the steps, with a proof of the key of bytes 11.
-fn play_steps<R: Wait + Abort>(
+fn play_steps<R: Wait>(
     rt: &R,
     alloc: Global,
-    config: Config,
-    callers: usize,
-    steps: Vec<Step>,
-    calls: u64,
-) -> Result<Option<NewRefused>, Fail> {
-    let proven = proven(alloc, 0x11)?;
-    let script = Steps {
+    script: &Steps,
+) -> Result<Result<usize, NewRefused>, Fail> {
+    let config = Config {
+        first_front: script.first_front,
+        allow_only: script.allow_only,
+        ..config(script.per_peer)?
+    };
+    let playing = Playing {
         config,
-        proven,
-        steps,
-        calls,
+        proven: proven(alloc, 0x11)?,
+        script,
     };
-    play(rt, alloc, script.config, callers, &script)
+    Ok(play(rt, alloc, config, script.callers, &playing))
 }
 
 #[test]
-fn one_caller_settles_nothing(rt: HostRuntime) -> Result<(), Fail> {
-    let (first, second) = (peer(0x11), peer(0x22));
-    let steps = [
-        by(1, Call::HangUp(second), Reply::Count(0)),
-        by(1, Call::Block(second), Reply::Count(0)),
-        by(1, Call::Unblock(second), Reply::Count(1)),
-        by(1, Call::Settle(1, first), refused(Refusal::NoConn)),
-    ];
-    let steps = Vec::from_array(rt.alloc(), steps)?;
-    assert_eq!(rt; play_steps(&rt, rt.alloc(), config(1)?, 1, steps, 4)?, None);
-    Ok(())
-}
-
-#[test]
-fn each_call_is_made(rt: HostRuntime) -> Result<(), Fail> {
-    let (first, second) = (peer(0x11), peer(0x22));
-    let agent = Agent::from_bytes(b"x").ok_or("a name")?;
-    let steps = [
-        by(1, Call::Accept, Reply::Conn(1)),
-        by(2, Call::Ask(1, 0), refused(Refusal::NotLive)),
-        by(1, Call::Dial(Some(second)), Reply::Conn(2)),
-        by(2, Call::Settle(2, first), refused(Refusal::Mismatch)),
-        by(1, Call::Settle(1, first), Reply::Done),
-        by(2, Call::Ask(1, 2), Reply::Done),
-        by(1, Call::Done(1, 2), Reply::Done),
-        by(1, Call::Done(1, 0), refused(Refusal::NothingAsked)),
-        by(2, Call::Note(1, agent), Reply::Done),
-        by(1, Call::HangUp(second), Reply::Count(1)),
-        by(1, Call::Block(first), Reply::Count(1)),
-        by(2, Call::Dial(Some(first)), refused(Refusal::Blocked)),
-        by(2, Call::Unblock(first), Reply::Count(1)),
-        by(1, Call::Allow(first), Reply::Count(1)),
-        by(2, Call::Disallow(first), Reply::Count(0)),
-        by(2, Call::Gone(2), Reply::Done),
-        by(1, Call::Gone(2), refused(Refusal::NoConn)),
-    ];
-    let steps = Vec::from_array(rt.alloc(), steps)?;
-    assert_eq!(rt;
-        play_steps(&rt, rt.alloc(), config(1)?, 2, steps, 17)?,
-        None
-    );
-    Ok(())
-}
-
-#[test]
-fn allowed_peers_alone(rt: HostRuntime) -> Result<(), Fail> {
-    let (first, second) = (peer(0x11), peer(0x22));
-    let steps = [
-        by(1, Call::Dial(Some(first)), refused(Refusal::NotAllowed)),
-        by(2, Call::Accept, Reply::Conn(1)),
-        by(1, Call::Settle(1, first), refused(Refusal::NotAllowed)),
-        by(2, Call::Allow(first), Reply::Count(1)),
-        by(1, Call::Allow(first), Reply::Count(0)),
-        by(1, Call::Settle(1, first), Reply::Done),
-        by(2, Call::Dial(Some(second)), refused(Refusal::NotAllowed)),
-        by(2, Call::Dial(None), Reply::Conn(2)),
-        by(1, Call::Disallow(second), Reply::Count(0)),
-        by(2, Call::Disallow(first), Reply::Count(1)),
-        by(1, Call::Ask(1, 0), refused(Refusal::Closing)),
-        by(1, Call::Settle(2, first), refused(Refusal::NotAllowed)),
-    ];
-    let steps = Vec::from_array(rt.alloc(), steps)?;
-    let config = Config {
-        allow_only: true,
-        ..config(8)?
-    };
-    assert_eq!(rt; play_steps(&rt, rt.alloc(), config, 2, steps, 12)?, None);
-    Ok(())
-}
-
-#[test]
-fn the_call_at_the_last_front_has_its_reply(rt: HostRuntime) -> Result<(), Fail> {
-    let steps = [
-        by(1, Call::Dial(None), Reply::Conn(1)),
-        by(2, Call::Block(peer(0x11)), refused(Refusal::Spent)),
-    ];
-    let steps = Vec::from_array(rt.alloc(), steps)?;
-    let config = Config {
-        first_front: u64::MAX - 1,
-        ..config(1)?
-    };
-    assert_eq!(rt; play_steps(&rt, rt.alloc(), config, 2, steps, 1)?, None);
-    Ok(())
-}
-
-#[test]
-fn a_swarm_has_one_to_eight_callers(rt: HostRuntime) -> Result<(), Fail> {
-    for callers in [0, 9] {
-        let none = Vec::new(rt.alloc());
-        let refused = play_steps(&rt, rt.alloc(), config(1)?, callers, none, 0)?;
-        assert_eq!(rt; refused, Some(NewRefused::BadCallers), "{callers} callers");
+fn calls_in_turn(rt: HostRuntime) -> Result<(), Fail> {
+    for (number, script) in STEPS.iter().enumerate() {
+        let held = play_steps(&rt, rt.alloc(), script)?;
+        assert_eq!(rt;
+            held,
+            script.outcome(),
+            "script {number}: so many rows hold"
+        );
     }
-    let none = Vec::new(rt.alloc());
-    let made = play_steps(&rt, rt.alloc(), config(1)?, 8, none, 0)?;
-    assert_eq!(rt; made, None);
     Ok(())
 }
 
@@ -425,35 +538,36 @@ fn a_swarm_has_one_to_eight_callers(rt: HostRuntime) -> Result<(), Fail> {
 struct Nothing;
 
 impl Script for Nothing {
-    fn play<J: Identity, L: Ledgers, R: Wait + Abort>(
+    fn play<J: Identity, L: Ledgers, R: Wait>(
         &self,
         _rt: &R,
         _swarm: Swarm<NoGate, J, L>,
         _passes: Vec<Pass<J, L>>,
-    ) -> Result<(), Fail> {
-        Ok(())
+    ) -> usize {
+        0
     }
 }
 
 /// It says something where a growth is refused: by `rt try --test --fail-alloc N`.
 #[test]
 fn want_of_memory_is_no_want_of_a_place(rt: HostRuntime) -> Result<(), Fail> {
-    let refused = play(&rt, rt.alloc(), config(1)?, 8, &Nothing)?;
+    let made = play(&rt, rt.alloc(), config(1)?, 8, &Nothing);
     assert!(rt;
-        refused.is_none() || refused == Some(NewRefused::OutOfMemory),
-        "{refused:?}"
+        made == Ok(0) || made == Err(NewRefused::OutOfMemory),
+        "{made:?}"
     );
     Ok(())
 }
 
+static REFUSALS: [(NewRefused, usize); 3] = [
+    (NewRefused::BadCallers, 1),
+    (NewRefused::OutOfMemory, 2),
+    (NewRefused::NoPlace, 3),
+];
+
 #[test]
 fn numbers_of_refusals(rt: HostRuntime) {
-    let refusals = [
-        NewRefused::BadCallers,
-        NewRefused::OutOfMemory,
-        NewRefused::NoPlace,
-    ];
-    for (index, refused) in refusals.iter().enumerate() {
-        assert_eq!(rt; *refused as usize, index + 1);
+    for (refused, number) in REFUSALS.iter() {
+        assert!(rt; *refused as usize == *number, "{number}");
     }
 }

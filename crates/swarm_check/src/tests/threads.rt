@@ -2,15 +2,14 @@
 
 ghost use Rattle.std.specs.Prelude.{◌≡◌};
 
-use super::crowd::{History, run_caller};
+use super::crowd::{History, Told, run_caller};
 use super::gate::{ENOUGH, HoldFirst, PATIENT, Watch};
 use super::held::{hold_each_call, wait_for_the_first};
 use super::{config, peer};
 use peer_ids::PeerId;
 use pool_state::{Config, Refusal, Reply};
-use std::alloc::Global;
+use std::alloc::{AllocError, Global};
 use std::marker::Brand;
-use std::process::Abort;
 use std::rt::Clock;
 use std::sync::Wait;
 use std::sync::atomic::Ordering;
@@ -34,7 +33,8 @@ enum Plan {
     Crowd(u64),
 }
 
-/// A swarm that several threads call. Its gate holds caller 1 until the watch has counted enough.
+/// A swarm that several threads call. Its gate holds caller 1 until the watch has counted enough. Gives how much of the
+/// plan holds: of most plans all or nothing.
 fn run<
     J: Identity + Send + Sync,
     L1: Ledger + Send + Sync,
@@ -45,7 +45,7 @@ fn run<
     L6: Ledger + Send + Sync,
     L7: Ledger + Send + Sync,
     L8: Ledger + Send + Sync,
-    R: Threads + Wait + Abort + Clock + Sync,
+    R: Threads + Wait + Clock + Sync,
 >(
     rt: &R,
     alloc: Global,
@@ -55,7 +55,7 @@ fn run<
     ledgers: BlankLedgers,
     watch: &Watch,
     plan: Plan,
-) -> Result<(), Fail>
+) -> Result<usize, Fail>
     requires history { history ≡ J.book }
     requires config { config ≡ J.config }
     requires callers { callers ≡ J.callers }
@@ -76,23 +76,25 @@ fn run<
         return Err(Fail::from("a swarm"));
     };
     match plan {
-        Plan::Dial => dial_at_once(rt, swarm, passes),
-        Plan::Hold => list_while_held(rt, swarm, passes, watch),
-        Plan::Wait => call_while_held(rt, swarm, passes, watch),
+        Plan::Dial => Ok(dial_at_once(rt, alloc, swarm, passes) as usize),
+        Plan::Hold => Ok(list_while_held(rt, swarm, passes, watch) as usize),
+        Plan::Wait => Ok(call_while_held(rt, swarm, passes, watch) as usize),
         Plan::Count => hold_each_call(rt, alloc, swarm, passes, watch),
-        Plan::Crowd(calls) => call_in_a_crowd(rt, alloc, swarm, passes, calls),
+        Plan::Crowd(calls) => Ok(
+            call_in_a_crowd(rt, alloc, swarm, passes, config, calls)? as usize,
+        ),
     }
 }
 
 /// The same, with a new history and new ledgers.
-fn play<R: Threads + Wait + Abort + Clock + Sync>(
+fn play<R: Threads + Wait + Clock + Sync>(
     rt: &R,
     alloc: Global,
     config: Config,
     callers: usize,
     watch: Watch,
     plan: Plan,
-) -> Result<(), Fail> {
+) -> Result<usize, Fail> {
     run::<Brand, Brand, Brand, Brand, Brand, Brand, Brand, Brand, Brand, R>(
         rt,
         alloc,
@@ -105,16 +107,6 @@ fn play<R: Threads + Wait + Abort + Clock + Sync>(
     )
 }
 
-/// Of a gate that holds nobody for long.
-fn open() -> Watch {
-    Watch::new(ENOUGH, PATIENT)
-}
-
-/// Of a gate that holds caller 1 until the other has listed, or it has looked so often.
-fn closed(patience: u64) -> Watch {
-    Watch::new(0, patience)
-}
-
 fn dial<G: Gate, J: Identity, L: Ledgers, R: Wait>(
     rt: &R,
     swarm: &Swarm<G, J, L>,
@@ -123,6 +115,56 @@ fn dial<G: Gate, J: Identity, L: Ledgers, R: Wait>(
 ) -> (Pass<J, L>, Reply) {
     let reply = swarm.dial(rt, &mut pass, Some(peer));
     (pass, reply)
+}
+
+/// The passes of two callers.
+fn both<J: Identity, L: Ledgers>(passes: Vec<Pass<J, L>>) -> Option<(Pass<J, L>, Pass<J, L>)> {
+    let mut passes = passes;
+    let two = passes.pop()?;
+    let one = passes.pop()?;
+    Some((one, two))
+}
+
+/// How many calls were made, and how many connections stand, where these are all passes.
+fn close<G: Gate, J: Identity, L: Ledgers, R: Wait>(
+    rt: &R,
+    swarm: Swarm<G, J, L>,
+    passes: Vec<Pass<J, L>>,
+) -> Option<(u64, usize)> {
+    let closed = swarm.close(rt, passes).ok()?;
+    Some((closed.calls, closed.listing.conns.len()))
+}
+
+fn in_one<J: Identity, L: Ledgers>(
+    alloc: Global,
+    one: Pass<J, L>,
+    two: Pass<J, L>,
+) -> Option<Vec<Pass<J, L>>> {
+    let mut passes = Vec::new(alloc);
+    passes.push(one).ok()?;
+    passes.push(two).ok()?;
+    Some(passes)
+}
+
+/// Whether one of both dials has a connection, and each pass comes to both calls, which are all.
+fn have_dialed<G: Gate, J: Identity, L: Ledgers, R: Wait>(
+    rt: &R,
+    alloc: Global,
+    swarm: Swarm<G, J, L>,
+    one: (Pass<J, L>, Reply),
+    two: (Pass<J, L>, Reply),
+) -> bool {
+    let (mut one, first) = one;
+    let (mut two, second) = two;
+    let full = Reply::Refused(Refusal::PeerFull);
+    let conn = Reply::Conn(1);
+    let is_one = (first == conn && second == full) || (first == full && second == conn);
+    swarm.meet(rt, &mut one, &mut two);
+    let have_met = one.front() == 2 && two.front() == 2;
+    let Some(passes) = in_one(alloc, one, two) else {
+        return false;
+    };
+    close(rt, swarm, passes) == Some((2, 1)) && is_one && have_met
 }
 
 fn dial_at_once<
@@ -136,40 +178,24 @@ fn dial_at_once<
     L6: Ledger + Send + Sync,
     L7: Ledger + Send + Sync,
     L8: Ledger + Send + Sync,
-    R: Threads + Wait + Abort + Sync,
+    R: Threads + Wait + Sync,
 >(
     rt: &R,
+    alloc: Global,
     swarm: Swarm<G, J, Eight<L1, L2, L3, L4, L5, L6, L7, L8>>,
     passes: Vec<Pass<J, Eight<L1, L2, L3, L4, L5, L6, L7, L8>>>,
-) -> Result<(), Fail> {
-    let mut passes = passes;
-    let (Some(two), Some(one)) = (passes.pop(), passes.pop()) else {
-        return Err(Fail::from("two passes"));
+) -> bool {
+    let Some((one, two)) = both(passes) else {
+        return false;
     };
     let same = peer(0x22);
     let shared = &swarm;
-    let ((mut one, first), (mut two, second)) = join(
+    let (one, two) = join(
         rt,
         move || dial(rt, shared, one, same),
         move || dial(rt, shared, two, same),
     );
-    let full = Reply::Refused(Refusal::PeerFull);
-    let conn = Reply::Conn(1);
-    assert!(rt; (first, second) == (conn, full) || (first, second) == (full, conn));
-    swarm.meet(rt, &mut one, &mut two);
-    assert_eq!(rt; (one.front(), two.front()), (2, 2));
-    passes.push(one)?;
-    passes.push(two)?;
-    let Ok(closed) = swarm.close(rt, passes) else {
-        panic!(rt; "both passes are there");
-    };
-    assert_eq!(rt; (closed.calls, closed.listing.conns.len()), (2, 1));
-    Ok(())
-}
-
-#[test]
-fn two_dials_of_one_peer_at_once(rt: HostRuntime) -> Result<(), Fail> {
-    play(&rt, rt.alloc(), config(1)?, 2, open(), Plan::Dial)
+    have_dialed(rt, alloc, swarm, one, two)
 }
 
 /// Lists often enough for the gate. Gives the front of the last listing.
@@ -186,6 +212,17 @@ fn list_often<G: Gate, J: Identity, L: Ledgers>(
     (pass, front)
 }
 
+/// Whether all listings beside the held call were of the front before it, and one behind it shows it.
+fn has_listed<G: Gate, J: Identity, L: Ledgers>(
+    swarm: &Swarm<G, J, L>,
+    two: &mut (Pass<J, L>, u64),
+    watch: &Watch,
+) -> bool {
+    let listing = swarm.list(&mut two.0);
+    let is_shown = listing.front == 1 && listing.conns.len() == 1;
+    is_shown && two.1 == 0 && watch.gave_up.load(Ordering::SeqCst) == 0
+}
+
 fn list_while_held<
     G: Gate + Sync,
     J: Identity + Send + Sync,
@@ -197,34 +234,34 @@ fn list_while_held<
     L6: Ledger + Send + Sync,
     L7: Ledger + Send + Sync,
     L8: Ledger + Send + Sync,
-    R: Threads + Wait + Abort + Sync,
+    R: Threads + Wait + Sync,
 >(
     rt: &R,
     swarm: Swarm<G, J, Eight<L1, L2, L3, L4, L5, L6, L7, L8>>,
     passes: Vec<Pass<J, Eight<L1, L2, L3, L4, L5, L6, L7, L8>>>,
     watch: &Watch,
-) -> Result<(), Fail> {
-    let mut passes = passes;
-    let (Some(two), Some(one)) = (passes.pop(), passes.pop()) else {
-        return Err(Fail::from("two passes"));
+) -> bool {
+    let Some((one, two)) = both(passes) else {
+        return false;
     };
     let first = peer(0x11);
     let shared = &swarm;
-    let (_one, (mut two, front)) = join(
+    let (_one, mut two) = join(
         rt,
         move || dial(rt, shared, one, first),
         move || list_often(shared, two, watch),
     );
-    assert_eq!(rt; front, 0);
-    assert_eq!(rt; watch.gave_up.load(Ordering::SeqCst), 0);
-    let listing = swarm.list(&mut two);
-    assert_eq!(rt; (listing.front, listing.conns.len()), (1, 1));
-    Ok(())
+    has_listed(&swarm, &mut two, watch)
 }
 
-#[test]
-fn lists_while_a_call_is_held(rt: HostRuntime) -> Result<(), Fail> {
-    play(&rt, rt.alloc(), config(1)?, 2, closed(PATIENT), Plan::Hold)
+fn have_called<J: Identity, L: Ledgers>(
+    one: &(Pass<J, L>, Reply),
+    two: &(Pass<J, L>, Reply),
+    watch: &Watch,
+) -> bool {
+    let are_made = one.1 == Reply::Conn(1) && two.1 == Reply::Conn(2);
+    let are_in_turn = one.0.front() == 1 && two.0.front() == 2;
+    are_made && are_in_turn && watch.gave_up.load(Ordering::SeqCst) == 1
 }
 
 /// A call of the second waits until that of the first, which holds the lock, is made.
@@ -239,20 +276,19 @@ fn call_while_held<
     L6: Ledger + Send + Sync,
     L7: Ledger + Send + Sync,
     L8: Ledger + Send + Sync,
-    R: Threads + Wait + Abort + Clock + Sync,
+    R: Threads + Wait + Clock + Sync,
 >(
     rt: &R,
     swarm: Swarm<G, J, Eight<L1, L2, L3, L4, L5, L6, L7, L8>>,
     passes: Vec<Pass<J, Eight<L1, L2, L3, L4, L5, L6, L7, L8>>>,
     watch: &Watch,
-) -> Result<(), Fail> {
-    let mut passes = passes;
-    let (Some(two), Some(one)) = (passes.pop(), passes.pop()) else {
-        return Err(Fail::from("two passes"));
+) -> bool {
+    let Some((one, two)) = both(passes) else {
+        return false;
     };
     let (first, second) = (peer(0x11), peer(0x22));
     let shared = &swarm;
-    let ((one, replied), (two, answered)) = join(
+    let (one, two) = join(
         rt,
         move || dial(rt, shared, one, first),
         move || {
@@ -260,25 +296,46 @@ fn call_while_held<
             dial(rt, shared, two, second)
         },
     );
-    assert_eq!(rt; (replied, answered), (Reply::Conn(1), Reply::Conn(2)));
-    assert_eq!(rt; (one.front(), two.front()), (1, 2));
-    assert_eq!(rt; watch.gave_up.load(Ordering::SeqCst), 1);
-    Ok(())
+    have_called(&one, &two, watch)
 }
 
-#[test]
-fn a_call_waits_while_another_is_held(rt: HostRuntime) -> Result<(), Fail> {
-    play(&rt, rt.alloc(), config(1)?, 2, closed(300), Plan::Wait)
+/// Takes the passes of all callers. Whether what they saw is one history.
+fn gather<J: Identity, L: Ledgers>(
+    callers: Vec<(Pass<J, L>, Option<Told>)>,
+    passes: &mut Vec<Pass<J, L>>,
+    history: &mut History,
+) -> Result<bool, AllocError> {
+    let mut held = true;
+    for (pass, told) in callers {
+        passes.push(pass)?;
+        held = held && has_noted(history, &told);
+    }
+    Ok(held)
 }
 
-/// Two callers make each call; then the front is at its end.
-#[test]
-fn each_call_is_held_once(rt: HostRuntime) -> Result<(), Fail> {
-    let config = Config {
-        first_front: u64::MAX - 24,
-        ..config(1)?
-    };
-    play(&rt, rt.alloc(), config, 2, open(), Plan::Count)
+fn has_noted(history: &mut History, told: &Option<Told>) -> bool {
+    match told {
+        Some(told) => history.note(told),
+        None => false,
+    }
+}
+
+/// Whether the callers' passes are all, and what they saw is one history.
+fn is_one_history<G: Gate, J: Identity, L: Ledgers, R: Wait>(
+    rt: &R,
+    alloc: Global,
+    swarm: Swarm<G, J, L>,
+    callers: Vec<(Pass<J, L>, Option<Told>)>,
+    config: Config,
+    all: u64,
+) -> Result<bool, AllocError> {
+    let mut history = History::blank(alloc, all)?;
+    let mut passes = Vec::new(alloc);
+    let is_one = gather(callers, &mut passes, &mut history)? && history.repeats(config);
+    match close(rt, swarm, passes) {
+        Some((made, _)) => Ok(is_one && made == all),
+        None => Ok(false),
+    }
 }
 
 fn call_in_a_crowd<
@@ -292,14 +349,15 @@ fn call_in_a_crowd<
     L6: Ledger + Send + Sync,
     L7: Ledger + Send + Sync,
     L8: Ledger + Send + Sync,
-    R: Threads + Wait + Abort + Sync,
+    R: Threads + Wait + Sync,
 >(
     rt: &R,
     alloc: Global,
     swarm: Swarm<G, J, Eight<L1, L2, L3, L4, L5, L6, L7, L8>>,
     passes: Vec<Pass<J, Eight<L1, L2, L3, L4, L5, L6, L7, L8>>>,
+    config: Config,
     calls: u64,
-) -> Result<(), Fail> {
+) -> Result<bool, Fail> {
     let peers = [peer(0x11), peer(0x22), peer(0x33)];
     let (shared, named) = (&swarm, &peers);
     let callers = map_vec(
@@ -307,22 +365,81 @@ fn call_in_a_crowd<
         passes,
         &|pass| run_caller(rt, alloc, shared, pass, named, calls),
     )?;
-    let mut history = History::blank(alloc, calls.saturating_mul(8))?;
-    let mut passes = Vec::new(alloc);
-    for (pass, told) in callers {
-        passes.push(pass)?;
-        let told = told.ok_or("memory")?;
-        assert!(rt; history.note(&told));
-    }
-    assert!(rt; history.repeats(config(4)?));
-    let Ok(closed) = swarm.close(rt, passes) else {
-        panic!(rt; "all passes are there");
-    };
-    assert_eq!(rt; closed.calls, calls.saturating_mul(8));
-    Ok(())
+    let all = calls.saturating_mul(8);
+    Ok(is_one_history(rt, alloc, swarm, callers, config, all)?)
 }
 
+/// A plan, the first front, how many connections a peer may have, how many callers there are, how often the other
+/// caller is taken to have listed, how often the gate looks at most, and how much of the plan holds.
+struct Row {
+    plan: Plan,
+    first_front: u64,
+    per_peer: usize,
+    callers: usize,
+    listed: u64,
+    patience: u64,
+    holds: usize,
+}
+
+static ROWS: [Row; 5] = [
+    Row {
+        plan: Plan::Dial,
+        first_front: 0,
+        per_peer: 1,
+        callers: 2,
+        listed: ENOUGH,
+        patience: PATIENT,
+        holds: 1,
+    },
+    Row {
+        plan: Plan::Hold,
+        first_front: 0,
+        per_peer: 1,
+        callers: 2,
+        listed: 0,
+        patience: PATIENT,
+        holds: 1,
+    },
+    Row {
+        plan: Plan::Wait,
+        first_front: 0,
+        per_peer: 1,
+        callers: 2,
+        listed: 0,
+        patience: 300,
+        holds: 1,
+    },
+    // Two callers make each call; then the front is at its end.
+    Row {
+        plan: Plan::Count,
+        first_front: u64::MAX - 24,
+        per_peer: 1,
+        callers: 2,
+        listed: ENOUGH,
+        patience: PATIENT,
+        holds: 12,
+    },
+    Row {
+        plan: Plan::Crowd(2_000),
+        first_front: 0,
+        per_peer: 4,
+        callers: 8,
+        listed: ENOUGH,
+        patience: PATIENT,
+        holds: 1,
+    },
+];
+
 #[test]
-fn eight_threads_make_one_history(rt: HostRuntime) -> Result<(), Fail> {
-    play(&rt, rt.alloc(), config(4)?, 8, open(), Plan::Crowd(2_000))
+fn several_threads_call_a_swarm(rt: HostRuntime) -> Result<(), Fail> {
+    for (number, row) in ROWS.iter().enumerate() {
+        let config = Config {
+            first_front: row.first_front,
+            ..config(row.per_peer)?
+        };
+        let watch = Watch::new(row.listed, row.patience);
+        let holds = play(&rt, rt.alloc(), config, row.callers, watch, row.plan)?;
+        assert_eq!(rt; holds, row.holds, "row {number}: so much of it holds");
+    }
+    Ok(())
 }

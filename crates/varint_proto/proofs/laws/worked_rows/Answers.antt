@@ -1,4 +1,4 @@
-use Rattle.varint_proto.proofs.Rows.{varint_rows, wide_rows, field_rows, fault_rows, framed_rows}
+use Rattle.varint_proto.proofs.Rows.{varint_rows, wide_rows, field_rows, fault_rows, framed_rows, room_rows, stand_rows}
 use Rattle.varint_proto.proofs.laws.worked_rows.Goals as goal
 
 pub returns-clause-varints : goal.returns-clause-varints
@@ -15,3 +15,9 @@ returns-clause-faults c = fault_rows
 
 pub returns-clause-framed : goal.returns-clause-framed
 returns-clause-framed c = framed_rows
+
+pub returns-clause-room : goal.returns-clause-room
+returns-clause-room c = room_rows
+
+pub returns-clause-stands : goal.returns-clause-stands
+returns-clause-stands c = stand_rows

@@ -1,4 +1,4 @@
-use Rattle.yamux_session.proofs.Rows.{opening_rows, early_rows, leaving_rows, naming_rows, ending_rows, window_rows, answer_rows, flag_rows, growth_rows}
+use Rattle.yamux_session.proofs.Rows.{opening_rows, early_rows, leaving_rows, naming_rows, ending_rows, answered_rows, window_rows, answer_rows, flag_rows, growth_rows, first_fault_rows, other_rows, run_rows}
 use Rattle.yamux_session.proofs.laws.worked_rows.Goals as goal
 
 pub returns-clause-openings : goal.returns-clause-openings
@@ -27,3 +27,15 @@ returns-clause-leaving c = leaving_rows
 
 pub returns-clause-naming : goal.returns-clause-naming
 returns-clause-naming c = naming_rows
+
+pub returns-clause-answered : goal.returns-clause-answered
+returns-clause-answered c = answered_rows
+
+pub returns-clause-runs : goal.returns-clause-runs
+returns-clause-runs c = run_rows
+
+pub returns-clause-first_faults : goal.returns-clause-first_faults
+returns-clause-first_faults c = first_fault_rows
+
+pub returns-clause-others : goal.returns-clause-others
+returns-clause-others c = other_rows
