@@ -4,7 +4,7 @@ use Rattle.std.proofs.lemmas.List.{append-nil}
 use Rattle.varint_proto.specs.Varint.{IsSpelling, IsUnended}
 use Rattle.varint_proto.specs.Incoming.{Announces}
 use Rattle.identify_h.specs.declared.fault.IdentifyFault.TheVariants.{TooLong, TooMany, OutOfMemory}
-use Rattle.identify_h.specs.Streams.{left_behind, Begins, GoesOn, AsksRoom, TakeFails}
+use Rattle.identify_h.specs.Streams.{left_behind, Begins, AsksRoom, TakeFails, AskingGoesOn}
 use Rattle.identify_h.specs.Rows.{RoomRows}
 use Rattle.identify_h.proofs.Outcomes.{there, framed_not, one_outcome}
 use Rattle.identify_h.proofs.Rows.{one_short, framed_row, stream_rows, fault_rows}
@@ -21,7 +21,7 @@ announces_not limit len input unended announces =
     unended_not spelling announces.begins.1.ends (subst IsUnended (announces.begins.2 ∙ append-nil spelling) unended)
 
 -- where memory is asked for the input has no fault
-asks_goes : (input : List ℕ) → AsksRoom input → GoesOn input
+pub asks_goes : AskingGoesOn
 asks_goes input asks = record {
   bodies = asks.0;
   rest = asks.1;

@@ -16,10 +16,10 @@ use Rattle.varint_proto.specs.declared.fault.WireFault.TheVariants as wire
 use Rattle.varint_proto.specs.Incoming.{Frames}
 use Rattle.peer_ids.specs.declared.fault.KeyFault.TheVariants as keys
 use Rattle.identify_h.specs.declared.fault.IdentifyFault.TheVariants.{TooMany, OutOfMemory}
-use Rattle.identify_h.specs.Messages.{IsKeySpelt, HasText, HasField, Refuses}
+use Rattle.identify_h.specs.Messages.{IsKeySpelt, HasText, HasField, Refuses, SaysSomething}
 use Rattle.identify_h.specs.Streams.{Lead, Begins as BeginsWith, HasFault, left_behind}
 use Rattle.identify_h.proofs.Messages.{not_spelt}
-use Rattle.identify_h.specs.Rows.{key_field, key_id, texts_and_none, MessageRows, FieldRows, MemoryRows, BadKeyRows, MergeRows, StreamRows, FaultRows}
+use Rattle.identify_h.specs.Rows.{key_field, key_id, nothing, texts_and_none, MessageRows, FieldRows, MemoryRows, BadKeyRows, MergeRows, StreamRows, FaultRows}
 
 one_wide : (n : ℕ) (rest : List ℕ) → n < 128 → BeginsWide (n ∷ rest) n rest
 one_wide n rest lt = (n ∷ [], record { ends = lt; within = omega arith; fits = omega arith; value = omega arith }, refl)
@@ -315,6 +315,14 @@ memory_at peer bytes fields message refused =
     let same = one_message bytes refused.0 fields refused.1 message in
     subst (λ (t : List Entry). IsKeySpelt (last_body 1 t) × HasField t) same (refused.2, refused.3)
 
+says_nothing : ¬ SaysSomething nothing
+says_nothing (inl key) = absurd (cc key)
+says_nothing (inr (inl listen)) = listen refl
+says_nothing (inr (inr (inl protocols))) = protocols refl
+says_nothing (inr (inr (inr (inl observed)))) = absurd (cc observed)
+says_nothing (inr (inr (inr (inr (inl version))))) = absurd (cc version)
+says_nothing (inr (inr (inr (inr (inr agent))))) = absurd (cc agent)
+
 pub memory_rows : MemoryRows
 unfolding texts_fields
 memory_rows = record {
@@ -373,6 +381,13 @@ memory_rows = record {
       let spelt = (memory_at [] (10 ∷ 0 ∷ 42 ∷ 1 ∷ 97 ∷ []) (entry 1 (Bytes []) ∷ entry 5 (Bytes (97 ∷ [])) ∷ [])
       (42 ∷ 1 ∷ 97 ∷ [], empty_field 1 10 _ refl (omega arith) (omega arith), ([], short_field 5 42 97 [] refl (omega arith) (omega arith), refl)) refused).0 in
       key_or_fault [] spelt.0 keys.NoType (λ e. cc) spelt.1 ([], refl, refl);
+  nothing_written = says_nothing;
+  key_written = inl refl;
+  entry_written = inr (inl (λ e. absurd (cc e)));
+  protocol_written = inr (inr (inl (λ e. absurd (cc e))));
+  observed_written = inr (inr (inr (inl refl)));
+  version_written = inr (inr (inr (inr (inl refl))));
+  agent_written = inr (inr (inr (inr (inr refl))));
 }
 
 -- ---- keys that aren't well spelt

@@ -101,6 +101,11 @@ fields_of m =
     body_if 1 (option_map canonical_of m.key) ++ bodies_of 2 m.listen ++ bodies_of 3 m.protocols
     ++ body_if 4 m.observed ++ body_if 5 m.version ++ body_if 6 m.agent
 
+-- some field is there
+abbrev pub SaysSomething : Message → Type 0
+SaysSomething m =
+    IsSome m.key ⊎ (m.listen ≢ []) ⊎ (m.protocols ≢ []) ⊎ IsSome m.observed ⊎ IsSome m.version ⊎ IsSome m.agent
+
 -- the body that is sent: the shortest spelling of the fields
 abbrev pub written : Message → List ℕ
 written m = flat_map shortest_field (fields_of m)

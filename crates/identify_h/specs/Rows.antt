@@ -3,7 +3,7 @@ use Rattle.std.specs.Prelude.{◌≡◌, ◌↔◌, ℕ, List, [], ◌∷◌, �
 use Rattle.handlers.specs.Calls.{Take, Give, End, ToTake, ToGive, ToEnd}
 use Rattle.peer_ids.specs.declared.kind.KeyType.TheVariants.{Ed25519}
 use Rattle.peer_ids.specs.PeerId.{id_of}
-use Rattle.identify_h.specs.Messages.{Message, Spells, Refuses, HasBadKey, written, merged}
+use Rattle.identify_h.specs.Messages.{Message, Spells, Refuses, HasBadKey, SaysSomething, written, merged}
 use Rattle.identify_h.specs.declared.fault.IdentifyFault.TheVariants.{Failed, TooLong, TooMany, Wire, OtherKey, Cut, OutOfMemory}
 use Rattle.varint_proto.specs.declared.fault.IncomingRefused.TheVariants as incoming
 use Rattle.peer_ids.specs.declared.fault.KeyFault.TheVariants as keys
@@ -130,6 +130,14 @@ pub record MemoryRows : Type 0 where
   pub text_behind_an_empty : Refuses [] (42 ∷ 0 ∷ 42 ∷ 1 ∷ 97 ∷ []) OutOfMemory
   -- a key that isn't well spelt, and a version behind it
   pub bad_key : ¬ Refuses [] (10 ∷ 0 ∷ 42 ∷ 1 ∷ 97 ∷ []) OutOfMemory
+  -- and where a message is written: for each field, be it empty
+  pub nothing_written : ¬ SaysSomething nothing
+  pub key_written : SaysSomething keyed
+  pub entry_written : SaysSomething (record nothing { listen = [] ∷ [] })
+  pub protocol_written : SaysSomething (record nothing { protocols = [] ∷ [] })
+  pub observed_written : SaysSomething (record nothing { observed = Some [] })
+  pub version_written : SaysSomething (record nothing { version = Some [] })
+  pub agent_written : SaysSomething (record nothing { agent = Some [] })
 
 -- Which messages have a key that isn't well spelt: the last, be it empty or cut, whatever stands beside it; a key of
 -- another peer is well spelt

@@ -108,6 +108,10 @@ pub record SomeOutcome : Type 0 where
 abbrev pub FaultsStay : Type 0
 FaultsStay = (input more : List ℕ) (fault : IdentifyFault) → HasFault input fault → HasFault (input ++ more) fault
 
+-- Where memory is asked for the input has no fault so far, so its want stands for none
+abbrev pub AskingGoesOn : Type 0
+AskingGoesOn = (input : List ℕ) → AsksRoom input → GoesOn input
+
 -- A message that is written and sent behind its length is one stream, which says it
 abbrev pub SentIsRead : Type 0
 SentIsRead = (peer : List ℕ) (m : Message) → HasKeyOf peer m.key → length (written m) ≤ most_bytes

@@ -1,12 +1,12 @@
 //! The identify message.
 
-ghost use Rattle.std.specs.Prelude.{◌≡◌, ◌≢◌, ◌⊎◌, ◌++◌, ◌<◌, ◌≤◌, ◌+◌, ◌*◌, ◌^◌, ◌-◌, ℕ, List, Option, Some, None, Ok, Err, IfOk, IfErr, OnOk, OnErr, length, map, min};
+ghost use Rattle.std.specs.Prelude.{◌≡◌, ◌≢◌, ◌⊎◌, ◌++◌, ◌<◌, ◌≤◌, ◌+◌, ◌*◌, ◌^◌, ◌-◌, ℕ, List, Option, Some, None, Ok, Err, IsSome, IfOk, IfErr, OnOk, OnErr, length, map, min, []};
 ghost use Rattle.std.specs.Option.{option_copied, option_map};
 ghost use Rattle.std.specs.List.{flat_map};
 ghost use Rattle.varint_proto.specs.declared.fault.WireFault.{WireFault};
 ghost use Rattle.varint_proto.specs.Message.{FaultIn, shortest_field, entry, Bytes, IsTag};
 ghost use Rattle.peer_ids.specs.PeerId.{canonical_of};
-ghost use Rattle.identify_h.specs.Messages.{Message, IsKeyOf, RefusesKeyOf, Spells, Refuses, HasBadKey, written, body_if, bodies_of, merged, newer_list};
+ghost use Rattle.identify_h.specs.Messages.{Message, IsKeyOf, RefusesKeyOf, Spells, Refuses, HasBadKey, SaysSomething, written, body_if, bodies_of, merged, newer_list};
 ghost use Rattle.identify_h.specs.Parts.{texts, text};
 
 use crate::fault::IdentifyFault;
@@ -65,8 +65,9 @@ fn own_key(alloc: Global, bytes: &[u8], peer: PeerId) -> Result<PublicKey, Ident
 /// Appends the field where it is there.
 fn write_if(body: &mut Vec<u8>, number: u32, part: &Option<Vec<u8>>) -> Result<(), AllocError>
     requires { IsTag (8 * number + 2) }
-    ensures { OnOk result (body.new.items
+    ensures written { OnOk result (body.new.items
         ≡ body.old.items ++ flat_map shortest_field (body_if number (text part.now))) }
+    ensures memory { OnErr result (IsSome (text part.now)) }
 {
     match part {
         None => Ok(()),
@@ -77,8 +78,9 @@ fn write_if(body: &mut Vec<u8>, number: u32, part: &Option<Vec<u8>>) -> Result<(
 /// Appends a field for each entry.
 fn write_all(body: &mut Vec<u8>, number: u32, list: &[Vec<u8>]) -> Result<(), AllocError>
     requires { IsTag (8 * number + 2) }
-    ensures { OnOk result (body.new.items
+    ensures written { OnOk result (body.new.items
         ≡ body.old.items ++ flat_map shortest_field (bodies_of number (texts list.now))) }
+    ensures memory { OnErr result (texts list.now ≢ []) }
 {
     for bytes in list {
         write_body(body, number, bytes)?;
@@ -177,6 +179,8 @@ impl Identify {
     /// its shortest spelling.
     pub fn write(&self) -> Result<Vec<u8>, AllocError>
         ensures written { IfOk result (λ body. body.items ≡ written self.now) }
+        // What says nothing asks for none.
+        ensures memory { OnErr result (SaysSomething self.now) }
     {
         let mut body = Vec::new(*self.listen.allocator());
         self.append_to(&mut body)?;
@@ -185,7 +189,8 @@ impl Identify {
 
     /// Appends that body.
     pub(crate) fn append_to(&self, out: &mut Vec<u8>) -> Result<(), AllocError>
-        ensures { OnOk result (out.new.items ≡ out.old.items ++ written self.now) }
+        ensures written { OnOk result (out.new.items ≡ out.old.items ++ written self.now) }
+        ensures memory { OnErr result (SaysSomething self.now) }
     {
         if let Some(key) = &self.key {
             write_body(out, 1, &key.canonical()?)?;

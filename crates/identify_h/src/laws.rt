@@ -8,7 +8,7 @@ ghost use Rattle.handlers.specs.Calls.{HasFailed, HasEnded};
 ghost use Rattle.identify_h.specs.declared.fault.IdentifyFault.TheVariants.{Failed, OutOfMemory};
 ghost use Rattle.identify_h.specs.Faults.{number_of};
 ghost use Rattle.identify_h.specs.Messages.{KeyIsThePeers, OneMessage, WrittenIsRead};
-ghost use Rattle.identify_h.specs.Streams.{Reads, OneOutcome, SomeOutcome, FaultsStay, SentIsRead};
+ghost use Rattle.identify_h.specs.Streams.{Reads, OneOutcome, SomeOutcome, FaultsStay, AskingGoesOn, SentIsRead};
 ghost use Rattle.identify_h.specs.Reading.{Reader, Stands, IsFresh, Alike};
 ghost use Rattle.identify_h.specs.Sending.{Sending, sending};
 ghost use Rattle.identify_h.specs.Rows.{MessageRows, FieldRows, MemoryRows, BadKeyRows, MergeRows, StreamRows};
@@ -66,6 +66,11 @@ pub fn some_outcome()
 /// A fault stays, whatever comes behind it: it doesn't depend on how the input is cut.
 pub fn faults_stay()
     ensures { FaultsStay }
+{}
+
+/// Where a stream asks for memory its input has no fault so far: want of memory hides none that came before.
+pub fn asking_goes_on()
+    ensures { AskingGoesOn }
 {}
 
 /// A reader is finished exactly where the end has come; then the whole stream says what it has read. It gives nothing,
