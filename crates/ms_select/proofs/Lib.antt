@@ -12,3 +12,4 @@ pub mod Fresh
 pub mod Cut
 pub mod SomeTalk
 pub mod Rows
+pub mod JoinedRows

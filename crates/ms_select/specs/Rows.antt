@@ -8,6 +8,7 @@ use Rattle.ms_select.specs.Messages.{header, na, ls, message, ReadsMessage}
 use Rattle.ms_select.specs.Listening.{IsName, choice, Listens}
 use Rattle.ms_select.specs.Dialing.{Dials, MaySend}
 use Rattle.ms_select.specs.Sides.{EndsLength, RunsOut}
+use Rattle.ms_select.specs.Joined.{ServesMore, Serves, CallsMore, Calls, Joined}
 
 -- two names, and messages as they are spelt
 abbrev pub x : List ℕ
@@ -130,3 +131,23 @@ pub record MemoryRows : Type 0 where
   -- the byte that would ask for memory is a fault
   pub fault_of_a_listener : ¬ RunsOut Listener (y ∷ []) header_bytes header_bytes (0 ∷ [])
   pub fault_of_a_dialer : ¬ RunsOut Dialer (x ∷ y ∷ []) (header_bytes ++ x_bytes) header_bytes (0 ∷ [])
+
+-- Which ends may write more than their side of a talk: one that has agreed, and a dialer of one name that waits for the
+-- answer. What two joined ends have heard is what the other has written.
+pub record JoinedRows : Type 0 where
+  pub calls_early : CallsMore (x ∷ []) (Ok Going)
+  pub calls_agreed : CallsMore (x ∷ y ∷ []) (Ok (Agreed 1))
+  pub calls_of_two : ¬ CallsMore (x ∷ y ∷ []) (Ok Going)
+  pub calls_in_vain : ¬ CallsMore (x ∷ y ∷ []) (Ok NoneLeft)
+  pub calls_failed : ¬ CallsMore (x ∷ y ∷ []) (Err BadHeader)
+  pub serves_agreed : ServesMore (Ok (Agreed 1))
+  pub serves_going : ¬ ServesMore (Ok Going)
+  pub serves_failed : ¬ ServesMore (Err BadHeader)
+  pub data_early : Calls (x ∷ []) [] (Ok Going) (header_bytes ++ x_bytes ++ 7 ∷ [])
+  pub no_data_of_two : ¬ Calls (x ∷ y ∷ []) [] (Ok Going) (header_bytes ++ x_bytes ++ 7 ∷ [])
+  pub data_agreed : Serves (y ∷ []) (header_bytes ++ y_bytes) (Ok (Agreed 0)) (header_bytes ++ y_bytes ++ 7 ∷ [])
+  pub no_data_early : ¬ Serves (y ∷ []) [] (Ok Going) (header_bytes ++ 7 ∷ [])
+  pub both_agreed : Joined (x ∷ y ∷ []) (y ∷ []) (header_bytes ++ na_bytes ++ y_bytes)
+      (header_bytes ++ x_bytes ++ y_bytes) (Ok (Agreed 1)) (Ok (Agreed 0))
+  pub on_the_way : Joined (x ∷ y ∷ []) (y ∷ []) [] header_bytes (Ok Going) (Ok Going)
+  pub never_written : ¬ Joined (x ∷ []) (y ∷ []) (header_bytes ++ x_bytes) [] (Ok (Agreed 0)) (Ok Going)

@@ -7,6 +7,7 @@ ghost use Rattle.ms_select.specs.Joined.{OneName};
 ghost use Rattle.ms_select.specs.Sides.{AnswersAsDefined};
 ghost use Rattle.ms_select.specs.Laws.{DecisionStays, FaultStays, NothingBehind, AskedAll};
 ghost use Rattle.ms_select.specs.Rows.{MessageRows, NameRows, ChoiceRows, ListenRows, DialRows, SendRows, MemoryRows};
+ghost use Rattle.ms_select.specs.Rows.{JoinedRows};
 
 /// The definitions say of worked bytes what the standard and this project's profile say.
 pub fn worked_rows()
@@ -17,6 +18,7 @@ pub fn worked_rows()
     ensures dialer { DialRows }
     ensures sends { SendRows }
     ensures memory { MemoryRows }
+    ensures joined { JoinedRows }
 {}
 
 /// Two ends that both agree in one talk name the same protocol.

@@ -1,4 +1,5 @@
 use super::*;
+use std::alloc::{AllocError, Global};
 use std::test::*;
 
 /// The header as a message.
@@ -8,343 +9,493 @@ const M_NA: &[u8] = b"\x13/multistream/1.0.0\n\x03na\n";
 
 const NA: &[u8] = b"\x03na\n";
 
-/// What a side answers, how many bytes it has used, and all that it wrote.
-type Came = (Result<Answer, SelectFault>, usize, Vec<u8>);
+/// The header, the proposal of x, and behind it that of y.
+const M_X: &[u8] = b"\x13/multistream/1.0.0\n\x03/x\n";
 
-/// Feeds the input in pieces of this size.
-fn heard(rt: &HostRuntime, names: &[&str], input: &[u8], size: usize) -> Result<Came, Fail> {
-    let mut listener = Listener::new(rt.alloc(), names).ok().ok_or("names")?;
-    let mut answer = Ok(Answer::Going);
-    let mut used = 0usize;
-    for piece in input.chunks(size.max(1)) {
-        match listener.feed(piece) {
+const M_X_Y: &[u8] = b"\x13/multistream/1.0.0\n\x03/x\n\x03/y\n";
+
+const M_NA_Y: &[u8] = b"\x13/multistream/1.0.0\n\x03na\n\x03/y\n";
+
+const M_PLAINTEXT: &[u8] = b"\x13/multistream/1.0.0\n\x11/plaintext/2.0.0\n";
+
+// ---- one end, however its input is cut
+
+/// An end that knows these names, an input, the answer to it, how many bytes are used where it is no fault, all output,
+/// and whether data may be sent then, which a listener never says.
+#[derive(Clone, Copy)]
+struct Row {
+    role: Role,
+    names: &'static [&'static str],
+    input: &'static [u8],
+    answer: Result<Answer, SelectFault>,
+    used: usize,
+    output: &'static [u8],
+    may_send: bool,
+}
+
+/// Before any input: a listener of y, a dialer of x, and one of x and y.
+const Y: Row = Row {
+    role: Role::Listener,
+    names: &["/y"],
+    input: b"",
+    answer: Ok(Answer::Going),
+    used: 0,
+    output: M,
+    may_send: false,
+};
+
+const X: Row = Row {
+    role: Role::Dialer,
+    names: &["/x"],
+    output: M_X,
+    may_send: true,
+    ..Y
+};
+
+const X_Y: Row = Row {
+    names: &["/x", "/y"],
+    may_send: false,
+    ..X
+};
+
+static LISTENERS: [Row; 12] = [
+    Y,
+    // The longest message.
+    Row {
+        input: b"\x13/multistream/1.0.0\n\x80\x08",
+        used: 22,
+        ..Y
+    },
+    // Refused, then agreed; what follows isn't used.
+    Row {
+        input: b"\x13/multistream/1.0.0\n\x03/x\n\x03/y\nNext",
+        answer: Ok(Answer::Agreed(0)),
+        used: 28,
+        output: M_NA_Y,
+        ..Y
+    },
+    Row {
+        input: b"\x13/multistream/1.0.0\n\x03ls\n",
+        used: 24,
+        output: M_NA,
+        ..Y
+    },
+    // The header again is a proposal that isn't supported.
+    Row {
+        input: b"\x13/multistream/1.0.0\n\x13/multistream/1.0.0\n",
+        used: 40,
+        output: M_NA,
+        ..Y
+    },
+    Row {
+        input: b"\x13/multistream/1.0.0\n\x81\x08",
+        answer: Err(SelectFault::BadLength),
+        ..Y
+    },
+    Row {
+        input: b"\x13/multistream/1.0.0\n\x00",
+        answer: Err(SelectFault::BadLength),
+        ..Y
+    },
+    Row {
+        input: b"\x13/multistream/1.0.0\n\x83\x00",
+        answer: Err(SelectFault::BadLength),
+        ..Y
+    },
+    Row {
+        input: b"\x13/multistream/1.0.0\n\x02ab",
+        answer: Err(SelectFault::NoNewline),
+        ..Y
+    },
+    Row {
+        input: NA,
+        answer: Err(SelectFault::BadHeader),
+        ..Y
+    },
+    // The first of two equal names.
+    Row {
+        names: &["/x", "/y", "/y"],
+        input: b"\x13/multistream/1.0.0\n\x03/y\n",
+        answer: Ok(Answer::Agreed(1)),
+        used: 24,
+        output: b"\x13/multistream/1.0.0\n\x03/y\n",
+        ..Y
+    },
+    // Reserved names are never supported.
+    Row {
+        names: &["na", "ls", "/multistream/1.0.0"],
+        input: b"\x13/multistream/1.0.0\n\x03na\n\x03ls\n\x13/multistream/1.0.0\n",
+        used: 48,
+        output: b"\x13/multistream/1.0.0\n\x03na\n\x03na\n\x03na\n",
+        ..Y
+    },
+];
+
+static DIALERS: [Row; 17] = [
+    // The first name is refused, and the second agreed on; what follows isn't used.
+    Row {
+        input: b"\x13/multistream/1.0.0\n\x03na\n\x03/y\nN",
+        answer: Ok(Answer::Agreed(1)),
+        used: 28,
+        output: M_X_Y,
+        may_send: true,
+        ..X_Y
+    },
+    Row {
+        input: b"\x13/multistream/1.0.0\n\x03na\n\x03na\n\x03na\n",
+        answer: Ok(Answer::NoneLeft),
+        used: 28,
+        output: M_X_Y,
+        ..X_Y
+    },
+    Row {
+        input: M,
+        used: 20,
+        ..X_Y
+    },
+    Row {
+        input: b"\x13/multistream/1.0.0\n\x03/z\n",
+        answer: Err(SelectFault::NotProposed),
+        ..X_Y
+    },
+    Row {
+        input: b"\x03/x\n",
+        answer: Err(SelectFault::BadHeader),
+        ..X_Y
+    },
+    Row {
+        input: b"\x13/multistream/1.0.0\n\x81\x08",
+        answer: Err(SelectFault::BadLength),
+        ..X_Y
+    },
+    // The echo of another name is not proposed.
+    Row {
+        input: b"\x13/multistream/1.0.0\n\x03/y\n",
+        answer: Err(SelectFault::NotProposed),
+        ..X_Y
+    },
+    // The agreement ends inside a piece.
+    Row {
+        names: &["/plaintext/2.0.0"],
+        input: b"\x13/multistream/1.0.0\n\x11/plaintext/2.0.0\nNmore",
+        answer: Ok(Answer::Agreed(0)),
+        used: 38,
+        output: M_PLAINTEXT,
+        ..X
+    },
+    // Data may go before the answer to one name.
+    X,
+    Row {
+        input: M,
+        used: 20,
+        ..X
+    },
+    Row {
+        input: M_NA,
+        answer: Ok(Answer::NoneLeft),
+        used: 24,
+        may_send: false,
+        ..X
+    },
+    Row {
+        input: NA,
+        answer: Err(SelectFault::BadHeader),
+        may_send: false,
+        ..X
+    },
+    X_Y,
+    Row {
+        input: M_NA,
+        used: 24,
+        output: M_X_Y,
+        ..X_Y
+    },
+    // To a dialer na is a refusal, also of the name na.
+    Row {
+        names: &["na"],
+        input: M_NA,
+        answer: Ok(Answer::NoneLeft),
+        used: 24,
+        output: M_NA,
+        may_send: false,
+        ..X
+    },
+    // A dialer without names writes nothing.
+    Row {
+        names: &[],
+        output: b"",
+        may_send: false,
+        ..X
+    },
+    Row {
+        names: &[],
+        input: M,
+        answer: Ok(Answer::NoneLeft),
+        output: b"",
+        may_send: false,
+        ..X
+    },
+];
+
+#[derive(Drop)]
+enum End {
+    Dials(Dialer),
+    Listens(Listener),
+}
+
+impl End {
+    fn new(alloc: Global, role: Role, names: &[&str]) -> Result<End, SelectFault> {
+        match role {
+            Role::Dialer => Ok(End::Dials(Dialer::new(alloc, names)?)),
+            Role::Listener => Ok(End::Listens(Listener::new(alloc, names)?)),
+        }
+    }
+
+    fn feed(&mut self, piece: &[u8]) -> Result<Step, SelectFault> {
+        match self {
+            End::Dials(dialer) => dialer.feed(piece),
+            End::Listens(listener) => listener.feed(piece),
+        }
+    }
+
+    fn take_output(&mut self) -> Vec<u8> {
+        match self {
+            End::Dials(dialer) => dialer.take_output(),
+            End::Listens(listener) => listener.take_output(),
+        }
+    }
+
+    fn may_send(&self) -> bool {
+        match self {
+            End::Dials(dialer) => dialer.may_send(),
+            End::Listens(_) => false,
+        }
+    }
+}
+
+/// What an end answered last, how many bytes it has used, and what it wrote.
+#[derive(Drop)]
+struct Came {
+    end: End,
+    answer: Result<Answer, SelectFault>,
+    used: usize,
+    output: Vec<u8>,
+}
+
+impl Came {
+    /// Feeds a piece. Whether it is used whole where nothing is decided by it, and not at all behind a decision, which
+    /// stays, as a fault does.
+    fn hears(&mut self, piece: &[u8]) -> bool {
+        let fed = self.end.feed(piece);
+        match self.answer {
+            Ok(Answer::Going) => self.goes_on(fed, piece.len()),
+            Ok(answer) => fed == Ok(Step { used: 0, answer }),
+            Err(_) => fed == Err(SelectFault::Failed),
+        }
+    }
+
+    fn goes_on(&mut self, fed: Result<Step, SelectFault>, len: usize) -> bool {
+        match fed {
             Ok(step) => {
-                used = used.saturating_add(step.used);
-                answer = Ok(step.answer);
+                self.answer = Ok(step.answer);
+                self.used = self.used.saturating_add(step.used);
+                step.answer != Answer::Going || step.used == len
             }
             Err(fault) => {
-                answer = Err(fault);
-                if listener.feed(piece) != Err(SelectFault::Failed) {
-                    return Err("failed for good".into());
-                }
-                break;
+                self.answer = Err(fault);
+                true
             }
         }
     }
-    Ok((answer, used, listener.take_output()))
-}
 
-/// The same of a dialer.
-fn called(rt: &HostRuntime, names: &[&str], input: &[u8], size: usize) -> Result<Came, Fail> {
-    let mut dialer = Dialer::new(rt.alloc(), names).ok().ok_or("names")?;
-    let mut answer = Ok(Answer::Going);
-    let mut used = 0usize;
-    for piece in input.chunks(size.max(1)) {
-        match dialer.feed(piece) {
-            Ok(step) => {
-                used = used.saturating_add(step.used);
-                answer = Ok(step.answer);
+    fn take_output(&mut self) -> Result<(), AllocError> {
+        let output = self.end.take_output();
+        self.output.extend_from_slice(&output)?;
+        Ok(())
+    }
+
+    fn is_as(&self, row: &Row) -> bool {
+        let is_used = row.answer.is_err() || self.used == row.used;
+        let is_written = self.output.as_slice() == row.output;
+        let is_as = self.answer == row.answer && is_used && is_written;
+        is_as && self.end.may_send() == row.may_send
+    }
+
+    /// Plays the row in pieces of this size, behind each of which output is taken, or at the end alone.
+    fn plays(&mut self, row: &Row, size: usize, at_once: bool) -> Result<bool, AllocError> {
+        let mut held = true;
+        for piece in row.input.chunks(size.max(1)) {
+            if at_once {
+                self.take_output()?;
             }
-            Err(fault) => {
-                answer = Err(fault);
-                if dialer.feed(piece) != Err(SelectFault::Failed) {
-                    return Err("failed for good".into());
-                }
-                break;
-            }
+            held = self.hears(piece) && held;
         }
+        self.take_output()?;
+        Ok(held && self.is_as(row) && (row.answer == Ok(Answer::Going) || self.hears(M)))
     }
-    Ok((answer, used, dialer.take_output()))
 }
 
-#[test]
-fn listener_of_y_however_the_input_is_cut(rt: HostRuntime) -> Result<(), Fail> {
-    // Input, answer, bytes used where it is no fault, output.
-    let rows: [(&[u8], Result<Answer, SelectFault>, usize, &[u8]); 10] = [
-        // The longest message.
-        (
-            b"\x13/multistream/1.0.0\n\x80\x08",
-            Ok(Answer::Going),
-            22,
-            M,
-        ),
-        // Refused, then agreed; what follows isn't used.
-        (
-            b"\x13/multistream/1.0.0\n\x03/x\n\x03/y\nNext",
-            Ok(Answer::Agreed(0)),
-            28,
-            b"\x13/multistream/1.0.0\n\x03na\n\x03/y\n",
-        ),
-        (
-            b"\x13/multistream/1.0.0\n\x03ls\n",
-            Ok(Answer::Going),
-            24,
-            M_NA,
-        ),
-        // The header again is a proposal that isn't supported.
-        (
-            b"\x13/multistream/1.0.0\n\x13/multistream/1.0.0\n",
-            Ok(Answer::Going),
-            40,
-            M_NA,
-        ),
-        (b"", Ok(Answer::Going), 0, M),
-        (
-            b"\x13/multistream/1.0.0\n\x81\x08",
-            Err(SelectFault::BadLength),
-            0,
-            M,
-        ),
-        (
-            b"\x13/multistream/1.0.0\n\x00",
-            Err(SelectFault::BadLength),
-            0,
-            M,
-        ),
-        (
-            b"\x13/multistream/1.0.0\n\x83\x00",
-            Err(SelectFault::BadLength),
-            0,
-            M,
-        ),
-        (
-            b"\x13/multistream/1.0.0\n\x02ab",
-            Err(SelectFault::NoNewline),
-            0,
-            M,
-        ),
-        (b"\x03na\n", Err(SelectFault::BadHeader), 0, M),
-    ];
-    for (row, (input, answer, used, output)) in rows.iter().enumerate() {
-        for size in [1, 7, 1024] {
-            let came = heard(&rt, &["/y"], *input, size)?;
-            assert_eq!(rt; came.0, *answer, "row {row} in pieces of {size}");
-            if came.0.is_ok() {
-                assert_eq!(rt; came.1, *used, "row {row} in pieces of {size}");
-            }
-            assert_eq!(rt; came.2.as_slice(), *output, "row {row} in pieces of {size}");
-        }
-    }
-    Ok(())
-}
-
-#[test]
-fn dialer_of_x_and_y_however_the_input_is_cut(rt: HostRuntime) -> Result<(), Fail> {
-    let rows: [(&[u8], Result<Answer, SelectFault>, usize, &[u8]); 6] = [
-        // The first name is refused, and the second agreed on; what follows isn't used.
-        (
-            b"\x13/multistream/1.0.0\n\x03na\n\x03/y\nN",
-            Ok(Answer::Agreed(1)),
-            28,
-            b"\x13/multistream/1.0.0\n\x03/x\n\x03/y\n",
-        ),
-        (
-            b"\x13/multistream/1.0.0\n\x03na\n\x03na\n\x03na\n",
-            Ok(Answer::NoneLeft),
-            28,
-            b"\x13/multistream/1.0.0\n\x03/x\n\x03/y\n",
-        ),
-        (
-            b"\x13/multistream/1.0.0\n",
-            Ok(Answer::Going),
-            20,
-            b"\x13/multistream/1.0.0\n\x03/x\n",
-        ),
-        (
-            b"\x13/multistream/1.0.0\n\x03/z\n",
-            Err(SelectFault::NotProposed),
-            0,
-            b"\x13/multistream/1.0.0\n\x03/x\n",
-        ),
-        (
-            b"\x03/x\n",
-            Err(SelectFault::BadHeader),
-            0,
-            b"\x13/multistream/1.0.0\n\x03/x\n",
-        ),
-        (
-            b"\x13/multistream/1.0.0\n\x81\x08",
-            Err(SelectFault::BadLength),
-            0,
-            b"\x13/multistream/1.0.0\n\x03/x\n",
-        ),
-    ];
-    for (row, (input, answer, used, output)) in rows.iter().enumerate() {
-        for size in [1, 7, 1024] {
-            let came = called(&rt, &["/x", "/y"], *input, size)?;
-            assert_eq!(rt; came.0, *answer, "row {row} in pieces of {size}");
-            if came.0.is_ok() {
-                assert_eq!(rt; came.1, *used, "row {row} in pieces of {size}");
-            }
-            assert_eq!(rt; came.2.as_slice(), *output, "row {row} in pieces of {size}");
-        }
-    }
-    Ok(())
-}
-
-#[test]
-fn agreement_ends_inside_a_piece(rt: HostRuntime) -> Result<(), Fail> {
-    const SENT: &[u8] = b"\x13/multistream/1.0.0\n\x11/plaintext/2.0.0\n";
-    let mut dialer = Dialer::new(rt.alloc(), &["/plaintext/2.0.0"])
-        .ok()
-        .ok_or("a name")?;
-    assert_eq!(rt; dialer.take_output().as_slice(), SENT);
-    for byte in &SENT[..SENT.len() - 1] {
-        assert_eq!(rt;
-            dialer.feed(&[*byte]),
-            Ok(Step {
-                used: 1,
-                answer: Answer::Going
-            })
-        );
-    }
-    assert_eq!(rt;
-        dialer.feed(b"\nN"),
-        Ok(Step {
-            used: 1,
-            answer: Answer::Agreed(0)
-        })
-    );
-    assert_eq!(rt;
-        dialer.feed(b"more"),
-        Ok(Step {
+fn holds(alloc: Global, row: &Row, size: usize) -> Result<bool, Fail> {
+    let mut held = true;
+    for at_once in [true, false] {
+        let end = End::new(alloc, row.role, row.names).ok().ok_or("names")?;
+        let mut came = Came {
+            end,
+            answer: Ok(Answer::Going),
             used: 0,
-            answer: Answer::Agreed(0)
-        })
-    );
+            output: Vec::new(alloc),
+        };
+        held = came.plays(row, size, at_once)? && held;
+    }
+    Ok(held)
+}
+
+#[test]
+fn listeners_however_the_input_is_cut(rt: HostRuntime) -> Result<(), Fail> {
+    for (number, row) in LISTENERS.iter().enumerate() {
+        for size in [1, 7, 1024] {
+            let held = holds(rt.alloc(), row, size)?;
+            assert!(rt; held, "row {number} in pieces of {size}");
+        }
+    }
     Ok(())
 }
 
 #[test]
-fn data_may_go_before_the_answer_to_one_name(rt: HostRuntime) -> Result<(), Fail> {
-    let mut one = Dialer::new(rt.alloc(), &["/x"]).ok().ok_or("a name")?;
-    assert!(rt; one.may_send());
-    one.feed(M).ok().ok_or("the header")?;
-    assert!(rt; one.may_send());
-    one.feed(NA).ok().ok_or("a refusal")?;
-    assert!(rt; !one.may_send());
-    let mut two = Dialer::new(rt.alloc(), &["/x", "/y"]).ok().ok_or("names")?;
-    assert!(rt; !two.may_send());
-    two.feed(M_NA).ok().ok_or("a refusal")?;
-    assert!(rt; !two.may_send());
-    two.feed(b"\x03/y\n").ok().ok_or("an echo")?;
-    assert!(rt; two.may_send());
-    let mut failed = Dialer::new(rt.alloc(), &["/x"]).ok().ok_or("a name")?;
-    assert_eq!(rt; failed.feed(NA), Err(SelectFault::BadHeader));
-    assert!(rt; !failed.may_send());
+fn dialers_however_the_input_is_cut(rt: HostRuntime) -> Result<(), Fail> {
+    for (number, row) in DIALERS.iter().enumerate() {
+        for size in [1, 7, 1024] {
+            let held = holds(rt.alloc(), row, size)?;
+            assert!(rt; held, "row {number} in pieces of {size}");
+        }
+    }
     Ok(())
 }
 
-#[test]
-fn the_echo_of_another_name_is_not_proposed(rt: HostRuntime) -> Result<(), Fail> {
-    let came = called(&rt, &["/x", "/y"], b"\x13/multistream/1.0.0\n\x03/y\n", 7)?;
-    assert_eq!(rt; came.0, Err(SelectFault::NotProposed));
-    Ok(())
+// ---- names
+
+/// How long a name is, and whether an end takes it.
+static LENGTHS: [(usize, bool); 4] = [(0, false), (1, true), (1023, true), (1024, false)];
+
+/// Whether an end of this role takes these names, or finds a bad length in them.
+fn takes(alloc: Global, role: Role, names: &[&str], good: bool) -> bool {
+    let fault = End::new(alloc, role, names).err();
+    if good {
+        fault.is_none()
+    } else {
+        fault == Some(SelectFault::BadLength)
+    }
 }
 
-#[test]
-fn the_first_of_two_equal_names(rt: HostRuntime) -> Result<(), Fail> {
-    let came = heard(
-        &rt,
-        &["/x", "/y", "/y"],
-        b"\x13/multistream/1.0.0\n\x03/y\n",
-        7,
-    )?;
-    assert_eq!(rt; came.0, Ok(Answer::Agreed(1)));
-    Ok(())
+/// Whether both ends take a name of so many bytes, alone and behind another, or neither does.
+fn are_taken(alloc: Global, length: usize, good: bool) -> Result<bool, AllocError> {
+    let mut name = String::new(alloc);
+    for _ in 0..length {
+        name.push('x')?;
+    }
+    let name = name.as_str();
+    let alone = takes(alloc, Role::Dialer, &[name], good)
+        && takes(alloc, Role::Listener, &[name], good);
+    let names = ["/x", name];
+    let behind = takes(alloc, Role::Dialer, &names, good)
+        && takes(alloc, Role::Listener, &names, good);
+    Ok(alone && behind)
 }
 
 #[test]
 fn names_of_1_to_1023_bytes(rt: HostRuntime) -> Result<(), Fail> {
-    let mut longest = String::new(rt.alloc());
-    for _ in 0..1023 {
-        longest.push('x')?;
-    }
-    assert!(rt; Dialer::new(rt.alloc(), &[longest.as_str()]).is_ok());
-    assert!(rt; Listener::new(rt.alloc(), &[longest.as_str()]).is_ok());
-    longest.push('x')?;
-    for name in [longest.as_str(), ""] {
-        let names = ["/x", name];
-        assert!(rt; matches!(Dialer::new(rt.alloc(), &names), Err(SelectFault::BadLength)));
-        assert!(rt;
-            matches!(
-                Listener::new(rt.alloc(), &names),
-                Err(SelectFault::BadLength)
-            )
-        );
+    for (length, good) in LENGTHS.iter() {
+        let held = are_taken(rt.alloc(), *length, *good)?;
+        assert!(rt; held, "a name of {length} bytes");
     }
     Ok(())
 }
 
-#[test]
-fn a_dialer_without_names_writes_nothing(rt: HostRuntime) -> Result<(), Fail> {
-    let mut empty = Dialer::new(rt.alloc(), &[]).ok().ok_or("no names")?;
-    assert!(rt; !empty.may_send());
-    assert_eq!(rt; empty.take_output().len(), 0);
-    assert_eq!(rt;
-        empty.feed(M),
-        Ok(Step {
-            used: 0,
-            answer: Answer::NoneLeft
-        })
-    );
-    Ok(())
+// ---- whole talks
+
+/// Pieces, the answer to them, and the output.
+struct Whole {
+    role: Role,
+    names: &'static [&'static str],
+    pieces: &'static [&'static [u8]],
+    answer: Answer,
+    output: &'static [u8],
+}
+
+/// What the dialer writes is the listener's piece.
+static WHOLES: [Whole; 2] = [
+    Whole {
+        role: Role::Dialer,
+        names: &["/x", "/y"],
+        pieces: &[M, NA, b"\x03/y\nNext"],
+        answer: Answer::Agreed(1),
+        output: M_X_Y,
+    },
+    Whole {
+        role: Role::Listener,
+        names: &["/y"],
+        pieces: &[M_X_Y],
+        answer: Answer::Agreed(0),
+        output: M_NA_Y,
+    },
+];
+
+fn is_whole(alloc: Global, whole: &Whole) -> bool {
+    let talk = match whole.role {
+        Role::Dialer => dial(alloc, whole.names, whole.pieces),
+        Role::Listener => listen(alloc, whole.names, whole.pieces),
+    };
+    match talk {
+        Ok(talk) => talk.answer == whole.answer && talk.output.as_slice() == whole.output,
+        Err(_) => false,
+    }
 }
 
 #[test]
-fn reserved_names_are_never_supported(rt: HostRuntime) -> Result<(), Fail> {
-    let names = ["na", "ls", "/multistream/1.0.0"];
-    let input = b"\x13/multistream/1.0.0\n\x03na\n\x03ls\n\x13/multistream/1.0.0\n";
-    let came = heard(&rt, &names, input, 7)?;
-    assert_eq!(rt; came.0, Ok(Answer::Going));
-    assert_eq!(rt;
-        came.2.as_slice(),
-        b"\x13/multistream/1.0.0\n\x03na\n\x03na\n\x03na\n".as_slice()
-    );
-    // To a dialer na is a refusal, also of the name na.
-    assert_eq!(rt; called(&rt, &["na"], M_NA, 1)?.0, Ok(Answer::NoneLeft));
-    Ok(())
+fn whole_talks_of_two_ends(rt: HostRuntime) {
+    for (number, whole) in WHOLES.iter().enumerate() {
+        assert!(rt; is_whole(rt.alloc(), whole), "row {number}");
+    }
 }
 
-#[test]
-fn whole_talks_of_two_ends(rt: HostRuntime) -> Result<(), Fail> {
-    let asked = dial(rt.alloc(), &["/x", "/y"], &[M, NA, b"\x03/y\nNext"])
-        .ok()
-        .ok_or("a talk")?;
-    assert_eq!(rt; asked.answer, Answer::Agreed(1));
-    let served = listen(rt.alloc(), &["/y"], &[asked.output.as_slice()])
-        .ok()
-        .ok_or("a talk")?;
-    assert_eq!(rt; served.answer, Answer::Agreed(0));
-    assert_eq!(rt;
-        served.output.as_slice(),
-        b"\x13/multistream/1.0.0\n\x03na\n\x03/y\n".as_slice()
-    );
-    Ok(())
+// ---- faults
+
+static FAULTS: [(SelectFault, usize, &str); 6] = [
+    (SelectFault::Failed, 1, "the negotiation failed before"),
+    (
+        SelectFault::BadLength,
+        2,
+        "a message or a name has a bad length",
+    ),
+    (SelectFault::NoNewline, 3, "a message has no newline"),
+    (
+        SelectFault::BadHeader,
+        4,
+        "the first message is not the header",
+    ),
+    (SelectFault::NotProposed, 5, "the answer is no proposal"),
+    (SelectFault::OutOfMemory, 6, "out of memory"),
+];
+
+/// Whether the fault is equal to that of this number alone.
+fn is_alone(fault: SelectFault, number: usize) -> bool {
+    let mut held = fault as usize == number;
+    for (other, place, _) in FAULTS.iter() {
+        held = held && (fault == *other) == (number == *place);
+    }
+    held
+}
+
+fn has_text(alloc: Global, fault: SelectFault, text: &str) -> Result<bool, AllocError> {
+    let told = format!(in alloc; "{fault}")?;
+    Ok(told.as_str() == text)
 }
 
 #[test]
 fn numbers_and_texts_of_faults(rt: HostRuntime) -> Result<(), Fail> {
-    let faults = [
-        (SelectFault::Failed, "the negotiation failed before"),
-        (
-            SelectFault::BadLength,
-            "a message or a name has a bad length",
-        ),
-        (SelectFault::NoNewline, "a message has no newline"),
-        (
-            SelectFault::BadHeader,
-            "the first message is not the header",
-        ),
-        (SelectFault::NotProposed, "the answer is no proposal"),
-        (SelectFault::OutOfMemory, "out of memory"),
-    ];
-    for (index, (fault, text)) in faults.iter().enumerate() {
-        assert_eq!(rt; *fault as usize, index + 1);
-        assert_eq!(rt; format!(in rt.alloc(); "{fault}")?.as_str(), *text);
-        for (place, (other, _)) in faults.iter().enumerate() {
-            assert_eq!(rt; fault == other, index == place);
-        }
+    for (fault, number, text) in FAULTS.iter() {
+        let held = has_text(rt.alloc(), *fault, *text)? && is_alone(*fault, *number);
+        assert!(rt; held, "fault {number}");
     }
     Ok(())
 }

@@ -1,4 +1,5 @@
 use Rattle.ms_select.proofs.Rows.{message_rows, name_rows, choice_rows, listen_rows, dial_rows, send_rows, memory_rows}
+use Rattle.ms_select.proofs.JoinedRows.{joined_rows}
 use Rattle.ms_select.proofs.laws.worked_rows.Goals as goal
 
 pub returns-clause-messages : goal.returns-clause-messages
@@ -21,3 +22,6 @@ returns-clause-sends c = send_rows
 
 pub returns-clause-memory : goal.returns-clause-memory
 returns-clause-memory c = memory_rows
+
+pub returns-clause-joined : goal.returns-clause-joined
+returns-clause-joined c = joined_rows
