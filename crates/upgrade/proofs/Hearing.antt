@@ -37,34 +37,35 @@ runs_out_of : (side other : Side) (output input piece : List ℕ) → other ≡ 
 runs_out_of side other output input piece e r = subst (λ (s : Side). TalkRunsOut s output input piece) e r
 
 -- a fault of the talk
-pub fails : (side : Side) (talk kept : Talking) (input piece before pending : List ℕ) (fault : SelectFault) → IsWaiting side talk input before
+pub fails : (waiting : List ℕ) (side : Side) (talk kept : Talking) (input piece before pending : List ℕ) (fault : SelectFault) → IsWaiting side talk input before
     → (fault ≢ select_faults.OutOfMemory → Faults talk.side (input ++ piece) fault (before ++ pending))
     → (fault ≡ select_faults.OutOfMemory → TalkRunsOut talk.side (before ++ pending) input piece)
-    → Hears side kept input piece (Err (of_select fault)) (before ++ pending)
-fails side talk kept input piece before pending select_faults.Failed w f m = of_side side talk.side _ _ _ w.side_is (f (λ e. cc))
-fails side talk kept input piece before pending select_faults.BadLength w f m = of_side side talk.side _ _ _ w.side_is (f (λ e. cc))
-fails side talk kept input piece before pending select_faults.NoNewline w f m = of_side side talk.side _ _ _ w.side_is (f (λ e. cc))
-fails side talk kept input piece before pending select_faults.BadHeader w f m = of_side side talk.side _ _ _ w.side_is (f (λ e. cc))
-fails side talk kept input piece before pending select_faults.NotProposed w f m = of_side side talk.side _ _ _ w.side_is (f (λ e. cc))
-fails side talk kept input piece before pending select_faults.OutOfMemory w f m = inl (runs_out_of side talk.side _ _ _ w.side_is (m refl))
+    → Hears side kept input piece (Err (of_select fault)) waiting (before ++ pending)
+fails waiting side talk kept input piece before pending select_faults.Failed w f m = of_side side talk.side _ _ _ w.side_is (f (λ e. cc))
+fails waiting side talk kept input piece before pending select_faults.BadLength w f m = of_side side talk.side _ _ _ w.side_is (f (λ e. cc))
+fails waiting side talk kept input piece before pending select_faults.NoNewline w f m = of_side side talk.side _ _ _ w.side_is (f (λ e. cc))
+fails waiting side talk kept input piece before pending select_faults.BadHeader w f m = of_side side talk.side _ _ _ w.side_is (f (λ e. cc))
+fails waiting side talk kept input piece before pending select_faults.NotProposed w f m = of_side side talk.side _ _ _ w.side_is (f (λ e. cc))
+fails waiting side talk kept input piece before pending select_faults.OutOfMemory w f m = inl (runs_out_of side talk.side _ _ _ w.side_is (m refl))
 
 -- the other end doesn't know the protocol
-pub turned_down : (side : Side) (talk kept : Talking) (input piece before pending : List ℕ) (used : ℕ) (answer : Answer) → IsWaiting side talk input before → answer ≡ NoneLeft
-    → Talks talk.side (input ++ take used piece) (Ok answer) (before ++ pending) → Hears side kept input piece (Err faults.NoneLeft) (before ++ pending)
-turned_down side talk kept input piece before pending used answer w e t =
+pub turned_down : (waiting : List ℕ) (side : Side) (talk kept : Talking) (input piece before pending : List ℕ) (used : ℕ) (answer : Answer) → IsWaiting side talk input before → answer ≡ NoneLeft
+    → Talks talk.side (input ++ take used piece) (Ok answer) (before ++ pending) → Hears side kept input piece (Err faults.NoneLeft) waiting (before ++ pending)
+turned_down waiting side talk kept input piece before pending used answer w e t =
     (take used piece, drop used piece, sym (take-append-drop used piece), of_side side talk.side _ _ _ w.side_is (subst (λ (a : Answer). Talks talk.side (input ++ take used piece) (Ok a) (before ++ pending)) e t))
 
 -- both ends agree
-pub agreed : (side : Side) (talk kept : Talking) (input piece before pending : List ℕ) (used index : ℕ) (answer : Answer) → IsWaiting side talk input before → answer ≡ Agreed index
-    → used ≤ length piece → Talks talk.side (input ++ take used piece) (Ok answer) (before ++ pending) → Hears side kept input piece (Ok (Some used)) (before ++ pending)
-agreed side talk kept input piece before pending used index answer w e within t =
+pub agreed : (waiting : List ℕ) (side : Side) (talk kept : Talking) (input piece before pending : List ℕ) (used index : ℕ) (answer : Answer) → IsWaiting side talk input before → answer ≡ Agreed index
+    → used ≤ length piece → Talks talk.side (input ++ take used piece) (Ok answer) (before ++ pending) → Hears side kept input piece (Ok (Some used)) waiting (before ++ pending)
+agreed waiting side talk kept input piece before pending used index answer w e within t =
     (within, (index, of_side side talk.side _ _ _ w.side_is (subst (λ (a : Answer). Talks talk.side (input ++ take used piece) (Ok a) (before ++ pending)) e t)))
 
 -- ---- there is no room for what it wrote
 
-lost_at : (side : Side) (talk : Talking) (input piece before pending front rest : List ℕ) (standing : Result Answer SelectFault) → IsWaiting side talk input before → pending ≢ [] → piece ≡ front ++ rest
-    → Talks talk.side (input ++ front) standing (before ++ pending) → LosesOutput side input piece (before ++ [])
-lost_at side talk input piece before pending front rest standing w some parts t = record {
+lost_at : (waiting : List ℕ) → waiting ≢ [] → (side : Side) (talk : Talking) (input piece before pending front rest : List ℕ) (standing : Result Answer SelectFault) → IsWaiting side talk input before → pending ≢ [] → piece ≡ front ++ rest
+    → Talks talk.side (input ++ front) standing (before ++ pending) → LosesOutput side input piece waiting (before ++ [])
+lost_at waiting waits side talk input piece before pending front rest standing w some parts t = record {
+  waits = waits;
   front = front;
   rest = rest;
   standing = standing;
@@ -74,37 +75,37 @@ lost_at side talk input piece before pending front rest standing w some parts t 
   some = some;
 }
 
-pub loses_step : (side : Side) (talk : Talking) (input piece before pending : List ℕ) (used : ℕ) (answer : Answer) → IsWaiting side talk input before → pending ≢ []
-    → Talks talk.side (input ++ take used piece) (Ok answer) (before ++ pending) → LosesOutput side input piece (before ++ [])
-loses_step side talk input piece before pending used answer w some t =
-    lost_at side talk input piece before pending (take used piece) (drop used piece) (Ok answer) w some (sym (take-append-drop used piece)) t
+pub loses_step : (waiting : List ℕ) → waiting ≢ [] → (side : Side) (talk : Talking) (input piece before pending : List ℕ) (used : ℕ) (answer : Answer) → IsWaiting side talk input before → pending ≢ []
+    → Talks talk.side (input ++ take used piece) (Ok answer) (before ++ pending) → LosesOutput side input piece waiting (before ++ [])
+loses_step waiting waits side talk input piece before pending used answer w some t =
+    lost_at waiting waits side talk input piece before pending (take used piece) (drop used piece) (Ok answer) w some (sym (take-append-drop used piece)) t
 
-known_fault : (side : Side) (talk : Talking) (input piece before pending : List ℕ) (fault : SelectFault) → IsWaiting side talk input before → pending ≢ []
-    → Faults talk.side (input ++ piece) fault (before ++ pending) → LosesOutput side input piece (before ++ [])
-known_fault side talk input piece before pending fault w some t = lost_at side talk input piece before pending piece [] (Err fault) w some (sym (append-nil piece)) t
+known_fault : (waiting : List ℕ) → waiting ≢ [] → (side : Side) (talk : Talking) (input piece before pending : List ℕ) (fault : SelectFault) → IsWaiting side talk input before → pending ≢ []
+    → Faults talk.side (input ++ piece) fault (before ++ pending) → LosesOutput side input piece waiting (before ++ [])
+known_fault waiting waits side talk input piece before pending fault w some t = lost_at waiting waits side talk input piece before pending piece [] (Err fault) w some (sym (append-nil piece)) t
 
-unknown_fault : (side : Side) (talk : Talking) (input piece before pending : List ℕ) → IsWaiting side talk input before → pending ≢ []
-    → TalkRunsOut talk.side (before ++ pending) input piece → LosesOutput side input piece (before ++ [])
-unknown_fault side talk input piece before pending w some r =
-    lost_at side talk input piece before pending (take r.n piece) (drop r.n piece) (Ok Going) w some (sym (take-append-drop r.n piece))
+unknown_fault : (waiting : List ℕ) → waiting ≢ [] → (side : Side) (talk : Talking) (input piece before pending : List ℕ) → IsWaiting side talk input before → pending ≢ []
+    → TalkRunsOut talk.side (before ++ pending) input piece → LosesOutput side input piece waiting (before ++ [])
+unknown_fault waiting waits side talk input piece before pending w some r =
+    lost_at waiting waits side talk input piece before pending (take r.n piece) (drop r.n piece) (Ok Going) w some (sym (take-append-drop r.n piece))
     (from_comes talk.side (input ++ take r.n piece) (Ok Going) (before ++ pending) r.before)
 
-pub loses_fault : (side : Side) (talk : Talking) (input piece before pending : List ℕ) (fault : SelectFault) → IsWaiting side talk input before → pending ≢ []
+pub loses_fault : (waiting : List ℕ) → waiting ≢ [] → (side : Side) (talk : Talking) (input piece before pending : List ℕ) (fault : SelectFault) → IsWaiting side talk input before → pending ≢ []
     → (fault ≢ select_faults.OutOfMemory → Faults talk.side (input ++ piece) fault (before ++ pending))
-    → (fault ≡ select_faults.OutOfMemory → TalkRunsOut talk.side (before ++ pending) input piece) → LosesOutput side input piece (before ++ [])
-loses_fault side talk input piece before pending select_faults.Failed w some f m = known_fault side talk input piece before pending select_faults.Failed w some (f (λ e. cc))
-loses_fault side talk input piece before pending select_faults.BadLength w some f m = known_fault side talk input piece before pending select_faults.BadLength w some (f (λ e. cc))
-loses_fault side talk input piece before pending select_faults.NoNewline w some f m = known_fault side talk input piece before pending select_faults.NoNewline w some (f (λ e. cc))
-loses_fault side talk input piece before pending select_faults.BadHeader w some f m = known_fault side talk input piece before pending select_faults.BadHeader w some (f (λ e. cc))
-loses_fault side talk input piece before pending select_faults.NotProposed w some f m = known_fault side talk input piece before pending select_faults.NotProposed w some (f (λ e. cc))
-loses_fault side talk input piece before pending select_faults.OutOfMemory w some f m = unknown_fault side talk input piece before pending w some (m refl)
+    → (fault ≡ select_faults.OutOfMemory → TalkRunsOut talk.side (before ++ pending) input piece) → LosesOutput side input piece waiting (before ++ [])
+loses_fault waiting waits side talk input piece before pending select_faults.Failed w some f m = known_fault waiting waits side talk input piece before pending select_faults.Failed w some (f (λ e. cc))
+loses_fault waiting waits side talk input piece before pending select_faults.BadLength w some f m = known_fault waiting waits side talk input piece before pending select_faults.BadLength w some (f (λ e. cc))
+loses_fault waiting waits side talk input piece before pending select_faults.NoNewline w some f m = known_fault waiting waits side talk input piece before pending select_faults.NoNewline w some (f (λ e. cc))
+loses_fault waiting waits side talk input piece before pending select_faults.BadHeader w some f m = known_fault waiting waits side talk input piece before pending select_faults.BadHeader w some (f (λ e. cc))
+loses_fault waiting waits side talk input piece before pending select_faults.NotProposed w some f m = known_fault waiting waits side talk input piece before pending select_faults.NotProposed w some (f (λ e. cc))
+loses_fault waiting waits side talk input piece before pending select_faults.OutOfMemory w some f m = unknown_fault waiting waits side talk input piece before pending w some (m refl)
 
 abbrev refused : SelectFault → Result Step SelectFault
 refused fault = Err fault
 
-pub loses : (side : Side) (talk : Talking) (input piece before pending : List ℕ) (result : Result Step SelectFault) → IsWaiting side talk input before → pending ≢ []
+pub loses : (waiting : List ℕ) → waiting ≢ [] → (side : Side) (talk : Talking) (input piece before pending : List ℕ) (result : Result Step SelectFault) → IsWaiting side talk input before → pending ≢ []
     → IfOk result (λ step. Talks talk.side (input ++ take step.used piece) (Ok step.answer) (before ++ pending))
     → IfErr result (λ fault. fault ≢ select_faults.OutOfMemory → Faults talk.side (input ++ piece) fault (before ++ pending))
-    → (result ≡ Err select_faults.OutOfMemory → TalkRunsOut talk.side (before ++ pending) input piece) → LosesOutput side input piece (before ++ [])
-loses side talk input piece before pending (Ok step) w some t f m = loses_step side talk input piece before pending step.used step.answer w some t
-loses side talk input piece before pending (Err fault) w some t f m = loses_fault side talk input piece before pending fault w some f (λ e. m (ap refused e))
+    → (result ≡ Err select_faults.OutOfMemory → TalkRunsOut talk.side (before ++ pending) input piece) → LosesOutput side input piece waiting (before ++ [])
+loses waiting waits side talk input piece before pending (Ok step) w some t f m = loses_step waiting waits side talk input piece before pending step.used step.answer w some t
+loses waiting waits side talk input piece before pending (Err fault) w some t f m = loses_fault waiting waits side talk input piece before pending fault w some f (λ e. m (ap refused e))

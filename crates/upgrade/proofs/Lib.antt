@@ -8,3 +8,4 @@ pub mod Telling
 pub mod Staying
 pub mod Ends
 pub mod Rows
+pub mod MemoryRows

@@ -1,12 +1,12 @@
 -- The definitions of an upgrade at worked bytes.
-use Rattle.std.proofs.Common.{◌≡◌, ◌≢◌, ℕ, ◌<◌, ◌≤◌, List, [], ◌∷◌, ◌++◌, length, get_or, Option, Some, None, Result, Ok, Err, refl, sym, ap, ◌∙◌, subst, append_assoc, inl, inr, arith, lit<}
-use Rattle.std.proofs.lemmas.List.{append-nil, length-append, nil_from_length}
+use Rattle.std.proofs.Common.{◌≡◌, ◌≢◌, ℕ, ◌<◌, List, [], ◌∷◌, ◌++◌, length, get_or, Option, Some, None, Result, Ok, Err, refl, sym, ap, subst, inl, inr, arith, lit<}
+use Rattle.std.proofs.lemmas.List.{append-nil, length-append}
 use Rattle.std.proofs.lemmas.List.Elements.{All-nil}
 use Rattle.std.proofs.lemmas.List.Quantifiers.{position-Some}
 use Rattle.std.proofs.lemmas.Slice.Eq.{bytes_eq-Decides}
 use Rattle.std.specs.List.{position}
 use Rattle.std.specs.Str.{bytes_eq}
-use Rattle.varint_proto.specs.Varint.{BeginsShortest, shortest, shortest_within}
+use Rattle.varint_proto.specs.Varint.{shortest, shortest_within}
 use Rattle.peer_ids.specs.Key.{Key}
 use Rattle.ms_select.specs.declared.answer.Answer.{Answer}
 use Rattle.ms_select.specs.declared.answer.Answer.TheVariants.{Going, Agreed, NoneLeft as NoneIsLeft}
@@ -16,19 +16,17 @@ use Rattle.ms_select.specs.Messages.{header, na, message, spelled, IsShort}
 use Rattle.ms_select.specs.Listening.{is_reserved, choice}
 use Rattle.ms_select.specs.Rows.{x, x_bytes}
 use Rattle.ms_select.proofs.Lists.{chosen}
-use Rattle.ms_select.proofs.Rows.{text_asks_nothing}
 use Rattle.plaintext_x.specs.declared.fault.ExchangeFault.{ExchangeFault}
 use Rattle.plaintext_x.specs.Exchange.{Exchanges, message_of}
-use Rattle.plaintext_x.proofs.Rows.{proof_rows, waiting_rows, refusal_rows}
-use Rattle.talks.specs.Talks.{Talks, RunsOut as TalkRunsOut}
+use Rattle.plaintext_x.proofs.Rows.{proof_rows, refusal_rows}
+use Rattle.talks.specs.Talks.{Talks}
 use Rattle.talks.proofs.Ends.{none_agrees}
-use Rattle.talks.proofs.Outcomes.{asked_all}
 use Rattle.upgrade.specs.declared.role.ConnRole.{ConnRole}
 use Rattle.upgrade.specs.declared.role.ConnRole.TheVariants.{Dialer, Listener}
 use Rattle.upgrade.specs.declared.fault.UpgradeFault.{UpgradeFault}
-use Rattle.upgrade.specs.Upgrades.{InExchange, InSecondTalk, Upgrades, ComesTo, RunsOut, side_of, plaintext, yamux}
-use Rattle.upgrade.specs.Rows.{own, other, hello, mux, come, sent, ByteRows, DialerRows, ListenerRows, MemoryRows, GrowthRows}
-use Rattle.upgrade.proofs.Opening.{opening, opens, nothing_exchanged, some_message, some_opening}
+use Rattle.upgrade.specs.Upgrades.{InExchange, InSecondTalk, Upgrades, ComesTo, side_of, plaintext, yamux}
+use Rattle.upgrade.specs.Rows.{own, other, hello, mux, come, sent, ByteRows, DialerRows, ListenerRows, GrowthRows}
+use Rattle.upgrade.proofs.Opening.{opening, opens}
 use Rattle.upgrade.proofs.Leading.{exchange_begins}
 use Rattle.upgrade.proofs.Outcomes.{one_outcome}
 use Rattle.upgrade.proofs.Ends.{plaintext_agreed, yamux_agreed, exchanged}
@@ -55,10 +53,10 @@ yamux_turned_down = (none_agrees yamux 0 [] (lit< tt) refl).0
 
 -- ---- the parts behind the first talk
 
-in_exchange : (role : ConnRole) (exchange : List ℕ) (outcome : Result (Option Key) ExchangeFault) → Exchanges exchange outcome (length exchange) → InExchange role own (hello ++ exchange) outcome sent
+pub in_exchange : (role : ConnRole) (exchange : List ℕ) (outcome : Result (Option Key) ExchangeFault) → Exchanges exchange outcome (length exchange) → InExchange role own (hello ++ exchange) outcome sent
 in_exchange role exchange outcome e = record { first = hello; exchange = exchange; index = 0; talk = hello; input_is = refl; agrees = plaintext_agreed role; exchanges = e; written_is = refl }
 
-in_second : (role : ConnRole) (second talk : List ℕ) (standing : Result Answer SelectFault) → Talks (side_of role yamux) second standing talk → InSecondTalk role own other (come ++ second) standing (sent ++ talk)
+pub in_second : (role : ConnRole) (second talk : List ℕ) (standing : Result Answer SelectFault) → Talks (side_of role yamux) second standing talk → InSecondTalk role own other (come ++ second) standing (sent ++ talk)
 in_second role second talk standing t = record {
   before = come;
   second = second;
@@ -70,10 +68,10 @@ in_second role second talk standing t = record {
   written_is = refl;
 }
 
-begins_second : (role : ConnRole) → InSecondTalk role own other come (Ok Going) (sent ++ opening role yamux)
+pub begins_second : (role : ConnRole) → InSecondTalk role own other come (Ok Going) (sent ++ opening role yamux)
 begins_second role = subst (λ (t : List ℕ). InSecondTalk role own other t (Ok Going) (sent ++ opening role yamux)) (append-nil come) (in_second role [] (opening role yamux) (Ok Going) (opens role yamux))
 
-exchange_waits : (role : ConnRole) → InExchange role own hello (Ok None) (hello ++ message_of own)
+pub exchange_waits : (role : ConnRole) → InExchange role own hello (Ok None) (hello ++ message_of own)
 exchange_waits role = exchange_begins role own hello hello 0 (plaintext_agreed role)
 
 came_up : (role : ConnRole) → Upgrades role own (come ++ mux) (Ok (Some other)) (sent ++ mux)
@@ -85,7 +83,7 @@ up_with key = Ok (Some key)
 other_body : (a b : Key) → up_with a ≡ up_with b → a.body ≡ b.body
 other_body a b e = cc
 
-by_all : (role : ConnRole) (input : List ℕ) (outcome : Result (Option Key) UpgradeFault) (written : List ℕ) → Upgrades role own input outcome written → ComesTo role own input input outcome written
+pub by_all : (role : ConnRole) (input : List ℕ) (outcome : Result (Option Key) UpgradeFault) (written : List ℕ) → Upgrades role own input outcome written → ComesTo role own input input outcome written
 by_all role input outcome written u = record { rest = []; input_is = sym (append-nil input); upgrades = u; all = λ no. refl }
 
 not_its_own : ¬ Upgrades Dialer own (come ++ mux) (Ok (Some own)) (sent ++ mux)
@@ -146,100 +144,7 @@ listener_rows = record {
   other_header_then = inr (other, in_second Listener x_bytes (spelled (header ∷ [])) (Err BadHeader) (bad_header Listener yamux));
 }
 
--- ---- memory
-
--- a length of one byte
-one_byte : (n : ℕ) (rest : List ℕ) → n < 128 → BeginsShortest (n ∷ rest) n rest
-one_byte n rest lt = (n ∷ [], record { ends = lt; within = omega arith; shortest = λ h. absurd (omega arith); value = omega arith }, refl)
-
-front_of_none : (a b : List ℕ) → a ++ b ≡ [] → a ≡ []
-front_of_none a b e = nil_from_length a (omega (arith, ap length e, length-append a b))
-
-no_more : (a b : List ℕ) → a ≡ a ++ b → b ≡ []
-no_more a b e = nil_from_length b (omega (arith, ap length e, length-append a b))
-
-nothing_in : (a b : List ℕ) → [] ≡ a ++ b → (a ≡ []) × (b ≡ [])
-nothing_in a b e = (nil_from_length a (omega (arith, ap length e, length-append a b)), nil_from_length b (omega (arith, ap length e, length-append a b)))
-
--- no byte more has come, and all is kept
-module _ (input written : List ℕ) (here : Upgrades Dialer own input (Ok None) written) where
-  no_room : (front rest lost : List ℕ) (outcome : Result (Option Key) UpgradeFault) → [] ≡ front ++ rest → Upgrades Dialer own (input ++ front) outcome (written ++ lost) → lost ≡ []
-  no_room front rest lost outcome e u =
-      let none = (nothing_in front rest e).0 in
-      let there = subst (λ (t : List ℕ). Upgrades Dialer own t outcome (written ++ lost)) (ap (λ (t : List ℕ). input ++ t) none ∙ append-nil input) u in
-      no_more written lost ((one_outcome Dialer own input input input (Ok None) outcome written (written ++ lost) (by_all Dialer input (Ok None) written here) (by_all Dialer input outcome (written ++ lost) there)).2)
-
-  nothing_more : ¬ RunsOut Dialer own input [] written
-  nothing_more (inl r) = r.some (no_room r.front r.rest r.lost r.outcome r.piece_is r.upgrades)
-  nothing_more (inr (inl r)) = let none = (nothing_in r.front r.rest r.piece_is).1 in let within = r.runs_out.within in absurd (omega (arith, ap length none, within))
-  nothing_more (inr (inr (inl r))) = let none = (nothing_in r.front r.rest r.piece_is).1 in let within = r.runs_out.1 in absurd (omega (arith, ap length none, within))
-  nothing_more (inr (inr (inr r))) = let none = (nothing_in r.front r.rest r.piece_is).1 in let within = r.runs_out.within in absurd (omega (arith, ap length none, within))
-
--- ---- a byte of the first text
-
--- the first talk goes on by these bytes
-talk_goes : (rest : List ℕ) → length rest < 19 → Upgrades Dialer own (19 ∷ rest) (Ok None) hello
-talk_goes rest lt = inl (inl ([], 19 ∷ rest, record { answered = record { parts = refl; refusals = tt }; left = omega arith }, inr (19, rest, one_byte 19 rest (omega arith), (omega arith, omega arith), lt), refl, refl))
-
--- of one byte a front is nothing or all
-one_front : (b : ℕ) (front rest : List ℕ) → b ∷ [] ≡ front ++ rest → 0 < length rest → (front ≡ []) × (rest ≡ b ∷ [])
-one_front b [] rest e some = (refl, sym e)
-one_front b (c ∷ front) rest e some = absurd (omega (arith, ap length e, length-append front rest, some))
-
-front_length : (b : ℕ) (front rest : List ℕ) → b ∷ [] ≡ front ++ rest → length front ≤ 1
-front_length b front rest e = omega (arith, ap length e, length-append front rest)
-
-all_said : (first talk : List ℕ) (i : ℕ) → Talks (side_of Dialer plaintext) first (Ok (Agreed i)) talk → talk ≡ hello
-all_said first talk i t = asked_all plaintext 0 first (Ok (Agreed i)) talk t
-
--- what was written by then is longer than the first talk
-longer : (talk more : List ℕ) → talk ≡ hello → hello ≡ (talk ++ message_of own) ++ more → ⊥
-longer talk more is e =
-    let there : hello ≡ hello ++ (message_of own ++ more) = e ∙ ap (λ (t : List ℕ). (t ++ message_of own) ++ more) is ∙ append_assoc hello (message_of own) more in
-    some_message own (front_of_none (message_of own) more (no_more hello (message_of own ++ more) there))
-
-no_text : ¬ RunsOut Dialer own (19 ∷ []) (47 ∷ []) hello
-no_text (inl r) =
-    let here = talk_goes r.front (omega (arith, front_length 47 r.front r.rest r.piece_is)) in
-    r.some (no_more hello r.lost ((one_outcome Dialer own (19 ∷ r.front) (19 ∷ r.front) (19 ∷ r.front) (Ok None) r.outcome hello (hello ++ r.lost)
-    (by_all Dialer (19 ∷ r.front) (Ok None) hello here) (by_all Dialer (19 ∷ r.front) r.outcome (hello ++ r.lost) r.upgrades)).2))
-no_text (inr (inl r)) =
-    let within = r.runs_out.within in
-    let only = one_front 47 r.front r.rest r.piece_is (omega (arith, within)) in
-    let asks = subst (λ (t : List ℕ). TalkRunsOut (side_of Dialer plaintext) hello (19 ∷ t) (47 ∷ [])) only.0
-    (subst (λ (t : List ℕ). TalkRunsOut (side_of Dialer plaintext) hello (19 ∷ r.front) t) only.1 r.runs_out) in
-    text_asks_nothing asks.n asks.within asks.ends
-no_text (inr (inr (inl r))) =
-    longer r.before.talk [] (all_said r.before.first r.before.talk r.before.index r.before.agrees) (r.before.written_is ∙ sym (append-nil (r.before.talk ++ message_of own)))
-no_text (inr (inr (inr r))) =
-    let proven = r.before.proven in
-    longer proven.talk r.talk (all_said proven.first proven.talk proven.index proven.agrees) (r.written_is ∙ ap (λ (t : List ℕ). t ++ r.talk) proven.written_is)
-
-pub memory_rows : MemoryRows
-memory_rows = record {
-  at_once = inl (record { front = []; rest = []; outcome = Ok None; lost = hello; piece_is = refl; upgrades = inl (inl (opens Dialer plaintext)); some = some_opening Dialer plaintext });
-  message = inl (record { front = hello; rest = []; outcome = Ok None; lost = message_of own; piece_is = sym (append-nil hello); upgrades = inr (exchange_waits Dialer); some = some_message own });
-  length_of_message = inr (inr (inl (record {
-    front = [];
-    rest = 16 ∷ [];
-    piece_is = refl;
-    before = record { first = hello; exchange = []; index = 0; talk = hello; input_is = refl; agrees = plaintext_agreed Dialer; exchanges = nothing_exchanged; written_is = refl };
-    runs_out = (0, lit< tt, waiting_rows.nothing, waiting_rows.asks_for_the_message);
-  })));
-  second_talk = inl (record {
-    front = message_of other;
-    rest = [];
-    outcome = Ok None;
-    lost = mux;
-    piece_is = sym (append-nil (message_of other));
-    upgrades = inl (inr (other, begins_second Dialer));
-    some = some_opening Dialer yamux;
-  });
-  nothing_asked = nothing_more [] hello (inl (inl (opens Dialer plaintext)));
-  text = no_text;
-  nothing_again = nothing_more hello sent (inr (exchange_waits Dialer));
-  nothing_again_then = nothing_more come (sent ++ mux) (inl (inr (other, begins_second Dialer)));
-}
+-- ---- growth
 
 pub growth_rows : GrowthRows
 growth_rows = record {

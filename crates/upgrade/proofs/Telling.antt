@@ -17,17 +17,17 @@ use Rattle.upgrade.proofs.Outcomes.{one_outcome}
 
 -- ---- faults
 
-pub fault_is : (role : ConnRole) (own : Key) (input piece : List ℕ) (fault : UpgradeFault) (written : List ℕ) → Leads role own input piece (Err fault) written → fault ≢ faults.OutOfMemory
+pub fault_is : (waiting : List ℕ) (role : ConnRole) (own : Key) (input piece : List ℕ) (fault : UpgradeFault) (written : List ℕ) → Leads role own input piece (Err fault) waiting written → fault ≢ faults.OutOfMemory
     → Upgrades role own (input ++ piece) (Err fault) written
-fault_is role own input piece faults.Failed written l ne = l
-fault_is role own input piece (faults.Select fault) written l ne = l
-fault_is role own input piece faults.NoneLeft written l ne = l
-fault_is role own input piece (faults.Exchange fault) written l ne = l
-fault_is role own input piece faults.OutOfMemory written l ne = absurd (ne refl)
+fault_is waiting role own input piece faults.Failed written l ne = l
+fault_is waiting role own input piece (faults.Select fault) written l ne = l
+fault_is waiting role own input piece faults.NoneLeft written l ne = l
+fault_is waiting role own input piece (faults.Exchange fault) written l ne = l
+fault_is waiting role own input piece faults.OutOfMemory written l ne = absurd (ne refl)
 
-pub runs_out : (role : ConnRole) (own : Key) (input piece : List ℕ) (fault : UpgradeFault) (written : List ℕ) → Leads role own input piece (Err fault) written → fault ≡ faults.OutOfMemory
-    → RunsOut role own input piece written
-runs_out role own input piece fault written l e = subst (λ (f : UpgradeFault). Leads role own input piece (Err f) written) e l
+pub runs_out : (waiting : List ℕ) (role : ConnRole) (own : Key) (input piece : List ℕ) (fault : UpgradeFault) (written : List ℕ) → Leads role own input piece (Err fault) waiting written → fault ≡ faults.OutOfMemory
+    → RunsOut role own input piece waiting written
+runs_out waiting role own input piece fault written l e = subst (λ (f : UpgradeFault). Leads role own input piece (Err f) waiting written) e l
 
 abbrev pub refused : UpgradeFault → Result Progress UpgradeFault
 refused fault = Err fault
@@ -52,14 +52,14 @@ front_is piece first rest left e l =
     let size : length piece - left ≡ length first = omega (arith, ap length e, length-append first rest, l) in
     ap (λ n. take n piece) size ∙ ap (take (length first)) e ∙ take-append_seam first rest
 
-pub up_is : (role : ConnRole) (own key : Key) (input piece : List ℕ) (left : ℕ) (written : List ℕ) → Leads role own input piece (Ok (Up left key)) written
+pub up_is : (waiting : List ℕ) (role : ConnRole) (own key : Key) (input piece : List ℕ) (left : ℕ) (written : List ℕ) → Leads role own input piece (Ok (Up left key)) waiting written
     → Upgrades role own (input ++ take (length piece - left) piece) (Ok (Some key)) written
-up_is role own key input piece left written l =
+up_is waiting role own key input piece left written l =
     subst (λ (t : List ℕ). Upgrades role own (input ++ t) (Ok (Some key)) written) (sym (front_is piece l.0 l.1 left l.2 l.3)) l.4
 
-pub only_up_is : (role : ConnRole) (own key : Key) (input piece first : List ℕ) (left : ℕ) (outcome : Result (Option Key) UpgradeFault) (written kept : List ℕ) → Leads role own input piece (Ok (Up left key)) kept
+pub only_up_is : (waiting : List ℕ) (role : ConnRole) (own key : Key) (input piece first : List ℕ) (left : ℕ) (outcome : Result (Option Key) UpgradeFault) (written kept : List ℕ) → Leads role own input piece (Ok (Up left key)) waiting kept
     → ComesTo role own (input ++ piece) first outcome written → (first ≡ input ++ take (length piece - left) piece) × (outcome ≡ Ok (Some key)) × (written ≡ kept)
-only_up_is role own key input piece first left outcome written kept l c =
+only_up_is waiting role own key input piece first left outcome written kept l c =
     let parts : input ++ piece ≡ (input ++ l.0) ++ l.1 = ap (λ (t : List ℕ). input ++ t) l.2 ∙ sym (append_assoc input l.0 l.1) in
     let o = only_up role own key (input ++ piece) first (input ++ l.0) l.1 outcome written kept parts l.4 c in
     (o.0 ∙ ap (λ (t : List ℕ). input ++ t) (sym (front_is piece l.0 l.1 left l.2 l.3)), o.1, o.2)
@@ -77,5 +77,5 @@ upgrades_as x y input outcome written e u = subst (λ (z : Upgrading). Upgrades 
 pub comes_as : (x y : Upgrading) (input first : List ℕ) (outcome : Result (Option Key) UpgradeFault) (written : List ℕ) → y ≡ x → ComesTo x.role x.own input first outcome written → ComesTo y.role y.own input first outcome written
 comes_as x y input first outcome written e c = subst (λ (z : Upgrading). ComesTo z.role z.own input first outcome written) (sym e) c
 
-pub next_is : (role : ConnRole) (own : Key) (input piece written : List ℕ) (a b : Next) → a ≡ b → Leads role own input piece (Ok a) written → Leads role own input piece (Ok b) written
-next_is role own input piece written a b e l = subst (λ (n : Next). Leads role own input piece (Ok n) written) e l
+pub next_is : (waiting : List ℕ) (role : ConnRole) (own : Key) (input piece written : List ℕ) (a b : Next) → a ≡ b → Leads role own input piece (Ok a) waiting written → Leads role own input piece (Ok b) waiting written
+next_is waiting role own input piece written a b e l = subst (λ (n : Next). Leads role own input piece (Ok n) waiting written) e l

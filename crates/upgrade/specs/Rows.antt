@@ -8,9 +8,10 @@ use Rattle.ms_select.specs.Messages.{header, na, spelled, IsShort}
 use Rattle.ms_select.specs.Rows.{x, x_bytes}
 use Rattle.plaintext_x.specs.declared.fault.ExchangeFault.TheVariants.{NoId}
 use Rattle.plaintext_x.specs.Exchange.{message_of}
+use Rattle.plaintext_x.specs.Rows.{id_field, key_field}
 use Rattle.upgrade.specs.declared.role.ConnRole.TheVariants.{Dialer, Listener}
 use Rattle.upgrade.specs.declared.fault.UpgradeFault.TheVariants.{Select, NoneLeft, Exchange}
-use Rattle.upgrade.specs.Upgrades.{plaintext, yamux, Upgrades, ComesTo, RunsOut, Grows}
+use Rattle.upgrade.specs.Upgrades.{plaintext, yamux, Upgrades, ComesTo, HasNoRoom, RunsOut, Grows}
 
 -- the key of this end, and that of the other one
 abbrev pub own : Key
@@ -75,21 +76,33 @@ pub record ListenerRows : Type 0 where
   pub data_behind : ComesTo Listener own ((come ++ mux) ++ 7 ∷ []) (come ++ mux) (Ok (Some other)) (sent ++ mux)
   pub other_header : Upgrades Listener own x_bytes (Err (Select BadHeader)) (spelled (header ∷ []))
   pub no_id : Upgrades Listener own (hello ++ 0 ∷ []) (Err (Exchange NoId)) sent
-  pub other_header_then : Upgrades Listener own (come ++ x_bytes) (Err (Select BadHeader)) (sent ++ spelled (header ∷ []))
+  pub other_header_then : Upgrades Listener own (come ++ x_bytes) (Err (Select BadHeader))
+      (sent ++ spelled (header ∷ []))
 
--- where memory may be refused: for the own message, for the length of a message, for the first bytes of a talk
+-- where memory may be refused: for the length of a message of a talk, for the own message, for the length of the other
+-- end's message and for its key, for the first bytes of the second talk. Nothing need wait for that.
 pub record MemoryRows : Type 0 where
-  pub at_once : RunsOut Dialer own [] [] []
-  pub message : RunsOut Dialer own [] hello hello
-  pub length_of_message : RunsOut Dialer own hello (16 ∷ []) sent
-  pub second_talk : RunsOut Dialer own hello (message_of other) sent
-  -- with the whole output kept, no memory is asked for before a byte has come
-  pub nothing_asked : ¬ RunsOut Dialer own [] [] hello
-  -- nor by a byte of a text
-  pub text : ¬ RunsOut Dialer own (19 ∷ []) (47 ∷ []) hello
+  pub length_in_first_talk : RunsOut Dialer own [] (19 ∷ []) [] hello
+  pub message : RunsOut Dialer own [] hello [] hello
+  pub length_of_message : RunsOut Dialer own hello (16 ∷ []) [] sent
+  pub key_of_message : RunsOut Dialer own (hello ++ 16 ∷ id_field) key_field [] sent
+  pub second_talk : RunsOut Dialer own hello (message_of other) [] sent
+  pub length_in_second_talk : RunsOut Dialer own come (19 ∷ []) [] (sent ++ mux)
+  -- with the whole output kept, no memory is asked for before a byte has come, whatever waits
+  pub nothing_asked : (waiting : List ℕ) → ¬ RunsOut Dialer own [] [] waiting hello
+  -- nor by a byte of a text, or of a message
+  pub text : (waiting : List ℕ) → ¬ RunsOut Dialer own (19 ∷ []) (47 ∷ []) waiting hello
+  pub in_message : (waiting : List ℕ) → ¬ RunsOut Dialer own (hello ++ 16 ∷ []) (10 ∷ []) waiting sent
+  pub text_then : (waiting : List ℕ) → ¬ RunsOut Dialer own (come ++ 19 ∷ []) (47 ∷ []) waiting (sent ++ mux)
   -- nor again for what came with an earlier piece
-  pub nothing_again : ¬ RunsOut Dialer own hello [] sent
-  pub nothing_again_then : ¬ RunsOut Dialer own come [] (sent ++ mux)
+  pub nothing_again : (waiting : List ℕ) → ¬ RunsOut Dialer own hello [] waiting sent
+  pub nothing_again_then : (waiting : List ℕ) → ¬ RunsOut Dialer own come [] waiting (sent ++ mux)
+
+-- where there is no room for what a talk writes: where something waits, and more is written
+pub record RoomRows : Type 0 where
+  pub refusal : HasNoRoom Listener own [] (spelled (header ∷ x ∷ [])) (spelled (header ∷ [])) (spelled (header ∷ []))
+  pub nothing_waits : ¬ HasNoRoom Listener own [] (spelled (header ∷ x ∷ [])) [] (spelled (header ∷ []))
+  pub nothing_written : ¬ HasNoRoom Dialer own [] [] hello hello
 
 -- output that grows: at its end alone, and by nothing too
 pub record GrowthRows : Type 0 where

@@ -64,17 +64,18 @@ StandsIn Over role own input written = ⊥
 
 -- ---- what a part makes of a piece
 
--- What comes of a part that stood at this input, by this piece, where this is what was written by then.
-abbrev pub Leads : ConnRole → Key → List ℕ → List ℕ → Result Next UpgradeFault → List ℕ → Type 0
-Leads role own input piece (Ok (Waits stage)) written = StandsIn stage role own (input ++ piece) written
-Leads role own input piece (Ok (Up left key)) written =
+-- What comes of a part that stood at this input, by this piece, where this waits and this is what was written by then.
+abbrev pub Leads : ConnRole → Key → List ℕ → List ℕ → Result Next UpgradeFault → List ℕ → List ℕ → Type 0
+Leads role own input piece (Ok (Waits stage)) waiting written = StandsIn stage role own (input ++ piece) written
+Leads role own input piece (Ok (Up left key)) waiting written =
     (first : List ℕ) × (rest : List ℕ) × (piece ≡ first ++ rest) × (left ≡ length rest)
     × Upgrades role own (input ++ first) (Ok (Some key)) written
-Leads role own input piece (Err faults.OutOfMemory) written = RunsOut role own input piece written
-Leads role own input piece (Err fault) written = Upgrades role own (input ++ piece) (Err fault) written
+Leads role own input piece (Err faults.OutOfMemory) waiting written = RunsOut role own input piece waiting written
+Leads role own input piece (Err fault) waiting written = Upgrades role own (input ++ piece) (Err fault) written
 
--- There is no room for what a talk wrote.
-pub record LosesOutput (side : Side) (input piece written : List ℕ) : Type 0 where
+-- Something waits, and there is no room behind it for what a talk wrote.
+pub record LosesOutput (side : Side) (input piece waiting written : List ℕ) : Type 0 where
+  pub waits : waiting ≢ []
   pub front : List ℕ
   pub rest : List ℕ
   pub standing : Result Answer SelectFault
@@ -84,16 +85,16 @@ pub record LosesOutput (side : Side) (input piece written : List ℕ) : Type 0 w
   pub some : lost ≢ []
 
 -- What comes of a talk that stood at this input and had written this, by this piece: so many bytes of it are the talk's
--- where it agrees. What it wrote by then is this.
-abbrev pub Hears : Side → Talking → List ℕ → List ℕ → Result (Option ℕ) UpgradeFault → List ℕ → Type 0
-Hears side talk input piece (Ok None) written = IsWaiting side talk (input ++ piece) written
-Hears side talk input piece (Ok (Some used)) written =
+-- where it agrees. What waits is this, and what it wrote by then.
+abbrev pub Hears : Side → Talking → List ℕ → List ℕ → Result (Option ℕ) UpgradeFault → List ℕ → List ℕ → Type 0
+Hears side talk input piece (Ok None) waiting written = IsWaiting side talk (input ++ piece) written
+Hears side talk input piece (Ok (Some used)) waiting written =
     (used ≤ length piece) × ((index : ℕ) × Talks side (input ++ take used piece) (Ok (answers.Agreed index)) written)
-Hears side talk input piece (Err faults.NoneLeft) written =
+Hears side talk input piece (Err faults.NoneLeft) waiting written =
     (first : List ℕ) × (rest : List ℕ) × (piece ≡ first ++ rest)
     × Talks side (input ++ first) (Ok answers.NoneLeft) written
-Hears side talk input piece (Err (faults.Select fault)) written = Faults side (input ++ piece) fault written
-Hears side talk input piece (Err faults.OutOfMemory) written =
-    TalkRunsOut side written input piece ⊎ LosesOutput side input piece written
-Hears side talk input piece (Err (faults.Exchange fault)) written = ⊥
-Hears side talk input piece (Err faults.Failed) written = ⊥
+Hears side talk input piece (Err (faults.Select fault)) waiting written = Faults side (input ++ piece) fault written
+Hears side talk input piece (Err faults.OutOfMemory) waiting written =
+    TalkRunsOut side written input piece ⊎ LosesOutput side input piece waiting written
+Hears side talk input piece (Err (faults.Exchange fault)) waiting written = ⊥
+Hears side talk input piece (Err faults.Failed) waiting written = ⊥

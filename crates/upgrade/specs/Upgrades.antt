@@ -103,16 +103,26 @@ pub record ComesTo (role : ConnRole) (own : Key) (input first : List ℕ) (outco
 abbrev pub Grows : List ℕ → List ℕ → Type 0
 Grows old new = (more : List ℕ) × (new ≡ old ++ more)
 
--- There is no room for these bytes, which belong behind what is kept of the output, and which the end writes by a front
--- of this piece.
-pub record HasNoRoom (role : ConnRole) (own : Key) (input piece kept : List ℕ) : Type 0 where
+-- Something waits, and there is no room behind it for these bytes, which belong behind what is kept of the output, and
+-- which the end writes by a front of this piece.
+pub record HasNoRoom (role : ConnRole) (own : Key) (input piece waiting kept : List ℕ) : Type 0 where
   pub front : List ℕ
   pub rest : List ℕ
   pub outcome : Result (Option Key) UpgradeFault
   pub lost : List ℕ
+  pub waits : waiting ≢ []
   pub piece_is : piece ≡ front ++ rest
   pub upgrades : Upgrades role own (input ++ front) outcome (kept ++ lost)
   pub some : lost ≢ []
+
+-- Memory is refused to the part that begins behind a front of this piece: to the exchange, where the first talk agrees
+-- by it, or to the second talk, where a key is proven by it. All that was written before it is kept.
+pub record BeginsNoPart (role : ConnRole) (own : Key) (input piece kept : List ℕ) : Type 0 where
+  pub front : List ℕ
+  pub rest : List ℕ
+  pub piece_is : piece ≡ front ++ rest
+  pub before : ((index : ℕ) × InFirstTalk role (input ++ front) (Ok (answers.Agreed index)) kept)
+      ⊎ ((key : Key) × InExchange role own (input ++ front) (Ok (Some key)) kept)
 
 -- A part of the upgrade runs out of memory, which has taken the rest of this piece.
 pub record FirstTalkRunsOut (role : ConnRole) (input piece written : List ℕ) : Type 0 where
@@ -139,9 +149,11 @@ pub record SecondTalkRunsOut (role : ConnRole) (own : Key) (input piece written 
   pub runs_out : TalkRunsOut (side_of role yamux) talk before.second rest
   pub written_is : written ≡ before.written_before ++ talk
 
--- Why memory is refused on the way through this piece behind this input, where this is kept of the output.
-abbrev pub RunsOut : ConnRole → Key → List ℕ → List ℕ → List ℕ → Type 0
-RunsOut role own input piece kept =
-    HasNoRoom role own input piece kept
+-- Why memory is refused on the way through this piece behind this input, where this waits, and this is kept of the
+-- output.
+abbrev pub RunsOut : ConnRole → Key → List ℕ → List ℕ → List ℕ → List ℕ → Type 0
+RunsOut role own input piece waiting kept =
+    HasNoRoom role own input piece waiting kept
+    ⊎ (BeginsNoPart role own input piece kept
     ⊎ (FirstTalkRunsOut role input piece kept
-    ⊎ (ExchangeRunsOutIn role own input piece kept ⊎ SecondTalkRunsOut role own input piece kept))
+    ⊎ (ExchangeRunsOutIn role own input piece kept ⊎ SecondTalkRunsOut role own input piece kept)))

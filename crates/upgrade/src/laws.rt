@@ -2,7 +2,7 @@
 
 ghost use Rattle.upgrade.specs.Laws.{OneOutcome, SomeOutcome, UpStays, FaultStays, FaultsOfParts};
 ghost use Rattle.upgrade.specs.Laws.{GoesOn, BothUp};
-ghost use Rattle.upgrade.specs.Rows.{ByteRows, DialerRows, ListenerRows, MemoryRows, GrowthRows};
+ghost use Rattle.upgrade.specs.Rows.{ByteRows, DialerRows, ListenerRows, MemoryRows, RoomRows, GrowthRows};
 
 /// The definitions say of worked bytes what the standards and this project's profile say.
 pub fn worked_rows()
@@ -10,6 +10,7 @@ pub fn worked_rows()
     ensures dialer { DialerRows }
     ensures listener { ListenerRows }
     ensures memory { MemoryRows }
+    ensures room { RoomRows }
     ensures growth { GrowthRows }
 {}
 

@@ -67,6 +67,7 @@ fn behind(piece: &[u8], used: usize) -> &[u8]
 fn keep_output(output: &mut Vec<u8>, talk: &mut Talk) -> Result<(), AllocError>
     ensures kept { OnOk result (output.new.items ≡ output.old.items ++ talk.old.pending) }
     ensures refused { OnErr result (output.new.items ≡ output.old.items) }
+    ensures waits { OnErr result (output.old.items ≢ []) }
     ensures some { OnErr result (talk.old.pending ≢ []) }
     ensures side { talk.new.side ≡ talk.old.side }
     ensures answer { talk.new.answer ≡ talk.old.answer }
@@ -118,7 +119,7 @@ fn hear(talk: &mut Talk, output: &mut Vec<u8>, piece: &[u8]) -> Result<Option<us
     ensures within { IfOk result (λ used. IfSome used (λ n. n ≤ length piece.now)) }
     ensures heard { (side : Side) (input before : List ℕ) → IsWaiting side talk.old input before
         → (more : List ℕ) × (output.new.items ≡ output.old.items ++ more)
-        × Hears side talk.new input piece.now result (before ++ more) }
+        × Hears side talk.new input piece.now result output.new.items (before ++ more) }
     ensures grows { Grows output.old.items output.new.items }
 {
     let heard = talk.hear(piece);
@@ -137,7 +138,7 @@ fn mux(output: &mut Vec<u8>, talk: Talk, proven: Proven, piece: &[u8]) -> Result
     ensures grows { Grows output.old.items output.new.items }
     ensures leads { (role : ConnRole) (own : Key) (input taken : List ℕ)
         → StandsIn (Stage.Muxing talk proven) role own input (taken ++ output.old.items)
-        → Leads role own input piece.now result (taken ++ output.new.items) }
+        → Leads role own input piece.now result output.new.items (taken ++ output.new.items) }
 {
     let mut talk = talk;
     match hear(&mut talk, output, piece)? {
@@ -159,7 +160,7 @@ fn prove(
     ensures grows { Grows output.old.items output.new.items }
     ensures leads { (input taken : List ℕ)
         → StandsIn (Stage.Proving exchange) end.now.role end.now.key input (taken ++ output.old.items)
-        → Leads end.now.role end.now.key input piece.now result (taken ++ output.new.items) }
+        → Leads end.now.role end.now.key input piece.now result output.new.items (taken ++ output.new.items) }
 {
     let mut exchange = exchange;
     let (used, _) = exchange.feed(piece)?;
@@ -177,7 +178,7 @@ fn greet(end: &End, output: &mut Vec<u8>, talk: Talk, piece: &[u8]) -> Result<Ne
     ensures grows { Grows output.old.items output.new.items }
     ensures leads { (input taken : List ℕ)
         → StandsIn (Stage.Greeting talk) end.now.role end.now.key input (taken ++ output.old.items)
-        → Leads end.now.role end.now.key input piece.now result (taken ++ output.new.items) }
+        → Leads end.now.role end.now.key input piece.now result output.new.items (taken ++ output.new.items) }
 {
     let mut talk = talk;
     match hear(&mut talk, output, piece)? {
@@ -200,7 +201,7 @@ pub(crate) fn take_on(
     ensures grows { Grows output.old.items output.new.items }
     ensures leads { (input taken : List ℕ)
         → StandsIn stage end.now.role end.now.key input (taken ++ output.old.items)
-        → Leads end.now.role end.now.key input piece.now result (taken ++ output.new.items) }
+        → Leads end.now.role end.now.key input piece.now result output.new.items (taken ++ output.new.items) }
 {
     match stage {
         Stage::Greeting(talk) => greet(end, output, talk, piece),

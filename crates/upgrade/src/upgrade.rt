@@ -84,7 +84,7 @@ impl Upgrade {
             → (first ≡ input ++ used_of result piece.now) × (outcome ≡ outcome_of result)
             × (written ≡ taken ++ self.new.pending)) }
         ensures memory { Whenever self.old (λ input taken. result ≡ Err UpgradeFault.OutOfMemory
-            → RunsOut self.old.role self.old.own input piece.now (taken ++ self.new.pending)) }
+            → RunsOut self.old.role self.old.own input piece.now self.new.pending (taken ++ self.new.pending)) }
         // No output that waits is dropped, whatever is answered.
         ensures grows { Grows self.old.pending self.new.pending }
     {

@@ -1,4 +1,5 @@
-use Rattle.upgrade.proofs.Rows.{byte_rows, dialer_rows, listener_rows, memory_rows, growth_rows}
+use Rattle.upgrade.proofs.Rows.{byte_rows, dialer_rows, listener_rows, growth_rows}
+use Rattle.upgrade.proofs.MemoryRows.{memory_rows, room_rows}
 use Rattle.upgrade.proofs.laws.worked_rows.Goals as goal
 
 pub returns-clause-bytes : goal.returns-clause-bytes
@@ -15,3 +16,6 @@ returns-clause-memory c = memory_rows
 
 pub returns-clause-growth : goal.returns-clause-growth
 returns-clause-growth c = growth_rows
+
+pub returns-clause-room : goal.returns-clause-room
+returns-clause-room c = room_rows

@@ -36,4 +36,4 @@ returns-in_ok-exchange-in-Some-clause-leads c = λ input taken here.
     let fresh = c.in_ok-exchange-in-Some.ensures.fresh in
     let begun = proving_begins role own c.hear.new.talk c.in_ok-exchange-in-Some.exchange input piece taken old c.hear.new.output.items c.begin_exchange.new.output.items c.in_ok-hear.field-0 used c.in-Some.is
     c.in_ok-exchange-in-Some.ensures.written fresh.0 fresh.1 (c.in_ok-hear.ensures.heard (side_of role plaintext) input (taken ++ old) here) in
-    rest_leads role own input piece c.behind.result.now used c.prove.result (taken ++ c.prove.new.output.items) c.behind.ensures (c.prove.ensures.leads (input ++ take used piece) taken begun)
+    rest_leads role own input piece c.behind.result.now used c.prove.result c.prove.new.output.items (taken ++ c.prove.new.output.items) c.behind.ensures (c.prove.ensures.leads (input ++ take used piece) taken begun)

@@ -11,7 +11,7 @@ returns-in_err-keep_output-clause-heard c = λ side input before w.
     rw (p.1, p.2) (
       [],
       c.in_err-keep_output.ensures.refused ∙ sym (append-nil c.args.output.now.items),
-      inr (loses side c.args.talk.now input c.args.piece.now before c.hear-heard.new.self.pending c.hear-heard.result w c.in_err-keep_output.ensures.some
+      inr (loses c.keep_output.new.output.items (λ e. c.in_err-keep_output.ensures.waits (sym c.in_err-keep_output.ensures.refused ∙ e)) side c.args.talk.now input c.args.piece.now before c.hear-heard.new.self.pending c.hear-heard.result w c.in_err-keep_output.ensures.some
           (h.talks input before w.stands) (h.fault w.going input before w.stands) (h.memory w.going input before w.stands)),
     )
 
@@ -19,6 +19,6 @@ pub returns-in-NoneLeft-clause-heard : goal.returns-in-NoneLeft-clause-heard
 returns-in-NoneLeft-clause-heard c = λ side input before w. (
   c.hear-heard.new.self.pending,
   c.in_ok-keep_output.ensures.kept,
-  turned_down side c.args.talk.now c.keep_output.new.talk input c.args.piece.now before c.hear-heard.new.self.pending c.in_ok-step.step.used c.in_ok-step.step.answer w c.in-NoneLeft.is
+  turned_down c.keep_output.new.output.items side c.args.talk.now c.keep_output.new.talk input c.args.piece.now before c.hear-heard.new.self.pending c.in_ok-step.step.used c.in_ok-step.step.answer w c.in-NoneLeft.is
       (c.in_ok-step.ensures.talks input before w.stands),
 )

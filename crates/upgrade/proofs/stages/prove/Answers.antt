@@ -12,7 +12,7 @@ returns-in_err-used-clause-leads c = λ input taken here.
     let own = c.args.end.now.key in
     let h = c.in_err-used.ensures in
     let x = here.0.exchange in
-    rw (p.1, p.2) (exchange_refuses c.args.end.now.role own input c.args.piece.now (taken ++ c.args.output.now.items) c.in_err-used.field-0.0 here.0
+    rw (p.1, p.2) (exchange_refuses c.args.end.now.role own input c.args.piece.now c.args.output.now.items (taken ++ c.args.output.now.items) c.in_err-used.field-0.0 here.0
     (h.fault here.1 own x (length x) (message_of own) here.2) (h.memory here.1 own x (length x) (message_of own) here.2))
 
 pub returns-in_err-talk-in-Ok-clause-leads : goal.returns-in_err-talk-in-Ok-clause-leads
@@ -26,8 +26,8 @@ returns-in_err-talk-in-Ok-clause-leads c = λ input taken here.
     let refused = c.in_err-talk-in-Ok.ensures.refused in
     let key = c.in-Ok.proven in
     let proven = proven_of role own key input piece (taken ++ c.args.output.now.items) c.in_ok-used.used c.feed.new.self.answer here.0 c.in-Ok.ensures.proven h.within (h.outcome own x (length x) (message_of own) here.2) in
-    rw (p.1, p.2, refused.0) (leads_as role own input piece (Err OutOfMemory) (taken ++ c.begin_talk.new.output.items) (taken ++ c.args.output.now.items) (ap (λ (t : List ℕ). taken ++ t) refused.1)
-    (talk_refused role own key input piece (taken ++ c.args.output.now.items) c.in_ok-used.used proven))
+    rw (p.1, p.2, refused.0) (leads_as role own input piece (Err OutOfMemory) c.begin_talk.new.output.items (taken ++ c.begin_talk.new.output.items) (taken ++ c.args.output.now.items) (ap (λ (t : List ℕ). taken ++ t) refused.1)
+    (talk_refused role own key input piece c.begin_talk.new.output.items (taken ++ c.args.output.now.items) c.in_ok-used.used proven))
 
 pub returns-in_ok-talk-in-Ok-clause-leads : goal.returns-in_ok-talk-in-Ok-clause-leads
 returns-in_ok-talk-in-Ok-clause-leads c = λ input taken here.
@@ -40,7 +40,7 @@ returns-in_ok-talk-in-Ok-clause-leads c = λ input taken here.
     let key = c.in-Ok.proven in
     let proven = proven_of role own key input piece (taken ++ c.args.output.now.items) used c.feed.new.self.answer here.0 c.in-Ok.ensures.proven h.within (h.outcome own x (length x) (message_of own) here.2) in
     let begun = talk_begins role own key c.in_ok-talk-in-Ok.talk (input ++ take used piece) taken c.args.output.now.items c.begin_talk.new.output.items proven c.in_ok-talk-in-Ok.ensures.fresh in
-    rest_leads role own input piece c.behind.result.now used c.mux.result (taken ++ c.mux.new.output.items) c.behind.ensures (c.mux.ensures.leads role own (input ++ take used piece) taken begun)
+    rest_leads role own input piece c.behind.result.now used c.mux.result c.mux.new.output.items (taken ++ c.mux.new.output.items) c.behind.ensures (c.mux.ensures.leads role own (input ++ take used piece) taken begun)
 
 pub returns-in-Err-clause-leads : goal.returns-in-Err-clause-leads
 returns-in-Err-clause-leads c = λ input taken here.
