@@ -128,7 +128,7 @@ struct Row {
     output: &'static [u8],
 }
 
-const ROWS: [Row; 7] = [
+static ROWS: [Row; 7] = [
     Row {
         begins: Begins::AsksWith(b"Early", 0, false),
         input: b"\x13/multistream/1.0.0\n\x03/x\nNext",
@@ -322,7 +322,7 @@ struct Script {
 
 const FAILED: Answer = Answer::Stopped(Stop::Broken(Cause::Select(SelectFault::Failed)));
 
-const SCRIPTS: [Script; 7] = [
+static SCRIPTS: [Script; 7] = [
     // The handler fails: what the talk wrote still waits.
     Script {
         begins: Begins::AsksWith(b"", b't', false),
@@ -629,7 +629,7 @@ fn names_of_bad_length(rt: HostRuntime) -> Result<(), Fail> {
     Ok(())
 }
 
-const WORDS: [(Stop, &str); 5] = [
+static WORDS: [(Stop, &str); 5] = [
     (
         Stop::Broken(Cause::Select(SelectFault::BadHeader)),
         "the stream is broken: no protocol is settled: the first message is not the header",

@@ -29,7 +29,7 @@ struct Row {
     output: &'static [u8],
 }
 
-const ROWS: [Row; 17] = [
+static ROWS: [Row; 17] = [
     Row {
         end: End::Asks,
         input: b"",
@@ -229,7 +229,7 @@ fn talks_however_the_input_is_cut(rt: HostRuntime) -> Result<(), Fail> {
 }
 
 /// How long a name is, and whether a talk can be about it.
-const LENGTHS: [(usize, bool); 4] = [(0, false), (1, true), (1023, true), (1024, false)];
+static LENGTHS: [(usize, bool); 4] = [(0, false), (1, true), (1023, true), (1024, false)];
 
 /// Whether a talk that asks, and one that answers, can be about a name of so many bytes.
 fn begins(alloc: Global, length: usize) -> Result<(bool, bool), Fail> {
@@ -268,7 +268,7 @@ struct Cut {
     output: &'static [u8],
 }
 
-const CUTS: [Cut; 6] = [
+static CUTS: [Cut; 6] = [
     Cut {
         end: End::Asks,
         pieces: &[M, b"\x03n", b"a\nNext"],
