@@ -123,7 +123,7 @@ struct Script {
     handed: Option<&'static [u8]>,
 }
 
-const SCRIPTS: [Script; 7] = [
+static SCRIPTS: [Script; 7] = [
     Script {
         direction: Direction::Inbound,
         most: 1024,

@@ -186,7 +186,7 @@ impl Pair {
 }
 
 /// Each script of a handler that gives back what it is handed.
-const SCRIPTS: [&[Step]; 2] = [
+static SCRIPTS: [&[Step]; 2] = [
     &[
         Step {
             does: Does::Writes(5),
