@@ -274,7 +274,7 @@ impl Pair {
     }
 }
 
-const SCRIPTS: [Script; 6] = [
+static SCRIPTS: [Script; 6] = [
     // Each is served to its end.
     Script {
         direction: Direction::Inbound,
