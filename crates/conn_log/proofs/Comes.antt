@@ -34,6 +34,7 @@ use Rattle.conn_log.specs.Due.{IsSide, HasCome, IsThere, IsDone, IsDue, AllDue, 
 use Rattle.conn_log.specs.Held.{IsHeld, IsAtRest, IsPast}
 use Rattle.conn_log.specs.Routes.{IsStill, IsMoving, Around, Routes, Comes}
 use Rattle.conn_log.proofs.Same.{same_by_event, IsOf, side_same, settled_same, at_rest_same, past_same}
+use Rattle.conn_log.proofs.Around.{grown, still}
 use Rattle.conn_log.proofs.Views.{same}
 use Rattle.conn_log.proofs.StageKinds.{same_talking, same_awaiting, same_handed, served_talking, served_handed}
 use Rattle.conn_log.proofs.Served.{did, items_did, said_did, view_by, AllOn, Own, did_own, all_on, come_of, come_on, view_came, view_ended, view_over, around_acts}
@@ -47,33 +48,11 @@ module _ {P H : Type 0} (step : H → HandlerCall → H → Type 0) (fails : H �
       → IsDue step fails is_closed is_finished inbound_makes outbound_makes eager names peer role log (Says told)
       → Around step fails is_closed is_finished inbound_makes outbound_makes eager names peer role log fed sent session streams past n view rest
       → Around step fails is_closed is_finished inbound_makes outbound_makes eager names peer role (Says told ∷ log) fed sent session streams past n view rest
-  around_event log fed sent session streams past n view rest told of is_due a = record {
-    session_stands = a.session_stands;
-    due = (is_due, a.due);
-    others = λ m apart. if_some (streams m) (λ it. at_rest_same step is_closed is_finished names role log (Says told ∷ log) m it (same_by_event role log n m told of apart)) (a.others m apart);
-    others_held = a.others_held;
-    others_kept = λ m apart made going. let s = same_by_event role log n m told of apart in a.others_kept m apart (λ none. made (s.made_is ∙ none)) (sym s.over_is ∙ going);
-    heard = a.heard;
-    opens_none = a.opens_none;
-    ends_last = a.ends_last;
-    earlier = all_past past a.earlier;
-  } where
-    if_some : {A : Type 0} {P Q : A → Type 0} (r : Option A) → ((x : A) → P x → Q x) → IfSome r P → IfSome r Q
-    if_some None f p = tt
-    if_some (Some x) f p = f x p
-
-    all_past : (past : List (Earlier H)) → AllByRecursion (λ it. IsPast step is_closed is_finished names role log it.number it.stream) past
-        → AllByRecursion (λ it. IsPast step is_closed is_finished names role (Says told ∷ log) it.number it.stream) past
-    all_past [] all = tt
-    all_past (it ∷ past) all = (past_same step is_closed is_finished names role log (Says told ∷ []) it.number it.stream all.0, all_past past all.1)
+  around_event log fed sent session streams past n view rest told of is_due a =
+      grown step fails is_closed is_finished inbound_makes outbound_makes eager names peer role log (Says told ∷ []) fed sent session session streams streams past n view view rest a
+      (is_due, a.due) (λ m apart. same_by_event role log n m told of apart) a.session_stands (λ m apart. refl) a.heard refl
 
   -- ---- a stream that was served
-
-  -- A stream that is served: it stands so, and so much of it was seen.
-  pub record Before (log : List (Entry H)) (n : ℕ) (view : Seen) (so_far : Past H) (old : Streaming H) : Type 0 where
-    pub held : IsHeld step is_closed is_finished names role log n view.came view.ended old
-    pub so_far_is : held.so_far ≡ so_far
-    pub over_by_end : view.live ≡ false → view.ended ≡ true
 
   module _ (acts_do : ActsDo) (acts_move : ActsMove) (log : List (Entry H)) (fed sent : List ℕ) (before after : State) (streams now : ℕ → Option (Streaming H))
       (past : List (Earlier H)) (n : ℕ) (view : Seen) (rest : List Told) (old new : Streaming H)
@@ -194,27 +173,13 @@ module _ {P H : Type 0} (step : H → HandlerCall → H → Type 0) (fails : H �
           own_kept = λ made going. subst (λ (t : Option (Streaming H)). IsSome t) (sym here) refl;
         }
 
-    -- nothing was done
-    pub around_still : after ≡ before → Around step fails is_closed is_finished inbound_makes outbound_makes eager names peer role log fed sent after now past n view rest
-    around_still same_session = record {
-      session_stands = subst (λ (t : State). SessionStands role (items log) fed sent t) (sym same_session) a.session_stands;
-      due = a.due;
-      others = λ m apart. subst (λ (t : Option (Streaming H)). IfSome t (λ it. IsAtRest step is_closed is_finished names role log m it)) (sym (elsewhere m apart)) (a.others m apart);
-      others_held = λ m apart live. subst (λ (t : Option (Streaming H)). IsSome t) (sym (elsewhere m apart)) (a.others_held m apart live);
-      others_kept = λ m apart made going. subst (λ (t : Option (Streaming H)). IsSome t) (sym (elsewhere m apart)) (a.others_kept m apart made going);
-      heard = a.heard;
-      opens_none = a.opens_none;
-      ends_last = a.ends_last;
-      earlier = a.earlier;
-    }
-
     -- its handler gives up
     pub is_broken : (credit_now : ℕ) (cause : Cause) → after ≡ before → open_credit role (items log) n ≡ Some credit_now → GivesUp fails is_closed old credit_now (stops.Broken cause)
         → Around step fails is_closed is_finished inbound_makes outbound_makes eager names peer role (Says (event.Broken n cause) ∷ log) fed sent after now past n view rest
         × (cause ≢ causes.Reset)
     is_broken credit_now cause same_session is_open g = (
       around_event log fed sent after now past n view rest (event.Broken n cause) refl (h.over ∙ holding g.handler old.stage g.held, by_fault cause g.fails_by.0 (same_cause g.fails_by.1) g.fails_by.2)
-          (around_still same_session),
+          (still step fails is_closed is_finished inbound_makes outbound_makes eager names peer role log fed sent before after streams now past n view rest same_session elsewhere a),
       λ reset. absurd (let e : causes.Reset ≡ causes.Handler g.fails_by.0 = sym reset ∙ same_cause g.fails_by.1 in cc e),
     ) where
       same_cause : {x y : Cause} → stops.Broken x ≡ stops.Broken y → x ≡ y

@@ -34,6 +34,7 @@ use Rattle.conn_log.specs.Due.{IsSide, direction_of, HasCome, ComesTo, HandlerFa
 use Rattle.conn_log.specs.Held.{IsHeld, IsAtRest, IsPast}
 use Rattle.conn_log.specs.Routes.{IsNoOpening, EndsLast, Around, Comes}
 use Rattle.conn_log.proofs.Same.{same_by_making, at_rest_same, past_same}
+use Rattle.conn_log.proofs.Around.{grown, still}
 use Rattle.conn_log.proofs.Views.{same, came_front}
 use Rattle.conn_log.proofs.StageKinds.{same_talking, same_awaiting, same_handed, served_talking, served_handed, served_awaits, talking_kind, talking_awaits}
 use Rattle.conn_log.proofs.Settling.{said_append}
@@ -93,25 +94,9 @@ module _ {P H : Type 0} (step : H → HandlerCall → H → Type 0) (fails : H �
       → IsDue step fails is_closed is_finished inbound_makes outbound_makes eager names peer role log (Made n made)
       → Around step fails is_closed is_finished inbound_makes outbound_makes eager names peer role log fed sent session streams past n view rest
       → Around step fails is_closed is_finished inbound_makes outbound_makes eager names peer role (Made n made ∷ log) fed sent session streams past n view rest
-  around_making log fed sent session streams past n view rest made is_due a = record {
-    session_stands = a.session_stands;
-    due = (is_due, a.due);
-    others = λ m apart. if_some (streams m) (λ it. at_rest_same step is_closed is_finished names role log (Made n made ∷ log) m it (same_by_making role log n m made apart)) (a.others m apart);
-    others_held = a.others_held;
-    others_kept = λ m apart had going. let s = same_by_making role log n m made apart in a.others_kept m apart (λ none. had (s.made_is ∙ none)) (sym s.over_is ∙ going);
-    heard = a.heard;
-    opens_none = a.opens_none;
-    ends_last = a.ends_last;
-    earlier = all_past past a.earlier;
-  } where
-    if_some : {A : Type 0} {P Q : A → Type 0} (r : Option A) → ((x : A) → P x → Q x) → IfSome r P → IfSome r Q
-    if_some None f p = tt
-    if_some (Some x) f p = f x p
-
-    all_past : (past : List (Earlier H)) → AllByRecursion (λ it. IsPast step is_closed is_finished names role log it.number it.stream) past
-        → AllByRecursion (λ it. IsPast step is_closed is_finished names role (Made n made ∷ log) it.number it.stream) past
-    all_past [] all = tt
-    all_past (it ∷ past) all = (past_same step is_closed is_finished names role log (Made n made ∷ []) it.number it.stream all.0, all_past past all.1)
+  around_making log fed sent session streams past n view rest made is_due a =
+      grown step fails is_closed is_finished inbound_makes outbound_makes eager names peer role log (Made n made ∷ []) fed sent session session streams streams past n view view rest a
+      (is_due, a.due) (λ m apart. same_by_making role log n m made apart) a.session_stands (λ m apart. refl) a.heard refl
 
   -- What data came to: by these entries, that tell this.
   pub record Went (log : List (Entry H)) (told : List (ConnEvent H)) (fed sent : List ℕ) (session : State) (streams : ℕ → Option (Streaming H)) (past : List (Earlier H)) (n : ℕ) (rest : List Told)
@@ -124,20 +109,6 @@ module _ {P H : Type 0} (step : H → HandlerCall → H → Type 0) (fails : H �
   module _ (acts_do : ActsDo) (acts_move : ActsMove) (fed sent : List ℕ) (before after : State) (streams now : ℕ → Option (Streaming H))
       (past : List (Earlier H)) (n : ℕ) (view : Seen) (rest : List Told) (new : Streaming H) (over : view.live ≡ false → view.ended ≡ true)
       (elsewhere : (m : ℕ) → (n == m) ≡ false → now m ≡ streams m) (here : now n ≡ Some new) where
-    still : (log : List (Entry H)) → after ≡ before → Around step fails is_closed is_finished inbound_makes outbound_makes eager names peer role log fed sent before streams past n view rest
-        → Around step fails is_closed is_finished inbound_makes outbound_makes eager names peer role log fed sent after now past n view rest
-    still log same_session a = record {
-      session_stands = subst (λ (t : State). Rattle.yamux_session.specs.State.Stands role (items log) fed sent t) (sym same_session) a.session_stands;
-      due = a.due;
-      others = λ m apart. subst (λ (t : Option (Streaming H)). IfSome t (λ it. IsAtRest step is_closed is_finished names role log m it)) (sym (elsewhere m apart)) (a.others m apart);
-      others_held = λ m apart live. subst (λ (t : Option (Streaming H)). IsSome t) (sym (elsewhere m apart)) (a.others_held m apart live);
-      others_kept = λ m apart made going. subst (λ (t : Option (Streaming H)). IsSome t) (sym (elsewhere m apart)) (a.others_kept m apart made going);
-      heard = a.heard;
-      opens_none = a.opens_none;
-      ends_last = a.ends_last;
-      earlier = a.earlier;
-    }
-
     -- a stream that is given up, and why
     stopped : (log : List (Entry H)) (outcome : Outcome H) (told : ConnEvent H) → after ≡ before
         → Around step fails is_closed is_finished inbound_makes outbound_makes eager names peer role log fed sent before streams past n view rest
@@ -149,7 +120,7 @@ module _ {P H : Type 0} (step : H → HandlerCall → H → Type 0) (fails : H �
       newer = [];
       said_is = refl;
       seen_now = view;
-      comes = come (around_event step fails is_closed is_finished inbound_makes outbound_makes eager names peer role log fed sent after now past n view rest told of is_due (still log same_session a));
+      comes = come (around_event step fails is_closed is_finished inbound_makes outbound_makes eager names peer role log fed sent after now past n view rest told of is_due (still step fails is_closed is_finished inbound_makes outbound_makes eager names peer role log fed sent before after streams now past n view rest same_session elsewhere a));
     }
 
     -- the handler took data behind the talk

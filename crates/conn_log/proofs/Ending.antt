@@ -27,10 +27,11 @@ use Rattle.conn_log.specs.Entries.Entry.{Says}
 use Rattle.conn_log.specs.Due.{HasCome, ComesTo, HandlerFails, IsBroken, IsDue}
 use Rattle.conn_log.specs.Held.{IsHeld}
 use Rattle.conn_log.specs.Routes.{EndsLast, IsMoving, Around, Routes, Comes}
+use Rattle.conn_log.proofs.Around.{still}
 use Rattle.conn_log.proofs.Views.{same}
 use Rattle.conn_log.proofs.StageKinds.{same_talking, same_awaiting, same_handed}
 use Rattle.conn_log.proofs.Served.{none_behind, ended_stays, not_yet}
-use Rattle.conn_log.proofs.Comes.{come, went, around_event, around_still, Went}
+use Rattle.conn_log.proofs.Comes.{come, went, around_event, Went}
 
 -- what is seen of a stream that has ended
 abbrev pub ended_view : Seen → Seen
@@ -120,19 +121,6 @@ module _ {P H : Type 0} (step : H → HandlerCall → H → Type 0) (fails : H �
       pub seen_now : Seen
       pub comes : Comes step fails is_closed is_finished inbound_makes outbound_makes eager names peer role (newer ++ log) fed sent after now past n seen_now rest outcome
 
-    still : after ≡ before → Around step fails is_closed is_finished inbound_makes outbound_makes eager names peer role log fed sent after now past n (ended_view view) rest
-    still same_session = record {
-      session_stands = subst (λ (t : State). Rattle.yamux_session.specs.State.Stands role (items log) fed sent t) (sym same_session) a.session_stands;
-      due = a.due;
-      others = λ m apart. subst (λ (t : Option (Streaming H)). IfSome t (λ it. Rattle.conn_log.specs.Held.IsAtRest step is_closed is_finished names role log m it)) (sym (elsewhere m apart)) (a.others m apart);
-      others_held = λ m apart live. subst (λ (t : Option (Streaming H)). IsSome t) (sym (elsewhere m apart)) (a.others_held m apart live);
-      others_kept = λ m apart made going. subst (λ (t : Option (Streaming H)). IsSome t) (sym (elsewhere m apart)) (a.others_kept m apart made going);
-      heard = a.heard;
-      opens_none = a.opens_none;
-      ends_last = a.ends_last;
-      earlier = a.earlier;
-    }
-
     in_talk : (outcome : Outcome H) → is_talking old.stage ≡ true → outcome ≡ outcomes.Broken causes.Ended → after ≡ before → Ended outcome
     in_talk outcome talks is same_session =
         let open_so_far = is_open old h.so_far h.stands talks in
@@ -158,7 +146,7 @@ module _ {P H : Type 0} (step : H → HandlerCall → H → Type 0) (fails : H �
           seen_now = ended_view view;
           comes = subst (λ (o : Outcome H). Comes step fails is_closed is_finished inbound_makes outbound_makes eager names peer role log fed sent after now past n (ended_view view) rest o) (sym is) (
             around_event step fails is_closed is_finished inbound_makes outbound_makes eager names peer role log fed sent after now past n (ended_view view) rest (event.Broken n causes.Ended) refl was_due
-                (still same_session),
+                (still step fails is_closed is_finished inbound_makes outbound_makes eager names peer role log fed sent before after streams now past n (ended_view view) rest same_session elsewhere a),
             λ e. absurd (cc e),
           );
         }
@@ -183,7 +171,7 @@ module _ {P H : Type 0} (step : H → HandlerCall → H → Type 0) (fails : H �
           seen_now = ended_view view;
           comes = subst (λ (o : Outcome H). Comes step fails is_closed is_finished inbound_makes outbound_makes eager names peer role log fed sent after now past n (ended_view view) rest o) (sym is) (
             around_event step fails is_closed is_finished inbound_makes outbound_makes eager names peer role log fed sent after now past n (ended_view view) rest (event.Broken n (causes.Handler fault)) refl was_due
-                (still same_session),
+                (still step fails is_closed is_finished inbound_makes outbound_makes eager names peer role log fed sent before after streams now past n (ended_view view) rest same_session elsewhere a),
             λ e. absurd (cc e),
           );
         }

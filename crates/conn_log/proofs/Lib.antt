@@ -1,4 +1,5 @@
 pub mod Same
+pub mod Around
 pub mod Views
 pub mod StageKinds
 pub mod Served

@@ -24,6 +24,7 @@ use Rattle.conn_log.specs.Due.{IsSide, HasCome, IsThere, HasGiven, IsDue, AllDue
 use Rattle.conn_log.specs.Held.{IsHeld, IsAtRest, IsPast}
 use Rattle.conn_log.specs.Routes.{IsNoOpening, EndsLast, Around}
 use Rattle.conn_log.proofs.Same.{Same, same_refl, same_trans, same_by_act, IsOn, side_same, at_rest_same, past_same}
+use Rattle.conn_log.proofs.Around.{grown}
 use Rattle.conn_log.proofs.Views.{done_by, wrote, shut, gone, does_is, moves_on, came_front}
 
 -- entries for these acts
@@ -291,26 +292,7 @@ module _ {P H : Type 0} (step : H → HandlerCall → H → Type 0) (fails : H �
       → Around step fails is_closed is_finished inbound_makes outbound_makes eager names peer role (did acts ++ log) fed sent after now past n (view_by acts view) rest
   around_acts log fed sent before after streams now past n view rest so_far acts a c due there elsewhere =
       let on = all_on (items log) n so_far acts due in
-      record {
-        session_stands = subst (λ (t : List Item). SessionStands role t fed sent after) (sym (items_did acts log)) there;
-        due = did_due log n so_far acts c due a.due;
-        others = λ m apart. subst (λ (t : Option (Streaming H)). IfSome t (λ it. IsAtRest step is_closed is_finished names role (did acts ++ log) m it)) (sym (elsewhere m apart))
-            (if_some (streams m) (λ it. at_rest_same step is_closed is_finished names role log (did acts ++ log) m it (did_same log n m acts apart on)) (a.others m apart));
-        others_held = λ m apart live. subst (λ (t : Option (Streaming H)). IsSome t) (sym (elsewhere m apart))
-            (a.others_held m apart (sym (ap (λ (x : Seen). x.live) (did_same log n m acts apart on).seen_is) ∙ live));
-        others_kept = λ m apart made going. subst (λ (t : Option (Streaming H)). IsSome t) (sym (elsewhere m apart))
-            (let s = did_same log n m acts apart on in a.others_kept m apart (λ none. made (s.made_is ∙ none)) (sym s.over_is ∙ going));
-        heard = did_heard log n view rest acts on a.opens_none a.heard;
-        opens_none = a.opens_none;
-        ends_last = subst (λ b. EndsLast b rest) (sym (view_ended n acts view on)) a.ends_last;
-        earlier = all_past past a.earlier;
-      }
-    where
-      if_some : {A : Type 0} {P Q : A → Type 0} (r : Option A) → ((x : A) → P x → Q x) → IfSome r P → IfSome r Q
-      if_some None f p = tt
-      if_some (Some x) f p = f x p
-
-      all_past : (past : List (Earlier H)) → AllByRecursion (λ it. IsPast step is_closed is_finished names role log it.number it.stream) past
-          → AllByRecursion (λ it. IsPast step is_closed is_finished names role (did acts ++ log) it.number it.stream) past
-      all_past [] all = tt
-      all_past (it ∷ past) all = (past_same step is_closed is_finished names role log (did acts) it.number it.stream all.0, all_past past all.1)
+      grown step fails is_closed is_finished inbound_makes outbound_makes eager names peer role log (did acts) fed sent before after streams now past n view (view_by acts view) rest a
+      (did_due log n so_far acts c due a.due) (λ m apart. did_same log n m acts apart on)
+      (subst (λ (t : List Item). SessionStands role t fed sent after) (sym (items_did acts log)) there) elsewhere
+      (did_heard log n view rest acts on a.opens_none a.heard) (view_ended n acts view on)

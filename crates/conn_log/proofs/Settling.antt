@@ -24,7 +24,8 @@ use Rattle.conn_log.specs.Entries.Entry.{Of, Says, Made, Asks}
 use Rattle.conn_log.specs.Due.{IsGivenUp}
 use Rattle.conn_log.specs.Held.{IsAtRest, IsPast}
 use Rattle.conn_log.specs.Routes.{IsMoving, Around, Routes, Routed, Comes, Resets}
-use Rattle.conn_log.proofs.Same.{Same, same_by_act, at_rest_same, past_same}
+use Rattle.conn_log.proofs.Same.{Same, same_refl, same_by_act}
+use Rattle.conn_log.proofs.Around.{grown}
 use Rattle.conn_log.proofs.Views.{gone, its_own, moves_on, agrees_gone, gone_first_all}
 
 pub said_append : {H : Type 0} (newer log : List (Entry H)) → said (newer ++ log) ≡ said log ++ said newer
@@ -81,33 +82,12 @@ module _ {P H : Type 0} (step : H → HandlerCall → H → Type 0) (fails : H �
     apart : (m : ℕ) → (n == m) ≡ false → Same role log (Of (Did (Reset n)) ∷ log) m
     apart m e = same_by_act acts_do acts_move role log n m (Reset n) refl e
 
-    if_some : {A : Type 0} {P Q : A → Type 0} (r : Option A) → ((x : A) → P x → Q x) → IfSome r P → IfSome r Q
-    if_some None f p = tt
-    if_some (Some x) f p = f x p
-
-    all_past : (past : List (Earlier H)) → AllByRecursion (λ it. IsPast step is_closed is_finished names role log it.number it.stream) past
-        → AllByRecursion (λ it. IsPast step is_closed is_finished names role (Of (Did (Reset n)) ∷ log) it.number it.stream) past
-    all_past [] all = tt
-    all_past (it ∷ past) all = (past_same step is_closed is_finished names role log (Of (Did (Reset n)) ∷ []) it.number it.stream all.0, all_past past all.1)
-
     -- it was live, and was reset
     was_reset : SessionStands role (Did (Reset n) ∷ items log) fed sent after
         → Routes step fails is_closed is_finished inbound_makes outbound_makes eager names peer role (Of (Did (Reset n)) ∷ log) fed sent after now past n (gone view) rest
     was_reset there = record {
-      around = record {
-        session_stands = there;
-        due = (given_up, a.due);
-        others = λ m e. subst (λ (t : Option (Streaming H)). IfSome t (λ it. IsAtRest step is_closed is_finished names role (Of (Did (Reset n)) ∷ log) m it)) (sym (elsewhere m e))
-            (if_some (streams m) (λ it. at_rest_same step is_closed is_finished names role log (Of (Did (Reset n)) ∷ log) m it (apart m e)) (a.others m e));
-        others_held = λ m e live. subst (λ (t : Option (Streaming H)). IsSome t) (sym (elsewhere m e))
-            (a.others_held m e (sym (ap (λ (x : Seen). x.live) (apart m e).seen_is) ∙ live));
-        others_kept = λ m e made going. subst (λ (t : Option (Streaming H)). IsSome t) (sym (elsewhere m e))
-            (a.others_kept m e (λ none. made ((apart m e).made_is ∙ none)) (sym (apart m e).over_is ∙ going));
-        heard = moves_on acts_do role (items log) n view rest (Reset n) refl a.opens_none a.heard;
-        opens_none = a.opens_none;
-        ends_last = a.ends_last;
-        earlier = all_past past a.earlier;
-      };
+      around = grown step fails is_closed is_finished inbound_makes outbound_makes eager names peer role log (Of (Did (Reset n)) ∷ []) fed sent before after streams now past n view (gone view) rest a
+          (given_up, a.due) apart there elsewhere (moves_on acts_do role (items log) n view rest (Reset n) refl a.opens_none a.heard) refl;
       own = subst (λ (t : Option (Streaming H)). IfSome t (λ it. IsMoving step fails is_closed is_finished inbound_makes outbound_makes eager names peer role
           (Of (Did (Reset n)) ∷ log) n (gone view) rest it)) (sym none_here) tt;
       own_held = λ live. absurd (cc live);
@@ -118,18 +98,10 @@ module _ {P H : Type 0} (step : H → HandlerCall → H → Type 0) (fails : H �
     was_gone : after ≡ before → is_live role (items log) n ≡ false
         → Routes step fails is_closed is_finished inbound_makes outbound_makes eager names peer role log fed sent after now past n (gone view) rest
     was_gone same_session off = record {
-      around = record {
-        session_stands = subst (λ (t : State). SessionStands role (items log) fed sent t) (sym same_session) a.session_stands;
-        due = a.due;
-        others = λ m e. subst (λ (t : Option (Streaming H)). IfSome t (λ it. IsAtRest step is_closed is_finished names role log m it)) (sym (elsewhere m e)) (a.others m e);
-        others_held = λ m e live. subst (λ (t : Option (Streaming H)). IsSome t) (sym (elsewhere m e)) (a.others_held m e live);
-        others_kept = λ m e made going. subst (λ (t : Option (Streaming H)). IsSome t) (sym (elsewhere m e)) (a.others_kept m e made going);
-        heard = subst (λ (x : Seen). AgreesOn (seen role (items log) n) x) (sym (gone_first_all n view rest a.opens_none))
-            (agrees_gone (seen role (items log) n) (all_heard n view rest) off a.heard);
-        opens_none = a.opens_none;
-        ends_last = a.ends_last;
-        earlier = a.earlier;
-      };
+      around = grown step fails is_closed is_finished inbound_makes outbound_makes eager names peer role log [] fed sent before after streams now past n view (gone view) rest a a.due
+          (λ m e. same_refl role log m) (subst (λ (t : State). SessionStands role (items log) fed sent t) (sym same_session) a.session_stands) elsewhere
+          (subst (λ (x : Seen). AgreesOn (seen role (items log) n) x) (sym (gone_first_all n view rest a.opens_none))
+          (agrees_gone (seen role (items log) n) (all_heard n view rest) off a.heard)) refl;
       own = subst (λ (t : Option (Streaming H)). IfSome t (λ it. IsMoving step fails is_closed is_finished inbound_makes outbound_makes eager names peer role log n (gone view) rest it)) (sym none_here) tt;
       own_held = λ live. absurd (cc live);
       own_kept = λ made going. absurd (not_going log given_up going);

@@ -1,0 +1,60 @@
+-- The list has grown by entries about one stream: all others are at rest as before.
+use Rattle.std.proofs.Common.{◌≡◌, ◌≢◌, ℕ, ◌==◌, Bool, true, false, List, [], ◌∷◌, ◌++◌, Option, Some, None, refl, sym, ap, ◌∙◌, subst}
+use Rattle.std.specs.Prelude.{IfSome, IsSome}
+use Rattle.std.specs.List.{AllByRecursion}
+use Rattle.handlers.specs.Calls.{HandlerCall, Asked}
+use Rattle.yamux_session.specs.declared.event.Role.{Role}
+use Rattle.yamux_session.specs.Events.{Told}
+use Rattle.yamux_session.specs.Seen.{Seen, seen, all_heard, AgreesOn}
+use Rattle.yamux_session.specs.State.{State, Stands as SessionStands}
+use Rattle.streams.specs.State.{Streaming}
+use Rattle.conn_log.specs.declared.earlier.Earlier.{Earlier}
+use Rattle.conn_log.specs.Entries.{Entry, items}
+use Rattle.conn_log.specs.Due.{AllDue}
+use Rattle.conn_log.specs.Held.{IsAtRest, IsPast}
+use Rattle.conn_log.specs.Routes.{EndsLast, Around}
+use Rattle.conn_log.proofs.Same.{Same, same_refl, at_rest_same, past_same}
+
+if_some : {A : Type 0} {P Q : A → Type 0} (r : Option A) → ((x : A) → P x → Q x) → IfSome r P → IfSome r Q
+if_some None f p = tt
+if_some (Some x) f p = f x p
+
+module _ {P H : Type 0} (step : H → HandlerCall → H → Type 0) (fails : H → Asked → ℕ → Type 0)
+    (is_closed is_finished : H → Bool) (inbound_makes outbound_makes : P → ℕ → List ℕ → H → Type 0)
+    (eager : ℕ → Bool) (names : List (List ℕ)) (peer : List ℕ) (role : Role) where
+  all_past : (log newer : List (Entry H)) (past : List (Earlier H)) → AllByRecursion (λ it. IsPast step is_closed is_finished names role log it.number it.stream) past
+      → AllByRecursion (λ it. IsPast step is_closed is_finished names role (newer ++ log) it.number it.stream) past
+  all_past log newer [] all = tt
+  all_past log newer (it ∷ past) all = (past_same step is_closed is_finished names role log newer it.number it.stream all.0, all_past log newer past all.1)
+
+  pub grown : (log newer : List (Entry H)) (fed sent : List ℕ) (before after : State) (streams now : ℕ → Option (Streaming H)) (past : List (Earlier H)) (n : ℕ) (view later : Seen)
+      (rest : List Told)
+      → Around step fails is_closed is_finished inbound_makes outbound_makes eager names peer role log fed sent before streams past n view rest
+      → AllDue step fails is_closed is_finished inbound_makes outbound_makes eager names peer role (newer ++ log)
+      → ((m : ℕ) → (n == m) ≡ false → Same role log (newer ++ log) m) → SessionStands role (items (newer ++ log)) fed sent after
+      → ((m : ℕ) → (n == m) ≡ false → now m ≡ streams m)
+      → AgreesOn (seen role (items (newer ++ log)) n) (all_heard n later rest) → later.ended ≡ view.ended
+      → Around step fails is_closed is_finished inbound_makes outbound_makes eager names peer role (newer ++ log) fed sent after now past n later rest
+  grown log newer fed sent before after streams now past n view later rest a due others there elsewhere heard ended = record {
+    session_stands = there;
+    due = due;
+    others = λ m apart. subst (λ (t : Option (Streaming H)). IfSome t (λ it. IsAtRest step is_closed is_finished names role (newer ++ log) m it)) (sym (elsewhere m apart))
+        (if_some (streams m) (λ it. at_rest_same step is_closed is_finished names role log (newer ++ log) m it (others m apart)) (a.others m apart));
+    others_held = λ m apart live. subst (λ (t : Option (Streaming H)). IsSome t) (sym (elsewhere m apart))
+        (a.others_held m apart (sym (ap (λ (x : Seen). x.live) (others m apart).seen_is) ∙ live));
+    others_kept = λ m apart made going. subst (λ (t : Option (Streaming H)). IsSome t) (sym (elsewhere m apart))
+        (let s = others m apart in a.others_kept m apart (λ none. made (s.made_is ∙ none)) (sym s.over_is ∙ going));
+    heard = heard;
+    opens_none = a.opens_none;
+    ends_last = subst (λ b. EndsLast b rest) (sym ended) a.ends_last;
+    earlier = all_past log newer past a.earlier;
+  }
+
+  -- nothing was done: at most this stream is another, or is there no more
+  pub still : (log : List (Entry H)) (fed sent : List ℕ) (before after : State) (streams now : ℕ → Option (Streaming H)) (past : List (Earlier H)) (n : ℕ) (view : Seen) (rest : List Told)
+      → after ≡ before → ((m : ℕ) → (n == m) ≡ false → now m ≡ streams m)
+      → Around step fails is_closed is_finished inbound_makes outbound_makes eager names peer role log fed sent before streams past n view rest
+      → Around step fails is_closed is_finished inbound_makes outbound_makes eager names peer role log fed sent after now past n view rest
+  still log fed sent before after streams now past n view rest same_session elsewhere a =
+      grown log [] fed sent before after streams now past n view view rest a a.due (λ m apart. same_refl role log m)
+      (subst (λ (t : State). SessionStands role (items log) fed sent t) (sym same_session) a.session_stands) elsewhere a.heard refl
