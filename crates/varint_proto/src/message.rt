@@ -1,6 +1,7 @@
 //! The fields of a protobuf message.
 
-ghost use Rattle.std.specs.Prelude.{◌≡◌, ◌≢◌, ◌↔◌, ℕ, ◌+◌, ◌*◌, ◌^◌, ◌<◌, ◌≤◌, List, [], ◌++◌, length, vec_len, IfSome, IfNone, OnSome, IfOk, IfErr, OnOk, OnErr};
+ghost use Rattle.std.specs.Prelude.{◌≡◌, ◌≢◌, ◌↔◌, ℕ, ◌+◌, ◌*◌, ◌^◌, ◌<◌, ◌≤◌, List, [], ◌++◌, length, vec_len, IfSome};
+ghost use Rattle.std.specs.Prelude.{IfNone, OnSome, IfOk, IfErr, OnOk, OnErr};
 
 use crate::fault::WireFault;
 use crate::varint::{read_wide, spell};
@@ -25,7 +26,9 @@ pub struct Field<'a> {
 
 ghost use Rattle.std.specs.Option.{option_copied};
 ghost use Rattle.varint_proto.specs.declared.fault.WireFault.{WireFault};
-ghost use Rattle.varint_proto.specs.Message.{BeginsContent, content_of, entry_of, wire_type, Begins, FieldFault, ValueFault, Entry, IsField, varint_at, body_at, IsTag, shortest_field, entry, Varint, Bytes};
+ghost use Rattle.varint_proto.specs.Message.{BeginsContent, content_of, entry_of, wire_type, Begins, FieldFault};
+ghost use Rattle.varint_proto.specs.Message.{ValueFault, Entry, IsField, varint_at, body_at, IsTag, shortest_field};
+ghost use Rattle.varint_proto.specs.Message.{entry, Varint, Bytes};
 ghost use Rattle.std.specs.Vec.{vec_capacity};
 
 impl<'a> Field<'a> {

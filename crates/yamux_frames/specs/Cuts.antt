@@ -1,7 +1,8 @@
 -- What a cutter may answer to a piece of bytes, from where it is, and where it then is. No history of bytes is spoken
 -- of.
 -- Inside: said of where a cutter stands; the frames themselves are in `Frames` (hashicorp yamux, "Framing").
-use Rattle.std.specs.Prelude.{◌≡◌, ℕ, ◌-◌, ◌<◌, ◌≤◌, ◌↔◌, IsTrue, List, [], ◌++◌, length, take, Option, Some, None, Result, Ok, Err}
+use Rattle.std.specs.Prelude.{◌≡◌, ℕ, ◌-◌, ◌<◌, ◌≤◌, ◌↔◌, IsTrue, List, [], ◌++◌, length, take, Option, Some, None}
+use Rattle.std.specs.Prelude.{Result, Ok, Err}
 use Rattle.yamux_frames.specs.declared.header.Header.{Header}
 use Rattle.yamux_frames.specs.declared.header.FrameFault.{FrameFault}
 use Rattle.yamux_frames.specs.declared.cutter.Cut.{Cut}

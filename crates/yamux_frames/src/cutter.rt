@@ -1,9 +1,11 @@
 //! A stream of bytes, cut into headers and parts of payloads.
 
-ghost use Rattle.std.specs.Prelude.{◌≡◌, ◌+◌, ◌≤◌, ◌<◌, ◌++◌, ◌↔◌, [], length, take, false, IsTrue, IsSome, None, Some, Err, IfOk, IfErr, List, ℕ};
+ghost use Rattle.std.specs.Prelude.{◌≡◌, ◌+◌, ◌≤◌, ◌<◌, ◌++◌, ◌↔◌, [], length, take, false, IsTrue, IsSome, None, Some};
+ghost use Rattle.std.specs.Prelude.{Err, IfOk, IfErr, List, ℕ};
 ghost use Rattle.yamux_frames.specs.Cuts.{Cuts, Answers};
 ghost use Rattle.yamux_frames.specs.Place.{is_within};
-ghost use Rattle.yamux_frames.specs.Frames.{Arrival, Stands, StopsIn, Uses, IsLongest, EndsExactly, IsOfLast, EndsWithin, bytes_left, with_cut};
+ghost use Rattle.yamux_frames.specs.Frames.{Arrival, Stands, StopsIn, Uses, IsLongest, EndsExactly, IsOfLast};
+ghost use Rattle.yamux_frames.specs.Frames.{EndsWithin, bytes_left, with_cut};
 
 use crate::header::{FrameFault, Header};
 use std::marker::Model;
