@@ -5,7 +5,8 @@ use Rattle.varint_proto.specs.declared.fault.IncomingRefused.TheVariants as inco
 use Rattle.peer_ids.specs.declared.fault.KeyFault.{KeyFault}
 use Rattle.peer_ids.specs.declared.fault.KeyFault.TheVariants as keys
 use Rattle.identify_h.specs.declared.fault.IdentifyFault.{IdentifyFault}
-use Rattle.identify_h.specs.declared.fault.IdentifyFault.TheVariants.{Failed, TooLong, TooMany, Wire, OtherKey, Cut, OutOfMemory}
+use Rattle.identify_h.specs.declared.fault.IdentifyFault.TheVariants.{Failed, TooLong, TooMany, Wire, OtherKey, Cut}
+use Rattle.identify_h.specs.declared.fault.IdentifyFault.TheVariants.{OutOfMemory}
 
 -- the number that a connection is told
 abbrev pub number_of : IdentifyFault → ℕ

@@ -1,7 +1,8 @@
 -- The identify message (libp2p identify 1.0.0, "The Identify Message"; Protocol Buffers, "Encoding": of a field that
 -- may stand once the last counts). That texts and addresses are kept as bytes, and that a key must be that of the
 -- connection's peer, is this project's profile.
-use Rattle.std.specs.Prelude.{◌≡◌, ◌≢◌, ◌⊎◌, ℕ, ◌≤◌, ◌<◌, ◌^◌, List, [], ◌∷◌, ◌++◌, map, length, Option, Some, None, IsSome}
+use Rattle.std.specs.Prelude.{◌≡◌, ◌≢◌, ◌⊎◌, ℕ, ◌≤◌, ◌<◌, ◌^◌, List, [], ◌∷◌, ◌++◌, map, length, Option, Some, None}
+use Rattle.std.specs.Prelude.{IsSome}
 use Rattle.std.specs.List.{flat_map}
 use Rattle.std.specs.Option.{option_map}
 use Rattle.varint_proto.specs.declared.fault.WireFault.{WireFault}

@@ -4,7 +4,8 @@ use Rattle.handlers.specs.Calls.{Take, Give, End, ToTake, ToGive, ToEnd}
 use Rattle.peer_ids.specs.declared.kind.KeyType.TheVariants.{Ed25519}
 use Rattle.peer_ids.specs.PeerId.{id_of}
 use Rattle.identify_h.specs.Messages.{Message, Spells, Refuses, HasBadKey, SaysSomething, written, merged}
-use Rattle.identify_h.specs.declared.fault.IdentifyFault.TheVariants.{Failed, TooLong, TooMany, Wire, OtherKey, Cut, OutOfMemory}
+use Rattle.identify_h.specs.declared.fault.IdentifyFault.TheVariants.{Failed, TooLong, TooMany, Wire, OtherKey, Cut}
+use Rattle.identify_h.specs.declared.fault.IdentifyFault.TheVariants.{OutOfMemory}
 use Rattle.varint_proto.specs.declared.fault.IncomingRefused.TheVariants as incoming
 use Rattle.peer_ids.specs.declared.fault.KeyFault.TheVariants as keys
 use Rattle.identify_h.specs.Faults.{number_of, of_key_fault, of_incoming}

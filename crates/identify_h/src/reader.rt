@@ -1,6 +1,7 @@
 //! The end that reads a stream of messages.
 
-ghost use Rattle.std.specs.Prelude.{◌≡◌, ◌≢◌, ◌↔◌, ◌++◌, ◌+◌, ◌-◌, ◌≤◌, ◌<◌, ℕ, List, [], take, length, vec_len, IsOk, IsErr, IsSome, IfOk, IfErr, OnOk, OnErr, true, false, Some, None, is_some};
+ghost use Rattle.std.specs.Prelude.{◌≡◌, ◌≢◌, ◌↔◌, ◌++◌, ◌+◌, ◌-◌, ◌≤◌, ◌<◌, ℕ, List, [], take, length, vec_len, IsOk};
+ghost use Rattle.std.specs.Prelude.{IsErr, IsSome, IfOk, IfErr, OnOk, OnErr, true, false, Some, None, is_some};
 ghost use Rattle.std.specs.Vec.{vec_capacity};
 ghost use Rattle.handlers.specs.Calls.{Take, Give, End, ToTake, ToGive, ToEnd};
 ghost use Rattle.identify_h.specs.Messages.{Message};

@@ -1,6 +1,7 @@
 //! The end that sends one message.
 
-ghost use Rattle.std.specs.Prelude.{◌≡◌, ◌⊎◌, ◌≤◌, ◌<◌, drop, length, IsErr, IfOk, IfErr, OnOk, OnErr, true, false, Err, ◌==◌};
+ghost use Rattle.std.specs.Prelude.{◌≡◌, ◌⊎◌, ◌≤◌, ◌<◌, drop, length, IsErr, IfOk, IfErr, OnOk, OnErr, true, false};
+ghost use Rattle.std.specs.Prelude.{Err, ◌==◌};
 ghost use Rattle.handlers.specs.Calls.{Take, Give, End, ToTake, ToGive, ToEnd};
 ghost use Rattle.identify_h.specs.Messages.{written};
 ghost use Rattle.identify_h.specs.Sending.{most_bytes, framed, sending, SendStep, SendFails, is_over};

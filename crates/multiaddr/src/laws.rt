@@ -1,7 +1,8 @@
 //! Laws of addresses and their texts. Each is a function with an empty body, whose contract is the law.
 
 ghost use Rattle.multiaddr.specs.Laws.{OneReading, OneTextReading, Printing};
-ghost use Rattle.multiaddr.specs.Rows.{AddressRows, GivenRows, Ip6Rows, ProtocolRows, SpellingRows, TextRows, TextValueRows, ValueRows};
+ghost use Rattle.multiaddr.specs.Rows.{AddressRows, GivenRows, Ip6Rows, ProtocolRows, SpellingRows, TextRows};
+ghost use Rattle.multiaddr.specs.Rows.{TextValueRows, ValueRows};
 
 /// Bytes are at most one address, have at most one fault, and not both.
 pub fn one_reading()

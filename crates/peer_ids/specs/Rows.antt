@@ -8,7 +8,8 @@ use Rattle.peer_ids.specs.declared.kind.KeyType.{KeyType}
 use Rattle.peer_ids.specs.declared.kind.KeyType.TheVariants.{Rsa, Ed25519, Secp256k1, Ecdsa}
 use Rattle.peer_ids.specs.declared.fault.KeyFault.TheVariants.{Wire, NoType, NoData, UnknownType, OutOfMemory}
 use Rattle.peer_ids.specs.declared.fault.KeyFault.TheVariants as key
-use Rattle.peer_ids.specs.declared.fault.IdFault.TheVariants.{NotB, NotBase32, BadLength, TrailingBits, BadPrefix, BadHash}
+use Rattle.peer_ids.specs.declared.fault.IdFault.TheVariants.{NotB, NotBase32, BadLength, TrailingBits, BadPrefix}
+use Rattle.peer_ids.specs.declared.fault.IdFault.TheVariants.{BadHash}
 use Rattle.peer_ids.specs.Key.{Key, number_of, IsAllowed}
 use Rattle.peer_ids.specs.ReadsKey.{IsKey, SpellsKey, KeyFaultOf, RefusesKey}
 use Rattle.peer_ids.specs.PeerId.{canonical_of, multihash_of, id_of, IsMultihash}

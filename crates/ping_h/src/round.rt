@@ -1,6 +1,7 @@
 //! The end that asks, for one round.
 
-ghost use Rattle.std.specs.Prelude.{◌≡◌, ◌↔◌, ◌≤◌, drop, length, IsErr, IsTrue, IfOk, IfErr, OnOk, OnErr, true, false, ◌&&◌, ◌==◌};
+ghost use Rattle.std.specs.Prelude.{◌≡◌, ◌↔◌, ◌≤◌, drop, length, IsErr, IsTrue, IfOk, IfErr, OnOk, OnErr, true, false};
+ghost use Rattle.std.specs.Prelude.{◌&&◌, ◌==◌};
 ghost use mathlib.Core.List.{IsPrefix};
 ghost use Rattle.handlers.specs.Calls.{Take, Give, End, ToTake, ToGive, ToEnd};
 ghost use Rattle.ping_h.specs.Rounds.{Round, RoundStep, RoundFails, is_over, round};

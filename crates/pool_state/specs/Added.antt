@@ -1,7 +1,8 @@
 -- A listing after one more entry of a call and its reply. It is total: a count that can grow no further and a table
 -- that is full stay as they are, which no legal history meets (the law `added_is_shown`).
 -- Source: This project's profile of a swarm.
-use Rattle.std.specs.Prelude.{ℕ, ◌+◌, ◌-◌, ◌^◌, ◌==◌, nat_lt, not, if◌then◌else◌, List, [], ◌∷◌, ◌++◌, length, map, Option, Some, None, slice_index, slice_set}
+use Rattle.std.specs.Prelude.{ℕ, ◌+◌, ◌-◌, ◌^◌, ◌==◌, nat_lt, not, if◌then◌else◌, List, [], ◌∷◌, ◌++◌, length, map}
+use Rattle.std.specs.Prelude.{Option, Some, None, slice_index, slice_set}
 use Rattle.std.specs.List.{filter}
 use Rattle.std.specs.Str.{bytes_eq}
 use Rattle.pool_state.specs.declared.call.Call.{Call}

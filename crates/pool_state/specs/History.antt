@@ -1,6 +1,7 @@
 -- The sequential swarm (this project's profile): a history of calls with their replies, and what may be asked of it.
 -- Each question searches the whole history anew; no table is kept.
-use Rattle.std.specs.Prelude.{ℕ, ◌+◌, ◌==◌, Bool, true, false, not, ◌&&◌, ◌||◌, if◌then◌else◌, List, [], ◌∷◌, ◌++◌, length, Option, Some, None}
+use Rattle.std.specs.Prelude.{ℕ, ◌+◌, ◌==◌, Bool, true, false, not, ◌&&◌, ◌||◌, if◌then◌else◌, List, [], ◌∷◌, ◌++◌}
+use Rattle.std.specs.Prelude.{length, Option, Some, None}
 use Rattle.std.specs.List.{list_any, filter_map, count_by}
 use Rattle.pool_state.specs.declared.call.Call.{Call}
 use Rattle.pool_state.specs.declared.call.Call.TheVariants as call

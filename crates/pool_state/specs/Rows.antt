@@ -420,8 +420,8 @@ pub record RangeRows : Type 0 where
 -- two rows of one number, which no legal history shows
 abbrev pub twins : ConnSide → ConnSide → List ℕ → List Row
 twins s t asked =
-    counting (row 1 s phase.Live None) asked (0 ∷ 0 ∷ 0 ∷ []) ∷ counting (row 1 t phase.Live None) asked (0 ∷ 0 ∷ 0 ∷ [])
-    ∷ []
+    counting (row 1 s phase.Live None) asked (0 ∷ 0 ∷ 0 ∷ [])
+    ∷ counting (row 1 t phase.Live None) asked (0 ∷ 0 ∷ 0 ∷ []) ∷ []
 
 abbrev pub last_count : ℕ
 last_count = 18446744073709551615

@@ -10,7 +10,8 @@ use Rattle.pool_state.specs.declared.listing.Listing.{Listing}
 use Rattle.pool_state.specs.declared.row.Row.{Row}
 use Rattle.pool_state.specs.Parts.{Peer, listing, has}
 use Rattle.pool_state.specs.Table.{reply_to, row_is}
-use Rattle.pool_state.specs.History.{Entry, stands, role_of, peer_of, phase_of, asked, done, agent_of, blocked, allowed, is_blocked, is_allowed, admissions, next_number, front_of}
+use Rattle.pool_state.specs.History.{Entry, stands, role_of, peer_of, phase_of, asked, done, agent_of, blocked, allowed}
+use Rattle.pool_state.specs.History.{is_blocked, is_allowed, admissions, next_number, front_of}
 
 -- the row of connection n
 abbrev pub row_of : Config → List Entry → ℕ → Row

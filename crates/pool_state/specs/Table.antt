@@ -1,6 +1,7 @@
 -- The table of refusals and answers (this project's profile). The conditions are said of what a history shows, which
 -- the law `table_asks_history` turns into questions of the history.
-use Rattle.std.specs.Prelude.{ℕ, ◌+◌, ◌-◌, ◌^◌, ◌==◌, nat_le, Bool, true, not, ◌&&◌, if◌then◌else◌, List, Option, [], ◌∷◌, length, Some, None, slice_index}
+use Rattle.std.specs.Prelude.{ℕ, ◌+◌, ◌-◌, ◌^◌, ◌==◌, nat_le, Bool, true, not, ◌&&◌, if◌then◌else◌, List, Option, []}
+use Rattle.std.specs.Prelude.{◌∷◌, length, Some, None, slice_index}
 use Rattle.std.specs.List.{list_any, count_by}
 use Rattle.std.specs.Str.{bytes_eq}
 use Rattle.pool_state.specs.declared.call.Call.{Call}
@@ -8,7 +9,10 @@ use Rattle.pool_state.specs.declared.call.Call.TheVariants as call
 use Rattle.pool_state.specs.declared.call.Reply.{Reply}
 use Rattle.pool_state.specs.declared.call.Reply.TheVariants as reply
 use Rattle.pool_state.specs.declared.call.Refusal.{Refusal}
-use Rattle.pool_state.specs.declared.call.Refusal.TheVariants.{Spent, OutOfMemory, NoConn, Closing, NotPending, NotLive, BadProtocol, SelfPeer, Mismatch, Blocked, Full, PeerFull, StreamsFull, NothingAsked, BlockFull, IdsExhausted, SideFull, NotAllowed, AllowFull}
+use Rattle.pool_state.specs.declared.call.Refusal.TheVariants.{Spent, OutOfMemory, NoConn, Closing, NotPending, NotLive}
+use Rattle.pool_state.specs.declared.call.Refusal.TheVariants.{BadProtocol, SelfPeer, Mismatch, Blocked, Full, PeerFull}
+use Rattle.pool_state.specs.declared.call.Refusal.TheVariants.{StreamsFull, NothingAsked, BlockFull, IdsExhausted}
+use Rattle.pool_state.specs.declared.call.Refusal.TheVariants.{SideFull, NotAllowed, AllowFull}
 use Rattle.pool_state.specs.declared.limits.Config.{Config}
 use Rattle.pool_state.specs.declared.listing.Listing.{Listing}
 use Rattle.pool_state.specs.declared.row.Row.{Row}

@@ -2,7 +2,8 @@
 
 ghost use Rattle.std.specs.Prelude.{◌≡◌, ◌≢◌, true, [], ◌∷◌, ◌++◌, ◌<◌, Some, None, ℕ, List};
 ghost use Rattle.pool_state.specs.Parts.{has};
-ghost use Rattle.pool_state.specs.Table.{may_refuse, answer, has_conn, first_that_holds, closable, is_kept_out, is_full, is_exhausted};
+ghost use Rattle.pool_state.specs.Table.{may_refuse, answer, has_conn, first_that_holds, closable, is_kept_out};
+ghost use Rattle.pool_state.specs.Table.{is_full, is_exhausted};
 ghost use Rattle.pool_state.specs.declared.call.Call.TheVariants as call;
 ghost use Rattle.pool_state.specs.declared.row.Agent.{Agent};
 ghost use Rattle.pool_state.specs.declared.call.Reply.TheVariants.{Refused};

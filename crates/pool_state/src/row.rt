@@ -1,6 +1,7 @@
 //! A row of a listing, and what it holds.
 
-ghost use Rattle.std.specs.Prelude.{◌≡◌, ◌≤◌, ◌↔◌, ◌==◌, ◌-◌, ◌++◌, length, replicate, slice_index, All, IsTrue, IsSome, IfSome};
+ghost use Rattle.std.specs.Prelude.{◌≡◌, ◌≤◌, ◌↔◌, ◌==◌, ◌-◌, ◌++◌, length, replicate, slice_index, All, IsTrue};
+ghost use Rattle.std.specs.Prelude.{IsSome, IfSome};
 ghost use Rattle.pool_state.specs.AgentName.{IsAgentName};
 ghost use Rattle.std.specs.Str.{bytes_eq};
 ghost use Rattle.pool_state.specs.Parts.{is_phase, is_side, is_peer, is_other_peer};

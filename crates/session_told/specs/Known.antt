@@ -1,6 +1,7 @@
 -- What the owner of a session knows of a stream, from the events that it was told.
 -- Source: hashicorp yamux, "Flag Field" and "Flow Control", as a caller of a session.
-use Rattle.std.specs.Prelude.{◌≡◌, ℕ, ◌≤◌, ◌-◌, true, false, List, length, take, Some, Result, Err, IfOk, IfErr, OnOk, is_some}
+use Rattle.std.specs.Prelude.{◌≡◌, ℕ, ◌≤◌, ◌-◌, true, false, List, length, take, Some, Result, Err, IfOk, IfErr, OnOk}
+use Rattle.std.specs.Prelude.{is_some}
 use Rattle.std.specs.List.{AllByRecursion}
 use Rattle.yamux_session.specs.declared.event.ActRefused.{ActRefused}
 use Rattle.yamux_session.specs.declared.event.ActRefused.TheVariants.{NoStream, OutOfMemory}

@@ -179,7 +179,8 @@ impl Came {
         Ok(())
     }
 
-    /// Whether what came next is answered as it must be: a decision is told again and uses nothing, a fault is for good.
+    /// Whether what came next is answered as it must be: a decision is told again and uses nothing, a fault is for
+    /// good.
     fn stays(&mut self) -> bool {
         match self.answer {
             Ok(Answer::Going) => true,

@@ -1,6 +1,7 @@
 -- The events that each item of a session gives.
 -- Source: hashicorp yamux, "Framing" and "Flag Field"; the events are this project's profile.
-use Rattle.std.specs.Prelude.{ℕ, ◌<◌, Bool, true, false, ◌&&◌, not, nat_lt, if◌then◌else◌, List, [], ◌∷◌, ◌++◌, length, Option, Some, None}
+use Rattle.std.specs.Prelude.{ℕ, ◌<◌, Bool, true, false, ◌&&◌, not, nat_lt, if◌then◌else◌, List, [], ◌∷◌, ◌++◌, length}
+use Rattle.std.specs.Prelude.{Option, Some, None}
 use Rattle.yamux_frames.specs.declared.header.Header.{Header}
 use Rattle.yamux_frames.specs.Frames.Arrival.{Head, Byte, Tail}
 use Rattle.yamux_session.specs.declared.event.Role.{Role}

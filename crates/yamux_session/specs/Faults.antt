@@ -5,7 +5,8 @@ use Rattle.yamux_frames.specs.declared.header.Header.{Header}
 use Rattle.yamux_frames.specs.Frames.Arrival.{Head, Garbled}
 use Rattle.yamux_session.specs.declared.event.Role.{Role}
 use Rattle.yamux_session.specs.declared.event.Fault.{Fault}
-use Rattle.yamux_session.specs.declared.event.Fault.TheVariants.{BadFrame, WrongParity, DuplicateStream, WindowExceeded, WindowTooLarge}
+use Rattle.yamux_session.specs.declared.event.Fault.TheVariants.{BadFrame, WrongParity, DuplicateStream, WindowExceeded}
+use Rattle.yamux_session.specs.declared.event.Fault.TheVariants.{WindowTooLarge}
 use Rattle.yamux_session.specs.History.{Item, syn, is_data, is_update, is_of_stream, is_remote}
 use Rattle.yamux_session.specs.History.Item.{Came}
 use Rattle.yamux_session.specs.Openings.{is_live, head_belongs}

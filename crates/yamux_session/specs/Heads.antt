@@ -1,6 +1,7 @@
 -- What the head of a frame does to the table of live streams.
 -- Inside: no public clause cites it.
-use Rattle.std.specs.Prelude.{◌≡◌, true, ◌+◌, ◌-◌, ◌&&◌, not, nat_lt, if◌then◌else◌, List, ◌∷◌, ◌++◌, Option, Some, None}
+use Rattle.std.specs.Prelude.{◌≡◌, true, ◌+◌, ◌-◌, ◌&&◌, not, nat_lt, if◌then◌else◌, List, ◌∷◌, ◌++◌, Option, Some}
+use Rattle.std.specs.Prelude.{None}
 use Rattle.yamux_frames.specs.declared.header.Header.{Header}
 use Rattle.yamux_frames.specs.Frames.Arrival.{Head}
 use Rattle.yamux_session.specs.declared.event.Role.{Role}

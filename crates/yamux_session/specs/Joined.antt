@@ -1,6 +1,7 @@
 -- Two sessions, one of each role, joined by pipes that deliver what was sent, under any schedule.
 -- Source: hashicorp yamux, over pipes that deliver what was sent; the promises are this project's.
-use Rattle.std.specs.Prelude.{◌≡◌, ℕ, ◌<◌, ◌==◌, ◌&&◌, true, false, ◌+◌, if◌then◌else◌, List, [], ◌∷◌, ◌++◌, map, sum_by}
+use Rattle.std.specs.Prelude.{◌≡◌, ℕ, ◌<◌, ◌==◌, ◌&&◌, true, false, ◌+◌, if◌then◌else◌, List, [], ◌∷◌, ◌++◌, map}
+use Rattle.std.specs.Prelude.{sum_by}
 use Rattle.std.specs.List.{AllByRecursion}
 use mathlib.Core.List.{IsPrefix}
 use Rattle.yamux_frames.specs.declared.header.FrameKind.TheVariants.{Payload}

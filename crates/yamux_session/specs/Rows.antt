@@ -6,14 +6,16 @@ use Rattle.yamux_frames.specs.declared.header.FrameKind.TheVariants.{Payload, Wi
 use Rattle.yamux_frames.specs.Frames.{Arrival}
 use Rattle.yamux_frames.specs.Frames.Arrival.{Head, Byte, Tail, Garbled}
 use Rattle.yamux_session.specs.declared.event.Role.TheVariants.{Client, Server}
-use Rattle.yamux_session.specs.declared.event.Fault.TheVariants.{BadFrame, WrongParity, DuplicateStream, WindowExceeded, WindowTooLarge}
+use Rattle.yamux_session.specs.declared.event.Fault.TheVariants.{BadFrame, WrongParity, DuplicateStream, WindowExceeded}
+use Rattle.yamux_session.specs.declared.event.Fault.TheVariants.{WindowTooLarge}
 use Rattle.yamux_session.specs.declared.event.ActRefused.TheVariants as refused
 use Rattle.yamux_session.specs.History.{Item, Act}
 use Rattle.yamux_session.specs.History.Item.{Came, Did}
 use Rattle.yamux_session.specs.History.Act.{Start, Write, Taken, Close, Reset}
 use Rattle.yamux_session.specs.Openings.{live, is_live}
 use Rattle.yamux_session.specs.Windows.{credit, receiving_window, untaken}
-use Rattle.yamux_session.specs.Acts.{IsPiece, frames_length, open_credit, next_own, start_refusal, stream_refusal, direction_refusal}
+use Rattle.yamux_session.specs.Acts.{IsPiece, frames_length, open_credit, next_own, start_refusal, stream_refusal}
+use Rattle.yamux_session.specs.Acts.{direction_refusal}
 use Rattle.yamux_session.specs.Acts.{IsAnswered, AreAnswered}
 use Rattle.yamux_session.specs.Events.{events, TellsMore}
 use Rattle.yamux_session.specs.Data.{inbound, written}

@@ -1,6 +1,7 @@
 -- A whole session: each call with its answer, from the empty history on.
 -- Source: This project's profile of a session.
-use Rattle.std.specs.Prelude.{◌≡◌, ◌≢◌, ℕ, ◌<◌, ◌≤◌, ◌⊎◌, true, min, List, [], ◌∷◌, ◌++◌, map, length, take, Result, Ok, Err}
+use Rattle.std.specs.Prelude.{◌≡◌, ◌≢◌, ℕ, ◌<◌, ◌≤◌, ◌⊎◌, true, min, List, [], ◌∷◌, ◌++◌, map, length, take, Result, Ok}
+use Rattle.std.specs.Prelude.{Err}
 use Rattle.std.specs.List.{AllByRecursion, concat}
 use Rattle.yamux_frames.specs.Frames.{Arrival, Reads}
 use Rattle.yamux_session.specs.declared.event.Role.{Role}
@@ -19,7 +20,8 @@ use Rattle.yamux_session.specs.Windows.{credit, given_back, untaken}
 use Rattle.yamux_session.specs.Faults.{HasNoFault}
 use Rattle.yamux_session.specs.Events.{events}
 use Rattle.yamux_session.specs.Output.{output}
-use Rattle.yamux_session.specs.Acts.{AreAnswered, IsAnswered, start_refusal, stream_refusal, direction_refusal, IsRefusedFor}
+use Rattle.yamux_session.specs.Acts.{AreAnswered, IsAnswered, start_refusal, stream_refusal, direction_refusal}
+use Rattle.yamux_session.specs.Acts.{IsRefusedFor}
 use Rattle.yamux_session.specs.Arrives.{tellings, HasData}
 use Rattle.yamux_session.specs.State.{State, FirstFaults, EndsWith}
 use Rattle.yamux_session.specs.State as state

@@ -1,6 +1,7 @@
 -- What the owner of an end knows of a stream: from the events that it was told, and from what it did itself (hashicorp
 -- yamux, "Flag Field": SYN opens a stream, FIN closes one direction, RST ends both; "Flow Control").
-use Rattle.std.specs.Prelude.{◌≡◌, ℕ, ◌==◌, ◌&&◌, ◌-◌, not, Bool, true, false, if◌then◌else◌, List, [], ◌∷◌, ◌++◌, map, length, sum_by}
+use Rattle.std.specs.Prelude.{◌≡◌, ℕ, ◌==◌, ◌&&◌, ◌-◌, not, Bool, true, false, if◌then◌else◌, List, [], ◌∷◌, ◌++◌, map}
+use Rattle.std.specs.Prelude.{length, sum_by}
 use Rattle.std.specs.List.{concat, AllByRecursion}
 use Rattle.yamux_frames.specs.Frames.{Arrival}
 use Rattle.yamux_session.specs.declared.event.Role.{Role}

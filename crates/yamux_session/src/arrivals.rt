@@ -1,6 +1,7 @@
 //! What a whole arrival does: to the streams, the events, and the output.
 
-ghost use Rattle.std.specs.Prelude.{◌≡◌, ℕ, ◌<◌, ◌≤◌, ◌-◌, List, ◌∷◌, Some, None, OnOk, OnErr, IfOk, IfErr, if◌then◌else◌, [], length, ◌||◌, ◌&&◌, take, drop, ◌++◌, true, not};
+ghost use Rattle.std.specs.Prelude.{◌≡◌, ℕ, ◌<◌, ◌≤◌, ◌-◌, List, ◌∷◌, Some, None, OnOk, OnErr, IfOk, IfErr};
+ghost use Rattle.std.specs.Prelude.{if◌then◌else◌, [], length, ◌||◌, ◌&&◌, take, drop, ◌++◌, true, not};
 ghost use Rattle.yamux_frames.specs.Frames.{bytes_left};
 ghost use Rattle.yamux_frames.specs.Frames.Arrival.{Head, Tail};
 ghost use Rattle.yamux_session.specs.declared.event.Role.{Role};
@@ -14,7 +15,8 @@ ghost use Rattle.yamux_session.specs.Acts.{AreAnswered};
 ghost use Rattle.yamux_session.specs.Keeps.{Keeps};
 ghost use Rattle.yamux_session.specs.Table.{table_of};
 ghost use Rattle.yamux_session.specs.Heads.{IsNotTaken, told_of};
-ghost use Rattle.yamux_session.specs.Arrives.{Arrives, Tells, Extends, HasData, telling, told_of_tail, written_header, began, IsFaultOnly};
+ghost use Rattle.yamux_session.specs.Arrives.{Arrives, Tells, Extends, HasData, telling, told_of_tail, written_header};
+ghost use Rattle.yamux_session.specs.Arrives.{began, IsFaultOnly};
 
 use crate::event::Event;
 use crate::heads::{Effect, HeadRefused};

@@ -1,19 +1,22 @@
 //! One end of a connection.
 
-ghost use Rattle.std.specs.Prelude.{◌≡◌, ◌≢◌, ℕ, ◌++◌, ◌∷◌, [], List, Some, None, Ok, Err, IfOk, IfErr, OnErr, OnOk, true, false, length, take, ◌<◌, ◌≤◌, ◌-◌, ◌↔◌, drop, min, IsTrue};
+ghost use Rattle.std.specs.Prelude.{◌≡◌, ◌≢◌, ℕ, ◌++◌, ◌∷◌, [], List, Some, None, Ok, Err, IfOk, IfErr, OnErr, OnOk};
+ghost use Rattle.std.specs.Prelude.{true, false, length, take, ◌<◌, ◌≤◌, ◌-◌, ◌↔◌, drop, min, IsTrue};
 ghost use Rattle.std.specs.List.{AllByRecursion};
 ghost use Rattle.yamux_session.specs.History.{Item, Act};
 ghost use Rattle.yamux_session.specs.History.Item.{Came, Did};
 ghost use Rattle.yamux_session.specs.History.Act.{Start, Write, Taken, Close, Reset};
 ghost use Rattle.yamux_session.specs.Openings.{is_live};
-ghost use Rattle.yamux_session.specs.Acts.{open_credit, start_refusal, stream_refusal, direction_refusal, IsRefusedFor, frames_length};
+ghost use Rattle.yamux_session.specs.Acts.{open_credit, start_refusal, stream_refusal, direction_refusal, IsRefusedFor};
+ghost use Rattle.yamux_session.specs.Acts.{frames_length};
 ghost use Rattle.yamux_session.specs.Windows.{credit, given_back, untaken};
 ghost use Rattle.yamux_session.specs.Output.{frame};
 ghost use Rattle.yamux_frames.specs.Frames.{EndsWithin};
 ghost use Rattle.yamux_session.specs.Arrives.{Tells, HasData, Extends, added};
 ghost use Rattle.yamux_session.specs.Naming.{NamesOne};
 ghost use Rattle.yamux_session.specs.Events.{Told};
-ghost use Rattle.yamux_session.specs.State.{Stands, Whenever, Adds, AddsWrite, Steps, Feeds, RunsOut, BringsMore, room_of};
+ghost use Rattle.yamux_session.specs.State.{Stands, Whenever, Adds, AddsWrite, Steps, Feeds, RunsOut, BringsMore};
+ghost use Rattle.yamux_session.specs.State.{room_of};
 
 use crate::arrivals::{append_header, take_frame, take_payload, take_tail};
 use crate::event::{ActRefused, Event, Fault, Role};

@@ -1,6 +1,8 @@
 //! The live streams of a session, with their windows, and what acts of this end do to them.
 
-ghost use Rattle.std.specs.Prelude.{◌≡◌, ℕ, ◌<◌, ◌-◌, ◌+◌, List, ◌∷◌, ◌||◌, ◌&&◌, Some, None, IfOk, IfErr, OnErr, OnOk, IsSome, IfSome, IfNone, is_some, ◌==◌, ◌^◌, true, false, if◌then◌else◌, nat_lt, not};
+ghost use Rattle.std.specs.Prelude.{◌≡◌, ℕ, ◌<◌, ◌-◌, ◌+◌, List, ◌∷◌, ◌||◌, ◌&&◌, Some, None, IfOk, IfErr, OnErr, OnOk};
+ghost use Rattle.std.specs.Prelude.{IsSome, IfSome, IfNone, is_some, ◌==◌, ◌^◌, true, false, if◌then◌else◌, nat_lt};
+ghost use Rattle.std.specs.Prelude.{not};
 ghost use Rattle.yamux_session.specs.History.{Item, is_own, is_remote, is_update, syn, ack, fin, rst};
 ghost use Rattle.yamux_session.specs.History.Item.{Came};
 ghost use Rattle.yamux_frames.specs.Frames.Arrival.{Head, Tail};
