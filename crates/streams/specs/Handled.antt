@@ -1,6 +1,6 @@
 -- What a handler was handed and gave, by its calls.
--- Source: libp2p connections, "Opening new streams over a connection": what a protocol's handler is given is its stream;
--- that it is asked for bytes with a room is this project's profile.
+-- Source: libp2p connections, "Opening new streams over a connection": what a protocol's handler is given is its
+-- stream; that it is asked for bytes with a room is this project's profile.
 use Rattle.std.specs.Prelude.{◌≡◌, ℕ, ◌+◌, Bool, List, [], ◌∷◌, ◌++◌, length, Option, IfSome}
 use Rattle.handlers.specs.Calls.{HandlerCall, Give, WasHanded, given}
 

@@ -78,7 +78,8 @@ pub record HasNoRoom (side : Side) (got piece waiting : List ℕ) : Type 0 where
   pub talks : Talks side (got ++ front) standing (output ++ more)
   pub some : more ≢ []
 
--- Memory is refused to the talk. All that it wrote by then, and behind it what an eager handler gave, was sent or waits.
+-- Memory is refused to the talk. All that it wrote by then, and behind it what an eager handler gave, was sent or
+-- waits.
 pub record HasRunOut {H : Type 0} (step : H → HandlerCall → H → Type 0) (past : Past H) (handler : Option H)
     (piece now : List ℕ) : Type 0 where
   pub output : List ℕ

@@ -95,7 +95,8 @@ impl Handler for Echo {
     }
 }
 
-/// How a stream begins: it asks for /x, which it numbers 2, with an eager handler or none, or it answers with /x and /y.
+/// How a stream begins: it asks for /x, which it numbers 2, with an eager handler or none, or it answers with /x and
+/// /y.
 #[derive(Clone, Copy)]
 enum Begins {
     Asks,
@@ -230,8 +231,8 @@ impl Came {
         self.stop.is_some() || self.gives(room)
     }
 
-    /// The end comes, all is given, and the handler is handed out, which was handed this, and called so first. What comes
-    /// later is dropped, and a handler that is closed is asked no more.
+    /// The end comes, all is given, and the handler is handed out, which was handed this, and called so first. What
+    /// comes later is dropped, and a handler that is closed is asked no more.
     fn ends(&mut self, taken: &[u8], first: u8) -> bool {
         let is_open = !self.stream.closed() && !self.stream.finished();
         let is_held = self.stream.finish().is_none();

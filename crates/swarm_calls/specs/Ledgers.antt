@@ -2,7 +2,8 @@
 -- Inside: no public clause cites it but for the blanks that a swarm is made with.
 use Rattle.std.specs.Prelude.{◌≡◌, ℕ, suc, List, [], ◌∷◌}
 use Rattle.swarm_calls.specs.declared.ledgers.Tally.{Tally}
-use Rattle.swarm_calls.specs.declared.ledgers.Tally.TheVariants.{First, Second, Third, Fourth, Fifth, Sixth, Seventh, Eighth}
+use Rattle.swarm_calls.specs.declared.ledgers.Tally.TheVariants.{First, Second, Third, Fourth, Fifth, Sixth, Seventh}
+use Rattle.swarm_calls.specs.declared.ledgers.Tally.TheVariants.{Eighth}
 
 module _ {L A B C D E F G H : Type 0} where
   abbrev pub caller_of : Tally L A B C D E F G H → ℕ
