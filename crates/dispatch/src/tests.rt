@@ -109,9 +109,9 @@ impl Protocols for Two {
     }
 }
 
-/// A stream: who opens it, how much its handler may be handed at once, whether an eager one is there and whether there is
-/// memory for another. Then what comes, on which protocol both agree, what the last piece came to, and what the handler
-/// of which direction and index was handed.
+/// A stream: who opens it, how much its handler may be handed at once, whether an eager one is there and whether
+/// there is memory for another. Then what comes, on which protocol both agree, what the last piece came to, and what
+/// the handler of which direction and index was handed.
 struct Script {
     direction: Direction,
     most: usize,
