@@ -98,7 +98,7 @@ or_true : (b : Bool) → b || true ≡ true
 or_true true = refl
 or_true false = refl
 
-and_false : (b : Bool) → b && false ≡ false
+pub and_false : (b : Bool) → b && false ≡ false
 and_false true = refl
 and_false false = refl
 
@@ -383,7 +383,7 @@ pub told_is : (role : Role) (past : List Item) (came : List Arrival) (told : Lis
 told_is role past came told from =
     append_cancel_left (events role past) told (told_by role past came) (sym from.told_is ∙ events_by role past came)
 
-agrees_by : (role : Role) (past : List Item) (came : List Arrival) (n : ℕ) → HasNoFault role (map Came came ++ past)
+pub agrees_by : (role : Role) (past : List Item) (came : List Arrival) (n : ℕ) → HasNoFault role (map Came came ++ past)
     → AgreesOn (seen role (map Came came ++ past) n) (all_heard n (seen role past n) (told_by role past came))
 agrees_by role past [] n good = same_fields (seen role past n) (seen role past n) refl refl refl refl refl
 agrees_by role past (a ∷ came) n good =

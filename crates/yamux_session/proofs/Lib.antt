@@ -17,6 +17,7 @@ pub mod CallLemmas
 pub mod Hearing
 pub mod Received
 pub mod Crediting
+pub mod Endings
 pub mod Growing
 pub mod Untaken
 pub mod OneOutcome

@@ -1,5 +1,5 @@
 -- Worked rows of sessions, computed by the definitions.
-use Rattle.std.proofs.Common.{◌≡◌, ◌<◌, ◌≤◌, ℕ, [], ◌∷◌, refl, arith}
+use Rattle.std.proofs.Common.{◌≡◌, ◌<◌, ◌≤◌, ℕ, true, false, [], ◌∷◌, refl, arith}
 use Rattle.yamux_session.specs.declared.event.Fault.TheVariants.{BadFrame}
 use Rattle.yamux_session.specs.History.Item.{Did}
 use Rattle.yamux_session.specs.History.Act.{Start, Close}
@@ -27,6 +27,10 @@ opening_rows = record {
   behind_leaving_and_a_call = refl;
   refused_behind_leaving = refl;
   twelve_live = refl;
+  arrives_and_opens = refl;
+  arrives_and_opens_no_other = refl;
+  opening_is_told = refl;
+  other_opening_is_told = refl;
   first_of_a_client = refl;
   first_of_a_server = refl;
   next_of_a_server = refl;
@@ -126,6 +130,18 @@ ending_rows = record {
   unknown_untaken = refl;
   close_sent = refl;
   reset_sent = refl;
+  end_is_last = ((λ e. refl), ((λ e. refl), ((λ e. absurd (let h : 3 ≡ 1 = e in omega (arith, h))), tt)));
+  data_behind_the_end = λ h. absurd (let e : true ≡ false = h.1.0 refl in cc e);
+  second_end = λ h. absurd (let e : true ≡ false = h.1.0 refl in cc e);
+  second_end_behind_a_reset = λ h. absurd (let e : true ≡ false = h.0 refl in cc e);
+  end_of_the_next = ((λ e. refl), tt);
+  end_behind_another_opening = λ h. absurd (let e : true ≡ false = h.0 refl in cc e);
+  untold = (refl, tt);
+  told_accepted = λ h. absurd (let e : true ≡ false = h.0 in cc e);
+  told_data = λ h. absurd (let e : true ≡ false = h.0 in cc e);
+  told_end = λ h. absurd (let e : true ≡ false = h.0 in cc e);
+  told_reset = λ h. absurd (let e : true ≡ false = h.0 in cc e);
+  told_credit = λ h. absurd (let e : true ≡ false = h.0 in cc e);
 }
 
 pub answered_rows : AnsweredRows

@@ -13,6 +13,7 @@ pub mod Runs
 pub mod Limits
 pub mod Received
 pub mod Seen
+pub mod Endings
 pub mod Joined
 pub mod Tied
 pub mod OneOutcome

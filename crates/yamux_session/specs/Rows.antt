@@ -24,6 +24,7 @@ use Rattle.yamux_session.specs.Events.{Told}
 use Rattle.std.specs.List.{AllByRecursion}
 use Rattle.yamux_session.specs.declared.event.Event.TheVariants as event
 use Rattle.yamux_session.specs.Seen.{IsQuiet}
+use Rattle.yamux_session.specs.Endings.{opened_in, told_opened, EndsOnce, IsUntold}
 use Rattle.yamux_session.specs.Naming.{NamesOne}
 use Rattle.yamux_session.specs.Faults.{HasNoFault}
 use Rattle.yamux_session.specs.State.{FirstFaults}
@@ -108,6 +109,10 @@ pub record OpeningRows : Type 0 where
       ∷ 1 ∷ 0 ∷ 0 ∷ 0 ∷ 0 ∷ []
   pub twelve_live : live Server (opening 12 1)
       ≡ 1 ∷ 3 ∷ 5 ∷ 7 ∷ 9 ∷ 11 ∷ 13 ∷ 15 ∷ 17 ∷ 19 ∷ 21 ∷ 23 ∷ []
+  pub arrives_and_opens : opened_in Server [] (Tail ∷ header Window 1 1 0 ∷ []) 1 ≡ true
+  pub arrives_and_opens_no_other : opened_in Server [] (Tail ∷ header Window 1 1 0 ∷ []) 3 ≡ false
+  pub opening_is_told : told_opened 1 (Told.Ended 3 ∷ Told.Opened 1 ∷ []) ≡ true
+  pub other_opening_is_told : told_opened 1 (Told.Opened 3 ∷ Told.Ended 1 ∷ []) ≡ false
   pub first_of_a_client : next_own Client [] ≡ 1
   pub first_of_a_server : next_own Server [] ≡ 2
   pub next_of_a_server : next_own Server (Did (Start 2) ∷ []) ≡ 4
@@ -250,6 +255,19 @@ pub record EndingRows : Type 0 where
       ≡ 0 ∷ 1 ∷ 0 ∷ 4 ∷ 0 ∷ 0 ∷ 0 ∷ 3 ∷ 0 ∷ 0 ∷ 0 ∷ 0 ∷ []
   pub reset_sent : output Server (Did (Reset 3) ∷ [])
       ≡ 0 ∷ 1 ∷ 0 ∷ 8 ∷ 0 ∷ 0 ∷ 0 ∷ 3 ∷ 0 ∷ 0 ∷ 0 ∷ 0 ∷ []
+  -- what is told once since an opening, and of a stream that isn't live
+  pub end_is_last : EndsOnce 1 false (Told.Payload 1 7 ∷ Told.Ended 1 ∷ Told.Payload 3 7 ∷ [])
+  pub data_behind_the_end : ¬ EndsOnce 1 false (Told.Ended 1 ∷ Told.Payload 1 7 ∷ [])
+  pub second_end : ¬ EndsOnce 1 false (Told.Ended 1 ∷ Told.Ended 1 ∷ [])
+  pub second_end_behind_a_reset : ¬ EndsOnce 1 true (Told.Reset 1 ∷ Told.Ended 1 ∷ [])
+  pub end_of_the_next : EndsOnce 1 true (Told.Opened 1 ∷ Told.Ended 1 ∷ [])
+  pub end_behind_another_opening : ¬ EndsOnce 1 true (Told.Opened 3 ∷ Told.Ended 1 ∷ [])
+  pub untold : IsUntold 1 (Told.Opened 1 ∷ Told.Ended 3 ∷ Told.GoAway 1 ∷ [])
+  pub told_accepted : ¬ IsUntold 1 (Told.Accepted 1 ∷ [])
+  pub told_data : ¬ IsUntold 1 (Told.Payload 1 7 ∷ [])
+  pub told_end : ¬ IsUntold 1 (Told.Ended 1 ∷ [])
+  pub told_reset : ¬ IsUntold 1 (Told.Reset 1 ∷ [])
+  pub told_credit : ¬ IsUntold 1 (Told.GoAway 1 ∷ Told.Credit 1 ∷ [])
 
 -- Which acts an end may do
 pub record AnsweredRows : Type 0 where

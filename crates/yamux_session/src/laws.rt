@@ -5,6 +5,7 @@ ghost use Rattle.yamux_session.specs.Limits.{ExhaustedFirst, LiveLimit, NoSecond
 ghost use Rattle.yamux_session.specs.Acts.{OneRefusal};
 ghost use Rattle.yamux_session.specs.Received.{ReceivedData, SomeSince};
 ghost use Rattle.yamux_session.specs.Seen.{ActsDo, ActsMove, CreditIsTold, EventsTell};
+ghost use Rattle.yamux_session.specs.Endings.{EndsAreLast, NotTold, OpenedByTheOther, OpeningsAreTold};
 ghost use Rattle.yamux_session.specs.Joined.{AllBeforeTheEnd, Balance, BothGoOn, NoFault, NothingIsLost};
 ghost use Rattle.yamux_session.specs.Joined.{NothingStandsStill, SomeJoined};
 ghost use Rattle.yamux_session.specs.OneOutcome.{OneOutcome};
@@ -67,6 +68,19 @@ pub fn events_tell()
 /// Credit, and what came and wasn't taken, change only where a feed told so.
 pub fn credit_is_told()
     ensures { CreditIsTold }
+{}
+
+/// A stream was opened where an event tells so, and nowhere else; what arrives opens none with a number of this end.
+pub fn openings_are_told()
+    ensures told { OpeningsAreTold }
+    ensures theirs { OpenedByTheOther }
+{}
+
+/// The end of a stream is told once since its opening, and no data behind it. Of a stream that isn't live, and isn't
+/// opened, nothing is told.
+pub fn ends_are_last()
+    ensures once { EndsAreLast }
+    ensures nothing_else { NotTold }
 {}
 
 /// What an act of this end's own changes of these.

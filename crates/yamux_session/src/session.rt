@@ -379,6 +379,9 @@ impl Session {
             AllByRecursion HasData (added told.old.items told.new.items))) }
         ensures one_stream { OnOk result (Whenever self.old (λ role past.
             NamesOne (added told.old.items told.new.items))) }
+        // A fault is all that its call tells.
+        ensures fault_alone { OnOk result (self.old.failed ≡ false → self.new.failed ≡ true
+            → (fault : Fault) × (added told.old.items told.new.items ≡ Event.Fault fault ∷ [])) }
         ensures within { IfOk result (λ used. used ≤ length piece.now - at) }
         ensures goes_on { IfOk result (λ used. at < length piece.now → 0 < used) }
         ensures nothing_left { length piece.now ≤ at → self.old.failed ≡ false
@@ -424,6 +427,8 @@ impl Session {
         ensures led { IfOk result (λ used. (role : Role) (past : List Item) (fed sent : List ℕ)
             → Stands role past fed sent self.old
             → Steps role past fed (take used (drop at piece.now)) sent told.old.items told.new.items self.new) }
+        ensures fault_alone { OnOk result (self.new.failed ≡ true
+            → (fault : Fault) × (told.new.items ≡ told.old.items ++ Event.Fault fault ∷ [])) }
         ensures extends { Extends told.old.items told.new.items }
         ensures kept { OnErr result (self.new.pending ≡ self.old.pending) }
         ensures memory { OnErr result (BringsMore self.old (drop at piece.now)) }
@@ -464,6 +469,7 @@ impl Session {
           failed = true;
         }) }
         ensures told { OnOk result (Tells told.old.items told.new.items (Told.Fault fault ∷ [])) }
+        ensures event { OnOk result (told.new.items ≡ told.old.items ++ Event.Fault fault ∷ []) }
         ensures extends { Extends told.old.items told.new.items }
         ensures kept { OnErr result (self.new ≡ self.old) }
     {
