@@ -4,13 +4,13 @@ use Rattle.std.specs.Prelude.{OnOk, IfSome}
 use Rattle.std.proofs.lemmas.List.{append_assoc, append-nil}
 use Rattle.handlers.specs.Calls.{HandlerCall, Asked}
 use Rattle.yamux_session.specs.declared.event.Role.{Role}
-use Rattle.yamux_session.specs.Events.{Told}
+use Rattle.yamux_session.specs.Events.{Told, events}
 use Rattle.yamux_session.specs.Seen.{Seen}
 use Rattle.yamux_session.specs.State.{State}
 use Rattle.streams.specs.State.{Streaming}
 use Rattle.conn_log.specs.declared.earlier.Earlier.{Earlier}
 use Rattle.conn_log.specs.declared.event.ConnEvent.{ConnEvent}
-use Rattle.conn_log.specs.Entries.{Entry, said}
+use Rattle.conn_log.specs.Entries.{Entry, items, said}
 use Rattle.conn_log.specs.Entries.Entry.{Says}
 use Rattle.conn_log.specs.Held.{IsHeld}
 use Rattle.conn_log.specs.Routes.{IsMoving, Around, Routes, Routed}
@@ -30,12 +30,12 @@ module _ {P H : Type 0} (step : H → HandlerCall → H → Type 0) (fails : H �
   pub told_none : (view : Seen) → after ≡ before
       → Routes step fails is_closed is_finished inbound_makes outbound_makes eager names peer role log fed sent session streams past n view rest
       → Routed step fails is_closed is_finished inbound_makes outbound_makes eager names peer role log before after fed sent session streams past n rest
-  told_none view same r = record { newer = []; view = view; told_is = same ∙ sym (append-nil before); routes = r }
+  told_none view same r = record { newer = []; view = view; told_is = same ∙ sym (append-nil before); untold = refl; routes = r }
 
   pub told_at : (view : Seen) (told : ConnEvent H) → after ≡ before ++ told ∷ []
       → Routes step fails is_closed is_finished inbound_makes outbound_makes eager names peer role (Says told ∷ log) fed sent session streams past n view rest
       → Routed step fails is_closed is_finished inbound_makes outbound_makes eager names peer role log before after fed sent session streams past n rest
-  told_at view told is r = record { newer = Says told ∷ []; view = view; told_is = is; routes = r }
+  told_at view told is r = record { newer = Says told ∷ []; view = view; told_is = is; untold = refl; routes = r }
 
   -- the event was told before it was routed
   pub told_then : (told : ConnEvent H) → after ≡ before ++ told ∷ []
@@ -45,6 +45,7 @@ module _ {P H : Type 0} (step : H → HandlerCall → H → Type 0) (fails : H �
     newer = r.newer ++ Says told ∷ [];
     view = r.view;
     told_is = is ∙ ap (λ t. before ++ t) (sym (said_append r.newer (Says told ∷ []) ∙ ap (λ t. (told ∷ []) ++ t) (sym r.told_is)));
+    untold = ap (λ t. events role (items t)) (append_assoc r.newer (Says told ∷ []) log) ∙ r.untold;
     routes = subst (λ t. Routes step fails is_closed is_finished inbound_makes outbound_makes eager names peer role t fed sent session streams past n r.view rest)
         (sym (append_assoc r.newer (Says told ∷ []) log)) r.routes;
   }

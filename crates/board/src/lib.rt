@@ -3,5 +3,6 @@
 #![tactic(auto)]
 
 mod board;
+mod route;
 
 pub use board::Board;

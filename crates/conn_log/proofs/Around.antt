@@ -15,14 +15,14 @@ use Rattle.conn_log.specs.Held.{IsAtRest, IsPast}
 use Rattle.conn_log.specs.Routes.{EndsLast, Around}
 use Rattle.conn_log.proofs.Same.{Same, same_refl, at_rest_same, past_same}
 
-if_some : {A : Type 0} {P Q : A → Type 0} (r : Option A) → ((x : A) → P x → Q x) → IfSome r P → IfSome r Q
+pub if_some : {A : Type 0} {P Q : A → Type 0} (r : Option A) → ((x : A) → P x → Q x) → IfSome r P → IfSome r Q
 if_some None f p = tt
 if_some (Some x) f p = f x p
 
 module _ {P H : Type 0} (step : H → HandlerCall → H → Type 0) (fails : H → Asked → ℕ → Type 0)
     (is_closed is_finished : H → Bool) (inbound_makes outbound_makes : P → ℕ → List ℕ → H → Type 0)
     (eager : ℕ → Bool) (names : List (List ℕ)) (peer : List ℕ) (role : Role) where
-  all_past : (log newer : List (Entry H)) (past : List (Earlier H)) → AllByRecursion (λ it. IsPast step is_closed is_finished names role log it.number it.stream) past
+  pub all_past : (log newer : List (Entry H)) (past : List (Earlier H)) → AllByRecursion (λ it. IsPast step is_closed is_finished names role log it.number it.stream) past
       → AllByRecursion (λ it. IsPast step is_closed is_finished names role (newer ++ log) it.number it.stream) past
   all_past log newer [] all = tt
   all_past log newer (it ∷ past) all = (past_same step is_closed is_finished names role log newer it.number it.stream all.0, all_past log newer past all.1)

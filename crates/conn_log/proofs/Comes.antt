@@ -11,7 +11,7 @@ use Rattle.yamux_session.specs.Openings.{is_live, closed}
 use Rattle.yamux_session.specs.Windows.{credit, untaken}
 use Rattle.yamux_session.specs.Data.{written}
 use Rattle.yamux_session.specs.Acts.{open_credit}
-use Rattle.yamux_session.specs.Events.{Told}
+use Rattle.yamux_session.specs.Events.{Told, events}
 use Rattle.yamux_session.specs.Seen.{Seen, ActsDo, ActsMove}
 use Rattle.yamux_session.specs.State.{State, Stands as SessionStands}
 use Rattle.streams.specs.declared.stop.Cause.{Cause}
@@ -37,7 +37,7 @@ use Rattle.conn_log.proofs.Same.{same_by_event, IsOf, side_same, settled_same, a
 use Rattle.conn_log.proofs.Around.{grown, still}
 use Rattle.conn_log.proofs.Views.{same}
 use Rattle.conn_log.proofs.StageKinds.{same_talking, same_awaiting, same_handed, served_talking, served_handed}
-use Rattle.conn_log.proofs.Served.{did, items_did, said_did, view_by, AllOn, Own, did_own, all_on, come_of, come_on, view_came, view_ended, view_over, around_acts}
+use Rattle.conn_log.proofs.Served.{did, items_did, said_did, did_untold, view_by, AllOn, Own, did_own, all_on, come_of, come_on, view_came, view_ended, view_over, around_acts}
 
 module _ {P H : Type 0} (step : H → HandlerCall → H → Type 0) (fails : H → Asked → ℕ → Type 0)
     (is_closed is_finished : H → Bool) (inbound_makes outbound_makes : P → ℕ → List ℕ → H → Type 0)
@@ -207,11 +207,12 @@ module _ {P H : Type 0} (step : H → HandlerCall → H → Type 0) (fails : H �
     pub record Went (outcome : Outcome H) : Type 0 where
       pub newer : List (Entry H)
       pub none_said : said newer ≡ []
+      pub untold : events role (items (newer ++ log)) ≡ events role (items log)
       pub seen_now : Seen
       pub comes : Comes step fails is_closed is_finished inbound_makes outbound_makes eager names peer role (newer ++ log) fed sent after now past n seen_now rest outcome
 
     pub went : (outcome : Outcome H) → Came step fails is_closed is_finished role (items log) fed sent n h.so_far old before outcome after new → Went outcome
-    went outcomes.Going c = record { newer = did c.0.goes.acts; none_said = said_did c.0.goes.acts; seen_now = view_by c.0.goes.acts view; comes = goes_on c.0 c.1 }
-    went (outcomes.Done handler) c = record { newer = did c.0.goes.acts; none_said = said_did c.0.goes.acts; seen_now = view_by c.0.goes.acts view; comes = is_done handler c.0 c.1 }
+    went outcomes.Going c = record { newer = did c.0.goes.acts; none_said = said_did c.0.goes.acts; untold = did_untold role c.0.goes.acts log; seen_now = view_by c.0.goes.acts view; comes = goes_on c.0 c.1 }
+    went (outcomes.Done handler) c = record { newer = did c.0.goes.acts; none_said = said_did c.0.goes.acts; untold = did_untold role c.0.goes.acts log; seen_now = view_by c.0.goes.acts view; comes = is_done handler c.0 c.1 }
     went outcomes.Refused c = absurd c
-    went (outcomes.Broken cause) c = record { newer = []; none_said = refl; seen_now = view; comes = is_broken c.1.0 cause c.0 c.1.1 c.1.2 }
+    went (outcomes.Broken cause) c = record { newer = []; none_said = refl; untold = refl; seen_now = view; comes = is_broken c.1.0 cause c.0 c.1.1 c.1.2 }

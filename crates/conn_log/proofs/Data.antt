@@ -10,7 +10,7 @@ use Rattle.yamux_session.specs.declared.event.Role.{Role}
 use Rattle.yamux_session.specs.History.{is_own}
 use Rattle.yamux_session.specs.Openings.{finished}
 use Rattle.yamux_session.specs.Data.{inbound}
-use Rattle.yamux_session.specs.Events.{Told}
+use Rattle.yamux_session.specs.Events.{Told, events}
 use Rattle.yamux_session.specs.Seen.{Seen, seen, hears, all_heard, AgreesOn, ActsDo, ActsMove}
 use Rattle.yamux_session.specs.State.{State}
 use Rattle.streams.specs.declared.stop.Cause.{Cause}
@@ -103,6 +103,7 @@ module _ {P H : Type 0} (step : H → HandlerCall → H → Type 0) (fails : H �
       (outcome : Outcome H) : Type 0 where
     pub newer : List (Entry H)
     pub said_is : said newer ≡ told
+    pub untold : events role (items (newer ++ log)) ≡ events role (items log)
     pub seen_now : Seen
     pub comes : Comes step fails is_closed is_finished inbound_makes outbound_makes eager names peer role (newer ++ log) fed sent session streams past n seen_now rest outcome
 
@@ -119,6 +120,7 @@ module _ {P H : Type 0} (step : H → HandlerCall → H → Type 0) (fails : H �
     stopped log outcome told same_session a come of is_due = record {
       newer = [];
       said_is = refl;
+      untold = refl;
       seen_now = view;
       comes = come (around_event step fails is_closed is_finished inbound_makes outbound_makes eager names peer role log fed sent after now past n view rest told of is_due (still step fails is_closed is_finished inbound_makes outbound_makes eager names peer role log fed sent before after streams now past n view rest same_session elsewhere a));
     }
@@ -149,7 +151,7 @@ module _ {P H : Type 0} (step : H → HandlerCall → H → Type 0) (fails : H �
         } in
         let it = went step fails is_closed is_finished inbound_makes outbound_makes eager names peer role acts_do acts_move log fed sent before after streams now past n view rest middle new a held over
         elsewhere here outcome served.3 in
-        record { newer = it.newer; said_is = it.none_said; seen_now = it.seen_now; comes = it.comes }
+        record { newer = it.newer; said_is = it.none_said; untold = it.untold; seen_now = it.seen_now; comes = it.comes }
     takes log bytes old got outcome a came going h (inr f) =
         let front = came_front n view rest a.opens_none in
         let data_is : inbound role (items log) n ≡ h.so_far.got ++ bytes ++ front.0 =
@@ -249,7 +251,7 @@ module _ {P H : Type 0} (step : H → HandlerCall → H → Type 0) (fails : H �
           } in
           let it = went step fails is_closed is_finished inbound_makes outbound_makes eager names peer role acts_do acts_move log fed sent before after streams now past n view rest middle new a held over
           elsewhere here outcome came_to in
-          record { newer = it.newer; said_is = it.none_said; seen_now = it.seen_now; comes = it.comes }
+          record { newer = it.newer; said_is = it.none_said; untold = it.untold; seen_now = it.seen_now; comes = it.comes }
 
       -- both ends agree by a front of these bytes, and the handler takes the rest
       agreed_on : (outcome : Outcome H) (index : ℕ) (front more : List ℕ) (middle : Streaming H) → is_talking old.stage ≡ true
@@ -316,6 +318,7 @@ module _ {P H : Type 0} (step : H → HandlerCall → H → Type 0) (fails : H �
             record {
               newer = it.newer ++ Says (event.Agreed n index) ∷ [];
               said_is = said_append it.newer (Says (event.Agreed n index) ∷ []) ∙ ap (λ t. (event.Agreed n index ∷ []) ++ t) it.said_is;
+              untold = ap (λ t. events role (items t)) (append_assoc it.newer (Says (event.Agreed n index) ∷ []) log) ∙ it.untold;
               seen_now = it.seen_now;
               comes = subst (λ t. Comes step fails is_closed is_finished inbound_makes outbound_makes eager names peer role t fed sent after now past n it.seen_now rest outcome)
                   (sym (append_assoc it.newer (Says (event.Agreed n index) ∷ []) log)) it.comes;
@@ -327,6 +330,7 @@ module _ {P H : Type 0} (step : H → HandlerCall → H → Type 0) (fails : H �
             record {
               newer = it.newer ++ Made n has.made ∷ Says (event.Agreed n index) ∷ [];
               said_is = said_append it.newer (Made n has.made ∷ Says (event.Agreed n index) ∷ []) ∙ ap (λ t. (event.Agreed n index ∷ []) ++ t) it.said_is;
+              untold = ap (λ t. events role (items t)) (append_assoc it.newer (Made n has.made ∷ Says (event.Agreed n index) ∷ []) log) ∙ it.untold;
               seen_now = it.seen_now;
               comes = subst (λ t. Comes step fails is_closed is_finished inbound_makes outbound_makes eager names peer role t fed sent after now past n it.seen_now rest outcome)
                   (sym (append_assoc it.newer (Made n has.made ∷ Says (event.Agreed n index) ∷ []) log)) it.comes;

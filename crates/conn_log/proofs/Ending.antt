@@ -8,7 +8,7 @@ use Rattle.talks.specs.Talks.{Side, IsOpen}
 use Rattle.yamux_session.specs.declared.event.Role.{Role}
 use Rattle.yamux_session.specs.Openings.{finished}
 use Rattle.yamux_session.specs.Data.{inbound}
-use Rattle.yamux_session.specs.Events.{Told}
+use Rattle.yamux_session.specs.Events.{Told, events}
 use Rattle.yamux_session.specs.Seen.{Seen, seen, hears, all_heard, AgreesOn, ActsDo, ActsMove}
 use Rattle.yamux_session.specs.State.{State}
 use Rattle.streams.specs.declared.stop.Cause.TheVariants as causes
@@ -118,6 +118,7 @@ module _ {P H : Type 0} (step : H → HandlerCall → H → Type 0) (fails : H �
     pub record Ended (outcome : Outcome H) : Type 0 where
       pub newer : List (Entry H)
       pub none_said : Rattle.conn_log.specs.Entries.said newer ≡ []
+      pub untold : events role (items (newer ++ log)) ≡ events role (items log)
       pub seen_now : Seen
       pub comes : Comes step fails is_closed is_finished inbound_makes outbound_makes eager names peer role (newer ++ log) fed sent after now past n seen_now rest outcome
 
@@ -143,6 +144,7 @@ module _ {P H : Type 0} (step : H → HandlerCall → H → Type 0) (fails : H �
         record {
           newer = [];
           none_said = refl;
+          untold = refl;
           seen_now = ended_view view;
           comes = subst (λ (o : Outcome H). Comes step fails is_closed is_finished inbound_makes outbound_makes eager names peer role log fed sent after now past n (ended_view view) rest o) (sym is) (
             around_event step fails is_closed is_finished inbound_makes outbound_makes eager names peer role log fed sent after now past n (ended_view view) rest (event.Broken n causes.Ended) refl was_due
@@ -168,6 +170,7 @@ module _ {P H : Type 0} (step : H → HandlerCall → H → Type 0) (fails : H �
         record {
           newer = [];
           none_said = refl;
+          untold = refl;
           seen_now = ended_view view;
           comes = subst (λ (o : Outcome H). Comes step fails is_closed is_finished inbound_makes outbound_makes eager names peer role log fed sent after now past n (ended_view view) rest o) (sym is) (
             around_event step fails is_closed is_finished inbound_makes outbound_makes eager names peer role log fed sent after now past n (ended_view view) rest (event.Broken n (causes.Handler fault)) refl was_due
@@ -184,7 +187,7 @@ module _ {P H : Type 0} (step : H → HandlerCall → H → Type 0) (fails : H �
           let held = told_end served.0 served.1 served.2 in
           let now_it = went step fails is_closed is_finished inbound_makes outbound_makes eager names peer role acts_do acts_move log fed sent before after streams now past n (ended_view view) rest served.0 new
           a held (λ off. refl) elsewhere here outcome served.3 in
-          record { newer = now_it.newer; none_said = now_it.none_said; seen_now = now_it.seen_now; comes = now_it.comes }
+          record { newer = now_it.newer; none_said = now_it.none_said; untold = now_it.untold; seen_now = now_it.seen_now; comes = now_it.comes }
       by_hands (inr f) = failed outcome f.1.0 f.1.1 f.1.2 f.1.3 f.1.4 f.0
 
       by_talk : (b : Bool) → is_talking old.stage ≡ b → Ended outcome

@@ -9,3 +9,6 @@ pub mod Ending
 pub mod Data
 pub mod Resetting
 pub mod Opening
+pub mod Rested
+pub mod Arriving
+pub mod Facing

@@ -20,7 +20,7 @@ use Rattle.conn_log.specs.Routes.{IsNoOpening, Around, set_aside}
 use Rattle.conn_log.proofs.StageKinds.{talking_kind, talking_awaits}
 
 -- what is heard changes nothing of what was sent
-sent_stays : (n : ℕ) (view : Seen) (rest : List Told) → AllByRecursion (IsNoOpening n) rest → (all_heard n view rest).sent ≡ view.sent
+pub sent_stays : (n : ℕ) (view : Seen) (rest : List Told) → AllByRecursion (IsNoOpening n) rest → (all_heard n view rest).sent ≡ view.sent
 sent_stays n view [] none = refl
 sent_stays n view (t ∷ rest) none = sent_stays n (hears n view t) rest none.1 ∙ kept t none.0 where
   by_test : (b : Bool) (other : Seen) → other.sent ≡ view.sent → (cond b other view).sent ≡ view.sent

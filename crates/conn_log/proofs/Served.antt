@@ -11,7 +11,7 @@ use Rattle.yamux_session.specs.History.Act.{Start, Write, Taken, Close, Reset}
 use Rattle.yamux_session.specs.Openings.{is_live, closed, finished}
 use Rattle.yamux_session.specs.Windows.{credit, untaken}
 use Rattle.yamux_session.specs.Data.{inbound, written}
-use Rattle.yamux_session.specs.Events.{Told}
+use Rattle.yamux_session.specs.Events.{Told, events}
 use Rattle.yamux_session.specs.Seen.{Seen, seen, all_heard, hears, just_opened, AgreesOn, ActsDo, ActsMove}
 use Rattle.yamux_session.specs.State.{State, Stands as SessionStands}
 use Rattle.streams.specs.Streams.{Past}
@@ -39,6 +39,11 @@ items_did (act ∷ acts) log = ap (λ t. Did act ∷ t) (items_did acts log)
 pub said_did : {H : Type 0} (acts : List Act) → said {H = H} (did acts) ≡ []
 said_did [] = refl
 said_did (act ∷ acts) = said_did acts
+
+-- acts of this end tell nothing
+pub did_untold : {H : Type 0} (role : Role) (acts : List Act) (log : List (Entry H)) → events role (items (did acts ++ log)) ≡ events role (items log)
+did_untold role [] log = refl
+did_untold role (act ∷ acts) log = append-nil (events role (items (did acts ++ log))) ∙ did_untold role acts log
 
 -- what is seen of the stream behind these acts
 abbrev pub view_by : List Act → Seen → Seen

@@ -9,7 +9,7 @@ use Rattle.yamux_session.specs.History.{Item}
 use Rattle.yamux_session.specs.History.Item.{Did}
 use Rattle.yamux_session.specs.History.Act.{Reset}
 use Rattle.yamux_session.specs.Openings.{is_live}
-use Rattle.yamux_session.specs.Events.{Told}
+use Rattle.yamux_session.specs.Events.{Told, events}
 use Rattle.yamux_session.specs.Seen.{Seen, seen, all_heard, AgreesOn, ActsDo, ActsMove}
 use Rattle.yamux_session.specs.State.{State, Stands as SessionStands}
 use Rattle.streams.specs.declared.stop.Cause.TheVariants as causes
@@ -43,23 +43,24 @@ module _ {P H : Type 0} (step : H → HandlerCall → H → Type 0) (fails : H �
     (eager : ℕ → Bool) (names : List (List ℕ)) (peer : List ℕ) (role : Role) where
   -- what was routed in two parts, of which the first told this
   pub routed_behind : (log newer : List (Entry H)) (before mid after more : List (ConnEvent H)) (fed sent : List ℕ) (session : State) (streams : ℕ → Option (Streaming H))
-      (past : List (Earlier H)) (n : ℕ) (rest : List Told) → said newer ≡ more → mid ≡ before ++ more
+      (past : List (Earlier H)) (n : ℕ) (rest : List Told) → said newer ≡ more → mid ≡ before ++ more → events role (items (newer ++ log)) ≡ events role (items log)
       → Routed step fails is_closed is_finished inbound_makes outbound_makes eager names peer role (newer ++ log) mid after fed sent session streams past n rest
       → Routed step fails is_closed is_finished inbound_makes outbound_makes eager names peer role log before after fed sent session streams past n rest
-  routed_behind log newer before mid after more fed sent session streams past n rest first is r = record {
+  routed_behind log newer before mid after more fed sent session streams past n rest first is none_told r = record {
     newer = r.newer ++ newer;
     view = r.view;
     told_is = r.told_is ∙ ap (λ t. t ++ said r.newer) (is ∙ ap (λ t. before ++ t) (sym first)) ∙ append_assoc before (said newer) (said r.newer) ∙ ap (λ t. before ++ t) (sym (said_append r.newer newer));
+    untold = ap (λ t. events role (items t)) (append_assoc r.newer newer log) ∙ r.untold ∙ none_told;
     routes = subst (λ t. Routes step fails is_closed is_finished inbound_makes outbound_makes eager names peer role t fed sent session streams past n r.view rest)
         (sym (append_assoc r.newer newer log)) r.routes;
   }
 
   pub routed_on : (log : List (Entry H)) (newer : List (Entry H)) (before after : List (ConnEvent H)) (fed sent : List ℕ) (session : State) (streams : ℕ → Option (Streaming H))
-      (past : List (Earlier H)) (n : ℕ) (rest : List Told) → said newer ≡ []
+      (past : List (Earlier H)) (n : ℕ) (rest : List Told) → said newer ≡ [] → events role (items (newer ++ log)) ≡ events role (items log)
       → Routed step fails is_closed is_finished inbound_makes outbound_makes eager names peer role (newer ++ log) before after fed sent session streams past n rest
       → Routed step fails is_closed is_finished inbound_makes outbound_makes eager names peer role log before after fed sent session streams past n rest
-  routed_on log newer before after fed sent session streams past n rest none r =
-      routed_behind log newer before before after [] fed sent session streams past n rest none (sym (append-nil before)) r
+  routed_on log newer before after fed sent session streams past n rest none none_told r =
+      routed_behind log newer before before after [] fed sent session streams past n rest none (sym (append-nil before)) none_told r
 
   module _ (acts_do : ActsDo) (acts_move : ActsMove) (log : List (Entry H)) (fed sent : List ℕ) (before after : State) (streams now : ℕ → Option (Streaming H))
       (past : List (Earlier H)) (n : ℕ) (view : Seen) (rest : List Told)
@@ -113,11 +114,13 @@ module _ {P H : Type 0} (step : H → HandlerCall → H → Type 0) (fails : H �
       newer = Of (Did (Reset n)) ∷ [];
       view = gone view;
       told_is = same_told ∙ sym (append-nil told);
+      untold = append-nil (events role (items log));
       routes = was_reset there;
     }
     is_given_up told told_now same_told (inr over) = record {
       newer = [];
       view = gone view;
       told_is = same_told ∙ sym (append-nil told);
+      untold = refl;
       routes = was_gone over.0 over.1;
     }

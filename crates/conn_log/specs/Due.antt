@@ -49,11 +49,6 @@ IsGivenUp n (Says (event.Refused m) ∷ log) = m ≡ n
 IsGivenUp n (Says (event.Broken m cause) ∷ log) = (m ≡ n) × (cause ≢ causes.Reset)
 IsGivenUp n log = ⊥
 
--- the newest entry asks for the protocol of this stream
-abbrev pub WasAskedFor : {H : Type 0} → ℕ → List (Entry H) → Type 0
-WasAskedFor n (Asks m index ∷ log) = m ≡ n
-WasAskedFor n log = ⊥
-
 module _ {P H : Type 0} (step : H → HandlerCall → H → Type 0) (fails : H → Asked → ℕ → Type 0)
     (is_closed is_finished : H → Bool) (inbound_makes outbound_makes : P → ℕ → List ℕ → H → Type 0)
     (eager : ℕ → Bool) (names : List (List ℕ)) (peer : List ℕ) (role : Role) where
@@ -137,13 +132,13 @@ module _ {P H : Type 0} (step : H → HandlerCall → H → Type 0) (fails : H �
   abbrev pub MayBeMade : List (Entry H) → ℕ → H → Type 0
   MayBeMade (Says (event.Agreed m index) ∷ log) n handler =
       (m ≡ n) × (made_of role log n ≡ None) × Makes n index handler
-  MayBeMade (Of (Did (Start m)) ∷ log) n handler = (m ≡ n)
-      × ((index : ℕ) × (asked log n ≡ Some index) × (eager index ≡ true) × Makes n index handler)
+  MayBeMade (Asks m index ∷ log) n handler = (m ≡ n) × (eager index ≡ true) × Makes n index handler
   MayBeMade log n handler = ⊥
 
   abbrev pub IsDue : List (Entry H) → Entry H → Type 0
   IsDue log (Of (Came arrival)) = Unit {0}
-  IsDue log (Of (Did (Start n))) = WasAskedFor n log
+  -- a stream is opened only where one was asked for
+  IsDue log (Of (Did (Start n))) = ⊥
   -- what is written is what the stream gave
   IsDue log (Of (Did (Write n pieces))) = IsThere (Of (Did (Write n pieces)) ∷ log) n
   -- all that came is taken, where credit is left or this direction is closed
@@ -163,7 +158,7 @@ module _ {P H : Type 0} (step : H → HandlerCall → H → Type 0) (fails : H �
   IsDue log (Says (event.Fault fault)) = ⊥
   IsDue log (Says event.Shut) = ⊥
   IsDue log (Made n handler) = MayBeMade log n handler
-  IsDue log (Asks n index) = (index < length names) × (asked log n ≡ None)
+  IsDue log (Asks n index) = index < length names
 
   abbrev pub AllDue : List (Entry H) → Type 0
   AllDue [] = Unit {0}

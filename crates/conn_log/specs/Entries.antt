@@ -4,12 +4,14 @@
 use Rattle.std.specs.Prelude.{◌≡◌, ℕ, Bool, true, false, ◌==◌, ◌||◌, if◌then◌else◌, List, [], ◌∷◌, ◌++◌, Option, Some, None}
 use Rattle.yamux_session.specs.declared.event.Role.{Role}
 use Rattle.yamux_session.specs.History.{Item}
+use Rattle.yamux_session.specs.History.Item.{Did}
+use Rattle.yamux_session.specs.History.Act.{Start}
 use Rattle.yamux_session.specs.Openings.{opens}
 use Rattle.conn_log.specs.declared.event.ConnEvent.{ConnEvent}
 use Rattle.conn_log.specs.declared.event.ConnEvent.TheVariants as event
 
--- Of: an item of the session's list. Says: this was told. Made: the handler of the stream was made. Asks: the stream of
--- this number is opened for the protocol of this index.
+-- Of: an item of the session's list. Says: this was told. Made: the handler of the stream was made. Asks: this end
+-- opened the stream of this number, for the protocol of this index.
 pub data Entry (H : Type 0) : Type 0 where
   Of : Item → Entry H
   Says : ConnEvent H → Entry H
@@ -22,7 +24,7 @@ items [] = []
 items (Of x ∷ log) = x ∷ items log
 items (Says e ∷ log) = items log
 items (Made n handler ∷ log) = items log
-items (Asks n index ∷ log) = items log
+items (Asks n index ∷ log) = Did (Start n) ∷ items log
 
 -- what was told, in order
 abbrev pub said : {H : Type 0} → List (Entry H) → List (ConnEvent H)
@@ -38,7 +40,7 @@ since role [] n = []
 since role (Of x ∷ log) n = if opens role (items log) x n then [] else since role log n
 since role (Says e ∷ log) n = Says e ∷ since role log n
 since role (Made m handler ∷ log) n = Made m handler ∷ since role log n
-since role (Asks m index ∷ log) n = Asks m index ∷ since role log n
+since role (Asks m index ∷ log) n = if m == n then [] else since role log n
 
 -- what is told of an agreement, where there is one
 abbrev pub agreement : {H : Type 0} → ℕ → Option ℕ → List (ConnEvent H)

@@ -2,5 +2,6 @@
 pub mod Entries
 pub mod Due
 pub mod Held
+pub mod Rests
 -- inside
 pub mod Routes

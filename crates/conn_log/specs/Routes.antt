@@ -4,12 +4,14 @@ use Rattle.std.specs.Prelude.{◌≡◌, ◌⊎◌, ℕ, ◌==◌, Bool, true, f
 use Rattle.std.specs.List.{AllByRecursion}
 use Rattle.handlers.specs.Calls.{HandlerCall, Asked}
 use Rattle.yamux_session.specs.declared.event.Role.{Role}
-use Rattle.yamux_session.specs.History.{Item}
+use Rattle.yamux_session.specs.History.{Item, is_own}
 use Rattle.yamux_session.specs.History.Item.{Did}
 use Rattle.yamux_session.specs.History.Act.{Reset}
 use Rattle.yamux_session.specs.Openings.{is_live}
-use Rattle.yamux_session.specs.Events.{Told}
-use Rattle.yamux_session.specs.Seen.{Seen, seen, all_heard, AgreesOn}
+use Rattle.yamux_session.specs.declared.event.Event.{Event}
+use Rattle.yamux_session.specs.declared.event.Event.TheVariants as heard
+use Rattle.yamux_session.specs.Events.{Told, events}
+use Rattle.yamux_session.specs.Seen.{Seen, seen, all_heard, just_opened, AgreesOn}
 use Rattle.yamux_session.specs.State.{State, Stands as SessionStands}
 use Rattle.streams.specs.State.{Streaming, has_finished, was_handed_out}
 use Rattle.serving.specs.Served.{IsSettled}
@@ -19,15 +21,16 @@ use Rattle.streams.specs.declared.stop.Cause.TheVariants as causes
 use Rattle.routing.specs.declared.delivered.Outcome.{Outcome}
 use Rattle.routing.specs.declared.delivered.Outcome.TheVariants.{Going, Done, Refused, Broken}
 use Rattle.conn_log.specs.declared.event.ConnEvent.TheVariants as event
-use Rattle.conn_log.specs.Entries.{Entry, items, said, is_over, made_of}
+use Rattle.conn_log.specs.Entries.{Entry, items, said, since, is_over, made_of}
 use Rattle.conn_log.specs.Entries.Entry.{Says}
-use Rattle.conn_log.specs.Due.{AllDue}
+use Rattle.conn_log.specs.Due.{AllDue, WasReset}
 use Rattle.conn_log.specs.Held.{IsHeld, IsAtRest, IsPast}
 
 -- it asks nothing of the stream
 abbrev pub IsStill : Told → Type 0
 IsStill (Told.Accepted n) = Unit {0}
 IsStill (Told.GoAway code) = Unit {0}
+IsStill (Told.Fault fault) = Unit {0}
 IsStill other = ⊥
 
 -- it opens no stream of this number
@@ -51,6 +54,17 @@ set_aside n (Some it) = if was_handed_out it.stage then [] else record { number 
 abbrev pub Resets : Role → List Item → List ℕ → List ℕ → ℕ → State → State → Type 0
 Resets role past fed sent n old session = SessionStands role (Did (Reset n) ∷ past) fed sent session
     ⊎ ((session ≡ old) × (is_live role past n ≡ false))
+
+-- an event of the session's that is about this stream, or about none; a reset was told since its opening
+abbrev pub IsFor : Role → List Item → ℕ → Event → Type 0
+IsFor role past n (heard.Opened m) = m ≡ n
+IsFor role past n (heard.Accepted m) = m ≡ n
+IsFor role past n (heard.Payload m bytes) = (m ≡ n) × (bytes ≢ [])
+IsFor role past n (heard.Ended m) = m ≡ n
+IsFor role past n (heard.Reset m) = (m ≡ n) × WasReset role past n
+IsFor role past n (heard.Credit m) = m ≡ n
+IsFor role past n (heard.GoAway code) = Unit {0}
+IsFor role past n (heard.Fault fault) = Unit {0}
 
 module _ {P H : Type 0} (step : H → HandlerCall → H → Type 0) (fails : H → Asked → ℕ → Type 0)
     (is_closed is_finished : H → Bool) (inbound_makes outbound_makes : P → ℕ → List ℕ → H → Type 0)
@@ -106,4 +120,29 @@ module _ {P H : Type 0} (step : H → HandlerCall → H → Type 0) (fails : H �
     pub newer : List (Entry H)
     pub view : Seen
     pub told_is : after ≡ before ++ said newer
+    -- the session told nothing more meanwhile
+    pub untold : events role (items (newer ++ log)) ≡ events role (items log)
     pub routes : Routes (newer ++ log) fed sent session streams past n view rest
+
+  -- The other end's opening of the stream that is named is to be routed, and then the rest.
+  pub record Opening (log : List (Entry H)) (fed sent : List ℕ) (session : State) (streams : ℕ → Option (Streaming H))
+      (past : List (Earlier H)) (n : ℕ) (rest : List Told) : Type 0 where
+    pub around : Around log fed sent session streams past n just_opened rest
+    pub earlier : IfSome (streams n) (λ it. IsPast step is_closed is_finished names role log n it)
+    pub fresh : since role log n ≡ []
+    pub theirs : is_own role n ≡ false
+
+  -- This is still to be routed of what a frame told: an opening and what follows it, or what came to a stream.
+  abbrev pub Awaits : List (Entry H) → List ℕ → List ℕ → State → (ℕ → Option (Streaming H)) → List (Earlier H) → ℕ
+      → List Told → Type 0
+  Awaits log fed sent session streams past n told =
+      ((rest : List Told) × (told ≡ Told.Opened n ∷ rest) × Opening log fed sent session streams past n rest)
+      ⊎ ((view : Seen) × Routes log fed sent session streams past n view told)
+
+  -- A part of what a frame told was routed, and the rest is still to be.
+  pub record IsUnderWay (log : List (Entry H)) (before after : List (ConnEvent H)) (fed sent : List ℕ) (session : State)
+      (streams : ℕ → Option (Streaming H)) (past : List (Earlier H)) (n : ℕ) (rest : List Told) : Type 0 where
+    pub newer : List (Entry H)
+    pub told_is : after ≡ before ++ said newer
+    pub untold : events role (items (newer ++ log)) ≡ events role (items log)
+    pub awaits : Awaits (newer ++ log) fed sent session streams past n rest

@@ -48,3 +48,29 @@ pub enum ConnEvent<H> {
     /// The other end has shut the connection, between two frames. It tells nothing more.
     Shut,
 }
+
+/// Why a call of a connection is refused. `refused as u8` is its number; where several hold, the lowest is answered.
+#[derive(Clone, Copy, Debug, PartialEq, Eq, Hash, Error)]
+pub enum ConnRefused {
+    /// The connection has failed or was shut.
+    #[error("the connection is over")]
+    Failed = 1,
+    /// The connection isn't up yet.
+    #[error("the connection is not up yet")]
+    NotUp,
+    /// There is no protocol of this index.
+    #[error("there is no such protocol")]
+    BadIndex,
+    /// The other end goes away, and lets no stream be opened.
+    #[error("the other end goes away")]
+    GoneAway,
+    /// All numbers of this end's streams were used.
+    #[error("no number of a stream is left")]
+    StreamsExhausted,
+    /// As many streams of this end are live as may be.
+    #[error("as many streams are live as may be")]
+    StreamsFull,
+    /// A growth was refused.
+    #[error("out of memory")]
+    OutOfMemory,
+}

@@ -6,4 +6,4 @@ mod earlier;
 mod event;
 
 pub use earlier::Earlier;
-pub use event::{ConnEvent, ConnFault};
+pub use event::{ConnEvent, ConnFault, ConnRefused};

@@ -15,7 +15,7 @@ use Rattle.yamux_session.specs.Windows.{accepted}
 use Rattle.yamux_session.specs.Faults.{HasNoFault, fault_at}
 use Rattle.yamux_session.specs.Events.{Told, when, head_events, tail_events, taker, byte_told, events_at, events_unless}
 use Rattle.yamux_session.specs.Seen.{Seen, seen, just_opened, hears, all_heard}
-use Rattle.yamux_session.specs.Endings.{opened_in, told_opened, OpeningsAreTold, OpenedByTheOther, EndsOnce, EndsAreLast, IsUntold, NotTold}
+use Rattle.yamux_session.specs.Endings.{opened_in, told_opened, OpeningsAreTold, OpenedByTheOther, OpenedAnew, EndsOnce, EndsAreLast, IsUntold, NotTold}
 use Rattle.yamux_session.proofs.Lists.{and_parts, not_true, or_parts}
 use Rattle.yamux_session.proofs.Live.{let_in_at, not_both}
 use Rattle.yamux_session.proofs.Hearing.{told_by, told_is, agrees_by, live_after, or_none, and_false}
@@ -128,6 +128,37 @@ opened_by_the_other role past (a ∷ came) n e = by (λ before. opened_by_the_ot
         → b || opened_in role past came n ≡ true → is_own role n ≡ false
     by before true is e = opened_theirs role (map Came came ++ past) a n is
     by before false is e = before e
+
+-- the first that is told is its opening, and nothing was told before
+first_opens : (role : Role) (past : List Item) (a : Arrival) (n : ℕ) → opens role past (Came a) n ≡ true → is_live role past n ≡ false
+first_opens role past (Head h) n e =
+    (let_in_at role past h n (is_of_stream h && syn h && is_let_in role (live role past) (local_go_away past) h) refl e).2
+first_opens role past (Byte b) n e = absurd (cc e)
+first_opens role past Tail n e = absurd (cc e)
+first_opens role past (Garbled bytes) n e = absurd (cc e)
+
+anew_by : (role : Role) (past : List Item) (came : List Arrival) (told : List Told) (n : ℕ) → HasNoFault role (map Came came ++ past)
+    → told_by role past came ≡ Told.Opened n ∷ told → is_live role past n ≡ false
+anew_by role past [] told n good is = absurd (cc is)
+anew_by role past (a ∷ came) told n good is = by_first (λ rest e. anew_by role past came rest n good.1 e) (told_by role past came) refl where
+  by_first : ((rest : List Told) → told_by role past came ≡ Told.Opened n ∷ rest → is_live role past n ≡ false)
+      → (before : List Told) → told_by role past came ≡ before → is_live role past n ≡ false
+  by_first earlier [] none =
+      let mid = map Came came ++ past in
+      let at_it : events_at role mid (Came a) ≡ Told.Opened n ∷ told = sym (ap (λ t. t ++ events_at role mid (Came a)) none) ∙ is in
+      let opened : opens role mid (Came a) n ≡ true =
+      sym (opened_at role mid a n good.0) ∙ ap (told_opened n) at_it ∙ ap (λ b. b || told_opened n told) (eq-eqb n n refl) in
+      let live_then : is_live role mid n ≡ is_live role past n =
+      (agrees_by role past came n good.1).live ∙ ap (λ (t : List Told). (all_heard n (seen role past n) t).live) none in
+      sym live_then ∙ first_opens role mid a n opened
+  by_first earlier (t ∷ before) some =
+      let mid = map Came came ++ past in
+      let both : t ∷ (before ++ events_at role mid (Came a)) ≡ Told.Opened n ∷ told = sym (ap (λ x. x ++ events_at role mid (Came a)) some) ∙ is in
+      let first : t ≡ Told.Opened n = cc both in
+      earlier before (some ∙ ap (λ x. x ∷ before) first)
+
+pub opened_anew : OpenedAnew
+opened_anew role past came told n from = anew_by role past came told n from.no_fault (sym (told_is role past came (Told.Opened n ∷ told) from))
 
 -- ---- ends
 

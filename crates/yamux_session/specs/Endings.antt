@@ -32,6 +32,11 @@ abbrev pub OpenedByTheOther : Type 0
 OpenedByTheOther = (role : Role) (past : List Item) (came : List Arrival) (n : ℕ)
     → opened_in role past came n ≡ true → is_own role n ≡ false
 
+-- a stream whose opening is told first wasn't live before
+abbrev pub OpenedAnew : Type 0
+OpenedAnew = (role : Role) (past : List Item) (came : List Arrival) (told : List Told) (n : ℕ)
+    → TellsFrom role past came (Told.Opened n ∷ told) → is_live role past n ≡ false
+
 -- ---- ends
 
 -- Since each opening of the stream its end is told once at most, and no data behind it. The flag: whether its end

@@ -5,7 +5,7 @@ ghost use Rattle.yamux_session.specs.Limits.{ExhaustedFirst, LiveLimit, NoSecond
 ghost use Rattle.yamux_session.specs.Acts.{OneRefusal};
 ghost use Rattle.yamux_session.specs.Received.{ReceivedData, SomeSince};
 ghost use Rattle.yamux_session.specs.Seen.{ActsDo, ActsMove, CreditIsTold, EventsTell};
-ghost use Rattle.yamux_session.specs.Endings.{EndsAreLast, NotTold, OpenedByTheOther, OpeningsAreTold};
+ghost use Rattle.yamux_session.specs.Endings.{EndsAreLast, NotTold, OpenedAnew, OpenedByTheOther, OpeningsAreTold};
 ghost use Rattle.yamux_session.specs.Joined.{AllBeforeTheEnd, Balance, BothGoOn, NoFault, NothingIsLost};
 ghost use Rattle.yamux_session.specs.Joined.{NothingStandsStill, SomeJoined};
 ghost use Rattle.yamux_session.specs.OneOutcome.{OneOutcome};
@@ -74,6 +74,7 @@ pub fn credit_is_told()
 pub fn openings_are_told()
     ensures told { OpeningsAreTold }
     ensures theirs { OpenedByTheOther }
+    ensures anew { OpenedAnew }
 {}
 
 /// The end of a stream is told once since its opening, and no data behind it. Of a stream that isn't live, and isn't

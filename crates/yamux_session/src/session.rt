@@ -103,6 +103,13 @@ impl Session {
         !self.failed && self.streams.is_live(stream)
     }
 
+    /// Whether the session has failed: at a fault of the other end, or for want of memory within a feed.
+    pub fn has_failed(&self) -> bool
+        ensures { result ≡ self.now.failed }
+    {
+        self.failed
+    }
+
     /// Whether the bytes that came end within a frame: after a part of a header, or with an unfinished payload. Once
     /// the session has failed they don't.
     pub fn mid_frame(&self) -> bool

@@ -1,0 +1,200 @@
+-- What arrives changes: the list grows by it, and of the streams only the one that is named moves.
+use Rattle.std.proofs.Common.{◌≡◌, ◌≢◌, ◌⊎◌, inl, inr, ℕ, ◌==◌, ◌||◌, ◌&&◌, not, Bool, true, false, cond, List, [], ◌∷◌, ◌++◌, map, Option, Some, None, refl, sym, ap, ◌∙◌, subst}
+use Rattle.std.specs.Prelude.{IfSome, IsSome, drop}
+use Rattle.std.specs.List.{AllByRecursion}
+use Rattle.std.proofs.lemmas.List.{append_assoc, append-nil}
+use Rattle.handlers.specs.Calls.{HandlerCall, Asked}
+use Rattle.yamux_frames.specs.Frames.{Arrival}
+use Rattle.yamux_session.specs.declared.event.Role.{Role}
+use Rattle.yamux_session.specs.declared.event.Event.{Event}
+use Rattle.yamux_session.specs.declared.event.Event.TheVariants as event
+use Rattle.yamux_session.specs.History.{Item}
+use Rattle.yamux_session.specs.History.Item.{Came}
+use Rattle.yamux_session.specs.Openings.{opens, is_live}
+use Rattle.yamux_session.specs.Arrives.{telling, tellings, HasData}
+use Rattle.yamux_session.specs.Naming.{IsAbout, IsNoOpening as OpensNone}
+use Rattle.yamux_session.specs.Events.{Told}
+use Rattle.yamux_session.specs.Seen.{Seen, seen, hears, all_heard, just_opened, IsQuiet}
+use Rattle.yamux_session.specs.Endings.{opened_in, told_opened, EndsOnce}
+use Rattle.conn_log.specs.Entries.{Entry, items, since, asked}
+use Rattle.conn_log.specs.Entries.Entry.{Of}
+use Rattle.conn_log.specs.Due.{AllDue}
+use Rattle.conn_log.specs.Routes.{IsStill, IsNoOpening, EndsLast}
+use Rattle.conn_log.proofs.Views.{same, its_own}
+
+-- entries for what arrived
+abbrev pub arrived : {H : Type 0} → List Arrival → List (Entry H)
+arrived [] = []
+arrived (x ∷ came) = Of (Came x) ∷ arrived came
+
+pub items_arrived : {H : Type 0} (came : List Arrival) (log : List (Entry H)) → items (arrived came ++ log) ≡ map Came came ++ items log
+items_arrived [] log = refl
+items_arrived (x ∷ came) log = ap (λ t. Came x ∷ t) (items_arrived came log)
+
+pub said_arrived : {H : Type 0} (came : List Arrival) → Rattle.conn_log.specs.Entries.said {H = H} (arrived came) ≡ []
+said_arrived [] = refl
+said_arrived (x ∷ came) = said_arrived came
+
+pub asked_arrived : {H : Type 0} (came : List Arrival) (log : List (Entry H)) (n : ℕ) → asked (arrived came ++ log) n ≡ asked log n
+asked_arrived [] log n = refl
+asked_arrived (x ∷ came) log n = asked_arrived came log n
+
+either : {A : Type 0} (b c : Bool) (s : List A) → cond b [] (cond c [] s) ≡ cond (b || c) [] s
+either true c s = refl
+either false c s = refl
+
+pub since_arrived : {H : Type 0} (role : Role) (came : List Arrival) (log : List (Entry H)) (n : ℕ)
+    → since role (arrived came ++ log) n ≡ cond (opened_in role (items log) came n) [] (since role log n)
+since_arrived role [] log n = refl
+since_arrived role (x ∷ came) log n =
+    ap (λ (t : List Item). cond (opens role t (Came x) n) [] (since role (arrived came ++ log) n)) (items_arrived came log)
+    ∙ ap (λ t. cond (opens role (map Came came ++ items log) (Came x) n) [] t) (since_arrived role came log n)
+    ∙ either (opens role (map Came came ++ items log) (Came x) n) (opened_in role (items log) came n) (since role log n)
+
+pub due_arrived : {P H : Type 0} (step : H → HandlerCall → H → Type 0) (fails : H → Asked → ℕ → Type 0)
+    (is_closed is_finished : H → Bool) (inbound_makes outbound_makes : P → ℕ → List ℕ → H → Type 0)
+    (eager : ℕ → Bool) (names : List (List ℕ)) (peer : List ℕ) (role : Role) (came : List Arrival) (log : List (Entry H))
+    → AllDue step fails is_closed is_finished inbound_makes outbound_makes eager names peer role log
+    → AllDue step fails is_closed is_finished inbound_makes outbound_makes eager names peer role (arrived came ++ log)
+due_arrived step fails is_closed is_finished inbound_makes outbound_makes eager names peer role [] log due = due
+due_arrived step fails is_closed is_finished inbound_makes outbound_makes eager names peer role (x ∷ came) log due =
+    (tt, due_arrived step fails is_closed is_finished inbound_makes outbound_makes eager names peer role came log due)
+
+-- ---- what names one stream
+
+-- it is about this stream, or about none
+abbrev pub IsNamed : ℕ → Told → Type 0
+IsNamed n (Told.Opened m) = m ≡ n
+IsNamed n (Told.Accepted m) = m ≡ n
+IsNamed n (Told.Payload m b) = m ≡ n
+IsNamed n (Told.Ended m) = m ≡ n
+IsNamed n (Told.Reset m) = m ≡ n
+IsNamed n (Told.Credit m) = m ≡ n
+IsNamed n (Told.GoAway code) = Unit {0}
+IsNamed n (Told.Fault fault) = Unit {0}
+
+pub all_join : {A : Type 0} (Q : A → Type 0) (xs ys : List A) → AllByRecursion Q xs → AllByRecursion Q ys → AllByRecursion Q (xs ++ ys)
+all_join Q [] ys a b = b
+all_join Q (x ∷ xs) ys a b = (a.0, all_join Q xs ys a.1 b)
+
+bytes_named : (n m : ℕ) (bytes : List ℕ) → m ≡ n → AllByRecursion (IsNamed n) (map (Told.Payload m) bytes)
+bytes_named n m [] is = tt
+bytes_named n m (b ∷ bytes) is = (is, bytes_named n m bytes is)
+
+pub named : (n : ℕ) (told : List Event) → AllByRecursion (IsAbout n) told → AllByRecursion (IsNamed n) (tellings told)
+named n [] all = tt
+named n (event.Opened m ∷ told) all = (all.0, named n told all.1)
+named n (event.Accepted m ∷ told) all = (all.0, named n told all.1)
+named n (event.Payload m bytes ∷ told) all = all_join (IsNamed n) (map (Told.Payload m) bytes) (tellings told) (bytes_named n m bytes all.0) (named n told all.1)
+named n (event.Ended m ∷ told) all = (all.0, named n told all.1)
+named n (event.Reset m ∷ told) all = (all.0, named n told all.1)
+named n (event.Credit m ∷ told) all = (all.0, named n told all.1)
+named n (event.GoAway code ∷ told) all = (tt, named n told all.1)
+named n (event.Fault fault ∷ told) all = (tt, named n told all.1)
+
+bytes_open : (n m : ℕ) (bytes : List ℕ) → AllByRecursion (IsNoOpening n) (map (Told.Payload m) bytes)
+bytes_open n m [] = tt
+bytes_open n m (b ∷ bytes) = (tt, bytes_open n m bytes)
+
+pub opens_none : (n : ℕ) (told : List Event) → AllByRecursion OpensNone told → AllByRecursion (IsNoOpening n) (tellings told)
+opens_none n [] all = tt
+opens_none n (event.Opened m ∷ told) all = absurd all.0
+opens_none n (event.Accepted m ∷ told) all = (tt, opens_none n told all.1)
+opens_none n (event.Payload m bytes ∷ told) all = all_join (IsNoOpening n) (map (Told.Payload m) bytes) (tellings told) (bytes_open n m bytes) (opens_none n told all.1)
+opens_none n (event.Ended m ∷ told) all = (tt, opens_none n told all.1)
+opens_none n (event.Reset m ∷ told) all = (tt, opens_none n told all.1)
+opens_none n (event.Credit m ∷ told) all = (tt, opens_none n told all.1)
+opens_none n (event.GoAway code ∷ told) all = (tt, opens_none n told all.1)
+opens_none n (event.Fault fault ∷ told) all = (tt, opens_none n told all.1)
+
+other_one : (k n m : ℕ) → k ≡ n → (n == m) ≡ false → (k == m) ≡ false
+other_one k n m is e = ap (λ x. x == m) is ∙ e
+
+-- of another stream nothing is heard
+module _ (n m : ℕ) (apart : (n == m) ≡ false) where
+  pub not_heard : (s : Seen) (told : List Told) → AllByRecursion (IsNamed n) told → all_heard m s told ≡ s
+  not_heard s [] all = refl
+  not_heard s (t ∷ told) all = ap (λ (x : Seen). all_heard m x told) (one t all.0) ∙ not_heard s told all.1 where
+    one : (t : Told) → IsNamed n t → hears m s t ≡ s
+    one (Told.Opened k) is = ap (λ b. cond b just_opened s) (other_one k n m is apart)
+    one (Told.Payload k b) is = ap (λ x. cond x (record s { came = s.came ++ b ∷ [] }) s) (other_one k n m is apart)
+    one (Told.Ended k) is = ap (λ b. cond b (record s { ended = true; live = s.live && not s.closed }) s) (other_one k n m is apart)
+    one (Told.Reset k) is = ap (λ b. cond b (record s { live = false }) s) (other_one k n m is apart)
+    one (Told.Accepted k) is = refl
+    one (Told.Credit k) is = refl
+    one (Told.GoAway code) is = refl
+    one (Told.Fault fault) is = refl
+
+  pub not_opened : (told : List Told) → AllByRecursion (IsNamed n) told → told_opened m told ≡ false
+  not_opened [] all = refl
+  not_opened (Told.Opened k ∷ told) all = ap (λ b. b || told_opened m told) (other_one k n m all.0 apart) ∙ not_opened told all.1
+  not_opened (Told.Payload k b ∷ told) all = not_opened told all.1
+  not_opened (Told.Ended k ∷ told) all = not_opened told all.1
+  not_opened (Told.Reset k ∷ told) all = not_opened told all.1
+  not_opened (Told.Accepted k ∷ told) all = not_opened told all.1
+  not_opened (Told.Credit k ∷ told) all = not_opened told all.1
+  not_opened (Told.GoAway code ∷ told) all = not_opened told all.1
+  not_opened (Told.Fault fault ∷ told) all = not_opened told all.1
+
+  pub quiet : (told : List Told) → AllByRecursion (IsNamed n) told → AllByRecursion (IsQuiet m) told
+  quiet [] all = tt
+  quiet (Told.Opened k ∷ told) all = (other_one k n m all.0 apart, quiet told all.1)
+  quiet (Told.Payload k b ∷ told) all = (other_one k n m all.0 apart, quiet told all.1)
+  quiet (Told.Ended k ∷ told) all = (tt, quiet told all.1)
+  quiet (Told.Reset k ∷ told) all = (tt, quiet told all.1)
+  quiet (Told.Accepted k ∷ told) all = (tt, quiet told all.1)
+  quiet (Told.Credit k ∷ told) all = (other_one k n m all.0 apart, quiet told all.1)
+  quiet (Told.GoAway code ∷ told) all = (tt, quiet told all.1)
+  quiet (Told.Fault fault ∷ told) all = (tt, quiet told all.1)
+
+-- ---- of the stream that is named
+
+-- it isn't opened
+pub unopened : (n : ℕ) (told : List Told) → AllByRecursion (IsNoOpening n) told → told_opened n told ≡ false
+unopened n [] none = refl
+unopened n (Told.Opened k ∷ told) none = ap (λ b. b || told_opened n told) none.0 ∙ unopened n told none.1
+unopened n (Told.Payload k b ∷ told) none = unopened n told none.1
+unopened n (Told.Ended k ∷ told) none = unopened n told none.1
+unopened n (Told.Reset k ∷ told) none = unopened n told none.1
+unopened n (Told.Accepted k ∷ told) none = unopened n told none.1
+unopened n (Told.Credit k ∷ told) none = unopened n told none.1
+unopened n (Told.GoAway code ∷ told) none = unopened n told none.1
+unopened n (Told.Fault fault ∷ told) none = unopened n told none.1
+
+pub still_quiet : (n : ℕ) (told : List Told) → AllByRecursion IsStill told → AllByRecursion (IsQuiet n) told
+still_quiet n [] all = tt
+still_quiet n (Told.Accepted k ∷ told) all = (tt, still_quiet n told all.1)
+still_quiet n (Told.GoAway code ∷ told) all = (tt, still_quiet n told all.1)
+still_quiet n (Told.Opened k ∷ told) all = absurd all.0
+still_quiet n (Told.Payload k b ∷ told) all = absurd all.0
+still_quiet n (Told.Ended k ∷ told) all = absurd all.0
+still_quiet n (Told.Reset k ∷ told) all = absurd all.0
+still_quiet n (Told.Credit k ∷ told) all = absurd all.0
+still_quiet n (Told.Fault fault ∷ told) all = (tt, still_quiet n told all.1)
+
+pub still_heard : (n : ℕ) (s : Seen) (told : List Told) → AllByRecursion IsStill told → all_heard n s told ≡ s
+still_heard n s [] all = refl
+still_heard n s (Told.Accepted k ∷ told) all = still_heard n s told all.1
+still_heard n s (Told.GoAway code ∷ told) all = still_heard n s told all.1
+still_heard n s (Told.Opened k ∷ told) all = absurd all.0
+still_heard n s (Told.Payload k b ∷ told) all = absurd all.0
+still_heard n s (Told.Ended k ∷ told) all = absurd all.0
+still_heard n s (Told.Reset k ∷ told) all = absurd all.0
+still_heard n s (Told.Credit k ∷ told) all = absurd all.0
+still_heard n s (Told.Fault fault ∷ told) all = still_heard n s told all.1
+
+opens_it : (m n : ℕ) → m ≡ n → (m == n) ≡ false → ⊥
+opens_it m n is off = absurd (let e : true ≡ false = sym (its_own m n is) ∙ off in cc e)
+
+-- the end is the last that is told of it
+pub ends_last : (n : ℕ) (ended : Bool) (told : List Told) → AllByRecursion (IsNamed n) told → AllByRecursion (IsNoOpening n) told → EndsOnce n ended told → EndsLast ended told
+ends_last n ended [] all none once = tt
+ends_last n ended (Told.Opened m ∷ told) all none once = absurd (opens_it m n all.0 none.0)
+ends_last n ended (Told.Payload m b ∷ told) all none once = (once.0 all.0, ends_last n ended told all.1 none.1 once.1)
+ends_last n ended (Told.Ended m ∷ told) all none once =
+    (once.0 all.0, ends_last n true told all.1 none.1 (subst (λ (b : Bool). EndsOnce n (cond b true ended) told) (its_own m n all.0) once.1))
+ends_last n ended (Told.Reset m ∷ told) all none once = ends_last n ended told all.1 none.1 once
+ends_last n ended (Told.Accepted m ∷ told) all none once = ends_last n ended told all.1 none.1 once
+ends_last n ended (Told.Credit m ∷ told) all none once = ends_last n ended told all.1 none.1 once
+ends_last n ended (Told.GoAway code ∷ told) all none once = ends_last n ended told all.1 none.1 once
+ends_last n ended (Told.Fault fault ∷ told) all none once = ends_last n ended told all.1 none.1 once

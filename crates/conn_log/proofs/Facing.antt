@@ -1,0 +1,294 @@
+-- A frame arrived at streams that are at rest: what it told is to be routed.
+use Rattle.std.proofs.Common.{◌≡◌, ◌≢◌, ◌⊎◌, inl, inr, ℕ, ◌==◌, ◌||◌, Bool, true, false, cond, List, [], ◌∷◌, ◌++◌, map, Option, Some, None, refl, sym, ap, ◌∙◌, subst}
+use Rattle.std.specs.Prelude.{IfSome, IsSome, drop}
+use Rattle.std.specs.List.{AllByRecursion}
+use Rattle.std.proofs.lemmas.List.{append_assoc, append-nil}
+use Rattle.handlers.specs.Calls.{HandlerCall, Asked}
+use Rattle.yamux_frames.specs.Frames.{Arrival}
+use Rattle.yamux_session.specs.declared.event.Role.{Role}
+use Rattle.yamux_session.specs.declared.event.Event.{Event}
+use Rattle.yamux_session.specs.declared.event.Event.TheVariants as event
+use Rattle.yamux_session.specs.History.{Item, is_own}
+use Rattle.yamux_session.specs.History.Item.{Came}
+use Rattle.yamux_session.specs.Openings.{is_live, closed, finished}
+use Rattle.yamux_session.specs.Windows.{credit, untaken}
+use Rattle.yamux_session.specs.Data.{inbound, written}
+use Rattle.yamux_session.specs.Arrives.{telling, tellings, HasData}
+use Rattle.yamux_session.specs.Naming.{IsAbout, IsNoOpening as OpensNone, NamesOne}
+use Rattle.yamux_session.specs.Events.{Told, events}
+use Rattle.yamux_session.specs.Seen.{Seen, seen, all_heard, just_opened, AgreesOn, TellsFrom, EventsTell, Windows, windows, CreditIsTold}
+use Rattle.yamux_session.specs.Received.{AreSinceOpening, SomeSince}
+use Rattle.yamux_session.specs.Endings.{opened_in, told_opened, OpeningsAreTold, OpenedByTheOther, OpenedAnew, EndsAreLast}
+use Rattle.yamux_session.specs.State.{State, Stands as SessionStands}
+use Rattle.streams.specs.State.{Streaming}
+use Rattle.conn_log.specs.declared.earlier.Earlier.{Earlier}
+use Rattle.conn_log.specs.Entries.{Entry, items, since, agreed, agreed_in, is_over, over_in, made_of, made_in, asked}
+use Rattle.conn_log.specs.Due.{WasReset}
+use Rattle.conn_log.specs.Held.{IsHeld, IsAtRest, IsPast}
+use Rattle.conn_log.specs.Rests.{AreAtRest}
+use Rattle.conn_log.specs.Routes.{IsStill, IsFor, IsNoOpening, IsMoving, Around, Opening, Routes, Awaits}
+use Rattle.conn_log.proofs.Same.{Same, side_same, settled_same, at_rest_same, past_same}
+use Rattle.conn_log.proofs.Around.{if_some, all_past}
+use Rattle.conn_log.proofs.Views.{same, its_own}
+use Rattle.conn_log.proofs.Opening.{sent_stays}
+use Rattle.conn_log.proofs.Rested.{end_agrees}
+use Rattle.conn_log.proofs.Arriving.{arrived, items_arrived, asked_arrived, since_arrived, due_arrived, IsNamed, named, opens_none, not_heard, not_opened, quiet, unopened, still_quiet, still_heard, ends_last, all_join}
+
+-- what holds of every session
+pub record SessionLaws : Type 0 where
+  pub events_tell : EventsTell
+  pub credit_is_told : CreditIsTold
+  pub openings_are_told : OpeningsAreTold
+  pub opened_by_the_other : OpenedByTheOther
+  pub opened_anew : OpenedAnew
+  pub ends_are_last : EndsAreLast
+  pub some_since : SomeSince
+
+-- ---- each event is for the stream, and a reset was told since its opening
+
+all_for : (role : Role) (now : List Item) (n : ℕ) (since front : List Told) (told : List Event) → AreSinceOpening n (events role now) since → since ≡ front ++ tellings told
+    → AllByRecursion (IsAbout n) told → AllByRecursion HasData told → AllByRecursion (IsFor role now n) told
+all_for role now n since front [] are is about filled = tt
+all_for role now n since front (event.Opened m ∷ told) are is about filled =
+    (about.0, all_for role now n since (front ++ Told.Opened m ∷ []) told are (is ∙ sym (append_assoc front (Told.Opened m ∷ []) (tellings told))) about.1 filled.1)
+all_for role now n since front (event.Accepted m ∷ told) are is about filled =
+    (about.0, all_for role now n since (front ++ Told.Accepted m ∷ []) told are (is ∙ sym (append_assoc front (Told.Accepted m ∷ []) (tellings told))) about.1 filled.1)
+all_for role now n since front (event.Payload m bytes ∷ told) are is about filled =
+    ((about.0, filled.0), all_for role now n since (front ++ map (Told.Payload m) bytes) told are (is ∙ sym (append_assoc front (map (Told.Payload m) bytes) (tellings told))) about.1 filled.1)
+all_for role now n since front (event.Ended m ∷ told) are is about filled =
+    (about.0, all_for role now n since (front ++ Told.Ended m ∷ []) told are (is ∙ sym (append_assoc front (Told.Ended m ∷ []) (tellings told))) about.1 filled.1)
+all_for role now n since front (event.Reset m ∷ told) are is about filled = (
+  (about.0, record { told = since; since_opening = are; before = front; after = tellings told; told_is = is ∙ ap (λ k. front ++ Told.Reset k ∷ tellings told) about.0 }),
+  all_for role now n since (front ++ Told.Reset m ∷ []) told are (is ∙ sym (append_assoc front (Told.Reset m ∷ []) (tellings told))) about.1 filled.1,
+)
+all_for role now n since front (event.Credit m ∷ told) are is about filled =
+    (about.0, all_for role now n since (front ++ Told.Credit m ∷ []) told are (is ∙ sym (append_assoc front (Told.Credit m ∷ []) (tellings told))) about.1 filled.1)
+all_for role now n since front (event.GoAway code ∷ told) are is about filled =
+    (tt, all_for role now n since (front ++ Told.GoAway code ∷ []) told are (is ∙ sym (append_assoc front (Told.GoAway code ∷ []) (tellings told))) about.1 filled.1)
+all_for role now n since front (event.Fault fault ∷ told) are is about filled =
+    (tt, all_for role now n since (front ++ Told.Fault fault ∷ []) told are (is ∙ sym (append_assoc front (Told.Fault fault ∷ []) (tellings told))) about.1 filled.1)
+
+-- the events since the opening of a stream that isn't opened meanwhile are those since, and what was told
+none_since : (n : ℕ) (told : List Told) → AllByRecursion (IsNoOpening n) told → AllByRecursion (λ t. t ≢ Told.Opened n) told
+none_since n [] none = tt
+none_since n (t ∷ told) none = (not_it t none.0, none_since n told none.1) where
+  not_it : (t : Told) → IsNoOpening n t → t ≢ Told.Opened n
+  not_it (Told.Opened m) off = λ e. absurd (let own : (m == n) ≡ true = its_own m n (cc e) in let both : true ≡ false = sym own ∙ off in cc both)
+  not_it (Told.Payload m b) off = λ e. absurd (cc e)
+  not_it (Told.Ended m) off = λ e. absurd (cc e)
+  not_it (Told.Reset m) off = λ e. absurd (cc e)
+  not_it (Told.Accepted m) off = λ e. absurd (cc e)
+  not_it (Told.Credit m) off = λ e. absurd (cc e)
+  not_it (Told.GoAway code) off = λ e. absurd (cc e)
+  not_it (Told.Fault fault) off = λ e. absurd (cc e)
+
+since_more : (n : ℕ) (before told since all : List Told) → AreSinceOpening n before since → AllByRecursion (IsNoOpening n) told → all ≡ before ++ told → AreSinceOpening n all (since ++ told)
+since_more n before told since all are none is = record {
+  before = are.before;
+  parts = by_parts are.parts;
+  opens_none = all_join (λ t. t ≢ Told.Opened n) since told are.opens_none (none_since n told none);
+} where
+  by_parts : (before ≡ are.before ++ Told.Opened n ∷ since) ⊎ (before ≡ since) → (all ≡ are.before ++ Told.Opened n ∷ (since ++ told)) ⊎ (all ≡ since ++ told)
+  by_parts (inl e) = inl (is ∙ ap (λ t. t ++ told) e ∙ append_assoc are.before (Told.Opened n ∷ since) told)
+  by_parts (inr e) = inr (is ∙ ap (λ t. t ++ told) e)
+
+-- ---- the streams
+
+module _ {P H : Type 0} (step : H → HandlerCall → H → Type 0) (fails : H → Asked → ℕ → Type 0)
+    (is_closed is_finished : H → Bool) (inbound_makes outbound_makes : P → ℕ → List ℕ → H → Type 0)
+    (eager : ℕ → Bool) (names : List (List ℕ)) (peer : List ℕ) (role : Role) (laws : SessionLaws)
+    (log : List (Entry H)) (fed sent later : List ℕ) (session now : State) (streams : ℕ → Option (Streaming H)) (past : List (Earlier H)) (came : List Arrival) (told : List Event)
+    (rests : AreAtRest step fails is_closed is_finished inbound_makes outbound_makes eager names peer role log fed sent session streams past)
+    (tells : TellsFrom role (items log) came (tellings told))
+    (there : SessionStands role (map Came came ++ items log) later sent now)
+    (one : NamesOne told) (filled : AllByRecursion HasData told) where
+  abbrev pub n : ℕ
+  n = one.stream
+
+  abbrev pub then : List (Entry H)
+  then = arrived came ++ log
+
+  about : AllByRecursion (IsNamed n) (tellings told)
+  about = named one.stream told one.named
+
+  items_are : items then ≡ map Came came ++ items log
+  items_are = items_arrived came log
+
+  agrees : (m : ℕ) → AgreesOn (seen role (items then) m) (all_heard m (seen role (items log) m) (tellings told))
+  agrees m = subst (λ (t : List Item). AgreesOn (seen role t m) (all_heard m (seen role (items log) m) (tellings told))) (sym items_are)
+      (laws.events_tell role (items log) came (tellings told) m tells)
+
+  since_same : (m : ℕ) → told_opened m (tellings told) ≡ false → since role then m ≡ since role log m
+  since_same m off = since_arrived role came log m ∙ ap (λ b. cond b [] (since role log m)) (laws.openings_are_told role (items log) came (tellings told) m tells ∙ off)
+
+  -- ---- of another stream
+
+  other_agrees : (m : ℕ) → (n == m) ≡ false → AgreesOn (seen role (items then) m) (seen role (items log) m)
+  other_agrees m apart = subst (λ (x : Seen). AgreesOn (seen role (items then) m) x) (not_heard n m apart (seen role (items log) m) (tellings told) about) (agrees m)
+
+  seen_same : (is heard : Seen) → AgreesOn is heard → is.ended ≡ heard.ended → is ≡ heard
+  seen_same is heard a ended =
+      ap (λ b. record { live = b; closed = is.closed; ended = is.ended; came = is.came; sent = is.sent }) a.live
+      ∙ ap (λ b. record { live = heard.live; closed = b; ended = is.ended; came = is.came; sent = is.sent }) a.closed
+      ∙ ap (λ b. record { live = heard.live; closed = heard.closed; ended = b; came = is.came; sent = is.sent }) ended
+      ∙ ap (λ t. record { live = heard.live; closed = heard.closed; ended = heard.ended; came = t; sent = is.sent }) a.came
+      ∙ ap (λ t. record { live = heard.live; closed = heard.closed; ended = heard.ended; came = heard.came; sent = t }) a.sent
+
+  other_same : (m : ℕ) → (n == m) ≡ false → (is_live role (items log) m ≡ false → finished role (items log) m ≡ true) → Same role log then m
+  other_same m apart over =
+      let a = other_agrees m apart in
+      let off = not_opened n m apart (tellings told) about in
+      record {
+        seen_is = seen_same (seen role (items then) m) (seen role (items log) m) a (end_agrees (seen role (items then) m) (seen role (items log) m) a over);
+        windows_is = ap (λ (t : List Item). windows role t m) items_are ∙ laws.credit_is_told role (items log) came (tellings told) m tells (quiet n m apart (tellings told) about);
+        agreed_is = ap (agreed_in m) (since_same m off);
+        over_is = ap (over_in m) (since_same m off);
+        made_is = ap (made_in m) (since_same m off);
+        asked_is = asked_arrived came log m;
+      }
+
+  others : (m : ℕ) → (n == m) ≡ false → IfSome (streams m) (λ it. IsAtRest step is_closed is_finished names role then m it)
+  others m apart = if_some (streams m) (λ it r. at_rest_same step is_closed is_finished names role log then m it (other_same m apart r.over_by_end) r) (rests.each m)
+
+  around : (view : Seen) (rest : List Told) → AgreesOn (seen role (items then) n) (all_heard n view rest) → AllByRecursion (IsNoOpening n) rest
+      → Rattle.conn_log.specs.Routes.EndsLast view.ended rest
+      → Around step fails is_closed is_finished inbound_makes outbound_makes eager names peer role then later sent now streams past n view rest
+  around view rest heard none last = record {
+    session_stands = subst (λ (t : List Item). SessionStands role t later sent now) (sym items_are) there;
+    due = due_arrived step fails is_closed is_finished inbound_makes outbound_makes eager names peer role came log rests.due;
+    others = others;
+    others_held = λ m apart live. rests.live_held m (sym (other_agrees m apart).live ∙ live);
+    others_kept = λ m apart made going.
+        let off = not_opened n m apart (tellings told) about in
+        rests.made_held m (λ none_made. made (ap (made_in m) (since_same m off) ∙ none_made)) (sym (ap (over_in m) (since_same m off)) ∙ going);
+    heard = heard;
+    opens_none = none;
+    ends_last = last;
+    earlier = all_past step fails is_closed is_finished inbound_makes outbound_makes eager names peer role log (arrived came) past rests.earlier;
+  }
+
+  -- ---- of the one that is named
+
+  -- it was opened before
+  moving : (it : Streaming H) → AllByRecursion (IsNoOpening n) (tellings told) → IsAtRest step is_closed is_finished names role log n it
+      → IsMoving step fails is_closed is_finished inbound_makes outbound_makes eager names peer role then n (seen role (items log) n) (tellings told) it
+  moving it none r =
+      let off = unopened n (tellings told) none in
+      let a = agrees n in
+      record {
+        held = record {
+          so_far = r.held.so_far;
+          side_is = side_same role names log then n r.held.so_far.side (asked_arrived came log n) r.held.side_is;
+          got_is = r.held.got_is;
+          ended_is = r.held.ended_is;
+          sent_is = r.held.sent_is ∙ sym (a.sent ∙ sent_stays n (seen role (items log) n) (tellings told) none);
+          made_is = r.held.made_is ∙ sym (ap (made_in n) (since_same n off));
+          stands = r.held.stands;
+          talking = λ is. ap (agreed_in n) (since_same n off) ∙ r.held.talking is;
+          agreed_on = λ is none_agreed. r.held.agreed_on is (sym (ap (agreed_in n) (since_same n off)) ∙ none_agreed);
+          over = ap (over_in n) (since_same n off) ∙ r.held.over;
+          served = r.held.served;
+        };
+        unfinished = r.unfinished;
+        over_by_end = r.over_by_end;
+        settled = λ still live.
+            let as_before = still_heard n (seen role (items log) n) (tellings told) still in
+            let windows_are = ap (λ (t : List Item). windows role t n) items_are ∙ laws.credit_is_told role (items log) came (tellings told) n tells (still_quiet n (tellings told) still) in
+            settled_same step is_closed is_finished role (items log) (items then) n r.held.so_far.left it (a.closed ∙ ap (λ (x : Seen). x.closed) as_before)
+            (ap (λ (w : Windows). w.credit) windows_are) (ap (λ (w : Windows). w.untaken) windows_are)
+            (r.settled (sym (a.live ∙ ap (λ (x : Seen). x.live) as_before) ∙ live));
+      }
+
+  -- What is to be routed, and of which stream.
+  pub record Faced : Type 0 where
+    pub stream : ℕ
+    pub all_for : AllByRecursion (IsFor role (items then) stream) told
+    pub awaits : Awaits step fails is_closed is_finished inbound_makes outbound_makes eager names peer role then later sent now streams past stream (tellings told)
+
+  events_are : events role (items then) ≡ events role (items log) ++ tellings told
+  events_are = ap (λ (t : List Item). events role t) items_are ∙ tells.told_is
+
+  unopened_faced : AllByRecursion OpensNone told → Faced
+  unopened_faced none_opened =
+      let none = opens_none n told none_opened in
+      let view = seen role (items log) n in
+      let before = laws.some_since n (events role (items log)) in
+      record {
+        stream = n;
+        all_for = all_for role (items then) n (before.0 ++ tellings told) before.0 told
+            (since_more n (events role (items log)) (tellings told) before.0 (events role (items then)) before.1 none events_are) refl one.named filled;
+        awaits = inr (
+          view,
+          record {
+            around = around view (tellings told) (agrees n) none (ends_last n view.ended (tellings told) about none (laws.ends_are_last role (items log) came (tellings told) n tells));
+            own = if_some (streams n) (λ it r. moving it none r) (rests.each n);
+            own_held = rests.live_held n;
+            own_kept = λ made going.
+                let off = unopened n (tellings told) none in
+                rests.made_held n (λ none_made. made (ap (made_in n) (since_same n off) ∙ none_made)) (sym (ap (over_in n) (since_same n off)) ∙ going);
+          },
+        );
+      }
+
+  -- it is opened by what arrived
+  opened_faced : (rest : List Event) → told ≡ event.Opened n ∷ rest → AllByRecursion OpensNone rest → AllByRecursion (IsAbout n) rest → AllByRecursion HasData rest → Faced
+  opened_faced rest is none_opened rest_about rest_filled =
+      let told_is : tellings told ≡ Told.Opened n ∷ tellings rest = ap tellings is in
+      let none = opens_none n rest none_opened in
+      let view = seen role (items log) n in
+      let tells_it : TellsFrom role (items log) came (Told.Opened n ∷ tellings rest) = subst (λ (t : List Told). TellsFrom role (items log) came t) told_is tells in
+      let opened : opened_in role (items log) came n ≡ true =
+      laws.openings_are_told role (items log) came (Told.Opened n ∷ tellings rest) n tells_it ∙ ap (λ b. b || told_opened n (tellings rest)) (same n) in
+      let once = subst (λ (b : Bool). Rattle.yamux_session.specs.Endings.EndsOnce n (cond b false view.ended) (tellings rest)) (same n)
+      (laws.ends_are_last role (items log) came (Told.Opened n ∷ tellings rest) n tells_it) in
+      let since_are : AreSinceOpening n (events role (items then)) (tellings rest) = record {
+        before = events role (items log);
+        parts = inl (events_are ∙ ap (λ t. events role (items log) ++ t) told_is);
+        opens_none = none_since n (tellings rest) none;
+      } in
+      record {
+        stream = n;
+        all_for = subst (λ (t : List Event). AllByRecursion (IsFor role (items then) n) t) (sym is)
+            (refl, all_for role (items then) n (tellings rest) [] rest since_are refl rest_about rest_filled);
+        awaits = inl (
+          tellings rest,
+          told_is,
+          record {
+            around = around just_opened (tellings rest)
+                (subst (λ (b : Bool). AgreesOn (seen role (items then) n) (all_heard n (cond b just_opened view) (tellings rest))) (same n)
+                (subst (λ (t : List Told). AgreesOn (seen role (items then) n) (all_heard n view t)) told_is (agrees n)))
+                none (ends_last n false (tellings rest) (named n rest rest_about) none once);
+            earlier = if_some (streams n) (λ it r. record {
+              newer = arrived came;
+              older = log;
+              log_is = refl;
+              over = laws.opened_anew role (items log) came (tellings rest) n tells_it;
+              at_rest = r;
+            }) (rests.each n);
+            fresh = since_arrived role came log n ∙ ap (λ b. cond b [] (since role log n)) opened;
+            theirs = laws.opened_by_the_other role (items log) came n opened;
+          },
+        );
+      }
+
+  pub faced : Faced
+  faced = by_told told refl where
+    later_none : (e : Event) (rest : List Event) → told ≡ e ∷ rest → AllByRecursion OpensNone rest
+    later_none e rest is = subst (λ (t : List Event). AllByRecursion OpensNone (drop 1 t)) is one.opened_first
+
+    unopened_by : (e : Event) (rest : List Event) → told ≡ e ∷ rest → OpensNone e → Faced
+    unopened_by e rest is first = unopened_faced (subst (λ (t : List Event). AllByRecursion OpensNone t) (sym is) (first, later_none e rest is))
+
+    by_told : (t : List Event) → told ≡ t → Faced
+    by_told [] is = unopened_faced (subst (λ (t : List Event). AllByRecursion OpensNone t) (sym is) tt)
+    by_told (event.Opened m ∷ rest) is =
+        let all_about = subst (λ (t : List Event). AllByRecursion (IsAbout one.stream) t) is one.named in
+        let all_filled = subst (λ (t : List Event). AllByRecursion HasData t) is filled in
+        opened_faced rest (is ∙ ap (λ k. event.Opened k ∷ rest) all_about.0) (later_none (event.Opened m) rest is) all_about.1 all_filled.1
+    by_told (event.Accepted m ∷ rest) is = unopened_by (event.Accepted m) rest is tt
+    by_told (event.Payload m bytes ∷ rest) is = unopened_by (event.Payload m bytes) rest is tt
+    by_told (event.Ended m ∷ rest) is = unopened_by (event.Ended m) rest is tt
+    by_told (event.Reset m ∷ rest) is = unopened_by (event.Reset m) rest is tt
+    by_told (event.Credit m ∷ rest) is = unopened_by (event.Credit m) rest is tt
+    by_told (event.GoAway code ∷ rest) is = unopened_by (event.GoAway code) rest is tt
+    by_told (event.Fault fault ∷ rest) is = unopened_by (event.Fault fault) rest is tt

@@ -1,0 +1,188 @@
+-- What a frame told was routed: all streams are at rest again.
+use Rattle.std.proofs.Common.{◌≡◌, ◌≢◌, ◌⊎◌, inl, inr, ℕ, ◌==◌, Bool, true, false, List, [], ◌∷◌, ◌++◌, Option, Some, None, refl, sym, ap, ◌∙◌, subst}
+use Rattle.std.specs.Prelude.{IfSome, IsSome}
+use Rattle.std.specs.List.{AllByRecursion}
+use Rattle.std.proofs.lemmas.List.{append-nil}
+use Rattle.std.proofs.lemmas.Bool.Decides.{eqb_tells}
+use Rattle.handlers.specs.Calls.{HandlerCall, Asked}
+use Rattle.yamux_session.specs.declared.event.Role.{Role}
+use Rattle.yamux_session.specs.declared.event.Event.{Event}
+use Rattle.yamux_session.specs.declared.event.Event.TheVariants as heard
+use Rattle.yamux_session.specs.History.{Item}
+use Rattle.yamux_session.specs.Openings.{is_live, finished}
+use Rattle.yamux_session.specs.Data.{inbound}
+use Rattle.yamux_session.specs.Events.{Told, events}
+use Rattle.yamux_session.specs.Seen.{Seen, seen, hears, all_heard, AgreesOn}
+use Rattle.yamux_session.specs.State.{State}
+use Rattle.yamux_session.specs.Received.{AreSinceOpening}
+use Rattle.streams.specs.State.{Streaming}
+use Rattle.conn_log.specs.declared.earlier.Earlier.{Earlier}
+use Rattle.conn_log.specs.declared.event.ConnEvent.{ConnEvent}
+use Rattle.conn_log.specs.Entries.{Entry, items, said, is_over, made_of}
+use Rattle.conn_log.specs.Due.{WasReset}
+use Rattle.conn_log.specs.Held.{IsAtRest}
+use Rattle.conn_log.specs.Rests.{AreAtRest, Grows}
+use Rattle.conn_log.specs.Routes.{IsStill, IsFor, EndsLast, IsMoving, Around, Routes, Routed, Opening, Awaits, IsUnderWay}
+use Rattle.conn_log.proofs.Settling.{routed_behind}
+
+-- a reset that was told was told, whatever this end did since
+pub reset_stays : (role : Role) (past now : List Item) (n : ℕ) → events role now ≡ events role past → WasReset role past n → WasReset role now n
+reset_stays role past now n same_told r = record {
+  told = r.told;
+  since_opening = subst (λ (t : List Told). AreSinceOpening n t r.told) (sym same_told) r.since_opening;
+  before = r.before;
+  after = r.after;
+  told_is = r.told_is;
+}
+
+pub is_for_still : (role : Role) (past now : List Item) (n : ℕ) (e : Event) → events role now ≡ events role past → IsFor role past n e → IsFor role now n e
+is_for_still role past now n (heard.Opened m) same_told f = f
+is_for_still role past now n (heard.Accepted m) same_told f = f
+is_for_still role past now n (heard.Payload m bytes) same_told f = f
+is_for_still role past now n (heard.Ended m) same_told f = f
+is_for_still role past now n (heard.Reset m) same_told f = (f.0, reset_stays role past now n same_told f.1)
+is_for_still role past now n (heard.Credit m) same_told f = f
+is_for_still role past now n (heard.GoAway code) same_told f = f
+is_for_still role past now n (heard.Fault fault) same_told f = f
+
+pub all_for_still : (role : Role) (past now : List Item) (n : ℕ) (told : List Event) → events role now ≡ events role past
+    → AllByRecursion (IsFor role past n) told → AllByRecursion (IsFor role now n) told
+all_for_still role past now n [] same_told all = tt
+all_for_still role past now n (e ∷ told) same_told all = (is_for_still role past now n e same_told all.0, all_for_still role past now n told same_told all.1)
+
+-- whether the end came: of a live stream it was told, and one that is live no more had ended
+pub end_agrees : (is heard : Seen) → AgreesOn is heard → (heard.live ≡ false → heard.ended ≡ true) → is.ended ≡ heard.ended
+end_agrees is heard a over = by_live is.live refl where
+  by_live : (b : Bool) → is.live ≡ b → is.ended ≡ heard.ended
+  by_live true e = a.live_ended e
+  by_live false e = let ended : heard.ended ≡ true = over (sym a.live ∙ e) in a.ended ended ∙ sym ended
+
+still_hears : (n : ℕ) (s : Seen) (t : Told) → IsStill t → hears n s t ≡ s
+still_hears n s (Told.Accepted m) is = refl
+still_hears n s (Told.GoAway code) is = refl
+still_hears n s (Told.Fault fault) is = refl
+still_hears n s (Told.Opened m) is = absurd is
+still_hears n s (Told.Payload m b) is = absurd is
+still_hears n s (Told.Ended m) is = absurd is
+still_hears n s (Told.Reset m) is = absurd is
+still_hears n s (Told.Credit m) is = absurd is
+
+still_ends : (ended : Bool) (t : Told) (rest : List Told) → IsStill t → EndsLast ended (t ∷ rest) → EndsLast ended rest
+still_ends ended (Told.Accepted m) rest is last = last
+still_ends ended (Told.GoAway code) rest is last = last
+still_ends ended (Told.Fault fault) rest is last = last
+still_ends ended (Told.Opened m) rest is last = absurd is
+still_ends ended (Told.Payload m b) rest is last = absurd is
+still_ends ended (Told.Ended m) rest is last = absurd is
+still_ends ended (Told.Reset m) rest is last = absurd is
+still_ends ended (Told.Credit m) rest is last = absurd is
+
+module _ {P H : Type 0} (step : H → HandlerCall → H → Type 0) (fails : H → Asked → ℕ → Type 0)
+    (is_closed is_finished : H → Bool) (inbound_makes outbound_makes : P → ℕ → List ℕ → H → Type 0)
+    (eager : ℕ → Bool) (names : List (List ℕ)) (peer : List ℕ) (role : Role) where
+  -- what asks nothing of the stream is passed over
+  pub passed_over : (log : List (Entry H)) (fed sent : List ℕ) (session : State) (streams : ℕ → Option (Streaming H)) (past : List (Earlier H)) (n : ℕ) (view : Seen) (t : Told)
+      (rest : List Told) → IsStill t
+      → Routes step fails is_closed is_finished inbound_makes outbound_makes eager names peer role log fed sent session streams past n view (t ∷ rest)
+      → Routes step fails is_closed is_finished inbound_makes outbound_makes eager names peer role log fed sent session streams past n view rest
+  passed_over log fed sent session streams past n view t rest is r = record {
+    around = record {
+      session_stands = r.around.session_stands;
+      due = r.around.due;
+      others = r.around.others;
+      others_held = r.around.others_held;
+      others_kept = r.around.others_kept;
+      heard = subst (λ (x : Seen). AgreesOn (seen role (items log) n) (all_heard n x rest)) (still_hears n view t is) r.around.heard;
+      opens_none = r.around.opens_none.1;
+      ends_last = still_ends view.ended t rest is r.around.ends_last;
+      earlier = r.around.earlier;
+    };
+    own = goes_on (streams n) r.own;
+    own_held = r.own_held;
+    own_kept = r.own_kept;
+  } where
+    goes_on : (s : Option (Streaming H)) → IfSome s (λ it. IsMoving step fails is_closed is_finished inbound_makes outbound_makes eager names peer role log n view (t ∷ rest) it)
+        → IfSome s (λ it. IsMoving step fails is_closed is_finished inbound_makes outbound_makes eager names peer role log n view rest it)
+    goes_on None own = tt
+    goes_on (Some it) own = record { held = own.held; unfinished = own.unfinished; over_by_end = own.over_by_end; settled = λ still live. own.settled (is, still) live }
+
+  -- ---- event by event
+
+  module _ (log : List (Entry H)) (before mid after : List (ConnEvent H)) (fed sent : List ℕ) (session middle : State) (streams then : ℕ → Option (Streaming H)) (past later : List (Earlier H)) (n : ℕ)
+      (told rest : List Told) where
+    pub begun : mid ≡ before → Awaits step fails is_closed is_finished inbound_makes outbound_makes eager names peer role log fed sent session streams past n told
+        → IsUnderWay step fails is_closed is_finished inbound_makes outbound_makes eager names peer role log before mid fed sent session streams past n told
+    begun same a = record { newer = []; told_is = same ∙ sym (append-nil before); untold = refl; awaits = a }
+
+    -- one more was routed
+    pub went_on : (u : IsUnderWay step fails is_closed is_finished inbound_makes outbound_makes eager names peer role log before mid fed sent session streams past n told)
+        → Routed step fails is_closed is_finished inbound_makes outbound_makes eager names peer role (u.newer ++ log) mid after fed sent middle then later n rest
+        → IsUnderWay step fails is_closed is_finished inbound_makes outbound_makes eager names peer role log before after fed sent middle then later n rest
+    went_on u r =
+        let both = routed_behind step fails is_closed is_finished inbound_makes outbound_makes eager names peer role log u.newer before mid after (said u.newer) fed sent middle then later n rest refl
+        u.told_is u.untold r in
+        record { newer = both.newer; told_is = both.told_is; untold = both.untold; awaits = inr (both.view, both.routes) }
+
+  -- ---- behind the last
+
+  module _ (log : List (Entry H)) (fed sent : List ℕ) (session : State) (streams : ℕ → Option (Streaming H)) (past : List (Earlier H)) (n : ℕ) where
+    at_rest_now : (view : Seen) (it : Streaming H) → AgreesOn (seen role (items log) n) view
+        → IsMoving step fails is_closed is_finished inbound_makes outbound_makes eager names peer role log n view [] it → IsAtRest step is_closed is_finished names role log n it
+    at_rest_now view it a m =
+        let ended : finished role (items log) n ≡ view.ended = end_agrees (seen role (items log) n) view a m.over_by_end in
+        record {
+          held = record {
+            so_far = m.held.so_far;
+            side_is = m.held.side_is;
+            got_is = m.held.got_is ∙ sym a.came;
+            ended_is = m.held.ended_is ∙ sym ended;
+            sent_is = m.held.sent_is;
+            made_is = m.held.made_is;
+            stands = m.held.stands;
+            talking = m.held.talking;
+            agreed_on = m.held.agreed_on;
+            over = m.held.over;
+            served = m.held.served;
+          };
+          settled = λ live. m.settled tt live;
+          unfinished = m.unfinished;
+          over_by_end = λ off. ended ∙ m.over_by_end (sym a.live ∙ off);
+        }
+
+    own_at_rest : (view : Seen) (s : Option (Streaming H)) → AgreesOn (seen role (items log) n) view
+        → IfSome s (λ it. IsMoving step fails is_closed is_finished inbound_makes outbound_makes eager names peer role log n view [] it)
+        → IfSome s (λ it. IsAtRest step is_closed is_finished names role log n it)
+    own_at_rest view None a own = tt
+    own_at_rest view (Some it) a own = at_rest_now view it a own
+
+    pub rested : (view : Seen) → Routes step fails is_closed is_finished inbound_makes outbound_makes eager names peer role log fed sent session streams past n view []
+        → AreAtRest step fails is_closed is_finished inbound_makes outbound_makes eager names peer role log fed sent session streams past
+    rested view r = record {
+      session_stands = r.around.session_stands;
+      due = r.around.due;
+      each = λ m. each_at m (eqb_tells n m);
+      live_held = λ m live. live_at m (eqb_tells n m) live;
+      made_held = λ m made going. made_at m (eqb_tells n m) made going;
+      earlier = r.around.earlier;
+    } where
+      each_at : (m : ℕ) → (((n == m) ≡ true) × (n ≡ m)) ⊎ (((n == m) ≡ false) × (n ≢ m)) → IfSome (streams m) (λ it. IsAtRest step is_closed is_finished names role log m it)
+      each_at m (inl same) = subst (λ (k : ℕ). IfSome (streams k) (λ it. IsAtRest step is_closed is_finished names role log k it)) same.1 (own_at_rest view (streams n) r.around.heard r.own)
+      each_at m (inr apart) = r.around.others m apart.0
+
+      live_at : (m : ℕ) → (((n == m) ≡ true) × (n ≡ m)) ⊎ (((n == m) ≡ false) × (n ≢ m)) → is_live role (items log) m ≡ true → IsSome (streams m)
+      live_at m (inl same) live = subst (λ (k : ℕ). IsSome (streams k)) same.1 (r.own_held (sym r.around.heard.live ∙ ap (λ k. is_live role (items log) k) same.1 ∙ live))
+      live_at m (inr apart) live = r.around.others_held m apart.0 live
+
+      made_at : (m : ℕ) → (((n == m) ≡ true) × (n ≡ m)) ⊎ (((n == m) ≡ false) × (n ≢ m)) → made_of role log m ≢ None → is_over role log m ≡ false → IsSome (streams m)
+      made_at m (inl same) made going = subst (λ (k : ℕ). IsSome (streams k)) same.1
+          (r.own_kept (λ none. made (ap (λ k. made_of role log k) (sym same.1) ∙ none)) (ap (λ k. is_over role log k) same.1 ∙ going))
+      made_at m (inr apart) made going = r.around.others_kept m apart.0 made going
+
+  pub all_routed : (log : List (Entry H)) (before after : List (ConnEvent H)) (fed sent : List ℕ) (session : State) (streams : ℕ → Option (Streaming H)) (past : List (Earlier H)) (n : ℕ)
+      → IsUnderWay step fails is_closed is_finished inbound_makes outbound_makes eager names peer role log before after fed sent session streams past n []
+      → Grows step fails is_closed is_finished inbound_makes outbound_makes eager names peer role log before after fed sent session streams past
+  all_routed log before after fed sent session streams past n u = by_cases u.awaits where
+    by_cases : Awaits step fails is_closed is_finished inbound_makes outbound_makes eager names peer role (u.newer ++ log) fed sent session streams past n []
+        → Grows step fails is_closed is_finished inbound_makes outbound_makes eager names peer role log before after fed sent session streams past
+    by_cases (inl o) = absurd (let e : [] ≡ Told.Opened n ∷ o.0 = o.1 in cc e)
+    by_cases (inr r) = record { newer = u.newer; told_is = u.told_is; at_rest = rested (u.newer ++ log) fed sent session streams past n r.0 r.1 }
