@@ -1,0 +1,156 @@
+-- What one frame comes to.
+use Rattle.std.proofs.Common.{◌≡◌, ℕ, Bool, true, false, List, [], ◌∷◌, ◌++◌, map, length, take, ◌≤◌, Option, refl, sym, ap, ◌∙◌, subst, arith}
+use Rattle.std.specs.List.{AllByRecursion}
+use Rattle.std.proofs.lemmas.List.{append_assoc, append-nil, length-append, take-append-le}
+use Rattle.handlers.specs.Calls.{HandlerCall, Asked}
+use Rattle.yamux_frames.specs.Frames.{Arrival}
+use Rattle.yamux_session.specs.declared.event.Role.{Role}
+use Rattle.yamux_session.specs.declared.event.Event.{Event}
+use Rattle.yamux_session.specs.History.{Item, arrivals}
+use Rattle.yamux_session.specs.History.Item.{Came}
+use Rattle.yamux_session.specs.Arrives.{tellings, HasData}
+use Rattle.yamux_session.specs.Events.{Told, events}
+use Rattle.yamux_session.specs.Naming.{NamesOne}
+use Rattle.yamux_session.specs.Seen.{TellsFrom}
+use Rattle.yamux_session.specs.State.{State, Stands as SessionStands, Led, EndsWith}
+use Rattle.streams.specs.State.{Streaming}
+use Rattle.conn_log.specs.declared.earlier.Earlier.{Earlier}
+use Rattle.conn_log.specs.declared.event.ConnEvent.{ConnEvent}
+use Rattle.conn_log.specs.Entries.{Entry, items, said}
+use Rattle.conn_log.specs.Rests.{AreAtRest, Grows}
+use Rattle.conn_log.specs.Routes.{IsFor, Awaits}
+use Rattle.conn_log.proofs.Arriving.{arrived, items_arrived, said_arrived}
+use Rattle.conn_log.proofs.Settling.{said_append}
+use Rattle.conn_log.proofs.Facing.{SessionLaws, faced}
+use Rattle.mux.specs.Faults.{Faults}
+
+module _ {P H : Type 0} (step : H → HandlerCall → H → Type 0) (fails : H → Asked → ℕ → Type 0)
+    (is_closed is_finished : H → Bool) (inbound_makes outbound_makes : P → ℕ → List ℕ → H → Type 0)
+    (eager : ℕ → Bool) (names : List (List ℕ)) (peer : List ℕ) (role : Role) where
+  -- What is to be routed behind what arrived.
+  pub record Framed (log : List (Entry H)) (fed bytes sent : List ℕ) (session : State) (streams : ℕ → Option (Streaming H)) (past : List (Earlier H)) (told : List Event) : Type 0 where
+    pub came : List Arrival
+    pub stream : ℕ
+    pub all_for : AllByRecursion (IsFor role (items (arrived came ++ log)) stream) told
+    pub awaits : Awaits step fails is_closed is_finished inbound_makes outbound_makes eager names peer role (arrived came ++ log) (fed ++ bytes) sent session streams past stream (tellings told)
+
+  module _ (log : List (Entry H)) (fed bytes sent : List ℕ) (before session : State) (streams : ℕ → Option (Streaming H)) (past : List (Earlier H))
+      (rests : AreAtRest step fails is_closed is_finished inbound_makes outbound_makes eager names peer role log fed sent before streams past)
+      (now : List Item) (told : List Event) (led : Led role (items log) now fed bytes sent (tellings told) session) where
+    pub framed : SessionLaws → session.failed ≡ false → NamesOne told → AllByRecursion HasData told → Framed log fed bytes sent session streams past told
+    framed laws going one filled =
+        let came = led.came.0 in
+        let now_is : now ≡ map Came came ++ items log = led.came.1 in
+        let stands = led.goes_on going in
+        let tells : TellsFrom role (items log) came (tellings told) = record {
+          no_fault = subst (λ (t : List Item). Rattle.yamux_session.specs.Faults.HasNoFault role t) now_is stands.no_fault;
+          told_is = sym (ap (λ (t : List Item). events role t) now_is) ∙ led.told_is;
+        } in
+        let there = subst (λ (t : List Item). SessionStands role t (fed ++ bytes) sent session) now_is stands in
+        let it = faced step fails is_closed is_finished inbound_makes outbound_makes eager names peer role laws log fed sent (fed ++ bytes) before session streams past came told rests tells there one filled in
+        record { came = came; stream = it.stream; all_for = it.all_for; awaits = it.awaits }
+
+    pub faulted : (telling : List (ConnEvent H)) → session.failed ≡ true
+        → Faults step fails is_closed is_finished inbound_makes outbound_makes eager names peer role log telling telling fed bytes sent session.pending
+    faulted telling failed =
+        let f = led.fails failed in
+        let fed_is : fed ++ [] ≡ fed = append-nil fed in
+        record {
+          newer = [];
+          told_is = sym (append-nil telling);
+          front = [];
+          rest = bytes;
+          bytes_are = refl;
+          session = before;
+          streams = streams;
+          past = past;
+          at_rest = subst (λ (t : List ℕ). AreAtRest step fails is_closed is_finished inbound_makes outbound_makes eager names peer role log t sent before streams past) (sym fed_is) rests;
+          now = now;
+          came = led.came;
+          fault = f.0;
+          frames = (f.2.0, f.2.1, subst (λ (t : List ℕ). EndsWith (t ++ take f.2.0 bytes) (arrivals now)) (sym fed_is) f.2.2);
+          output_is = f.1;
+        }
+
+  -- what was routed behind what arrived
+  pub grows_behind : (log : List (Entry H)) (came : List Arrival) (before after : List (ConnEvent H)) (fed sent : List ℕ) (session : State) (streams : ℕ → Option (Streaming H)) (past : List (Earlier H))
+      → Grows step fails is_closed is_finished inbound_makes outbound_makes eager names peer role (arrived came ++ log) before after fed sent session streams past
+      → Grows step fails is_closed is_finished inbound_makes outbound_makes eager names peer role log before after fed sent session streams past
+  grows_behind log came before after fed sent session streams past g = record {
+    newer = g.newer ++ arrived came;
+    told_is = g.told_is ∙ ap (λ t. before ++ t) (sym (said_append g.newer (arrived came) ∙ ap (λ t. t ++ said g.newer) (said_arrived came)));
+    at_rest = subst (λ t. AreAtRest step fails is_closed is_finished inbound_makes outbound_makes eager names peer role t fed sent session streams past) (sym (append_assoc g.newer (arrived came) log)) g.at_rest;
+  }
+
+  -- two in turn
+  pub grows_on : (log : List (Entry H)) (before middle after : List (ConnEvent H)) (fed first sent : List ℕ) (between session : State) (then streams : ℕ → Option (Streaming H))
+      (past later : List (Earlier H))
+      (g : Grows step fails is_closed is_finished inbound_makes outbound_makes eager names peer role log before middle first sent between then past)
+      → Grows step fails is_closed is_finished inbound_makes outbound_makes eager names peer role (g.newer ++ log) middle after fed sent session streams later
+      → Grows step fails is_closed is_finished inbound_makes outbound_makes eager names peer role log before after fed sent session streams later
+  grows_on log before middle after fed first sent between session then streams past later g h = record {
+    newer = h.newer ++ g.newer;
+    told_is = h.told_is ∙ ap (λ t. t ++ said h.newer) g.told_is ∙ append_assoc before (said g.newer) (said h.newer) ∙ ap (λ t. before ++ t) (sym (said_append h.newer g.newer));
+    at_rest = subst (λ t. AreAtRest step fails is_closed is_finished inbound_makes outbound_makes eager names peer role t fed sent session streams later) (sym (append_assoc h.newer g.newer log)) h.at_rest;
+  }
+
+  -- nothing came yet
+  pub grows_none : (log : List (Entry H)) (told : List (ConnEvent H)) (fed sent : List ℕ) (session : State) (streams : ℕ → Option (Streaming H)) (past : List (Earlier H))
+      → AreAtRest step fails is_closed is_finished inbound_makes outbound_makes eager names peer role log fed sent session streams past
+      → Grows step fails is_closed is_finished inbound_makes outbound_makes eager names peer role log told told (fed ++ []) sent session streams past
+  grows_none log told fed sent session streams past rests = record {
+    newer = [];
+    told_is = sym (append-nil told);
+    at_rest = subst (λ (t : List ℕ). AreAtRest step fails is_closed is_finished inbound_makes outbound_makes eager names peer role log t sent session streams past) (sym (append-nil fed)) rests;
+  }
+
+  -- the fault came behind what had come before
+  pub faults_behind : (log : List (Entry H)) (before middle after : List (ConnEvent H)) (fed first second sent pending : List ℕ) (between : State) (then : ℕ → Option (Streaming H)) (past : List (Earlier H))
+      (g : Grows step fails is_closed is_finished inbound_makes outbound_makes eager names peer role log before middle (fed ++ first) sent between then past)
+      → Faults step fails is_closed is_finished inbound_makes outbound_makes eager names peer role (g.newer ++ log) middle after (fed ++ first) second sent pending
+      → Faults step fails is_closed is_finished inbound_makes outbound_makes eager names peer role log before after fed (first ++ second) sent pending
+  faults_behind log before middle after fed first second sent pending between then past g f =
+      let logs : f.newer ++ (g.newer ++ log) ≡ (f.newer ++ g.newer) ++ log = sym (append_assoc f.newer g.newer log) in
+      let fronts : (fed ++ first) ++ f.front ≡ fed ++ (first ++ f.front) = append_assoc fed first f.front in
+      record {
+        newer = f.newer ++ g.newer;
+        told_is = f.told_is ∙ ap (λ t. t ++ said f.newer) g.told_is ∙ append_assoc before (said g.newer) (said f.newer) ∙ ap (λ t. before ++ t) (sym (said_append f.newer g.newer));
+        front = first ++ f.front;
+        rest = f.rest;
+        bytes_are = ap (λ t. first ++ t) f.bytes_are ∙ sym (append_assoc first f.front f.rest);
+        session = f.session;
+        streams = f.streams;
+        past = f.past;
+        at_rest = subst (λ t. AreAtRest step fails is_closed is_finished inbound_makes outbound_makes eager names peer role t (fed ++ (first ++ f.front)) sent f.session f.streams f.past) logs
+            (subst (λ (t : List ℕ). AreAtRest step fails is_closed is_finished inbound_makes outbound_makes eager names peer role (f.newer ++ (g.newer ++ log)) t sent f.session f.streams f.past) fronts f.at_rest);
+        now = f.now;
+        came = (f.came.0, f.came.1 ∙ ap (λ t. map Came f.came.0 ++ items t) logs);
+        fault = f.fault;
+        frames = (f.frames.0, f.frames.1, subst (λ (t : List ℕ). EndsWith (t ++ take f.frames.0 f.rest) (arrivals f.now)) fronts f.frames.2);
+        output_is = f.output_is;
+      }
+
+  -- what follows the fault isn't read
+  pub faults_before : (log : List (Entry H)) (before after : List (ConnEvent H)) (fed bytes more sent pending : List ℕ)
+      → Faults step fails is_closed is_finished inbound_makes outbound_makes eager names peer role log before after fed bytes sent pending
+      → Faults step fails is_closed is_finished inbound_makes outbound_makes eager names peer role log before after fed (bytes ++ more) sent pending
+  faults_before log before after fed bytes more sent pending f = record {
+    newer = f.newer;
+    told_is = f.told_is;
+    front = f.front;
+    rest = f.rest ++ more;
+    bytes_are = ap (λ t. t ++ more) f.bytes_are ∙ append_assoc f.front f.rest more;
+    session = f.session;
+    streams = f.streams;
+    past = f.past;
+    at_rest = f.at_rest;
+    now = f.now;
+    came = f.came;
+    fault = f.fault;
+    frames = (
+      f.frames.0,
+      (let fits = f.frames.1 in omega (arith, length-append {A = ℕ})),
+      subst (λ (t : List ℕ). EndsWith ((fed ++ f.front) ++ t) (arrivals f.now)) (sym (take-append-le f.frames.0 f.rest more f.frames.1)) f.frames.2,
+    );
+    output_is = f.output_is;
+  }

@@ -1,0 +1,87 @@
+use Rattle.std.proofs.Common.{◌≡◌, ℕ, ◌+◌, true, false, List, [], ◌++◌, length, take, drop, refl, sym, ap, ◌∙◌, subst, arith}
+use Rattle.std.proofs.lemmas.List.{append_assoc, take_all, take-append-drop}
+use Rattle.std.specs.Ordering.{nat_cmp}
+use Rattle.std.specs.BTreeMap as tree
+use Rattle.yamux_session.proofs.Pieces.{take_on}
+use Rattle.conn_log.specs.Rests.{AreAtRest, Grows}
+use Rattle.board.proofs.Stepping.{keeps_on, kept_on}
+use Rattle.mux.specs.Faults.{Faults}
+use Rattle.mux.proofs.Framing.{grows_on, faults_behind, faults_before}
+use Rattle.mux.proofs.mux.Mux.feed.Goals as goal
+
+pub loop-at-preserved : goal.loop-at-preserved
+loop-at-preserved g c =
+    let H = g.P.H.Handler in
+    let makes = g.P.Protocols in
+    let board = c.args.self.now.board in
+    let piece = c.args.piece.now in
+    let at = c.loop-at.at in
+    let used = c.in_ok-at.field-0 in
+    let more = take used (drop at piece) in
+    let inv = c.loop-at.invariant in
+    let going : c.loop-at.self.session.failed ≡ false = sym c.has_failed.ensures ∙ c.if-not-has_failed.true in
+    let bytes : take at piece ++ more ≡ take (at + used) piece = sym (take_on piece at used inv.within) in
+    record {
+      within = (let fits = c.in_ok-at.ensures.within in omega (arith, inv.within));
+      keeps = keeps_on makes.listed makes.is_eager board c.loop-at.self.board c.feed_frame.new.self.board inv.keeps c.in_ok-at.ensures.keeps;
+      goes = λ log fed sent rests still.
+          let before = inv.goes log fed sent rests going in
+          let frame = kept_on makes.listed makes.is_eager board c.loop-at.self.board inv.keeps
+          (λ eager names peer role. AreAtRest H.steps H.fails H.is_closed H.is_finished makes.makes_inbound makes.makes_outbound eager names peer role (before.newer ++ log) (fed ++ take at piece) sent
+          c.loop-at.self.session (tree.get nat_cmp c.loop-at.self.board.streams) c.loop-at.self.board.past.items → c.feed_frame.new.self.session.failed ≡ false
+          → Grows H.steps H.fails H.is_closed H.is_finished makes.makes_inbound makes.makes_outbound eager names peer role (before.newer ++ log) c.loop-at.told.items c.feed_frame.new.told.items
+          ((fed ++ take at piece) ++ more) sent c.feed_frame.new.self.session (tree.get nat_cmp c.feed_frame.new.self.board.streams) c.feed_frame.new.self.board.past.items)
+          (c.in_ok-at.ensures.goes (before.newer ++ log) (fed ++ take at piece) sent) in
+          subst (λ (t : List ℕ). Grows H.steps H.fails H.is_closed H.is_finished makes.makes_inbound makes.makes_outbound (makes.is_eager board.protocols) (makes.listed board.protocols) board.peer
+          board.role log c.args.told.now.items c.feed_frame.new.told.items t sent c.feed_frame.new.self.session (tree.get nat_cmp c.feed_frame.new.self.board.streams)
+          c.feed_frame.new.self.board.past.items) (append_assoc fed (take at piece) more ∙ ap (λ (t : List ℕ). fed ++ t) bytes)
+          (grows_on H.steps H.fails H.is_closed H.is_finished makes.makes_inbound makes.makes_outbound (makes.is_eager board.protocols) (makes.listed board.protocols) board.peer board.role
+          log c.args.told.now.items c.loop-at.told.items c.feed_frame.new.told.items ((fed ++ take at piece) ++ more) (fed ++ take at piece) sent c.loop-at.self.session c.feed_frame.new.self.session
+          (tree.get nat_cmp c.loop-at.self.board.streams) (tree.get nat_cmp c.feed_frame.new.self.board.streams) c.loop-at.self.board.past.items c.feed_frame.new.self.board.past.items
+          before (frame before.at_rest still));
+      faults = λ log fed sent rests failed.
+          let before = inv.goes log fed sent rests going in
+          let frame = kept_on makes.listed makes.is_eager board c.loop-at.self.board inv.keeps
+          (λ eager names peer role. AreAtRest H.steps H.fails H.is_closed H.is_finished makes.makes_inbound makes.makes_outbound eager names peer role (before.newer ++ log) (fed ++ take at piece) sent
+          c.loop-at.self.session (tree.get nat_cmp c.loop-at.self.board.streams) c.loop-at.self.board.past.items → c.feed_frame.new.self.session.failed ≡ true
+          → Faults H.steps H.fails H.is_closed H.is_finished makes.makes_inbound makes.makes_outbound eager names peer role (before.newer ++ log) c.loop-at.told.items c.feed_frame.new.told.items
+          (fed ++ take at piece) more sent c.feed_frame.new.self.session.pending)
+          (c.in_ok-at.ensures.faults (before.newer ++ log) (fed ++ take at piece) sent) in
+          subst (λ (t : List ℕ). Faults H.steps H.fails H.is_closed H.is_finished makes.makes_inbound makes.makes_outbound (makes.is_eager board.protocols) (makes.listed board.protocols) board.peer
+          board.role log c.args.told.now.items c.feed_frame.new.told.items fed t sent c.feed_frame.new.self.session.pending) bytes
+          (faults_behind H.steps H.fails H.is_closed H.is_finished makes.makes_inbound makes.makes_outbound (makes.is_eager board.protocols) (makes.listed board.protocols) board.peer board.role
+          log c.args.told.now.items c.loop-at.told.items c.feed_frame.new.told.items fed (take at piece) more sent c.feed_frame.new.self.session.pending c.loop-at.self.session
+          (tree.get nat_cmp c.loop-at.self.board.streams) c.loop-at.self.board.past.items before (frame before.at_rest failed));
+    }
+
+pub returns-else-not-has_failed-clause-faults : goal.returns-else-not-has_failed-clause-faults
+returns-else-not-has_failed-clause-faults g c = λ log fed sent rests failed.
+    let H = g.P.H.Handler in
+    let makes = g.P.Protocols in
+    let board = c.args.self.now.board in
+    let piece = c.args.piece.now in
+    subst (λ (t : List ℕ). Faults H.steps H.fails H.is_closed H.is_finished makes.makes_inbound makes.makes_outbound (makes.is_eager board.protocols) (makes.listed board.protocols) board.peer
+    board.role log c.args.told.now.items c.loop-at.told.items fed t sent c.loop-at.self.session.pending) (take-append-drop c.loop-at.at piece)
+    (faults_before H.steps H.fails H.is_closed H.is_finished makes.makes_inbound makes.makes_outbound (makes.is_eager board.protocols) (makes.listed board.protocols) board.peer board.role
+    log c.args.told.now.items c.loop-at.told.items fed (take c.loop-at.at piece) (drop c.loop-at.at piece) sent c.loop-at.self.session.pending
+    (c.loop-at.invariant.faults log fed sent rests failed))
+
+pub returns-after-loop-at-clause-goes : goal.returns-after-loop-at-clause-goes
+returns-after-loop-at-clause-goes g c = λ log fed sent rests still.
+    let H = g.P.H.Handler in
+    let makes = g.P.Protocols in
+    let board = c.args.self.now.board in
+    subst (λ (t : List ℕ). Grows H.steps H.fails H.is_closed H.is_finished makes.makes_inbound makes.makes_outbound (makes.is_eager board.protocols) (makes.listed board.protocols) board.peer
+    board.role log c.args.told.now.items c.loop-at.told.items (fed ++ t) sent c.loop-at.self.session (tree.get nat_cmp c.loop-at.self.board.streams) c.loop-at.self.board.past.items)
+    (take_all c.loop-at.at c.args.piece.now (let all = c.loop-at-test.false in let size = c.len.ensures.value in omega arith))
+    (c.loop-at.invariant.goes log fed sent rests still)
+
+pub returns-after-loop-at-clause-faults : goal.returns-after-loop-at-clause-faults
+returns-after-loop-at-clause-faults g c = λ log fed sent rests failed.
+    let H = g.P.H.Handler in
+    let makes = g.P.Protocols in
+    let board = c.args.self.now.board in
+    subst (λ (t : List ℕ). Faults H.steps H.fails H.is_closed H.is_finished makes.makes_inbound makes.makes_outbound (makes.is_eager board.protocols) (makes.listed board.protocols) board.peer
+    board.role log c.args.told.now.items c.loop-at.told.items fed t sent c.loop-at.self.session.pending)
+    (take_all c.loop-at.at c.args.piece.now (let all = c.loop-at-test.false in let size = c.len.ensures.value in omega arith))
+    (c.loop-at.invariant.faults log fed sent rests failed)

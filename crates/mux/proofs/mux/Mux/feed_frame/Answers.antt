@@ -1,0 +1,77 @@
+use Rattle.std.proofs.Common.{◌≡◌, ℕ, true, false, List, [], ◌∷◌, ◌++◌, length, take, drop, Option, refl, sym, ap, ◌∙◌, subst}
+use Rattle.std.specs.List.{AllByRecursion}
+use Rattle.std.specs.Ordering.{nat_cmp}
+use Rattle.std.specs.BTreeMap as tree
+use Rattle.yamux_session.specs.declared.event.Event.{Event}
+use Rattle.yamux_session.specs.Arrives.{added, tellings, HasData}
+use Rattle.yamux_session.specs.Naming.{NamesOne}
+use Rattle.yamux_session.specs.State.{Led}
+use Rattle.conn_log.specs.Entries.{Entry, items}
+use Rattle.conn_log.specs.Routes.{IsFor, Awaits}
+use Rattle.conn_log.specs.Rests.{AreAtRest, Grows}
+use Rattle.conn_log.proofs.Facing.{SessionLaws}
+use Rattle.conn_log.proofs.Arriving.{arrived}
+use Rattle.mux.proofs.Framing.{framed, faulted, grows_behind}
+use Rattle.mux.proofs.mux.Mux.feed_frame.Goals as goal
+
+pub returns-then-has_failed-clause-faults : goal.returns-then-has_failed-clause-faults
+returns-then-has_failed-clause-faults g c = λ log fed sent rests failed.
+    let H = g.P.H.Handler in
+    let makes = g.P.Protocols in
+    let board = c.args.self.now.board in
+    let bytes = take c.in-Ok.used (drop c.args.at c.args.piece.now) in
+    let led = c.in-Ok.ensures.fed board.role (items log) fed sent rests.session_stands in
+    faulted H.steps H.fails H.is_closed H.is_finished makes.makes_inbound makes.makes_outbound (makes.is_eager board.protocols) (makes.listed board.protocols) board.peer board.role
+    log fed bytes sent c.args.self.now.session c.feed_frame.new.self (tree.get nat_cmp board.streams) board.past.items rests led.0
+    (added c.new-events.result.items c.feed_frame.new.told.items) led.1 c.args.told.now.items failed
+
+-- what the frame told was routed
+went : (g : Rattle.mux.proofs.mux.Mux.feed_frame.Given.Over) (c : goal.After-drop-events-2 g) (log : List (Entry g.row.P-H.Denot)) (fed sent : List ℕ)
+    → AreAtRest {P = g.row.P.Denot} {H = g.row.P-H.Denot} g.P.H.Handler.steps g.P.H.Handler.fails g.P.H.Handler.is_closed g.P.H.Handler.is_finished g.P.Protocols.makes_inbound
+    g.P.Protocols.makes_outbound (g.P.Protocols.is_eager c.args.self.now.board.protocols) (g.P.Protocols.listed c.args.self.now.board.protocols) c.args.self.now.board.peer
+    c.args.self.now.board.role log fed sent c.args.self.now.session (tree.get nat_cmp c.args.self.now.board.streams) c.args.self.now.board.past.items
+    → Grows {P = g.row.P.Denot} {H = g.row.P-H.Denot} g.P.H.Handler.steps g.P.H.Handler.fails g.P.H.Handler.is_closed g.P.H.Handler.is_finished g.P.Protocols.makes_inbound
+    g.P.Protocols.makes_outbound (g.P.Protocols.is_eager c.args.self.now.board.protocols) (g.P.Protocols.listed c.args.self.now.board.protocols) c.args.self.now.board.peer
+    c.args.self.now.board.role log c.args.told.now.items c.route.new.told.items (fed ++ take c.in-Ok.used (drop c.args.at c.args.piece.now)) sent c.route.new.session
+    (tree.get nat_cmp c.route.new.self.streams) c.route.new.self.past.items
+went g c log fed sent rests =
+    let H = g.P.H.Handler in
+    let makes = g.P.Protocols in
+    let board = c.args.self.now.board in
+    let bytes = take c.in-Ok.used (drop c.args.at c.args.piece.now) in
+    let old = c.new-events.result.items in
+    let told = added old c.feed_frame.new.told.items in
+    let told_is : told ≡ c.deref.result.now =
+    sym (c.in-Ok.ensures.kept ∙ ap (λ (t : List Event). t ++ told) c.new-events.ensures.items) ∙ sym c.deref.ensures.value in
+    let laws : SessionLaws = record {
+      events_tell = c.events_tell.ensures;
+      credit_is_told = c.credit_is_told.ensures;
+      openings_are_told = c.openings_are_told.ensures.told;
+      opened_by_the_other = c.openings_are_told.ensures.theirs;
+      opened_anew = c.openings_are_told.ensures.anew;
+      ends_are_last = c.ends_are_last.ensures.once;
+      some_since = c.received_data.ensures.since;
+    } in
+    let led = c.in-Ok.ensures.fed board.role (items log) fed sent rests.session_stands in
+    let still : c.feed_frame.new.self.failed ≡ false = sym c.has_failed.ensures ∙ c.if-has_failed.false in
+    let it = framed H.steps H.fails H.is_closed H.is_finished makes.makes_inbound makes.makes_outbound (makes.is_eager board.protocols) (makes.listed board.protocols) board.peer board.role
+    log fed bytes sent c.args.self.now.session c.feed_frame.new.self (tree.get nat_cmp board.streams) board.past.items rests led.0 told led.1 laws still
+    (c.in-Ok.ensures.one_stream board.role (items log) fed sent rests.session_stands) (c.in-Ok.ensures.filled board.role (items log) fed sent rests.session_stands) in
+    let then = arrived it.came ++ log in
+    grows_behind H.steps H.fails H.is_closed H.is_finished makes.makes_inbound makes.makes_outbound (makes.is_eager board.protocols) (makes.listed board.protocols) board.peer board.role
+    log it.came c.args.told.now.items c.route.new.told.items (fed ++ bytes) sent c.route.new.session (tree.get nat_cmp c.route.new.self.streams) c.route.new.self.past.items
+    (c.in_ok-route.ensures.routes then (fed ++ bytes) sent it.stream
+    (subst (λ (t : List Event). AllByRecursion (IsFor board.role (items then) it.stream) t) told_is it.all_for)
+    (subst (λ (t : List Event). Awaits H.steps H.fails H.is_closed H.is_finished makes.makes_inbound makes.makes_outbound (makes.is_eager board.protocols) (makes.listed board.protocols)
+    board.peer board.role then (fed ++ bytes) sent c.feed_frame.new.self (tree.get nat_cmp board.streams) board.past.items it.stream (tellings t)) told_is it.awaits))
+
+pub returns-clause-goes : goal.returns-clause-goes
+unfolding went
+returns-clause-goes g c = λ log fed sent rests going. went g c log fed sent rests
+
+-- behind which the session goes on
+pub returns-clause-faults : goal.returns-clause-faults
+unfolding went
+returns-clause-faults g c = λ log fed sent rests failed.
+    absurd (let goes : c.route.new.session.failed ≡ false = (went g c log fed sent rests).at_rest.session_stands.going in
+    let both : true ≡ false = sym failed ∙ goes in cc both)

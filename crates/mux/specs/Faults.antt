@@ -1,0 +1,38 @@
+-- How a connection that is up fails by what the other end sends.
+-- Source: hashicorp yamux, "Framing" and "Go Away"; what a connection tells is this project's profile.
+use Rattle.std.specs.Prelude.{◌≡◌, ℕ, ◌≤◌, Bool, List, ◌++◌, map, length, take, Option}
+use Rattle.handlers.specs.Calls.{HandlerCall, Asked}
+use Rattle.yamux_frames.specs.Frames.{Arrival}
+use Rattle.yamux_session.specs.declared.event.Role.{Role}
+use Rattle.yamux_session.specs.History.{Item, arrivals}
+use Rattle.yamux_session.specs.History.Item.{Came}
+use Rattle.yamux_session.specs.Output.{output}
+use Rattle.yamux_session.specs.State.{State, FirstFaults, EndsWith}
+use Rattle.streams.specs.State.{Streaming}
+use Rattle.conn_log.specs.declared.earlier.Earlier.{Earlier}
+use Rattle.conn_log.specs.declared.event.ConnEvent.{ConnEvent}
+use Rattle.conn_log.specs.Entries.{Entry, items, said}
+use Rattle.conn_log.specs.Rests.{AreAtRest}
+
+-- The first fault was met behind a list at whose end all streams are at rest: by a front of these bytes the list grew,
+-- and what it says was told; by what follows them the other end broke the rules of the session. The output is that of
+-- the list up to the fault, with its GoAway.
+pub record Faults {P H : Type 0} (step : H → HandlerCall → H → Type 0) (fails : H → Asked → ℕ → Type 0)
+    (is_closed is_finished : H → Bool) (inbound_makes outbound_makes : P → ℕ → List ℕ → H → Type 0)
+    (eager : ℕ → Bool) (names : List (List ℕ)) (peer : List ℕ) (role : Role) (log : List (Entry H))
+    (before after : List (ConnEvent H)) (fed bytes sent : List ℕ) (pending : List ℕ) : Type 0 where
+  pub newer : List (Entry H)
+  pub told_is : after ≡ before ++ said newer
+  pub front : List ℕ
+  pub rest : List ℕ
+  pub bytes_are : bytes ≡ front ++ rest
+  pub session : State
+  pub streams : ℕ → Option (Streaming H)
+  pub past : List (Earlier H)
+  pub at_rest : AreAtRest step fails is_closed is_finished inbound_makes outbound_makes eager names peer role
+      (newer ++ log) (fed ++ front) sent session streams past
+  pub now : List Item
+  pub came : (more : List Arrival) × (now ≡ map Came more ++ items (newer ++ log))
+  pub fault : FirstFaults role now
+  pub frames : (used : ℕ) × (used ≤ length rest) × EndsWith ((fed ++ front) ++ take used rest) (arrivals now)
+  pub output_is : sent ++ pending ≡ output role now

@@ -1,0 +1,135 @@
+//! The session of a connection that is up, with its streams.
+
+ghost use Rattle.std.specs.Prelude.{◌≡◌, ℕ, ◌<◌, ◌≤◌, ◌-◌, true, false, List, [], ◌++◌, length, take, drop, OnOk, IfOk};
+ghost use Rattle.std.specs.Ordering.{nat_cmp};
+ghost use Rattle.std.specs.BTreeMap as tree;
+ghost use Rattle.conn_log.specs.Entries.{Entry};
+ghost use Rattle.conn_log.specs.Rests.{AreAtRest, Grows};
+ghost use Rattle.board.specs.Boards.{Keeps};
+ghost use Rattle.mux.specs.Faults.{Faults};
+
+use board::Board;
+use bytes::Bytes;
+use conn_log::ConnEvent;
+use handlers::Protocols;
+use peer_ids::PeerId;
+use std::alloc::{AllocError, Global};
+use std::collections::BTreeMap;
+use yamux_session::laws::{
+    credit_is_told, ends_are_last, events_tell, openings_are_told, received_data,
+};
+use yamux_session::{Role, Session};
+
+/// The session of a connection that is up, with its streams.
+#[derive(Drop)]
+pub struct Mux<P: Protocols> {
+    /// The session.
+    pub session: Session,
+    /// Its streams.
+    pub board: Board<P>,
+    alloc: Global,
+}
+
+impl<P: Protocols> Mux<P> {
+    /// A session of this end with that peer, before the first frame.
+    pub fn new(alloc: Global, role: Role, peer: PeerId, protocols: P) -> Mux<P>
+        ensures role { result.board.role ≡ role }
+        ensures peer { result.board.peer ≡ peer }
+        ensures protocols { result.board.protocols ≡ protocols }
+        ensures fresh { AreAtRest P.H.steps P.H.fails P.H.is_closed P.H.is_finished P.makes_inbound P.makes_outbound
+            (P.is_eager protocols) (P.listed protocols) peer role [] [] [] result.session
+            (tree.get nat_cmp result.board.streams) result.board.past.items }
+    {
+        Mux {
+            session: Session::new(alloc, role),
+            board: Board {
+                role,
+                peer,
+                protocols,
+                streams: BTreeMap::new(alloc),
+                past: Vec::new(alloc),
+            },
+            alloc,
+        }
+    }
+
+    /// Takes one frame's head, or one part of its payload, from this place of the piece on, routes what it told, and
+    /// answers how many bytes were used. Where the other end broke the rules of the session, the session has failed.
+    ///
+    /// Its only error is want of memory, and ends the connection.
+    fn feed_frame(
+        &mut self,
+        piece: &Bytes,
+        at: usize,
+        told: &mut Vec<ConnEvent<P::H>>,
+    ) -> Result<usize, AllocError>
+        ensures keeps { Keeps P.listed P.is_eager self.old.board self.new.board }
+        ensures goes { (log : List (Entry P.H)) (fed sent : List ℕ)
+            → AreAtRest P.H.steps P.H.fails P.H.is_closed P.H.is_finished P.makes_inbound P.makes_outbound
+            (P.is_eager self.old.board.protocols) (P.listed self.old.board.protocols) self.old.board.peer
+            self.old.board.role log fed sent self.old.session (tree.get nat_cmp self.old.board.streams)
+            self.old.board.past.items → IfOk result (λ used. self.new.session.failed ≡ false
+            → Grows P.H.steps P.H.fails P.H.is_closed P.H.is_finished P.makes_inbound P.makes_outbound
+            (P.is_eager self.old.board.protocols) (P.listed self.old.board.protocols) self.old.board.peer
+            self.old.board.role log told.old.items told.new.items (fed ++ take used (drop at piece.now)) sent
+            self.new.session (tree.get nat_cmp self.new.board.streams) self.new.board.past.items) }
+        ensures faults { (log : List (Entry P.H)) (fed sent : List ℕ)
+            → AreAtRest P.H.steps P.H.fails P.H.is_closed P.H.is_finished P.makes_inbound P.makes_outbound
+            (P.is_eager self.old.board.protocols) (P.listed self.old.board.protocols) self.old.board.peer
+            self.old.board.role log fed sent self.old.session (tree.get nat_cmp self.old.board.streams)
+            self.old.board.past.items → IfOk result (λ used. self.new.session.failed ≡ true
+            → Faults P.H.steps P.H.fails P.H.is_closed P.H.is_finished P.makes_inbound P.makes_outbound
+            (P.is_eager self.old.board.protocols) (P.listed self.old.board.protocols) self.old.board.peer
+            self.old.board.role log told.old.items told.new.items fed (take used (drop at piece.now)) sent
+            self.new.session.pending) }
+        ensures within { IfOk result (λ used. used ≤ length piece.now - at) }
+        ensures goes_on { IfOk result (λ used. at < length piece.now → 0 < used) }
+    {
+        events_tell();
+        credit_is_told();
+        openings_are_told();
+        ends_are_last();
+        received_data();
+        let mut events = Vec::new(self.alloc);
+        let Ok(used) = self.session.feed_frame(piece, at, &mut events) else {
+            return Err(AllocError);
+        };
+        if self.session.has_failed() {
+            return Ok(used);
+        }
+        self.board
+            .route(self.alloc, &mut self.session, &events, told)?;
+        Ok(used)
+    }
+
+    /// Takes the bytes that came, frame by frame, and tells what they led to. Where the other end broke the rules of the
+    /// session, the session has failed, and nothing behind that is read.
+    ///
+    /// Its only error is want of memory, and ends the connection.
+    pub fn feed(&mut self, piece: &Bytes, told: &mut Vec<ConnEvent<P::H>>) -> Result<(), AllocError>
+        ensures keeps { Keeps P.listed P.is_eager self.old.board self.new.board }
+        ensures goes { (log : List (Entry P.H)) (fed sent : List ℕ)
+            → AreAtRest P.H.steps P.H.fails P.H.is_closed P.H.is_finished P.makes_inbound P.makes_outbound
+            (P.is_eager self.old.board.protocols) (P.listed self.old.board.protocols) self.old.board.peer
+            self.old.board.role log fed sent self.old.session (tree.get nat_cmp self.old.board.streams)
+            self.old.board.past.items → OnOk result (self.new.session.failed ≡ false
+            → Grows P.H.steps P.H.fails P.H.is_closed P.H.is_finished P.makes_inbound P.makes_outbound
+            (P.is_eager self.old.board.protocols) (P.listed self.old.board.protocols) self.old.board.peer
+            self.old.board.role log told.old.items told.new.items (fed ++ piece.now) sent
+            self.new.session (tree.get nat_cmp self.new.board.streams) self.new.board.past.items) }
+        ensures faults { (log : List (Entry P.H)) (fed sent : List ℕ)
+            → AreAtRest P.H.steps P.H.fails P.H.is_closed P.H.is_finished P.makes_inbound P.makes_outbound
+            (P.is_eager self.old.board.protocols) (P.listed self.old.board.protocols) self.old.board.peer
+            self.old.board.role log fed sent self.old.session (tree.get nat_cmp self.old.board.streams)
+            self.old.board.past.items → OnOk result (self.new.session.failed ≡ true
+            → Faults P.H.steps P.H.fails P.H.is_closed P.H.is_finished P.makes_inbound P.makes_outbound
+            (P.is_eager self.old.board.protocols) (P.listed self.old.board.protocols) self.old.board.peer
+            self.old.board.role log told.old.items told.new.items fed piece.now sent self.new.session.pending) }
+    {
+        let mut at = 0;
+        while at < piece.len() && !self.session.has_failed() {
+            at += self.feed_frame(piece, at, told)?;
+        }
+        Ok(())
+    }
+}
