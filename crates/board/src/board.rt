@@ -11,6 +11,7 @@ ghost use Rattle.conn_log.specs.Entries.{Entry, items, agreement, since, made_of
 ghost use Rattle.conn_log.specs.Due.{direction_of, IsGivenUp, WasReset};
 ghost use Rattle.conn_log.specs.Held.{IsHeld, IsPast};
 ghost use Rattle.conn_log.specs.Routes.{Around, Routes, Routed, Comes, Resets, set_aside};
+ghost use Rattle.conn_log.specs.Asked.{told_of};
 ghost use Rattle.board.specs.Boards.{Keeps};
 
 use conn_log::{ConnEvent, Earlier};
@@ -110,7 +111,7 @@ fn put_aside<H: Handler>(
 }
 
 /// Puts a stream in.
-fn insert<H: Handler>(
+pub(crate) fn insert<H: Handler>(
     streams: &mut BTreeMap<u32, Stream<H>>,
     number: u32,
     stream: Stream<H>,
@@ -145,7 +146,7 @@ impl<P: Protocols> Board<P> {
     }
 
     /// Tells what a stream came to, and gives it up where it goes on no more.
-    fn settle(
+    pub(crate) fn settle(
         &mut self,
         session: &mut Session,
         number: u32,
@@ -154,6 +155,7 @@ impl<P: Protocols> Board<P> {
     ) -> Result<(), AllocError>
         ensures keeps { Keeps P.listed P.is_eager self.old self.new }
         ensures past { self.new.past.items ≡ self.old.past.items }
+        ensures tells { OnOk result (told.new.items ≡ told.old.items ++ told_of number outcome) }
         ensures settles { (log : List (Entry P.H)) (fed sent : List ℕ) (view : Seen) (rest : List Told)
             → Comes P.H.steps P.H.fails P.H.is_closed P.H.is_finished P.makes_inbound P.makes_outbound
             (P.is_eager self.old.protocols) (P.listed self.old.protocols) self.old.peer self.old.role log fed sent

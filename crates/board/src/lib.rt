@@ -2,6 +2,7 @@
 //! became of it is told.
 #![tactic(auto)]
 
+mod ask;
 mod board;
 mod route;
 

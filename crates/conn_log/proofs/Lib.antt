@@ -12,3 +12,4 @@ pub mod Opening
 pub mod Rested
 pub mod Arriving
 pub mod Facing
+pub mod Asking
