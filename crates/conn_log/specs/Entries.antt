@@ -1,7 +1,8 @@
 -- The list of a connection that is up: what came and was done in its session, and between it what was told of its
 -- streams, which handlers were made, and which protocols were asked for, each where it was. The newest stands first.
 -- Source: hashicorp yamux, "Framing"; what a connection tells is this project's profile.
-use Rattle.std.specs.Prelude.{◌≡◌, ℕ, Bool, true, false, ◌==◌, ◌||◌, if◌then◌else◌, List, [], ◌∷◌, ◌++◌, Option, Some, None}
+use Rattle.std.specs.Prelude.{◌≡◌, ℕ, Bool, true, false, ◌==◌, ◌||◌, if◌then◌else◌, Option, Some, None}
+use Rattle.std.specs.Prelude.{List, [], ◌∷◌, ◌++◌}
 use Rattle.yamux_session.specs.declared.event.Role.{Role}
 use Rattle.yamux_session.specs.History.{Item}
 use Rattle.yamux_session.specs.History.Item.{Did}

@@ -17,7 +17,8 @@ use Rattle.conn_log.specs.Held.{IsAtRest, IsPast}
 module _ {P H : Type 0} (step : H → HandlerCall → H → Type 0) (fails : H → Asked → ℕ → Type 0)
     (is_closed is_finished : H → Bool) (inbound_makes outbound_makes : P → ℕ → List ℕ → H → Type 0)
     (eager : ℕ → Bool) (names : List (List ℕ)) (peer : List ℕ) (role : Role) where
-  -- The session is where the list leaves it, each entry is due where it stands, and each stream that is held is at rest.
+  -- The session is where the list leaves it, each entry is due where it stands, and each stream that is held is at
+  -- rest.
   pub record AreAtRest (log : List (Entry H)) (fed sent : List ℕ) (session : State) (streams : ℕ → Option (Streaming H))
       (past : List (Earlier H)) : Type 0 where
     pub session_stands : SessionStands role (items log) fed sent session

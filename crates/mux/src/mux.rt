@@ -102,8 +102,8 @@ impl<P: Protocols> Mux<P> {
         Ok(used)
     }
 
-    /// Takes the bytes that came, frame by frame, and tells what they led to. Where the other end broke the rules of the
-    /// session, the session has failed, and nothing behind that is read.
+    /// Takes the bytes that came, frame by frame, and tells what they led to. Where the other end broke the rules of
+    /// the session, the session has failed, and nothing behind that is read.
     ///
     /// Its only error is want of memory, and ends the connection.
     pub fn feed(&mut self, piece: &Bytes, told: &mut Vec<ConnEvent<P::H>>) -> Result<(), AllocError>
