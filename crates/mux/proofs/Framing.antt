@@ -6,6 +6,8 @@ use Rattle.handlers.specs.Calls.{HandlerCall, Asked}
 use Rattle.yamux_frames.specs.Frames.{Arrival}
 use Rattle.yamux_session.specs.declared.event.Role.{Role}
 use Rattle.yamux_session.specs.declared.event.Event.{Event}
+use Rattle.yamux_session.specs.declared.event.Event.TheVariants as event
+use Rattle.yamux_session.specs.declared.event.Fault.{Fault}
 use Rattle.yamux_session.specs.History.{Item, arrivals}
 use Rattle.yamux_session.specs.History.Item.{Came}
 use Rattle.yamux_session.specs.Arrives.{tellings, HasData}
@@ -50,9 +52,9 @@ module _ {P H : Type 0} (step : H → HandlerCall → H → Type 0) (fails : H �
         let it = faced step fails is_closed is_finished inbound_makes outbound_makes eager names peer role laws log fed sent (fed ++ bytes) before session streams past came told rests tells there one filled in
         record { came = came; stream = it.stream; all_for = it.all_for; awaits = it.awaits }
 
-    pub faulted : (telling : List (ConnEvent H)) → session.failed ≡ true
+    pub faulted : (telling : List (ConnEvent H)) → session.failed ≡ true → (fault : Fault) × (told ≡ event.Fault fault ∷ [])
         → Faults step fails is_closed is_finished inbound_makes outbound_makes eager names peer role log telling telling fed bytes sent session.pending
-    faulted telling failed =
+    faulted telling failed alone =
         let f = led.fails failed in
         let fed_is : fed ++ [] ≡ fed = append-nil fed in
         record {
@@ -68,6 +70,7 @@ module _ {P H : Type 0} (step : H → HandlerCall → H → Type 0) (fails : H �
           now = now;
           came = led.came;
           fault = f.0;
+          alone = (alone.0, led.told_is ∙ ap (λ (t : List Event). events role (items log) ++ tellings t) alone.1);
           frames = (f.2.0, f.2.1, subst (λ (t : List ℕ). EndsWith (t ++ take f.2.0 bytes) (arrivals now)) (sym fed_is) f.2.2);
           output_is = f.1;
         }
@@ -126,6 +129,7 @@ module _ {P H : Type 0} (step : H → HandlerCall → H → Type 0) (fails : H �
         now = f.now;
         came = (f.came.0, f.came.1 ∙ ap (λ t. map Came f.came.0 ++ items t) logs);
         fault = f.fault;
+        alone = (f.alone.0, f.alone.1 ∙ ap (λ t. events role (items t) ++ Told.Fault f.alone.0 ∷ []) logs);
         frames = (f.frames.0, f.frames.1, subst (λ (t : List ℕ). EndsWith (t ++ take f.frames.0 f.rest) (arrivals f.now)) fronts f.frames.2);
         output_is = f.output_is;
       }
@@ -147,6 +151,7 @@ module _ {P H : Type 0} (step : H → HandlerCall → H → Type 0) (fails : H �
     now = f.now;
     came = f.came;
     fault = f.fault;
+    alone = f.alone;
     frames = (
       f.frames.0,
       (let fits = f.frames.1 in omega (arith, length-append {A = ℕ})),

@@ -1,11 +1,13 @@
 -- How a connection that is up fails by what the other end sends.
 -- Source: hashicorp yamux, "Framing" and "Go Away"; what a connection tells is this project's profile.
-use Rattle.std.specs.Prelude.{◌≡◌, ℕ, ◌≤◌, Bool, List, ◌++◌, map, length, take, Option}
+use Rattle.std.specs.Prelude.{◌≡◌, ℕ, ◌≤◌, Bool, List, [], ◌∷◌, ◌++◌, map, length, take, Option}
 use Rattle.handlers.specs.Calls.{HandlerCall, Asked}
 use Rattle.yamux_frames.specs.Frames.{Arrival}
 use Rattle.yamux_session.specs.declared.event.Role.{Role}
 use Rattle.yamux_session.specs.History.{Item, arrivals}
 use Rattle.yamux_session.specs.History.Item.{Came}
+use Rattle.yamux_session.specs.declared.event.Fault.{Fault}
+use Rattle.yamux_session.specs.Events.{Told, events}
 use Rattle.yamux_session.specs.Output.{output}
 use Rattle.yamux_session.specs.State.{State, FirstFaults, EndsWith}
 use Rattle.streams.specs.State.{Streaming}
@@ -34,5 +36,7 @@ pub record Faults {P H : Type 0} (step : H → HandlerCall → H → Type 0) (fa
   pub now : List Item
   pub came : (more : List Arrival) × (now ≡ map Came more ++ items (newer ++ log))
   pub fault : FirstFaults role now
+  -- the fault is all that was told behind the list
+  pub alone : (why : Fault) × (events role now ≡ events role (items (newer ++ log)) ++ Told.Fault why ∷ [])
   pub frames : (used : ℕ) × (used ≤ length rest) × EndsWith ((fed ++ front) ++ take used rest) (arrivals now)
   pub output_is : sent ++ pending ≡ output role now

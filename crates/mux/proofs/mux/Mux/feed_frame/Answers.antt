@@ -23,7 +23,7 @@ returns-then-has_failed-clause-faults g c = λ log fed sent rests failed.
     let led = c.in-Ok.ensures.fed board.role (items log) fed sent rests.session_stands in
     faulted H.steps H.fails H.is_closed H.is_finished makes.makes_inbound makes.makes_outbound (makes.is_eager board.protocols) (makes.listed board.protocols) board.peer board.role
     log fed bytes sent c.args.self.now.session c.feed_frame.new.self (tree.get nat_cmp board.streams) board.past.items rests led.0
-    (added c.new-events.result.items c.feed_frame.new.told.items) led.1 c.args.told.now.items failed
+    (added c.new-events.result.items c.feed_frame.new.told.items) led.1 c.args.told.now.items failed (c.in-Ok.ensures.fault_alone rests.session_stands.going failed)
 
 -- what the frame told was routed
 went : (g : Rattle.mux.proofs.mux.Mux.feed_frame.Given.Over) (c : goal.After-drop-events-2 g) (log : List (Entry g.row.P-H.Denot)) (fed sent : List ℕ)

@@ -1,0 +1,57 @@
+-- A connection comes up, or its upgrade fails.
+use Rattle.std.proofs.Common.{◌≡◌, ℕ, Bool, false, List, [], ◌∷◌, Some, Ok, Err, refl, sym, ap, ◌∙◌}
+use Rattle.std.proofs.lemmas.List.{append-nil}
+use Rattle.std.specs.Ordering.{nat_cmp}
+use Rattle.std.specs.BTreeMap as tree
+use Rattle.handlers.specs.Calls.{HandlerCall, Asked}
+use Rattle.peer_ids.specs.Key.{Key}
+use Rattle.peer_ids.specs.PeerId.{id_of}
+use Rattle.upgrade.specs.declared.role.ConnRole.{ConnRole}
+use Rattle.upgrade.specs.declared.fault.UpgradeFault.{UpgradeFault}
+use Rattle.upgrade.specs.Upgrades.{Upgrades}
+use Rattle.yamux_session.specs.declared.event.Role.{Role}
+use Rattle.conn_log.specs.declared.event.ConnEvent.{ConnEvent}
+use Rattle.conn_log.specs.declared.event.ConnEvent.TheVariants as event
+use Rattle.conn_log.specs.declared.event.ConnFault.{ConnFault}
+use Rattle.conn_log.specs.Rests.{AreAtRest}
+use Rattle.mux.specs.declared.mux.Mux.{Mux}
+use Rattle.conn_core.specs.Connects.{IsUpWith, Ends, session_role, told_of}
+use Rattle.conn_core.specs.Connects.Ends.{Upgrade}
+use Rattle.conn_core.proofs.Going.{as_known}
+
+module _ {P H : Type 0} (step : H → HandlerCall → H → Type 0) (fails : H → Asked → ℕ → Type 0)
+    (is_closed is_finished : H → Bool) (inbound_makes outbound_makes : P → ℕ → List ℕ → H → Type 0)
+    (listed : P → List (List ℕ)) (is_eager : P → ℕ → Bool) (eager : ℕ → Bool) (names : List (List ℕ))
+    (role : ConnRole) (own : Key) where
+  pub just_up : (protocols : P) (mux : Mux P H) (key : Key) (first written : List ℕ) (peer : List ℕ) (side : Role)
+      → listed protocols ≡ names → is_eager protocols ≡ eager → side ≡ session_role role → peer ≡ id_of key
+      → mux.board.protocols ≡ protocols → mux.board.role ≡ side → mux.board.peer ≡ peer
+      → AreAtRest step fails is_closed is_finished inbound_makes outbound_makes (is_eager protocols) (listed protocols) peer side [] [] [] mux.session (tree.get nat_cmp mux.board.streams) mux.board.past.items
+      → Upgrades role own first (Ok (Some key)) written
+      → IsUpWith step fails is_closed is_finished inbound_makes outbound_makes listed is_eager eager names role own first (event.Upgraded key ∷ []) written mux
+  just_up protocols mux key first written peer side names_are eager_are side_is peer_is protocols_are role_is board_peer fresh upgraded = (
+    ap listed protocols_are ∙ names_are,
+    ap is_eager protocols_are ∙ eager_are,
+    role_is ∙ side_is,
+    (
+      record {
+        key = key;
+        first = first;
+        rest = [];
+        greeting = written;
+        log = [];
+        input_is = sym (append-nil first);
+        upgraded = upgraded;
+        at_rest = as_known (is_eager protocols) eager (listed protocols) names peer (id_of key) side (session_role role) eager_are names_are peer_is side_is
+            (λ e n p r. AreAtRest step fails is_closed is_finished inbound_makes outbound_makes e n p r [] [] [] mux.session (tree.get nat_cmp mux.board.streams) mux.board.past.items) fresh;
+        told_is = refl;
+        written_is = sym (append-nil written);
+      },
+      board_peer ∙ peer_is,
+    ),
+  )
+
+  pub upgrade_failed : (why : UpgradeFault) (named : ConnFault) (input written : List ℕ) (told : List (ConnEvent H)) → told_of why ≡ Some named → Upgrades role own input (Err why) written
+      → told ≡ event.Fault named ∷ [] → Ends step fails is_closed is_finished inbound_makes outbound_makes listed is_eager eager names role own input false told written
+  upgrade_failed why named input written told told_is upgrades is =
+      Upgrade why named input told_is (record { rest = []; input_is = sym (append-nil input); upgrades = upgrades; all = λ up. refl }) is

@@ -1,0 +1,109 @@
+-- A connection that is up goes on, or meets a fault.
+use Rattle.std.proofs.Common.{◌≡◌, ℕ, Bool, List, [], ◌∷◌, ◌++◌, map, Option, refl, sym, ap, ◌∙◌, subst}
+use Rattle.std.proofs.lemmas.List.{append_assoc, append-nil}
+use Rattle.handlers.specs.Calls.{HandlerCall, Asked}
+use Rattle.peer_ids.specs.Key.{Key}
+use Rattle.peer_ids.specs.PeerId.{id_of}
+use Rattle.upgrade.specs.declared.role.ConnRole.{ConnRole}
+use Rattle.yamux_session.specs.declared.event.Role.{Role}
+use Rattle.yamux_session.specs.History.Item.{Came}
+use Rattle.yamux_session.specs.Events.{Told, events}
+use Rattle.yamux_session.specs.Output.{output}
+use Rattle.yamux_session.specs.State.{State, Stands as SessionStands}
+use Rattle.streams.specs.State.{Streaming}
+use Rattle.conn_log.specs.declared.earlier.Earlier.{Earlier}
+use Rattle.conn_log.specs.declared.event.ConnEvent.{ConnEvent}
+use Rattle.conn_log.specs.declared.event.ConnEvent.TheVariants as event
+use Rattle.conn_log.specs.declared.event.ConnFault.TheVariants as fault
+use Rattle.conn_log.specs.Entries.{items, said}
+use Rattle.conn_log.specs.Rests.{AreAtRest, Grows}
+use Rattle.conn_log.proofs.Settling.{said_append}
+use Rattle.mux.specs.Faults.{Faults}
+use Rattle.conn_core.specs.Connects.{IsUp, IsFaulty, session_role}
+
+-- what is said of a board is said of what it is known to be
+pub as_known : (e known_e : ℕ → Bool) (n known_n : List (List ℕ)) (p known_p : List ℕ) (r known_r : Role) → e ≡ known_e → n ≡ known_n → p ≡ known_p → r ≡ known_r
+    → (Q : (ℕ → Bool) → List (List ℕ) → List ℕ → Role → Type 0) → Q e n p r → Q known_e known_n known_p known_r
+as_known e known_e n known_n p known_p r known_r e_is n_is p_is r_is Q q =
+    subst (λ (x : ℕ → Bool). Q x known_n known_p known_r) e_is (subst (λ (x : List (List ℕ)). Q e x known_p known_r) n_is
+    (subst (λ (x : List ℕ). Q e n x known_r) p_is (subst (λ (x : Role). Q e n p x) r_is q)))
+
+module _ {P H : Type 0} (step : H → HandlerCall → H → Type 0) (fails : H → Asked → ℕ → Type 0)
+    (is_closed is_finished : H → Bool) (inbound_makes outbound_makes : P → ℕ → List ℕ → H → Type 0)
+    (listed : P → List (List ℕ)) (is_eager : P → ℕ → Bool) (eager : ℕ → Bool) (names : List (List ℕ))
+    (role : ConnRole) (own : Key) where
+  -- what was fed led the list on, and what the session wrote was moved
+  pub up_on : (input piece : List ℕ) (before old new : List (ConnEvent H)) (written : List ℕ) (session between after : State) (streams later : ℕ → Option (Streaming H)) (past last : List (Earlier H))
+      (up : IsUp step fails is_closed is_finished inbound_makes outbound_makes listed is_eager eager names role own input (before ++ old) written session streams past)
+      (g : Grows step fails is_closed is_finished inbound_makes outbound_makes eager names (id_of up.key) (session_role role) up.log old new (up.rest ++ piece)
+      (output (session_role role) (items up.log)) between later last)
+      → SessionStands (session_role role) (items (g.newer ++ up.log)) (up.rest ++ piece) (output (session_role role) (items up.log) ++ between.pending) after
+      → (x : IsUp step fails is_closed is_finished inbound_makes outbound_makes listed is_eager eager names role own (input ++ piece) (before ++ new) (written ++ between.pending) after later last)
+      × (x.key ≡ up.key)
+  up_on input piece before old new written session between after streams later past last up g there =
+      let now = g.newer ++ up.log in
+      let sent = output (session_role role) (items up.log) in
+      let all_sent : sent ++ between.pending ≡ output (session_role role) (items now) = g.at_rest.session_stands.output in (
+        record {
+          key = up.key;
+          first = up.first;
+          rest = up.rest ++ piece;
+          greeting = up.greeting;
+          log = now;
+          input_is = ap (λ t. t ++ piece) up.input_is ∙ append_assoc up.first up.rest piece;
+          upgraded = up.upgraded;
+          at_rest = record {
+            session_stands = subst (λ (t : List ℕ). SessionStands (session_role role) (items now) (up.rest ++ piece) t after) all_sent there;
+            due = g.at_rest.due;
+            each = g.at_rest.each;
+            live_held = g.at_rest.live_held;
+            made_held = g.at_rest.made_held;
+            earlier = g.at_rest.earlier;
+          };
+          told_is = ap (λ t. before ++ t) g.told_is ∙ sym (append_assoc before old (said g.newer)) ∙ ap (λ t. t ++ said g.newer) up.told_is ∙ ap (λ t. event.Upgraded up.key ∷ t) (sym (said_append g.newer up.log));
+          written_is = ap (λ t. t ++ between.pending) up.written_is ∙ append_assoc up.greeting sent between.pending ∙ ap (λ t. up.greeting ++ t) all_sent;
+        },
+        refl,
+      )
+
+  -- a fault was met by what was fed
+  pub up_faults : (input piece : List ℕ) (before old new all : List (ConnEvent H)) (written pending : List ℕ) (session : State) (streams : ℕ → Option (Streaming H)) (past : List (Earlier H))
+      (up : IsUp step fails is_closed is_finished inbound_makes outbound_makes listed is_eager eager names role own input (before ++ old) written session streams past)
+      → Faults step fails is_closed is_finished inbound_makes outbound_makes eager names (id_of up.key) (session_role role) up.log old new up.rest piece
+      (output (session_role role) (items up.log)) pending
+      → all ≡ new ++ event.Fault fault.Mux ∷ []
+      → IsFaulty step fails is_closed is_finished inbound_makes outbound_makes listed is_eager eager names role own (input ++ piece) (before ++ all) (written ++ pending)
+  up_faults input piece before old new all written pending session streams past up f all_is =
+      let now = f.newer ++ up.log in
+      let sent = output (session_role role) (items up.log) in
+      let logs : now ≡ now ++ [] = sym (append-nil now) in
+      record {
+        key = up.key;
+        first = up.first;
+        rest = up.rest ++ piece;
+        greeting = up.greeting;
+        sent = sent;
+        pending = pending;
+        before = before ++ new;
+        input_is = ap (λ t. t ++ piece) up.input_is ∙ append_assoc up.first up.rest piece;
+        upgraded = up.upgraded;
+        faults = record {
+          newer = now;
+          told_is = ap (λ t. before ++ t) f.told_is ∙ sym (append_assoc before old (said f.newer)) ∙ ap (λ t. t ++ said f.newer) up.told_is ∙ ap (λ t. event.Upgraded up.key ∷ t) (sym (said_append f.newer up.log));
+          front = up.rest ++ f.front;
+          rest = f.rest;
+          bytes_are = ap (λ t. up.rest ++ t) f.bytes_are ∙ sym (append_assoc up.rest f.front f.rest);
+          session = f.session;
+          streams = f.streams;
+          past = f.past;
+          at_rest = subst (λ t. AreAtRest step fails is_closed is_finished inbound_makes outbound_makes eager names (id_of up.key) (session_role role) t (up.rest ++ f.front) sent f.session f.streams f.past) logs f.at_rest;
+          now = f.now;
+          came = (f.came.0, f.came.1 ∙ ap (λ t. map Came f.came.0 ++ items t) logs);
+          fault = f.fault;
+          alone = (f.alone.0, f.alone.1 ∙ ap (λ t. events (session_role role) (items t) ++ Told.Fault f.alone.0 ∷ []) logs);
+          frames = f.frames;
+          output_is = f.output_is;
+        };
+        told_is = ap (λ t. before ++ t) all_is ∙ sym (append_assoc before new (event.Fault fault.Mux ∷ []));
+        written_is = ap (λ t. t ++ pending) up.written_is ∙ append_assoc up.greeting sent pending;
+      }

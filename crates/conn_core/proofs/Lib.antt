@@ -1,0 +1,4 @@
+pub mod Going
+pub mod Coming
+pub mod Taking
+pub mod Ending

@@ -1,0 +1,55 @@
+use Rattle.std.proofs.Common.{◌≡◌, ℕ, List, [], ◌∷◌, ◌++◌, take, Some, None, Ok, Err, refl, sym, ap, ◌∙◌, subst}
+use Rattle.peer_ids.specs.Key.{Key}
+use Rattle.upgrade.specs.declared.role.ConnRole.{ConnRole}
+use Rattle.upgrade.specs.declared.fault.UpgradeFault.TheVariants as faults
+use Rattle.upgrade.specs.declared.upgrade.Progress.{Progress}
+use Rattle.upgrade.specs.Upgrades.{Upgrades}
+use Rattle.upgrade.specs.State.{used_of, outcome_of}
+use Rattle.conn_log.specs.declared.event.ConnEvent.{ConnEvent}
+use Rattle.conn_log.specs.declared.event.ConnEvent.TheVariants as event
+use Rattle.conn_core.specs.Connects.{told_of}
+use Rattle.conn_core.proofs.Coming.{just_up, upgrade_failed}
+use Rattle.conn_core.proofs.connection.bring_up.Goals as goal
+
+pub returns-in-Ok-Up-clause-goes : goal.returns-in-Ok-Up-clause-goes
+returns-in-Ok-Up-clause-goes g c = λ own eager names input taken coming none_waits none_told.
+    let H = g.P.H.Handler in
+    let makes = g.P.Protocols in
+    let role = c.args.role in
+    let piece = c.args.piece.now in
+    let used = c.in-Ok-Up.used in
+    let proven = c.in-Ok-Up.proven in
+    let first = input ++ take used piece in
+    let pending = c.feed.new.self.pending in
+    let by_feed = subst (λ (x : Progress). Upgrades c.args.upgrade.role c.args.upgrade.own (input ++ used_of (Ok x) c.deref.result.now) (outcome_of (Ok x)) (taken ++ pending))
+    c.in-Ok-Up.field-0-is (c.in-Ok-Up.ensures.upgrades input taken coming.stands (λ e. absurd (cc e))) in
+    let by_piece = subst (λ (t : List ℕ). Upgrades c.args.upgrade.role c.args.upgrade.own (input ++ take used t) (Ok (Some proven)) (taken ++ pending)) c.deref.ensures by_feed in
+    let upgraded = subst (λ (r : ConnRole). Upgrades r own first (Ok (Some proven)) (taken ++ pending)) coming.role_is
+    (subst (λ (k : Key). Upgrades c.args.upgrade.role k first (Ok (Some proven)) (taken ++ pending)) coming.own_is by_piece) in
+    let written : taken ++ pending ≡ taken ++ c.take_output.result.items = ap (λ (t : List ℕ). taken ++ t) (sym c.take_output.ensures.output) in
+    let up = just_up H.steps H.fails H.is_closed H.is_finished makes.makes_inbound makes.makes_outbound makes.listed makes.is_eager eager names role own
+    c.args.protocols c.new-mux.result proven first (taken ++ c.take_output.result.items) c.peer.result c.session_role.result coming.names_are coming.eager_are c.session_role.ensures c.peer.ensures
+    c.new-mux.ensures.protocols c.new-mux.ensures.role c.new-mux.ensures.peer c.new-mux.ensures.fresh
+    (subst (λ (t : List ℕ). Upgrades role own first (Ok (Some proven)) t) written upgraded) in
+    c.come_up.ensures.goes role own eager names input taken up none_told
+
+pub returns-in-Ok-clause-goes : goal.returns-in-Ok-clause-goes
+returns-in-Ok-clause-goes g c = λ own eager names input taken coming none_waits none_told.
+    let H = g.P.H.Handler in
+    let makes = g.P.Protocols in
+    let role = c.args.role in
+    let piece = c.args.piece.now in
+    let why = c.in-Err.fault in
+    let pending = c.feed.new.self.pending in
+    let it = c.in-Ok.ensures.told in
+    let by_feed = c.in-Err.ensures.upgrades input taken coming.stands (λ e. absurd (let none : None ≡ Some it.0 = sym (ap told_of (let same : why ≡ faults.OutOfMemory = cc e in same)) ∙ it.1 in cc none)) in
+    let by_piece = subst (λ (t : List ℕ). Upgrades c.args.upgrade.role c.args.upgrade.own (input ++ t) (Err why) (taken ++ pending)) c.deref.ensures by_feed in
+    let upgraded = subst (λ (r : ConnRole). Upgrades r own (input ++ piece) (Err why) (taken ++ pending)) coming.role_is
+    (subst (λ (k : Key). Upgrades c.args.upgrade.role k (input ++ piece) (Err why) (taken ++ pending)) coming.own_is by_piece) in
+    let written : taken ++ pending ≡ taken ++ c.take_output-in-Err.result.items = ap (λ (t : List ℕ). taken ++ t) (sym c.take_output-in-Err.ensures.output) in
+    let told_is = it.2 ∙ ap (λ (t : List (ConnEvent _)). t ++ event.Fault it.0 ∷ []) none_told in (
+      refl,
+      upgrade_failed H.steps H.fails H.is_closed H.is_finished makes.makes_inbound makes.makes_outbound makes.listed makes.is_eager eager names role own
+          why it.0 (input ++ piece) (taken ++ c.take_output-in-Err.result.items) c.fail.new.told.items it.1
+          (subst (λ (t : List ℕ). Upgrades role own (input ++ piece) (Err why) t) written upgraded) told_is,
+    )

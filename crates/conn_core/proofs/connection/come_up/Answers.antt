@@ -1,0 +1,26 @@
+use Rattle.std.proofs.Common.{◌≡◌, ◌-◌, ℕ, false, List, [], ◌∷◌, ◌++◌, length, take, drop, sym, ap, ◌∙◌, subst, arith}
+use Rattle.std.specs.Prelude.{IfOk}
+use Rattle.std.proofs.lemmas.List.{append_assoc, take-append-drop, take_all, length-drop}
+use Rattle.conn_log.specs.declared.event.ConnEvent.{ConnEvent}
+use Rattle.conn_log.specs.declared.event.ConnEvent.TheVariants as event
+use Rattle.conn_core.specs.Connects.{Connects, IsUpWith}
+use Rattle.conn_core.proofs.connection.come_up.Goals as goal
+
+pub returns-clause-goes : goal.returns-clause-goes
+returns-clause-goes g c = λ role own eager names input taken upw none.
+    let H = g.P.H.Handler in
+    let makes = g.P.Protocols in
+    let piece = c.args.piece.now in
+    let used = c.args.used in
+    let first = input ++ take used piece in
+    let told_is : c.tell.new.told.items ≡ event.Upgraded c.args.proven ∷ [] =
+    c.in_ok-tell.ensures.told ∙ ap (λ (t : List (ConnEvent _)). t ++ event.Upgraded c.args.proven ∷ []) none in
+    let rest_is : c.in-Ok.rest ≡ drop used piece =
+    c.in-Ok.ensures.ok ∙ take_all (length piece - used) (drop used piece) (omega (arith, length-drop used piece)) in
+    let all : first ++ c.in-Ok.rest ≡ input ++ piece =
+    ap (λ (t : List ℕ). first ++ t) rest_is ∙ append_assoc input (take used piece) (drop used piece) ∙ ap (λ (t : List ℕ). input ++ t) (take-append-drop used piece) in
+    let up = subst (λ (t : List (ConnEvent _)). IsUpWith H.steps H.fails H.is_closed H.is_finished makes.makes_inbound makes.makes_outbound makes.listed makes.is_eager eager names role own
+    first t (taken ++ c.args.output.now.items) c.args.mux) (sym told_is) upw in
+    subst (λ (t : List ℕ). IfOk c.go_on.result (λ phase. Connects H.steps H.fails H.is_closed H.is_finished makes.makes_inbound makes.makes_outbound makes.listed makes.is_eager eager names role own
+    t false c.go_on.new.told.items taken phase [] c.go_on.new.output.items)) all
+    (c.go_on.ensures.goes role own eager names first taken [] up)

@@ -1,0 +1,143 @@
+-- Where an end of a connection stands, after this input was fed to it, these events were told, and this was written.
+-- Source: libp2p connections, "Establishing connections" and "Opening new streams over a connection"; plaintext 2.0.0;
+-- hashicorp yamux; what a connection tells is this project's profile.
+use Rattle.std.specs.Prelude.{◌≡◌, ℕ, Bool, true, false, List, [], ◌∷◌, ◌++◌, Option, Some, None}
+use Rattle.std.specs.Prelude.{Ok, Err}
+use Rattle.std.specs.Ordering.{nat_cmp}
+use Rattle.std.specs.BTreeMap as tree
+use Rattle.handlers.specs.Calls.{HandlerCall, Asked}
+use Rattle.peer_ids.specs.Key.{Key}
+use Rattle.peer_ids.specs.PeerId.{id_of}
+use Rattle.upgrade.specs.declared.role.ConnRole.{ConnRole}
+use Rattle.upgrade.specs.declared.role.ConnRole.TheVariants.{Dialer, Listener}
+use Rattle.upgrade.specs.declared.fault.UpgradeFault.{UpgradeFault}
+use Rattle.upgrade.specs.declared.fault.UpgradeFault.TheVariants as upgrade
+use Rattle.upgrade.specs.Upgrades.{Upgrades, ComesTo}
+use Rattle.upgrade.specs.State.{Upgrading, Stands as UpgradeStands}
+use Rattle.yamux_frames.specs.Frames.{EndsWithin}
+use Rattle.yamux_session.specs.declared.event.Role.{Role}
+use Rattle.yamux_session.specs.declared.event.Role.TheVariants.{Client, Server}
+use Rattle.yamux_session.specs.Output.{output}
+use Rattle.yamux_session.specs.State.{State}
+use Rattle.streams.specs.State.{Streaming}
+use Rattle.conn_log.specs.declared.earlier.Earlier.{Earlier}
+use Rattle.conn_log.specs.declared.event.ConnEvent.{ConnEvent}
+use Rattle.conn_log.specs.declared.event.ConnEvent.TheVariants as event
+use Rattle.conn_log.specs.declared.event.ConnFault.{ConnFault}
+use Rattle.conn_log.specs.declared.event.ConnFault.TheVariants as fault
+use Rattle.conn_log.specs.Entries.{Entry, items, said}
+use Rattle.conn_log.specs.Rests.{AreAtRest}
+use Rattle.mux.specs.declared.mux.Mux.{Mux}
+use Rattle.mux.specs.Faults.{Faults}
+use Rattle.conn_core.specs.declared.connection.Phase.{Phase}
+use Rattle.conn_core.specs.declared.connection.Phase.TheVariants as phases
+use Rattle.conn_core.specs.declared.connection.ConnCore.{ConnCore}
+
+-- the dialer is the client of the session
+abbrev pub session_role : ConnRole → Role
+session_role Dialer = Client
+session_role Listener = Server
+
+-- what is told of a fault of the upgrade that isn't want of memory
+abbrev pub told_of : UpgradeFault → Option ConnFault
+told_of (upgrade.Select why) = Some fault.Select
+told_of upgrade.NoneLeft = Some fault.NoneLeft
+told_of (upgrade.Exchange why) = Some fault.Exchange
+told_of upgrade.Failed = None
+told_of upgrade.OutOfMemory = None
+
+module _ {P H : Type 0} (step : H → HandlerCall → H → Type 0) (fails : H → Asked → ℕ → Type 0)
+    (is_closed is_finished : H → Bool) (inbound_makes outbound_makes : P → ℕ → List ℕ → H → Type 0)
+    (listed : P → List (List ℕ)) (is_eager : P → ℕ → Bool) (eager : ℕ → Bool) (names : List (List ℕ))
+    (role : ConnRole) (own : Key) where
+  -- It comes up: the upgrade has heard all of the input, and nothing was told.
+  pub record IsComing (input : List ℕ) (told : List (ConnEvent H)) (taken : List ℕ) (x : Upgrading) (protocols : P)
+      : Type 0 where
+    pub role_is : x.role ≡ role
+    pub own_is : x.own ≡ own
+    pub names_are : listed protocols ≡ names
+    pub eager_are : is_eager protocols ≡ eager
+    pub stands : UpgradeStands x input taken
+    pub none_told : told ≡ []
+
+  -- It is up, with the end that has proven this key: a first part of the input is the upgrade's, and the rest the
+  -- session's. Upgraded was told first, and then what the list says, each event where it was; what was written is what
+  -- the upgrade wrote, and behind it the output of the session.
+  pub record IsUp (input : List ℕ) (told : List (ConnEvent H)) (written : List ℕ) (session : State)
+      (streams : ℕ → Option (Streaming H)) (past : List (Earlier H)) : Type 0 where
+    pub key : Key
+    pub first : List ℕ
+    pub rest : List ℕ
+    pub greeting : List ℕ
+    pub log : List (Entry H)
+    pub input_is : input ≡ first ++ rest
+    pub upgraded : Upgrades role own first (Ok (Some key)) greeting
+    pub at_rest : AreAtRest step fails is_closed is_finished inbound_makes outbound_makes eager names (id_of key)
+        (session_role role) log rest (output (session_role role) (items log)) session streams past
+    pub told_is : told ≡ event.Upgraded key ∷ said log
+    pub written_is : written ≡ greeting ++ output (session_role role) (items log)
+
+  -- It was up, and the other end broke the rules of the session. What was told and written before is that of the list up
+  -- to the fault.
+  pub record IsFaulty (input : List ℕ) (told : List (ConnEvent H)) (written : List ℕ) : Type 0 where
+    pub key : Key
+    pub first : List ℕ
+    pub rest : List ℕ
+    pub greeting : List ℕ
+    pub sent : List ℕ
+    pub pending : List ℕ
+    pub before : List (ConnEvent H)
+    pub input_is : input ≡ first ++ rest
+    pub upgraded : Upgrades role own first (Ok (Some key)) greeting
+    pub faults : Faults step fails is_closed is_finished inbound_makes outbound_makes eager names (id_of key)
+        (session_role role) [] (event.Upgraded key ∷ []) before [] rest sent pending
+    pub told_is : told ≡ before ++ event.Fault fault.Mux ∷ []
+    pub written_is : written ≡ greeting ++ (sent ++ pending)
+
+  -- What a connection that is over has told and written: its last event is a Fault, or Shut.
+  pub data Ends (input : List ℕ) (ended : Bool) (told : List (ConnEvent H)) (written : List ℕ) : Type 0 where
+    -- the upgrade failed
+    Upgrade : (why : UpgradeFault) (named : ConnFault) (first : List ℕ) → told_of why ≡ Some named
+        → ComesTo role own input first (Err why) written → told ≡ event.Fault named ∷ [] → Ends input ended told written
+    -- the other end broke the rules of the session
+    Session : IsFaulty input told written → Ends input ended told written
+    -- the input ended within the upgrade
+    Early : ended ≡ true → Upgrades role own input (Ok None) written → told ≡ event.Fault fault.EarlyEnd ∷ []
+        → Ends input ended told written
+    -- or within a frame
+    Within : (before : List (ConnEvent H)) (session : State) (streams : ℕ → Option (Streaming H)) (past : List (Earlier H))
+        → ended ≡ true → (up : IsUp input before written session streams past) → EndsWithin up.rest
+        → told ≡ before ++ event.Fault fault.EarlyEnd ∷ [] → Ends input ended told written
+    -- or between two frames
+    Shut : (before : List (ConnEvent H)) (session : State) (streams : ℕ → Option (Streaming H)) (past : List (Earlier H))
+        → ended ≡ true → (up : IsUp input before written session streams past) → ¬ EndsWithin up.rest
+        → told ≡ before ++ event.Shut ∷ [] → Ends input ended told written
+
+  -- it is up, with this session and these streams
+  abbrev pub IsUpWith : List ℕ → List (ConnEvent H) → List ℕ → Mux P H → Type 0
+  IsUpWith input told written mux =
+      (listed mux.board.protocols ≡ names) × (is_eager mux.board.protocols ≡ eager)
+      × (mux.board.role ≡ session_role role)
+      × ((up : IsUp input told written mux.session (tree.get nat_cmp mux.board.streams) mux.board.past.items)
+      × (mux.board.peer ≡ id_of up.key))
+
+  -- where it stands, in each phase; what is owed is told by the next call
+  abbrev pub Connects : List ℕ → Bool → List (ConnEvent H) → List ℕ → Phase P H → List (ConnEvent H) → List ℕ → Type 0
+  Connects input ended told taken (phases.Upgrading x protocols) owed waiting =
+      (ended ≡ false) × (owed ≡ []) × (waiting ≡ []) × IsComing input told taken x protocols
+  Connects input ended told taken (phases.Up mux) owed waiting =
+      (ended ≡ false) × IsUpWith input (told ++ owed) (taken ++ waiting) mux
+  Connects input ended told taken phases.Over owed waiting =
+      (owed ≡ []) × Ends input ended told (taken ++ waiting)
+
+  -- An end of this role, with this key and these protocols, that was fed this input, has told these events, and of whose
+  -- output this was taken.
+  abbrev pub Stands : List ℕ → Bool → List (ConnEvent H) → List ℕ → ConnCore P H → Type 0
+  Stands input ended told taken core =
+      (core.role ≡ role) × Connects input ended told taken core.phase core.owed.items core.output.items
+
+-- the connection has failed or was shut, or ran out of memory
+abbrev pub is_over : {P H : Type 0} → Phase P H → Bool
+is_over (phases.Upgrading x protocols) = false
+is_over (phases.Up mux) = false
+is_over phases.Over = true

@@ -1,0 +1,2 @@
+-- cited by public clauses and laws
+pub mod Connects

@@ -1,0 +1,388 @@
+//! An end of a connection.
+
+ghost use Rattle.std.specs.Prelude.{length, take, ◌≤◌};
+ghost use Rattle.std.specs.Prelude.{◌≡◌, ◌≢◌, ℕ, Bool, true, false, List, [], ◌∷◌, ◌++◌, IfOk, IfErr, OnOk, OnErr, Some, Ok, Err};
+ghost use Rattle.peer_ids.specs.Key.{Key};
+ghost use Rattle.conn_log.specs.declared.event.ConnEvent.{ConnEvent};
+ghost use Rattle.conn_log.specs.declared.event.ConnEvent.TheVariants as event;
+ghost use Rattle.conn_log.specs.declared.event.ConnFault.{ConnFault};
+ghost use Rattle.upgrade.specs.declared.role.ConnRole.{ConnRole};
+ghost use Rattle.yamux_session.specs.History.{Item};
+ghost use Rattle.yamux_session.specs.State.{Stands as SessionStands};
+ghost use Rattle.yamux_session.specs.declared.event.Role.{Role};
+ghost use Rattle.conn_core.specs.Connects.{Stands, Connects, IsComing, IsUpWith, Ends, is_over, told_of, session_role};
+
+use bytes::Bytes;
+use conn_log::{ConnEvent, ConnFault, ConnRefused};
+use handlers::{Handler, Protocols};
+use mux::Mux;
+use peer_ids::PublicKey;
+use plaintext_x::Proven;
+use std::alloc::Global;
+use std::mem;
+use upgrade::{ConnRole, Progress, Upgrade, UpgradeFault};
+use yamux_session::{Role, Session};
+
+/// Where a connection is.
+#[derive(Drop)]
+pub enum Phase<P: Protocols> {
+    /// It comes up.
+    Upgrading(Upgrade, P),
+    /// It is up.
+    Up(Mux<P>),
+    /// It has failed or was shut, or ran out of memory.
+    Over,
+}
+
+/// An end of a connection, without its link.
+#[derive(Drop)]
+pub struct ConnCore<P: Protocols> {
+    role: ConnRole,
+    phase: Phase<P>,
+    /// What was met within an ask, and is told first by the next call.
+    owed: Vec<ConnEvent<P::H>>,
+    /// What was written and not yet taken, once the connection is up or over.
+    output: Vec<u8>,
+    alloc: Global,
+}
+
+/// The dialer is the client of the session.
+fn session_role(role: ConnRole) -> Role
+    ensures { result ≡ session_role role }
+{
+    match role {
+        ConnRole::Dialer => Role::Client,
+        ConnRole::Listener => Role::Server,
+    }
+}
+
+/// What is told of a fault of the upgrade, unless it is want of memory.
+fn told_of(fault: UpgradeFault) -> Option<ConnFault>
+    ensures { result ≡ told_of fault }
+{
+    match fault {
+        UpgradeFault::Select(_) => Some(ConnFault::Select),
+        UpgradeFault::NoneLeft => Some(ConnFault::NoneLeft),
+        UpgradeFault::Exchange(_) => Some(ConnFault::Exchange),
+        UpgradeFault::Failed => None,
+        UpgradeFault::OutOfMemory => None,
+    }
+}
+
+/// Moves what the session has written behind what waits.
+fn collect(output: &mut Vec<u8>, session: &mut Session) -> Result<(), ConnRefused>
+    ensures moved { OnOk result (output.new.items ≡ output.old.items ++ session.old.pending) }
+    ensures rest { session.new ≡ record session.old { pending = []; room = 0 } }
+    ensures stands { (role : Role) (past : List Item) (fed sent : List ℕ) → SessionStands role past fed sent session.old
+        → SessionStands role past fed (sent ++ session.old.pending) session.new }
+    ensures memory { OnErr result (result ≡ Err ConnRefused.OutOfMemory) }
+{
+    let bytes = session.take_output();
+    if output.is_empty() {
+        *output = bytes;
+        return Ok(());
+    }
+    match output.extend_from_slice(&bytes) {
+        Ok(()) => Ok(()),
+        Err(_) => Err(ConnRefused::OutOfMemory),
+    }
+}
+
+/// Tells an event behind those that were told.
+fn tell<H: Handler>(told: &mut Vec<ConnEvent<H>>, event: ConnEvent<H>) -> Result<(), ConnRefused>
+    ensures told { OnOk result (told.new.items ≡ told.old.items ++ event ∷ []) }
+    ensures memory { OnErr result (result ≡ Err ConnRefused.OutOfMemory) }
+{
+    match told.push(event) {
+        Ok(()) => Ok(()),
+        Err(_) => Err(ConnRefused::OutOfMemory),
+    }
+}
+
+/// Takes what came to a connection that is up, and tells what it led to; what the session wrote goes behind what waits.
+/// Where the other end broke the rules of the session, a Fault is told last, and the connection is over.
+fn go_on<P: Protocols>(
+    mux: Mux<P>,
+    output: &mut Vec<u8>,
+    piece: &Bytes,
+    told: &mut Vec<ConnEvent<P::H>>,
+) -> Result<Phase<P>, ConnRefused>
+    ensures goes { (role : ConnRole) (own : Key) (eager : ℕ → Bool) (names : List (List ℕ)) (input taken : List ℕ)
+        (before : List (ConnEvent P.H)) → IsUpWith P.H.steps P.H.fails P.H.is_closed P.H.is_finished
+        P.makes_inbound P.makes_outbound P.listed P.is_eager eager names role own input
+        (before ++ told.old.items) (taken ++ output.old.items) mux
+        → IfOk result (λ phase. Connects P.H.steps P.H.fails P.H.is_closed P.H.is_finished
+        P.makes_inbound P.makes_outbound P.listed P.is_eager eager names role own (input ++ piece.now) false
+        (before ++ told.new.items) taken phase [] output.new.items) }
+    ensures memory { OnErr result (result ≡ Err ConnRefused.OutOfMemory) }
+{
+    let mut mux = mux;
+    let Ok(()) = mux.feed(piece, told) else {
+        return Err(ConnRefused::OutOfMemory);
+    };
+    collect(output, &mut mux.session)?;
+    if mux.session.has_failed() {
+        tell(told, ConnEvent::Fault(ConnFault::Mux))?;
+        return Ok(Phase::Over);
+    }
+    Ok(Phase::Up(mux))
+}
+
+/// The connection has come up: it tells so first, and what follows in the piece is the session's.
+fn come_up<P: Protocols>(
+    mux: Mux<P>,
+    proven: Proven,
+    used: usize,
+    output: &mut Vec<u8>,
+    piece: &Bytes,
+    told: &mut Vec<ConnEvent<P::H>>,
+) -> Result<Phase<P>, ConnRefused>
+    requires within { used ≤ length piece.now }
+    ensures goes { (role : ConnRole) (own : Key) (eager : ℕ → Bool) (names : List (List ℕ)) (input taken : List ℕ)
+        → IsUpWith P.H.steps P.H.fails P.H.is_closed P.H.is_finished P.makes_inbound P.makes_outbound P.listed
+        P.is_eager eager names role own (input ++ take used piece.now) (event.Upgraded proven ∷ [])
+        (taken ++ output.old.items) mux → told.old.items ≡ []
+        → IfOk result (λ phase. Connects P.H.steps P.H.fails P.H.is_closed P.H.is_finished P.makes_inbound
+        P.makes_outbound P.listed P.is_eager eager names role own (input ++ piece.now) false told.new.items taken phase
+        [] output.new.items) }
+    ensures memory { OnErr result (result ≡ Err ConnRefused.OutOfMemory) }
+{
+    tell(told, ConnEvent::Upgraded(proven))?;
+    let Ok(rest) = piece.slice(used..) else {
+        return Err(ConnRefused::OutOfMemory);
+    };
+    go_on(mux, output, &rest, told)
+}
+
+/// Tells a fault of the upgrade, unless it is want of memory.
+fn fail<H: Handler>(fault: UpgradeFault, told: &mut Vec<ConnEvent<H>>) -> Result<(), ConnRefused>
+    ensures told { OnOk result ((named : ConnFault) × (told_of fault ≡ Some named)
+        × (told.new.items ≡ told.old.items ++ event.Fault named ∷ [])) }
+    ensures memory { OnErr result (result ≡ Err ConnRefused.OutOfMemory) }
+{
+    match told_of(fault) {
+        Some(named) => tell(told, ConnEvent::Fault(named)),
+        None => Err(ConnRefused::OutOfMemory),
+    }
+}
+
+/// Takes what came to a connection that comes up. Behind the last byte of its upgrade it is up, and what follows is the
+/// session's. A fault of the upgrade is told, and the connection is over.
+fn bring_up<P: Protocols>(
+    alloc: Global,
+    role: ConnRole,
+    upgrade: Upgrade,
+    protocols: P,
+    output: &mut Vec<u8>,
+    piece: &Bytes,
+    told: &mut Vec<ConnEvent<P::H>>,
+) -> Result<Phase<P>, ConnRefused>
+    ensures goes { (own : Key) (eager : ℕ → Bool) (names : List (List ℕ)) (input taken : List ℕ)
+        → IsComing P.H.steps P.H.fails P.H.is_closed P.H.is_finished P.makes_inbound P.makes_outbound P.listed
+        P.is_eager eager names role own input [] taken upgrade protocols → output.old.items ≡ [] → told.old.items ≡ []
+        → IfOk result (λ phase. Connects P.H.steps P.H.fails P.H.is_closed P.H.is_finished P.makes_inbound
+        P.makes_outbound P.listed P.is_eager eager names role own (input ++ piece.now) false told.new.items taken phase
+        [] output.new.items) }
+    ensures memory { OnErr result (result ≡ Err ConnRefused.OutOfMemory) }
+{
+    let mut upgrade = upgrade;
+    match upgrade.feed(piece) {
+        Ok(Progress::Going) => Ok(Phase::Upgrading(upgrade, protocols)),
+        Ok(Progress::Up { used, proven }) => {
+            *output = upgrade.take_output();
+            let mux = Mux::new(alloc, session_role(role), proven.peer(), protocols);
+            come_up(mux, proven, used, output, piece, told)
+        }
+        Err(fault) => {
+            *output = upgrade.take_output();
+            match fail(fault, told) {
+                Ok(()) => Ok(Phase::Over),
+                Err(refused) => Err(refused),
+            }
+        }
+    }
+}
+
+/// Takes what came, in any phase but the last.
+fn take_on<P: Protocols>(
+    alloc: Global,
+    role: ConnRole,
+    phase: Phase<P>,
+    output: &mut Vec<u8>,
+    piece: &Bytes,
+    told: &mut Vec<ConnEvent<P::H>>,
+) -> Result<Phase<P>, ConnRefused>
+    ensures goes { (own : Key) (eager : ℕ → Bool) (names : List (List ℕ)) (input taken : List ℕ)
+        (before : List (ConnEvent P.H)) → Connects P.H.steps P.H.fails P.H.is_closed P.H.is_finished P.makes_inbound
+        P.makes_outbound P.listed P.is_eager eager names role own input false before taken phase told.old.items
+        output.old.items → is_over phase ≡ false
+        → IfOk result (λ now. Connects P.H.steps P.H.fails P.H.is_closed P.H.is_finished P.makes_inbound
+        P.makes_outbound P.listed P.is_eager eager names role own (input ++ piece.now) false
+        (before ++ told.new.items) taken now [] output.new.items) }
+    ensures memory { OnErr result (result ≡ Err ConnRefused.OutOfMemory) }
+{
+    match phase {
+        Phase::Upgrading(upgrade, protocols) => {
+            bring_up(alloc, role, upgrade, protocols, output, piece, told)
+        }
+        Phase::Up(mux) => go_on(mux, output, piece, told),
+        Phase::Over => Err(ConnRefused::OutOfMemory),
+    }
+}
+
+/// What is told last where the input ends in this phase. What an upgrade has written waits then.
+fn last_event<P: Protocols>(phase: Phase<P>, output: &mut Vec<u8>) -> ConnEvent<P::H>
+    ensures ends { (role : ConnRole) (own : Key) (eager : ℕ → Bool) (names : List (List ℕ)) (input taken : List ℕ)
+        (before owed : List (ConnEvent P.H)) → Connects P.H.steps P.H.fails P.H.is_closed P.H.is_finished
+        P.makes_inbound P.makes_outbound P.listed P.is_eager eager names role own input false before taken phase owed
+        output.old.items → is_over phase ≡ false
+        → Ends P.H.steps P.H.fails P.H.is_closed P.H.is_finished P.makes_inbound P.makes_outbound P.listed P.is_eager
+        eager names role own input true ((before ++ owed) ++ result ∷ []) (taken ++ output.new.items) }
+{
+    match phase {
+        Phase::Upgrading(upgrade, _) => {
+            let mut upgrade = upgrade;
+            *output = upgrade.take_output();
+            ConnEvent::Fault(ConnFault::EarlyEnd)
+        }
+        Phase::Up(mux) => {
+            if mux.session.mid_frame() {
+                return ConnEvent::Fault(ConnFault::EarlyEnd);
+            }
+            ConnEvent::Shut
+        }
+        Phase::Over => ConnEvent::Shut,
+    }
+}
+
+impl<P: Protocols> ConnCore<P> {
+    /// An end of this role, with this key and these protocols, before any byte came. It has written the first bytes of
+    /// its upgrade. Its only refusal is want of memory.
+    pub fn new(
+        alloc: Global,
+        role: ConnRole,
+        key: PublicKey,
+        protocols: P,
+    ) -> Result<ConnCore<P>, ConnRefused>
+        ensures stands { IfOk result (λ core. Stands P.H.steps P.H.fails P.H.is_closed P.H.is_finished P.makes_inbound
+            P.makes_outbound P.listed P.is_eager (P.is_eager protocols) (P.listed protocols) role key [] false [] [] core) }
+        ensures memory { OnErr result (result ≡ Err ConnRefused.OutOfMemory) }
+    {
+        match Upgrade::new(alloc, role, key) {
+            Ok(upgrade) => Ok(ConnCore {
+                role,
+                phase: Phase::Upgrading(upgrade, protocols),
+                owed: Vec::new(alloc),
+                output: Vec::new(alloc),
+                alloc,
+            }),
+            Err(_) => Err(ConnRefused::OutOfMemory),
+        }
+    }
+
+    /// Whether the connection has failed or was shut, or ran out of memory.
+    pub fn is_over(&self) -> bool
+        ensures { result ≡ is_over self.now.phase }
+    {
+        match &self.phase {
+            Phase::Upgrading(..) => false,
+            Phase::Up(_) => false,
+            Phase::Over => true,
+        }
+    }
+
+    /// Takes the bytes that came, and tells what they led to. Each Payload that is handed on is a slice of the piece.
+    ///
+    /// A Fault is told last, and the connection is over. Where memory was refused, it is over too, and what was written
+    /// before can still be taken.
+    pub fn feed_shared(&mut self, piece: Bytes) -> Result<Vec<ConnEvent<P::H>>, ConnRefused>
+        ensures fed { (role : ConnRole) (own : Key) (eager : ℕ → Bool) (names : List (List ℕ)) (input taken : List ℕ)
+            (told : List (ConnEvent P.H)) → Stands P.H.steps P.H.fails P.H.is_closed P.H.is_finished P.makes_inbound
+            P.makes_outbound P.listed P.is_eager eager names role own input false told taken self.old
+            → is_over self.old.phase ≡ false
+            → IfOk result (λ events. Stands P.H.steps P.H.fails P.H.is_closed P.H.is_finished P.makes_inbound
+            P.makes_outbound P.listed P.is_eager eager names role own (input ++ piece) false (told ++ events.items) taken
+            self.new) }
+        ensures refused { is_over self.old.phase ≡ false
+            → OnErr result ((result ≡ Err ConnRefused.OutOfMemory) × (is_over self.new.phase ≡ true)) }
+        ensures failed { is_over self.old.phase ≡ true → (result ≡ Err ConnRefused.Failed) × (self.new ≡ self.old) }
+    {
+        if self.is_over() {
+            return Err(ConnRefused::Failed);
+        }
+        let phase = mem::replace(&mut self.phase, Phase::Over);
+        let mut told = mem::replace(&mut self.owed, Vec::new(self.alloc));
+        self.phase = take_on(
+            self.alloc,
+            self.role,
+            phase,
+            &mut self.output,
+            &piece,
+            &mut told,
+        )?;
+        Ok(told)
+    }
+
+    /// The same, of bytes that are copied once.
+    pub fn feed(&mut self, bytes: &[u8]) -> Result<Vec<ConnEvent<P::H>>, ConnRefused>
+        ensures fed { (role : ConnRole) (own : Key) (eager : ℕ → Bool) (names : List (List ℕ)) (input taken : List ℕ)
+            (told : List (ConnEvent P.H)) → Stands P.H.steps P.H.fails P.H.is_closed P.H.is_finished P.makes_inbound
+            P.makes_outbound P.listed P.is_eager eager names role own input false told taken self.old
+            → is_over self.old.phase ≡ false
+            → IfOk result (λ events. Stands P.H.steps P.H.fails P.H.is_closed P.H.is_finished P.makes_inbound
+            P.makes_outbound P.listed P.is_eager eager names role own (input ++ bytes.now) false (told ++ events.items)
+            taken self.new) }
+        ensures refused { is_over self.old.phase ≡ false
+            → OnErr result ((result ≡ Err ConnRefused.OutOfMemory) × (is_over self.new.phase ≡ true)) }
+        ensures failed { is_over self.old.phase ≡ true → (result ≡ Err ConnRefused.Failed) × (self.new ≡ self.old) }
+    {
+        if self.is_over() {
+            return Err(ConnRefused::Failed);
+        }
+        match Bytes::copy_from_slice(self.alloc, bytes) {
+            Ok(piece) => self.feed_shared(piece),
+            Err(_) => {
+                self.phase = Phase::Over;
+                Err(ConnRefused::OutOfMemory)
+            }
+        }
+    }
+
+    /// The input of the link has ended: it tells what is owed, and last Shut, or Fault(EarlyEnd) within the upgrade or
+    /// within a frame. No handler is called.
+    pub fn ended(&mut self) -> Result<Vec<ConnEvent<P::H>>, ConnRefused>
+        ensures ends { (role : ConnRole) (own : Key) (eager : ℕ → Bool) (names : List (List ℕ)) (input taken : List ℕ)
+            (told : List (ConnEvent P.H)) → Stands P.H.steps P.H.fails P.H.is_closed P.H.is_finished P.makes_inbound
+            P.makes_outbound P.listed P.is_eager eager names role own input false told taken self.old
+            → is_over self.old.phase ≡ false
+            → IfOk result (λ events. Stands P.H.steps P.H.fails P.H.is_closed P.H.is_finished P.makes_inbound
+            P.makes_outbound P.listed P.is_eager eager names role own input true (told ++ events.items) taken self.new) }
+        ensures over { is_over self.new.phase ≡ true }
+        ensures refused { is_over self.old.phase ≡ false → OnErr result (result ≡ Err ConnRefused.OutOfMemory) }
+        ensures failed { is_over self.old.phase ≡ true → (result ≡ Err ConnRefused.Failed) × (self.new ≡ self.old) }
+    {
+        if self.is_over() {
+            return Err(ConnRefused::Failed);
+        }
+        let phase = mem::replace(&mut self.phase, Phase::Over);
+        let mut told = mem::replace(&mut self.owed, Vec::new(self.alloc));
+        let last = last_event(phase, &mut self.output);
+        tell(&mut told, last)?;
+        Ok(told)
+    }
+
+    /// The bytes to send that were not taken yet; afterwards none wait. It takes no memory, and always answers: what was
+    /// written before a fault, or before memory was refused, is given still.
+    pub fn take_output(&mut self) -> Vec<u8>
+        ensures stands { (role : ConnRole) (own : Key) (eager : ℕ → Bool) (names : List (List ℕ)) (input taken : List ℕ)
+            (ended : Bool) (told : List (ConnEvent P.H)) → Stands P.H.steps P.H.fails P.H.is_closed P.H.is_finished
+            P.makes_inbound P.makes_outbound P.listed P.is_eager eager names role own input ended told taken self.old
+            → Stands P.H.steps P.H.fails P.H.is_closed P.H.is_finished P.makes_inbound
+            P.makes_outbound P.listed P.is_eager eager names role own input ended told (taken ++ result.items) self.new }
+    {
+        if let Phase::Upgrading(upgrade, _) = &mut self.phase {
+            return upgrade.take_output();
+        }
+        mem::replace(&mut self.output, Vec::new(self.alloc))
+    }
+}
