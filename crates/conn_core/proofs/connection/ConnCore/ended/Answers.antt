@@ -18,11 +18,12 @@ returns-clause-ends g c = λ role own eager names input taken told stands going.
     let told_is : told ++ c.tell.new.told.items ≡ (told ++ core.owed.items) ++ last ∷ [] =
     ap (λ (t : List (ConnEvent _)). told ++ t) (c.in_ok-tell.ensures.told ∙ ap (λ (v : Vec (ConnEvent _) _). v.items ++ last ∷ []) c.replace-told.ensures.value)
     ∙ sym (append_assoc told core.owed.items (last ∷ [])) in
-    let owed_is : c.replace-told.new.dest.items ≡ [] = ap (λ (v : Vec (ConnEvent _) _). v.items) c.replace-told.ensures.after ∙ c.new.ensures.items in
-    (
+    let owed_is : c.replace-told.new.dest.items ≡ [] = ap (λ (v : Vec (ConnEvent _) _). v.items) c.replace-told.ensures.after ∙ c.new.ensures.items in (
       stands.0,
       subst (λ (p : Phase _ _). Connects H.steps H.fails H.is_closed H.is_finished makes.makes_inbound makes.makes_outbound makes.listed makes.is_eager eager names role own
-      input true (told ++ c.tell.new.told.items) taken p c.replace-told.new.dest.items c.last_event-last.new.output.items) (sym c.replace-phase.ensures.after)
-      (owed_is, subst (λ (t : List (ConnEvent _)). Ends H.steps H.fails H.is_closed H.is_finished makes.makes_inbound makes.makes_outbound makes.listed makes.is_eager eager names role own
-      input true t (taken ++ c.last_event-last.new.output.items)) (sym told_is) ends),
+          input true (told ++ c.tell.new.told.items) taken p c.replace-told.new.dest.items c.last_event-last.new.output.items) (sym c.replace-phase.ensures.after) (
+            owed_is,
+            subst (λ (t : List (ConnEvent _)). Ends H.steps H.fails H.is_closed H.is_finished makes.makes_inbound makes.makes_outbound makes.listed makes.is_eager eager names role own
+                input true t (taken ++ c.last_event-last.new.output.items)) (sym told_is) ends,
+          ),
     )
