@@ -77,8 +77,8 @@ module _ {P H : Type 0} (step : H → HandlerCall → H → Type 0) (fails : H �
     pub told_is : told ≡ event.Upgraded key ∷ said log
     pub written_is : written ≡ greeting ++ output (session_role role) (items log)
 
-  -- It was up, and the other end broke the rules of the session. What was told and written before is that of the list up
-  -- to the fault.
+  -- It was up, and the other end broke the rules of the session. What was told and written before is that of the list
+  -- up to the fault.
   pub record IsFaulty (input : List ℕ) (told : List (ConnEvent H)) (written : List ℕ) : Type 0 where
     pub key : Key
     pub first : List ℕ
@@ -105,13 +105,13 @@ module _ {P H : Type 0} (step : H → HandlerCall → H → Type 0) (fails : H �
     Early : ended ≡ true → Upgrades role own input (Ok None) written → told ≡ event.Fault fault.EarlyEnd ∷ []
         → Ends input ended told written
     -- or within a frame
-    Within : (before : List (ConnEvent H)) (session : State) (streams : ℕ → Option (Streaming H)) (past : List (Earlier H))
-        → ended ≡ true → (up : IsUp input before written session streams past) → EndsWithin up.rest
-        → told ≡ before ++ event.Fault fault.EarlyEnd ∷ [] → Ends input ended told written
+    Within : (before : List (ConnEvent H)) (session : State) (streams : ℕ → Option (Streaming H))
+        (past : List (Earlier H)) → ended ≡ true → (up : IsUp input before written session streams past)
+        → EndsWithin up.rest → told ≡ before ++ event.Fault fault.EarlyEnd ∷ [] → Ends input ended told written
     -- or between two frames
-    Shut : (before : List (ConnEvent H)) (session : State) (streams : ℕ → Option (Streaming H)) (past : List (Earlier H))
-        → ended ≡ true → (up : IsUp input before written session streams past) → ¬ EndsWithin up.rest
-        → told ≡ before ++ event.Shut ∷ [] → Ends input ended told written
+    Shut : (before : List (ConnEvent H)) (session : State) (streams : ℕ → Option (Streaming H))
+        (past : List (Earlier H)) → ended ≡ true → (up : IsUp input before written session streams past)
+        → ¬ EndsWithin up.rest → told ≡ before ++ event.Shut ∷ [] → Ends input ended told written
 
   -- it is up, with this session and these streams
   abbrev pub IsUpWith : List ℕ → List (ConnEvent H) → List ℕ → Mux P H → Type 0
@@ -130,8 +130,8 @@ module _ {P H : Type 0} (step : H → HandlerCall → H → Type 0) (fails : H �
   Connects input ended told taken phases.Over owed waiting =
       (owed ≡ []) × Ends input ended told (taken ++ waiting)
 
-  -- An end of this role, with this key and these protocols, that was fed this input, has told these events, and of whose
-  -- output this was taken.
+  -- An end of this role, with this key and these protocols, that was fed this input, has told these events, and of
+  -- whose output this was taken.
   abbrev pub Stands : List ℕ → Bool → List (ConnEvent H) → List ℕ → ConnCore P H → Type 0
   Stands input ended told taken core =
       (core.role ≡ role) × Connects input ended told taken core.phase core.owed.items core.output.items

@@ -1,7 +1,7 @@
 //! An end of a connection.
 
-ghost use Rattle.std.specs.Prelude.{length, take, ◌≤◌};
-ghost use Rattle.std.specs.Prelude.{◌≡◌, ◌≢◌, ℕ, Bool, true, false, List, [], ◌∷◌, ◌++◌, IfOk, IfErr, OnOk, OnErr, Some, Ok, Err};
+ghost use Rattle.std.specs.Prelude.{length, take, ◌≤◌, IfOk, IfErr, OnOk, OnErr, Some, Ok, Err};
+ghost use Rattle.std.specs.Prelude.{◌≡◌, ◌≢◌, ℕ, Bool, true, false, List, [], ◌∷◌, ◌++◌};
 ghost use Rattle.peer_ids.specs.Key.{Key};
 ghost use Rattle.conn_log.specs.declared.event.ConnEvent.{ConnEvent};
 ghost use Rattle.conn_log.specs.declared.event.ConnEvent.TheVariants as event;
@@ -265,7 +265,8 @@ impl<P: Protocols> ConnCore<P> {
         protocols: P,
     ) -> Result<ConnCore<P>, ConnRefused>
         ensures stands { IfOk result (λ core. Stands P.H.steps P.H.fails P.H.is_closed P.H.is_finished P.makes_inbound
-            P.makes_outbound P.listed P.is_eager (P.is_eager protocols) (P.listed protocols) role key [] false [] [] core) }
+            P.makes_outbound P.listed P.is_eager (P.is_eager protocols) (P.listed protocols) role key [] false [] []
+            core) }
         ensures memory { OnErr result (result ≡ Err ConnRefused.OutOfMemory) }
     {
         match Upgrade::new(alloc, role, key) {
@@ -301,8 +302,8 @@ impl<P: Protocols> ConnCore<P> {
             P.makes_outbound P.listed P.is_eager eager names role own input false told taken self.old
             → is_over self.old.phase ≡ false
             → IfOk result (λ events. Stands P.H.steps P.H.fails P.H.is_closed P.H.is_finished P.makes_inbound
-            P.makes_outbound P.listed P.is_eager eager names role own (input ++ piece) false (told ++ events.items) taken
-            self.new) }
+            P.makes_outbound P.listed P.is_eager eager names role own (input ++ piece) false (told ++ events.items)
+            taken self.new) }
         ensures refused { is_over self.old.phase ≡ false
             → OnErr result ((result ≡ Err ConnRefused.OutOfMemory) × (is_over self.new.phase ≡ true)) }
         ensures failed { is_over self.old.phase ≡ true → (result ≡ Err ConnRefused.Failed) × (self.new ≡ self.old) }
@@ -356,7 +357,8 @@ impl<P: Protocols> ConnCore<P> {
             P.makes_outbound P.listed P.is_eager eager names role own input false told taken self.old
             → is_over self.old.phase ≡ false
             → IfOk result (λ events. Stands P.H.steps P.H.fails P.H.is_closed P.H.is_finished P.makes_inbound
-            P.makes_outbound P.listed P.is_eager eager names role own input true (told ++ events.items) taken self.new) }
+            P.makes_outbound P.listed P.is_eager eager names role own input true (told ++ events.items) taken
+            self.new) }
         ensures over { is_over self.new.phase ≡ true }
         ensures refused { is_over self.old.phase ≡ false → OnErr result (result ≡ Err ConnRefused.OutOfMemory) }
         ensures failed { is_over self.old.phase ≡ true → (result ≡ Err ConnRefused.Failed) × (self.new ≡ self.old) }
@@ -371,14 +373,15 @@ impl<P: Protocols> ConnCore<P> {
         Ok(told)
     }
 
-    /// The bytes to send that were not taken yet; afterwards none wait. It takes no memory, and always answers: what was
-    /// written before a fault, or before memory was refused, is given still.
+    /// The bytes to send that were not taken yet; afterwards none wait. It takes no memory, and always answers: what
+    /// was written before a fault, or before memory was refused, is given still.
     pub fn take_output(&mut self) -> Vec<u8>
         ensures stands { (role : ConnRole) (own : Key) (eager : ℕ → Bool) (names : List (List ℕ)) (input taken : List ℕ)
             (ended : Bool) (told : List (ConnEvent P.H)) → Stands P.H.steps P.H.fails P.H.is_closed P.H.is_finished
             P.makes_inbound P.makes_outbound P.listed P.is_eager eager names role own input ended told taken self.old
             → Stands P.H.steps P.H.fails P.H.is_closed P.H.is_finished P.makes_inbound
-            P.makes_outbound P.listed P.is_eager eager names role own input ended told (taken ++ result.items) self.new }
+            P.makes_outbound P.listed P.is_eager eager names role own input ended told (taken ++ result.items)
+            self.new }
     {
         if let Phase::Upgrading(upgrade, _) = &mut self.phase {
             return upgrade.take_output();
