@@ -14,7 +14,7 @@ use Rattle.conn_log.specs.Entries.{Entry, items, said}
 use Rattle.conn_log.specs.Entries.Entry.{Says}
 use Rattle.conn_log.specs.Held.{IsHeld}
 use Rattle.conn_log.specs.Routes.{IsMoving, Around, Routes, Routed}
-use Rattle.conn_log.proofs.Settling.{said_append}
+use Rattle.conn_log.proofs.Settling.{said_append, none_asked}
 use Rattle.conn_log.proofs.Ending.{ended_view, end_came}
 use Rattle.conn_log.proofs.Data.{with_bytes, data_came}
 
@@ -30,12 +30,12 @@ module _ {P H : Type 0} (step : H → HandlerCall → H → Type 0) (fails : H �
   pub told_none : (view : Seen) → after ≡ before
       → Routes step fails is_closed is_finished inbound_makes outbound_makes eager names peer role log fed sent session streams past n view rest
       → Routed step fails is_closed is_finished inbound_makes outbound_makes eager names peer role log before after fed sent session streams past n rest
-  told_none view same r = record { newer = []; view = view; told_is = same ∙ sym (append-nil before); untold = refl; routes = r }
+  told_none view same r = record { newer = []; view = view; told_is = same ∙ sym (append-nil before); untold = refl; unasked = refl; routes = r }
 
   pub told_at : (view : Seen) (told : ConnEvent H) → after ≡ before ++ told ∷ []
       → Routes step fails is_closed is_finished inbound_makes outbound_makes eager names peer role (Says told ∷ log) fed sent session streams past n view rest
       → Routed step fails is_closed is_finished inbound_makes outbound_makes eager names peer role log before after fed sent session streams past n rest
-  told_at view told is r = record { newer = Says told ∷ []; view = view; told_is = is; untold = refl; routes = r }
+  told_at view told is r = record { newer = Says told ∷ []; view = view; told_is = is; untold = refl; unasked = refl; routes = r }
 
   -- the event was told before it was routed
   pub told_then : (told : ConnEvent H) → after ≡ before ++ told ∷ []
@@ -46,6 +46,7 @@ module _ {P H : Type 0} (step : H → HandlerCall → H → Type 0) (fails : H �
     view = r.view;
     told_is = is ∙ ap (λ t. before ++ t) (sym (said_append r.newer (Says told ∷ []) ∙ ap (λ t. (told ∷ []) ++ t) (sym r.told_is)));
     untold = ap (λ t. events role (items t)) (append_assoc r.newer (Says told ∷ []) log) ∙ r.untold;
+    unasked = none_asked r.newer (Says told ∷ []) r.unasked refl;
     routes = subst (λ t. Routes step fails is_closed is_finished inbound_makes outbound_makes eager names peer role t fed sent session streams past n r.view rest)
         (sym (append_assoc r.newer (Says told ∷ []) log)) r.routes;
   }

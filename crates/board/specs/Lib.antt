@@ -1,2 +1,4 @@
 -- inside
 pub mod Boards
+-- cited by public clauses and laws
+pub mod Handlers

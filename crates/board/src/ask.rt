@@ -142,6 +142,9 @@ impl<P: Protocols> Board<P> {
             number index log owed.old.items owed.new.items fed sent session.new (tree.get nat_cmp self.new.streams)
             self.new.past.items) }
         ensures bad_index { length (P.listed self.old.protocols) ≤ index → result ≡ Err ConnRefused.BadIndex }
+        ensures within { IfOk result (λ number. index < length (P.listed self.old.protocols)) }
+        ensures opened { IfOk result (λ number.
+            Whenever session.old (λ role past. start_refusal role past ≡ None)) }
         // Where several reasons hold, the session's own order decides.
         ensures refused { index < length (P.listed self.old.protocols) → IfErr result (λ refused.
             Whenever session.old (λ role past. IsRefusedAs (start_refusal role past) refused)) }

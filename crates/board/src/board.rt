@@ -10,7 +10,7 @@ ghost use Rattle.yamux_session.specs.Seen.{Seen, just_opened};
 ghost use Rattle.yamux_session.specs.State.{State, Stands as SessionStands};
 ghost use Rattle.conn_log.specs.Entries.{Entry, items, agreement, since, made_of, is_over};
 ghost use Rattle.conn_log.specs.Due.{direction_of, IsGivenUp, WasReset};
-ghost use Rattle.conn_log.specs.Held.{IsHeld, IsPast};
+ghost use Rattle.conn_log.specs.Held.{IsHeld};
 ghost use Rattle.conn_log.specs.Routes.{Around, Routes, Routed, Comes, Resets, set_aside};
 ghost use Rattle.conn_log.specs.Asked.{told_of};
 ghost use Rattle.board.specs.Boards.{Keeps};
@@ -228,9 +228,8 @@ impl<P: Protocols> Board<P> {
         ensures routes { (log : List (Entry P.H)) (fed sent : List ℕ) (rest : List Told)
             → Around P.H.steps P.H.fails P.H.is_closed P.H.is_finished P.makes_inbound P.makes_outbound
             (P.is_eager self.old.protocols) (P.listed self.old.protocols) self.old.peer self.old.role log fed sent
-            session.old (tree.get nat_cmp self.old.streams) self.old.past.items number just_opened rest
-            → IfSome (tree.get nat_cmp self.old.streams number) (λ it. IsPast P.H.steps P.H.is_closed P.H.is_finished
-            (P.listed self.old.protocols) self.old.role log number it)
+            session.old (tree.get nat_cmp self.old.streams)
+            (self.old.past.items ++ set_aside number (tree.get nat_cmp self.old.streams number)) number just_opened rest
             → since self.old.role log number ≡ [] → is_own self.old.role number ≡ false
             → OnOk result (Routed P.H.steps P.H.fails P.H.is_closed P.H.is_finished P.makes_inbound P.makes_outbound
             (P.is_eager self.old.protocols) (P.listed self.old.protocols) self.old.peer self.old.role log

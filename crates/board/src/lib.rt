@@ -4,6 +4,7 @@
 
 mod ask;
 mod board;
+mod held;
 mod route;
 
 pub use board::Board;

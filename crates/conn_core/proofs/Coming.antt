@@ -28,7 +28,7 @@ module _ {P H : Type 0} (step : H → HandlerCall → H → Type 0) (fails : H �
       → mux.board.protocols ≡ protocols → mux.board.role ≡ side → mux.board.peer ≡ peer
       → AreAtRest step fails is_closed is_finished inbound_makes outbound_makes (is_eager protocols) (listed protocols) peer side [] [] [] mux.session (tree.get nat_cmp mux.board.streams) mux.board.past.items
       → Upgrades role own first (Ok (Some key)) written
-      → IsUpWith step fails is_closed is_finished inbound_makes outbound_makes listed is_eager eager names role own first (event.Upgraded key ∷ []) written mux
+      → IsUpWith step fails is_closed is_finished inbound_makes outbound_makes listed is_eager eager names role own first [] (event.Upgraded key ∷ []) written mux
   just_up protocols mux key first written peer side names_are eager_are side_is peer_is protocols_are role_is board_peer fresh upgraded = (
     ap listed protocols_are ∙ names_are,
     ap is_eager protocols_are ∙ eager_are,
@@ -44,6 +44,8 @@ module _ {P H : Type 0} (step : H → HandlerCall → H → Type 0) (fails : H �
         upgraded = upgraded;
         at_rest = as_known (is_eager protocols) eager (listed protocols) names peer (id_of key) side (session_role role) eager_are names_are peer_is side_is
             (λ e n p r. AreAtRest step fails is_closed is_finished inbound_makes outbound_makes e n p r [] [] [] mux.session (tree.get nat_cmp mux.board.streams) mux.board.past.items) fresh;
+        asks_are = refl;
+        early = λ n index is. absurd (cc is);
         told_is = refl;
         written_is = sym (append-nil written);
       },
@@ -52,6 +54,6 @@ module _ {P H : Type 0} (step : H → HandlerCall → H → Type 0) (fails : H �
   )
 
   pub upgrade_failed : (why : UpgradeFault) (named : ConnFault) (input written : List ℕ) (told : List (ConnEvent H)) → told_of why ≡ Some named → Upgrades role own input (Err why) written
-      → told ≡ event.Fault named ∷ [] → Ends step fails is_closed is_finished inbound_makes outbound_makes listed is_eager eager names role own input false told written
+      → told ≡ event.Fault named ∷ [] → Ends step fails is_closed is_finished inbound_makes outbound_makes listed is_eager eager names role own input false [] told written
   upgrade_failed why named input written told told_is upgrades is =
-      Upgrade why named input told_is (record { rest = []; input_is = sym (append-nil input); upgrades = upgrades; all = λ up. refl }) is
+      Upgrade why named input told_is (record { rest = []; input_is = sym (append-nil input); upgrades = upgrades; all = λ up. refl }) refl is

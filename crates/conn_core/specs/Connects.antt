@@ -2,8 +2,9 @@
 -- Source: libp2p connections, "Establishing connections" and "Opening new streams over a connection"; plaintext 2.0.0;
 -- hashicorp yamux; what a connection tells is this project's profile.
 use Rattle.std.specs.Prelude.{◌≡◌, ℕ, Bool, true, false, List, [], ◌∷◌, ◌++◌, Option, Some, None}
-use Rattle.std.specs.Prelude.{Ok, Err}
+use Rattle.std.specs.Prelude.{Ok, Err, length, ◌<◌, ◌≤◌, ◌⊎◌}
 use Rattle.std.specs.Ordering.{nat_cmp}
+use Rattle.std.specs.List.{AllByRecursion}
 use Rattle.std.specs.BTreeMap as tree
 use Rattle.handlers.specs.Calls.{HandlerCall, Asked}
 use Rattle.peer_ids.specs.Key.{Key}
@@ -18,15 +19,20 @@ use Rattle.yamux_frames.specs.Frames.{EndsWithin}
 use Rattle.yamux_session.specs.declared.event.Role.{Role}
 use Rattle.yamux_session.specs.declared.event.Role.TheVariants.{Client, Server}
 use Rattle.yamux_session.specs.Output.{output}
-use Rattle.yamux_session.specs.State.{State}
+use Rattle.yamux_session.specs.Acts.{start_refusal}
+use Rattle.yamux_session.specs.State.{State, Whenever}
 use Rattle.streams.specs.State.{Streaming}
 use Rattle.conn_log.specs.declared.earlier.Earlier.{Earlier}
 use Rattle.conn_log.specs.declared.event.ConnEvent.{ConnEvent}
 use Rattle.conn_log.specs.declared.event.ConnEvent.TheVariants as event
 use Rattle.conn_log.specs.declared.event.ConnFault.{ConnFault}
 use Rattle.conn_log.specs.declared.event.ConnFault.TheVariants as fault
-use Rattle.conn_log.specs.Entries.{Entry, items, said}
+use Rattle.conn_log.specs.Entries.{Entry, items, said, asks}
+use Rattle.conn_log.specs.Asked.{AreMadeEarly, IsRefusedAs, IsBrokenOf}
+use Rattle.conn_log.specs.declared.event.ConnRefused.{ConnRefused}
+use Rattle.conn_log.specs.declared.event.ConnRefused.TheVariants as refusals
 use Rattle.conn_log.specs.Rests.{AreAtRest}
+use Rattle.board.specs.Handlers.{handlers_of, handlers_past}
 use Rattle.mux.specs.declared.mux.Mux.{Mux}
 use Rattle.mux.specs.Faults.{Faults}
 use Rattle.conn_core.specs.declared.connection.Phase.{Phase}
@@ -62,9 +68,10 @@ module _ {P H : Type 0} (step : H → HandlerCall → H → Type 0) (fails : H �
 
   -- It is up, with the end that has proven this key: a first part of the input is the upgrade's, and the rest the
   -- session's. Upgraded was told first, and then what the list says, each event where it was; what was written is what
-  -- the upgrade wrote, and behind it the output of the session.
-  pub record IsUp (input : List ℕ) (told : List (ConnEvent H)) (written : List ℕ) (session : State)
-      (streams : ℕ → Option (Streaming H)) (past : List (Earlier H)) : Type 0 where
+  -- the upgrade wrote, and behind it the output of the session. The streams that this end opened are those that were
+  -- asked for.
+  pub record IsUp (input : List ℕ) (asked : List (ℕ × ℕ)) (told : List (ConnEvent H)) (written : List ℕ)
+      (session : State) (streams : ℕ → Option (Streaming H)) (past : List (Earlier H)) : Type 0 where
     pub key : Key
     pub first : List ℕ
     pub rest : List ℕ
@@ -74,70 +81,116 @@ module _ {P H : Type 0} (step : H → HandlerCall → H → Type 0) (fails : H �
     pub upgraded : Upgrades role own first (Ok (Some key)) greeting
     pub at_rest : AreAtRest step fails is_closed is_finished inbound_makes outbound_makes eager names (id_of key)
         (session_role role) log rest (output (session_role role) (items log)) session streams past
+    pub asks_are : asks log ≡ asked
+    pub early : AreMadeEarly eager log
     pub told_is : told ≡ event.Upgraded key ∷ said log
     pub written_is : written ≡ greeting ++ output (session_role role) (items log)
 
   -- It was up, and the other end broke the rules of the session. What was told and written before is that of the list
   -- up to the fault.
-  pub record IsFaulty (input : List ℕ) (told : List (ConnEvent H)) (written : List ℕ) : Type 0 where
-    pub key : Key
-    pub first : List ℕ
-    pub rest : List ℕ
-    pub greeting : List ℕ
-    pub sent : List ℕ
-    pub pending : List ℕ
-    pub before : List (ConnEvent H)
-    pub input_is : input ≡ first ++ rest
-    pub upgraded : Upgrades role own first (Ok (Some key)) greeting
-    pub faults : Faults step fails is_closed is_finished inbound_makes outbound_makes eager names (id_of key)
-        (session_role role) [] (event.Upgraded key ∷ []) before [] rest sent pending
-    pub told_is : told ≡ before ++ event.Fault fault.Mux ∷ []
-    pub written_is : written ≡ greeting ++ (sent ++ pending)
+  pub record IsFaulty (input : List ℕ) (asked : List (ℕ × ℕ)) (told : List (ConnEvent H)) (written : List ℕ) : Type 0
+    where
+      pub key : Key
+      pub first : List ℕ
+      pub rest : List ℕ
+      pub greeting : List ℕ
+      pub sent : List ℕ
+      pub pending : List ℕ
+      pub before : List (ConnEvent H)
+      pub input_is : input ≡ first ++ rest
+      pub upgraded : Upgrades role own first (Ok (Some key)) greeting
+      pub faults : Faults step fails is_closed is_finished inbound_makes outbound_makes eager names (id_of key)
+          (session_role role) [] asked (event.Upgraded key ∷ []) before [] rest sent pending
+      pub early : AreMadeEarly eager faults.newer
+      pub told_is : told ≡ before ++ event.Fault fault.Mux ∷ []
+      pub written_is : written ≡ greeting ++ (sent ++ pending)
 
   -- What a connection that is over has told and written: its last event is a Fault, or Shut.
-  pub data Ends (input : List ℕ) (ended : Bool) (told : List (ConnEvent H)) (written : List ℕ) : Type 0 where
+  pub data Ends (input : List ℕ) (ended : Bool) (asked : List (ℕ × ℕ)) (told : List (ConnEvent H)) (written : List ℕ)
+      : Type 0 where
     -- the upgrade failed
     Upgrade : (why : UpgradeFault) (named : ConnFault) (first : List ℕ) → told_of why ≡ Some named
-        → ComesTo role own input first (Err why) written → told ≡ event.Fault named ∷ [] → Ends input ended told written
+        → ComesTo role own input first (Err why) written → asked ≡ [] → told ≡ event.Fault named ∷ []
+        → Ends input ended asked told written
     -- the other end broke the rules of the session
-    Session : IsFaulty input told written → Ends input ended told written
+    Session : IsFaulty input asked told written → Ends input ended asked told written
     -- the input ended within the upgrade
-    Early : ended ≡ true → Upgrades role own input (Ok None) written → told ≡ event.Fault fault.EarlyEnd ∷ []
-        → Ends input ended told written
+    Early : ended ≡ true → Upgrades role own input (Ok None) written → asked ≡ []
+        → told ≡ event.Fault fault.EarlyEnd ∷ [] → Ends input ended asked told written
     -- or within a frame
     Within : (before : List (ConnEvent H)) (session : State) (streams : ℕ → Option (Streaming H))
-        (past : List (Earlier H)) → ended ≡ true → (up : IsUp input before written session streams past)
-        → EndsWithin up.rest → told ≡ before ++ event.Fault fault.EarlyEnd ∷ [] → Ends input ended told written
+        (past : List (Earlier H)) → ended ≡ true → (up : IsUp input asked before written session streams past)
+        → EndsWithin up.rest → told ≡ before ++ event.Fault fault.EarlyEnd ∷ [] → Ends input ended asked told written
     -- or between two frames
     Shut : (before : List (ConnEvent H)) (session : State) (streams : ℕ → Option (Streaming H))
-        (past : List (Earlier H)) → ended ≡ true → (up : IsUp input before written session streams past)
-        → ¬ EndsWithin up.rest → told ≡ before ++ event.Shut ∷ [] → Ends input ended told written
+        (past : List (Earlier H)) → ended ≡ true → (up : IsUp input asked before written session streams past)
+        → ¬ EndsWithin up.rest → told ≡ before ++ event.Shut ∷ [] → Ends input ended asked told written
 
   -- it is up, with this session and these streams
-  abbrev pub IsUpWith : List ℕ → List (ConnEvent H) → List ℕ → Mux P H → Type 0
-  IsUpWith input told written mux =
+  abbrev pub IsUpWith : List ℕ → List (ℕ × ℕ) → List (ConnEvent H) → List ℕ → Mux P H → Type 0
+  IsUpWith input asked told written mux =
       (listed mux.board.protocols ≡ names) × (is_eager mux.board.protocols ≡ eager)
       × (mux.board.role ≡ session_role role)
-      × ((up : IsUp input told written mux.session (tree.get nat_cmp mux.board.streams) mux.board.past.items)
+      × ((up : IsUp input asked told written mux.session (tree.get nat_cmp mux.board.streams) mux.board.past.items)
       × (mux.board.peer ≡ id_of up.key))
 
   -- where it stands, in each phase; what is owed is told by the next call
-  abbrev pub Connects : List ℕ → Bool → List (ConnEvent H) → List ℕ → Phase P H → List (ConnEvent H) → List ℕ → Type 0
-  Connects input ended told taken (phases.Upgrading x protocols) owed waiting =
-      (ended ≡ false) × (owed ≡ []) × (waiting ≡ []) × IsComing input told taken x protocols
-  Connects input ended told taken (phases.Up mux) owed waiting =
-      (ended ≡ false) × IsUpWith input (told ++ owed) (taken ++ waiting) mux
-  Connects input ended told taken phases.Over owed waiting =
-      (owed ≡ []) × Ends input ended told (taken ++ waiting)
+  abbrev pub Connects : List ℕ → Bool → List (ℕ × ℕ) → List (ConnEvent H) → List ℕ → Phase P H → List (ConnEvent H)
+      → List ℕ → Type 0
+  Connects input ended asked told taken (phases.Upgrading x protocols) owed waiting =
+      (ended ≡ false) × (asked ≡ []) × (owed ≡ []) × (waiting ≡ []) × IsComing input told taken x protocols
+  Connects input ended asked told taken (phases.Up mux) owed waiting =
+      (ended ≡ false) × IsUpWith input asked (told ++ owed) (taken ++ waiting) mux
+  Connects input ended asked told taken phases.Over owed waiting =
+      (owed ≡ []) × Ends input ended asked told (taken ++ waiting)
 
-  -- An end of this role, with this key and these protocols, that was fed this input, has told these events, and of
-  -- whose output this was taken.
-  abbrev pub Stands : List ℕ → Bool → List (ConnEvent H) → List ℕ → ConnCore P H → Type 0
-  Stands input ended told taken core =
-      (core.role ≡ role) × Connects input ended told taken core.phase core.owed.items core.output.items
+  -- An end of this role, with this key and these protocols, that was fed this input, opened the streams that it was
+  -- asked for, has told these events, and of whose output this was taken.
+  abbrev pub Stands : List ℕ → Bool → List (ℕ × ℕ) → List (ConnEvent H) → List ℕ → ConnCore P H → Type 0
+  Stands input ended asked told taken core =
+      (core.role ≡ role) × Connects input ended asked told taken core.phase core.owed.items core.output.items
 
 -- the connection has failed or was shut, or ran out of memory
 abbrev pub is_over : {P H : Type 0} → Phase P H → Bool
 is_over (phases.Upgrading x protocols) = false
 is_over (phases.Up mux) = false
 is_over phases.Over = true
+
+-- a stream may be opened for the protocol of this index
+abbrev pub MayOpen : {P H : Type 0} → (P → List (List ℕ)) → Phase P H → ℕ → Type 0
+MayOpen listed phases.Over index = ⊥
+MayOpen listed (phases.Upgrading x protocols) index = ⊥
+MayOpen listed (phases.Up mux) index = (index < length (listed mux.board.protocols))
+    × Whenever mux.session (λ role past. start_refusal role past ≡ None)
+
+-- why none is opened: where several reasons hold, the lowest is answered
+abbrev pub IsRefused : {P H : Type 0} → (P → List (List ℕ)) → Phase P H → ℕ → ConnRefused → Type 0
+IsRefused listed phases.Over index why = why ≡ refusals.Failed
+IsRefused listed (phases.Upgrading x protocols) index why = why ≡ refusals.NotUp
+IsRefused listed (phases.Up mux) index why =
+    ((length (listed mux.board.protocols) ≤ index) × (why ≡ refusals.BadIndex))
+    ⊎ ((index < length (listed mux.board.protocols))
+    × Whenever mux.session (λ role past. IsRefusedAs (start_refusal role past) why))
+
+-- what is owed is what was, and then of this stream, which was just opened, that its eager handler gave up, if it did
+abbrev pub OwesOf : {H : Type 0} → ℕ → List (ConnEvent H) → List (ConnEvent H) → Type 0
+OwesOf number before after = (more : List (ConnEvent _)) × AllByRecursion (IsBrokenOf number) more
+    × (after ≡ before ++ more)
+
+-- what was written and not yet taken
+abbrev pub waiting_in : {P H : Type 0} → Phase P H → List ℕ → List ℕ
+waiting_in (phases.Upgrading x protocols) output = x.pending
+waiting_in (phases.Up mux) output = output
+waiting_in phases.Over output = output
+
+-- the handlers that are held
+abbrev pub held_in : {P H : Type 0} → Phase P H → List (ℕ × H)
+held_in (phases.Upgrading x protocols) = []
+held_in (phases.Up mux) = handlers_past mux.board.past.items ++ handlers_of mux.board.streams.entries
+held_in phases.Over = []
+
+-- the numbers of the streams in the table ascend
+abbrev pub IsOrderedIn : {P H : Type 0} → Phase P H → Type 0
+IsOrderedIn (phases.Upgrading x protocols) = Unit {0}
+IsOrderedIn (phases.Up mux) = tree.IsOrdered nat_cmp mux.board.streams
+IsOrderedIn phases.Over = Unit {0}

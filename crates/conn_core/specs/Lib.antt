@@ -1,2 +1,4 @@
 -- cited by public clauses and laws
 pub mod Connects
+pub mod Runs
+pub mod Promises

@@ -1,6 +1,6 @@
 //! An end of a connection.
 
-ghost use Rattle.std.specs.Prelude.{length, take, ◌≤◌, IfOk, IfErr, OnOk, OnErr, Some, Ok, Err};
+ghost use Rattle.std.specs.Prelude.{length, take, ◌<◌, ◌≤◌, IfOk, IfErr, OnOk, OnErr, None, Ok, Err};
 ghost use Rattle.std.specs.Prelude.{◌≡◌, ◌≢◌, ℕ, Bool, true, false, List, [], ◌∷◌, ◌++◌};
 ghost use Rattle.peer_ids.specs.Key.{Key};
 ghost use Rattle.conn_log.specs.declared.event.ConnEvent.{ConnEvent};
@@ -8,10 +8,14 @@ ghost use Rattle.conn_log.specs.declared.event.ConnEvent.TheVariants as event;
 ghost use Rattle.conn_log.specs.declared.event.ConnFault.{ConnFault};
 ghost use Rattle.upgrade.specs.declared.role.ConnRole.{ConnRole};
 ghost use Rattle.yamux_session.specs.History.{Item};
-ghost use Rattle.yamux_session.specs.State.{Stands as SessionStands};
+ghost use Rattle.yamux_session.specs.Acts.{start_refusal};
+ghost use Rattle.yamux_session.specs.State.{Stands as SessionStands, Whenever};
+ghost use Rattle.conn_log.specs.Asked.{IsRefusedAs};
 ghost use Rattle.yamux_session.specs.declared.event.Role.{Role};
-ghost use Rattle.conn_core.specs.Connects.{Stands, Connects, IsComing, IsUpWith, Ends, is_over, told_of, session_role};
+ghost use Rattle.conn_core.specs.Connects.{Stands, Connects, IsComing, IsUpWith, MayOpen, IsRefused, is_over};
+ghost use Rattle.conn_core.specs.Connects.{session_role, OwesOf, waiting_in};
 
+use crate::telling::{fail, last_event, session_role, tell};
 use bytes::Bytes;
 use conn_log::{ConnEvent, ConnFault, ConnRefused};
 use handlers::{Handler, Protocols};
@@ -38,35 +42,12 @@ pub enum Phase<P: Protocols> {
 #[derive(Drop)]
 pub struct ConnCore<P: Protocols> {
     role: ConnRole,
-    phase: Phase<P>,
+    pub(crate) phase: Phase<P>,
     /// What was met within an ask, and is told first by the next call.
     owed: Vec<ConnEvent<P::H>>,
     /// What was written and not yet taken, once the connection is up or over.
     output: Vec<u8>,
-    alloc: Global,
-}
-
-/// The dialer is the client of the session.
-fn session_role(role: ConnRole) -> Role
-    ensures { result ≡ session_role role }
-{
-    match role {
-        ConnRole::Dialer => Role::Client,
-        ConnRole::Listener => Role::Server,
-    }
-}
-
-/// What is told of a fault of the upgrade, unless it is want of memory.
-fn told_of(fault: UpgradeFault) -> Option<ConnFault>
-    ensures { result ≡ told_of fault }
-{
-    match fault {
-        UpgradeFault::Select(_) => Some(ConnFault::Select),
-        UpgradeFault::NoneLeft => Some(ConnFault::NoneLeft),
-        UpgradeFault::Exchange(_) => Some(ConnFault::Exchange),
-        UpgradeFault::Failed => None,
-        UpgradeFault::OutOfMemory => None,
-    }
+    pub(crate) alloc: Global,
 }
 
 /// Moves what the session has written behind what waits.
@@ -88,17 +69,6 @@ fn collect(output: &mut Vec<u8>, session: &mut Session) -> Result<(), ConnRefuse
     }
 }
 
-/// Tells an event behind those that were told.
-fn tell<H: Handler>(told: &mut Vec<ConnEvent<H>>, event: ConnEvent<H>) -> Result<(), ConnRefused>
-    ensures told { OnOk result (told.new.items ≡ told.old.items ++ event ∷ []) }
-    ensures memory { OnErr result (result ≡ Err ConnRefused.OutOfMemory) }
-{
-    match told.push(event) {
-        Ok(()) => Ok(()),
-        Err(_) => Err(ConnRefused::OutOfMemory),
-    }
-}
-
 /// Takes what came to a connection that is up, and tells what it led to; what the session wrote goes behind what waits.
 /// Where the other end broke the rules of the session, a Fault is told last, and the connection is over.
 fn go_on<P: Protocols>(
@@ -108,11 +78,11 @@ fn go_on<P: Protocols>(
     told: &mut Vec<ConnEvent<P::H>>,
 ) -> Result<Phase<P>, ConnRefused>
     ensures goes { (role : ConnRole) (own : Key) (eager : ℕ → Bool) (names : List (List ℕ)) (input taken : List ℕ)
-        (before : List (ConnEvent P.H)) → IsUpWith P.H.steps P.H.fails P.H.is_closed P.H.is_finished
-        P.makes_inbound P.makes_outbound P.listed P.is_eager eager names role own input
+        (asked : List (ℕ × ℕ)) (before : List (ConnEvent P.H)) → IsUpWith P.H.steps P.H.fails P.H.is_closed
+        P.H.is_finished P.makes_inbound P.makes_outbound P.listed P.is_eager eager names role own input asked
         (before ++ told.old.items) (taken ++ output.old.items) mux
         → IfOk result (λ phase. Connects P.H.steps P.H.fails P.H.is_closed P.H.is_finished
-        P.makes_inbound P.makes_outbound P.listed P.is_eager eager names role own (input ++ piece.now) false
+        P.makes_inbound P.makes_outbound P.listed P.is_eager eager names role own (input ++ piece.now) false asked
         (before ++ told.new.items) taken phase [] output.new.items) }
     ensures memory { OnErr result (result ≡ Err ConnRefused.OutOfMemory) }
 {
@@ -140,11 +110,11 @@ fn come_up<P: Protocols>(
     requires within { used ≤ length piece.now }
     ensures goes { (role : ConnRole) (own : Key) (eager : ℕ → Bool) (names : List (List ℕ)) (input taken : List ℕ)
         → IsUpWith P.H.steps P.H.fails P.H.is_closed P.H.is_finished P.makes_inbound P.makes_outbound P.listed
-        P.is_eager eager names role own (input ++ take used piece.now) (event.Upgraded proven ∷ [])
+        P.is_eager eager names role own (input ++ take used piece.now) [] (event.Upgraded proven ∷ [])
         (taken ++ output.old.items) mux → told.old.items ≡ []
         → IfOk result (λ phase. Connects P.H.steps P.H.fails P.H.is_closed P.H.is_finished P.makes_inbound
-        P.makes_outbound P.listed P.is_eager eager names role own (input ++ piece.now) false told.new.items taken phase
-        [] output.new.items) }
+        P.makes_outbound P.listed P.is_eager eager names role own (input ++ piece.now) false [] told.new.items taken
+        phase [] output.new.items) }
     ensures memory { OnErr result (result ≡ Err ConnRefused.OutOfMemory) }
 {
     tell(told, ConnEvent::Upgraded(proven))?;
@@ -154,15 +124,40 @@ fn come_up<P: Protocols>(
     go_on(mux, output, &rest, told)
 }
 
-/// Tells a fault of the upgrade, unless it is want of memory.
-fn fail<H: Handler>(fault: UpgradeFault, told: &mut Vec<ConnEvent<H>>) -> Result<(), ConnRefused>
-    ensures told { OnOk result ((named : ConnFault) × (told_of fault ≡ Some named)
-        × (told.new.items ≡ told.old.items ++ event.Fault named ∷ [])) }
-    ensures memory { OnErr result (result ≡ Err ConnRefused.OutOfMemory) }
+/// Opens a stream for the protocol of this index; what the session wrote goes behind what waits.
+fn open<P: Protocols>(
+    mux: &mut Mux<P>,
+    index: usize,
+    owed: &mut Vec<ConnEvent<P::H>>,
+    output: &mut Vec<u8>,
+) -> Result<u32, ConnRefused>
+    ensures opens { (role : ConnRole) (own : Key) (eager : ℕ → Bool) (names : List (List ℕ)) (input taken : List ℕ)
+        (asked : List (ℕ × ℕ)) (told : List (ConnEvent P.H)) → IsUpWith P.H.steps P.H.fails P.H.is_closed
+        P.H.is_finished P.makes_inbound P.makes_outbound P.listed P.is_eager eager names role own input asked
+        (told ++ owed.old.items) (taken ++ output.old.items) mux.old
+        → IfOk result (λ number. IsUpWith P.H.steps P.H.fails P.H.is_closed P.H.is_finished P.makes_inbound
+        P.makes_outbound P.listed P.is_eager eager names role own input (asked ++ (number, index) ∷ [])
+        (told ++ owed.new.items) (taken ++ output.new.items) mux.new) }
+    ensures owes { (role : ConnRole) (own : Key) (eager : ℕ → Bool) (names : List (List ℕ)) (input written : List ℕ)
+        (asked : List (ℕ × ℕ)) (told : List (ConnEvent P.H)) → IsUpWith P.H.steps P.H.fails P.H.is_closed
+        P.H.is_finished P.makes_inbound P.makes_outbound P.listed P.is_eager eager names role own input asked told
+        written mux.old → IfOk result (λ number. OwesOf number owed.old.items owed.new.items) }
+    ensures within { IfOk result (λ number. index < length (P.listed mux.old.board.protocols)) }
+    ensures opened { IfOk result (λ number.
+        Whenever mux.old.session (λ role past. start_refusal role past ≡ None)) }
+    ensures bad_index { length (P.listed mux.old.board.protocols) ≤ index → result ≡ Err ConnRefused.BadIndex }
+    ensures refused { index < length (P.listed mux.old.board.protocols) → IfErr result (λ refused.
+        Whenever mux.old.session (λ role past. IsRefusedAs (start_refusal role past) refused)) }
+    ensures kept { IfErr result (λ refused. refused ≢ ConnRefused.OutOfMemory
+        → (mux.new ≡ mux.old) × (owed.new ≡ owed.old) × (output.new ≡ output.old)) }
 {
-    match told_of(fault) {
-        Some(named) => tell(told, ConnEvent::Fault(named)),
-        None => Err(ConnRefused::OutOfMemory),
+    let number = match mux.ask(index, owed) {
+        Ok(number) => number,
+        Err(refused) => return Err(refused),
+    };
+    match collect(output, &mut mux.session) {
+        Ok(()) => Ok(number),
+        Err(_) => Err(ConnRefused::OutOfMemory),
     }
 }
 
@@ -181,8 +176,8 @@ fn bring_up<P: Protocols>(
         → IsComing P.H.steps P.H.fails P.H.is_closed P.H.is_finished P.makes_inbound P.makes_outbound P.listed
         P.is_eager eager names role own input [] taken upgrade protocols → output.old.items ≡ [] → told.old.items ≡ []
         → IfOk result (λ phase. Connects P.H.steps P.H.fails P.H.is_closed P.H.is_finished P.makes_inbound
-        P.makes_outbound P.listed P.is_eager eager names role own (input ++ piece.now) false told.new.items taken phase
-        [] output.new.items) }
+        P.makes_outbound P.listed P.is_eager eager names role own (input ++ piece.now) false [] told.new.items taken
+        phase [] output.new.items) }
     ensures memory { OnErr result (result ≡ Err ConnRefused.OutOfMemory) }
 {
     let mut upgrade = upgrade;
@@ -213,11 +208,11 @@ fn take_on<P: Protocols>(
     told: &mut Vec<ConnEvent<P::H>>,
 ) -> Result<Phase<P>, ConnRefused>
     ensures goes { (own : Key) (eager : ℕ → Bool) (names : List (List ℕ)) (input taken : List ℕ)
-        (before : List (ConnEvent P.H)) → Connects P.H.steps P.H.fails P.H.is_closed P.H.is_finished P.makes_inbound
-        P.makes_outbound P.listed P.is_eager eager names role own input false before taken phase told.old.items
-        output.old.items → is_over phase ≡ false
+        (asked : List (ℕ × ℕ)) (before : List (ConnEvent P.H)) → Connects P.H.steps P.H.fails P.H.is_closed
+        P.H.is_finished P.makes_inbound P.makes_outbound P.listed P.is_eager eager names role own input false asked
+        before taken phase told.old.items output.old.items → is_over phase ≡ false
         → IfOk result (λ now. Connects P.H.steps P.H.fails P.H.is_closed P.H.is_finished P.makes_inbound
-        P.makes_outbound P.listed P.is_eager eager names role own (input ++ piece.now) false
+        P.makes_outbound P.listed P.is_eager eager names role own (input ++ piece.now) false asked
         (before ++ told.new.items) taken now [] output.new.items) }
     ensures memory { OnErr result (result ≡ Err ConnRefused.OutOfMemory) }
 {
@@ -227,31 +222,6 @@ fn take_on<P: Protocols>(
         }
         Phase::Up(mux) => go_on(mux, output, piece, told),
         Phase::Over => Err(ConnRefused::OutOfMemory),
-    }
-}
-
-/// What is told last where the input ends in this phase. What an upgrade has written waits then.
-fn last_event<P: Protocols>(phase: Phase<P>, output: &mut Vec<u8>) -> ConnEvent<P::H>
-    ensures ends { (role : ConnRole) (own : Key) (eager : ℕ → Bool) (names : List (List ℕ)) (input taken : List ℕ)
-        (before owed : List (ConnEvent P.H)) → Connects P.H.steps P.H.fails P.H.is_closed P.H.is_finished
-        P.makes_inbound P.makes_outbound P.listed P.is_eager eager names role own input false before taken phase owed
-        output.old.items → is_over phase ≡ false
-        → Ends P.H.steps P.H.fails P.H.is_closed P.H.is_finished P.makes_inbound P.makes_outbound P.listed P.is_eager
-        eager names role own input true ((before ++ owed) ++ result ∷ []) (taken ++ output.new.items) }
-{
-    match phase {
-        Phase::Upgrading(upgrade, _) => {
-            let mut upgrade = upgrade;
-            *output = upgrade.take_output();
-            ConnEvent::Fault(ConnFault::EarlyEnd)
-        }
-        Phase::Up(mux) => {
-            if mux.session.mid_frame() {
-                return ConnEvent::Fault(ConnFault::EarlyEnd);
-            }
-            ConnEvent::Shut
-        }
-        Phase::Over => ConnEvent::Shut,
     }
 }
 
@@ -266,7 +236,8 @@ impl<P: Protocols> ConnCore<P> {
     ) -> Result<ConnCore<P>, ConnRefused>
         ensures stands { IfOk result (λ core. Stands P.H.steps P.H.fails P.H.is_closed P.H.is_finished P.makes_inbound
             P.makes_outbound P.listed P.is_eager (P.is_eager protocols) (P.listed protocols) role key [] false [] []
-            core) }
+            [] core) }
+        ensures none_owed { IfOk result (λ core. core.owed.items ≡ []) }
         ensures memory { OnErr result (result ≡ Err ConnRefused.OutOfMemory) }
     {
         match Upgrade::new(alloc, role, key) {
@@ -298,12 +269,13 @@ impl<P: Protocols> ConnCore<P> {
     /// before can still be taken.
     pub fn feed_shared(&mut self, piece: Bytes) -> Result<Vec<ConnEvent<P::H>>, ConnRefused>
         ensures fed { (role : ConnRole) (own : Key) (eager : ℕ → Bool) (names : List (List ℕ)) (input taken : List ℕ)
-            (told : List (ConnEvent P.H)) → Stands P.H.steps P.H.fails P.H.is_closed P.H.is_finished P.makes_inbound
-            P.makes_outbound P.listed P.is_eager eager names role own input false told taken self.old
-            → is_over self.old.phase ≡ false
+            (asked : List (ℕ × ℕ)) (told : List (ConnEvent P.H)) → Stands P.H.steps P.H.fails P.H.is_closed
+            P.H.is_finished P.makes_inbound P.makes_outbound P.listed P.is_eager eager names role own input false asked
+            told taken self.old → is_over self.old.phase ≡ false
             → IfOk result (λ events. Stands P.H.steps P.H.fails P.H.is_closed P.H.is_finished P.makes_inbound
-            P.makes_outbound P.listed P.is_eager eager names role own (input ++ piece) false (told ++ events.items)
-            taken self.new) }
+            P.makes_outbound P.listed P.is_eager eager names role own (input ++ piece) false asked
+            (told ++ events.items) taken self.new) }
+        ensures none_owed { OnOk result (self.new.owed.items ≡ []) }
         ensures refused { is_over self.old.phase ≡ false
             → OnErr result ((result ≡ Err ConnRefused.OutOfMemory) × (is_over self.new.phase ≡ true)) }
         ensures failed { is_over self.old.phase ≡ true → (result ≡ Err ConnRefused.Failed) × (self.new ≡ self.old) }
@@ -327,12 +299,13 @@ impl<P: Protocols> ConnCore<P> {
     /// The same, of bytes that are copied once.
     pub fn feed(&mut self, bytes: &[u8]) -> Result<Vec<ConnEvent<P::H>>, ConnRefused>
         ensures fed { (role : ConnRole) (own : Key) (eager : ℕ → Bool) (names : List (List ℕ)) (input taken : List ℕ)
-            (told : List (ConnEvent P.H)) → Stands P.H.steps P.H.fails P.H.is_closed P.H.is_finished P.makes_inbound
-            P.makes_outbound P.listed P.is_eager eager names role own input false told taken self.old
-            → is_over self.old.phase ≡ false
+            (asked : List (ℕ × ℕ)) (told : List (ConnEvent P.H)) → Stands P.H.steps P.H.fails P.H.is_closed
+            P.H.is_finished P.makes_inbound P.makes_outbound P.listed P.is_eager eager names role own input false asked
+            told taken self.old → is_over self.old.phase ≡ false
             → IfOk result (λ events. Stands P.H.steps P.H.fails P.H.is_closed P.H.is_finished P.makes_inbound
-            P.makes_outbound P.listed P.is_eager eager names role own (input ++ bytes.now) false (told ++ events.items)
-            taken self.new) }
+            P.makes_outbound P.listed P.is_eager eager names role own (input ++ bytes.now) false asked
+            (told ++ events.items) taken self.new) }
+        ensures none_owed { OnOk result (self.new.owed.items ≡ []) }
         ensures refused { is_over self.old.phase ≡ false
             → OnErr result ((result ≡ Err ConnRefused.OutOfMemory) × (is_over self.new.phase ≡ true)) }
         ensures failed { is_over self.old.phase ≡ true → (result ≡ Err ConnRefused.Failed) × (self.new ≡ self.old) }
@@ -343,22 +316,56 @@ impl<P: Protocols> ConnCore<P> {
         match Bytes::copy_from_slice(self.alloc, bytes) {
             Ok(piece) => self.feed_shared(piece),
             Err(_) => {
+                // What an upgrade has written waits in it.
+                self.output = self.take_output();
                 self.phase = Phase::Over;
                 Err(ConnRefused::OutOfMemory)
             }
         }
     }
 
+    /// Opens a stream for the protocol of this index, and tells its number. Where the protocol is eager, its handler is
+    /// made and asked for bytes at once. What is told of the stream then is told first by the next `feed` or `ended`.
+    ///
+    /// Where several refusals hold, the lowest is answered, and nothing changes. Where memory was refused, the
+    /// connection is over, and what was written before can still be taken.
+    pub fn ask(&mut self, index: usize) -> Result<u32, ConnRefused>
+        ensures asked { (role : ConnRole) (own : Key) (eager : ℕ → Bool) (names : List (List ℕ)) (input taken : List ℕ)
+            (asked : List (ℕ × ℕ)) (told : List (ConnEvent P.H)) → Stands P.H.steps P.H.fails P.H.is_closed
+            P.H.is_finished P.makes_inbound P.makes_outbound P.listed P.is_eager eager names role own input false asked
+            told taken self.old → IfOk result (λ number. Stands P.H.steps P.H.fails P.H.is_closed P.H.is_finished
+            P.makes_inbound P.makes_outbound P.listed P.is_eager eager names role own input false
+            (asked ++ (number, index) ∷ []) told taken self.new) }
+        ensures owes { (role : ConnRole) (own : Key) (eager : ℕ → Bool) (names : List (List ℕ)) (input taken : List ℕ)
+            (asked : List (ℕ × ℕ)) (told : List (ConnEvent P.H)) → Stands P.H.steps P.H.fails P.H.is_closed
+            P.H.is_finished P.makes_inbound P.makes_outbound P.listed P.is_eager eager names role own input false asked
+            told taken self.old → IfOk result (λ number. OwesOf number self.old.owed.items self.new.owed.items) }
+        ensures opened { IfOk result (λ number. MayOpen P.listed self.old.phase index) }
+        ensures refused { IfErr result (λ refused. IsRefused P.listed self.old.phase index refused) }
+        ensures kept { IfErr result (λ refused. refused ≢ ConnRefused.OutOfMemory → self.new ≡ self.old) }
+        ensures memory { result ≡ Err ConnRefused.OutOfMemory → is_over self.new.phase ≡ true }
+    {
+        let asked = match &mut self.phase {
+            Phase::Upgrading(..) => Err(ConnRefused::NotUp),
+            Phase::Up(mux) => open(mux, index, &mut self.owed, &mut self.output),
+            Phase::Over => Err(ConnRefused::Failed),
+        };
+        if asked == Err(ConnRefused::OutOfMemory) {
+            self.phase = Phase::Over;
+        }
+        asked
+    }
+
     /// The input of the link has ended: it tells what is owed, and last Shut, or Fault(EarlyEnd) within the upgrade or
     /// within a frame. No handler is called.
     pub fn ended(&mut self) -> Result<Vec<ConnEvent<P::H>>, ConnRefused>
         ensures ends { (role : ConnRole) (own : Key) (eager : ℕ → Bool) (names : List (List ℕ)) (input taken : List ℕ)
-            (told : List (ConnEvent P.H)) → Stands P.H.steps P.H.fails P.H.is_closed P.H.is_finished P.makes_inbound
-            P.makes_outbound P.listed P.is_eager eager names role own input false told taken self.old
-            → is_over self.old.phase ≡ false
+            (asked : List (ℕ × ℕ)) (told : List (ConnEvent P.H)) → Stands P.H.steps P.H.fails P.H.is_closed
+            P.H.is_finished P.makes_inbound P.makes_outbound P.listed P.is_eager eager names role own input false asked
+            told taken self.old → is_over self.old.phase ≡ false
             → IfOk result (λ events. Stands P.H.steps P.H.fails P.H.is_closed P.H.is_finished P.makes_inbound
-            P.makes_outbound P.listed P.is_eager eager names role own input true (told ++ events.items) taken
-            self.new) }
+            P.makes_outbound P.listed P.is_eager eager names role own input true asked (told ++ events.items)
+            taken self.new) }
         ensures over { is_over self.new.phase ≡ true }
         ensures refused { is_over self.old.phase ≡ false → OnErr result (result ≡ Err ConnRefused.OutOfMemory) }
         ensures failed { is_over self.old.phase ≡ true → (result ≡ Err ConnRefused.Failed) × (self.new ≡ self.old) }
@@ -377,11 +384,15 @@ impl<P: Protocols> ConnCore<P> {
     /// was written before a fault, or before memory was refused, is given still.
     pub fn take_output(&mut self) -> Vec<u8>
         ensures stands { (role : ConnRole) (own : Key) (eager : ℕ → Bool) (names : List (List ℕ)) (input taken : List ℕ)
-            (ended : Bool) (told : List (ConnEvent P.H)) → Stands P.H.steps P.H.fails P.H.is_closed P.H.is_finished
-            P.makes_inbound P.makes_outbound P.listed P.is_eager eager names role own input ended told taken self.old
-            → Stands P.H.steps P.H.fails P.H.is_closed P.H.is_finished P.makes_inbound
-            P.makes_outbound P.listed P.is_eager eager names role own input ended told (taken ++ result.items)
-            self.new }
+            (ended : Bool) (asked : List (ℕ × ℕ)) (told : List (ConnEvent P.H)) → Stands P.H.steps P.H.fails
+            P.H.is_closed P.H.is_finished P.makes_inbound P.makes_outbound P.listed P.is_eager eager names role own
+            input ended asked told taken self.old → Stands P.H.steps P.H.fails P.H.is_closed P.H.is_finished
+            P.makes_inbound P.makes_outbound P.listed P.is_eager eager names role own input ended asked told
+            (taken ++ result.items) self.new }
+        ensures taken { result.items ≡ waiting_in self.old.phase self.old.output.items }
+        ensures none_waits { waiting_in self.new.phase self.new.output.items ≡ [] }
+        ensures owed { self.new.owed.items ≡ self.old.owed.items }
+        ensures over { is_over self.new.phase ≡ is_over self.old.phase }
     {
         if let Phase::Upgrading(upgrade, _) = &mut self.phase {
             return upgrade.take_output();

@@ -1,6 +1,14 @@
 //! The core of a connection: it takes the bytes of a link and asks, and gives events and bytes. It knows no socket.
 #![tactic(auto)]
 
+mod calls;
 mod connection;
+mod held;
+pub mod laws;
+mod telling;
 
+pub use calls::{ConnAct, ConnAnswer, ConnRan, run};
 pub use connection::{ConnCore, Phase};
+
+#[cfg(test)]
+mod tests;

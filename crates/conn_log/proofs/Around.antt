@@ -1,7 +1,6 @@
 -- The list has grown by entries about one stream: all others are at rest as before.
-use Rattle.std.proofs.Common.{◌≡◌, ◌≢◌, ℕ, ◌==◌, Bool, true, false, List, [], ◌∷◌, ◌++◌, Option, Some, None, refl, sym, ap, ◌∙◌, subst}
+use Rattle.std.proofs.Common.{◌≡◌, ℕ, ◌==◌, Bool, false, List, [], ◌++◌, Option, Some, None, refl, sym, ap, ◌∙◌, subst}
 use Rattle.std.specs.Prelude.{IfSome, IsSome}
-use Rattle.std.specs.List.{AllByRecursion}
 use Rattle.handlers.specs.Calls.{HandlerCall, Asked}
 use Rattle.yamux_session.specs.declared.event.Role.{Role}
 use Rattle.yamux_session.specs.Events.{Told}
@@ -9,11 +8,11 @@ use Rattle.yamux_session.specs.Seen.{Seen, seen, all_heard, AgreesOn}
 use Rattle.yamux_session.specs.State.{State, Stands as SessionStands}
 use Rattle.streams.specs.State.{Streaming}
 use Rattle.conn_log.specs.declared.earlier.Earlier.{Earlier}
-use Rattle.conn_log.specs.Entries.{Entry, items}
+use Rattle.conn_log.specs.Entries.{Entry, items, left_behind}
 use Rattle.conn_log.specs.Due.{AllDue}
-use Rattle.conn_log.specs.Held.{IsAtRest, IsPast}
+use Rattle.conn_log.specs.Held.{IsAtRest, earlier_of}
 use Rattle.conn_log.specs.Routes.{EndsLast, Around}
-use Rattle.conn_log.proofs.Same.{Same, same_refl, at_rest_same, past_same}
+use Rattle.conn_log.proofs.Same.{Same, same_refl, at_rest_same, left_same}
 
 pub if_some : {A : Type 0} {P Q : A → Type 0} (r : Option A) → ((x : A) → P x → Q x) → IfSome r P → IfSome r Q
 if_some None f p = tt
@@ -22,11 +21,6 @@ if_some (Some x) f p = f x p
 module _ {P H : Type 0} (step : H → HandlerCall → H → Type 0) (fails : H → Asked → ℕ → Type 0)
     (is_closed is_finished : H → Bool) (inbound_makes outbound_makes : P → ℕ → List ℕ → H → Type 0)
     (eager : ℕ → Bool) (names : List (List ℕ)) (peer : List ℕ) (role : Role) where
-  pub all_past : (log newer : List (Entry H)) (past : List (Earlier H)) → AllByRecursion (λ it. IsPast step is_closed is_finished names role log it.number it.stream) past
-      → AllByRecursion (λ it. IsPast step is_closed is_finished names role (newer ++ log) it.number it.stream) past
-  all_past log newer [] all = tt
-  all_past log newer (it ∷ past) all = (past_same step is_closed is_finished names role log newer it.number it.stream all.0, all_past log newer past all.1)
-
   pub grown : (log newer : List (Entry H)) (fed sent : List ℕ) (before after : State) (streams now : ℕ → Option (Streaming H)) (past : List (Earlier H)) (n : ℕ) (view later : Seen)
       (rest : List Told)
       → Around step fails is_closed is_finished inbound_makes outbound_makes eager names peer role log fed sent before streams past n view rest
@@ -34,8 +28,9 @@ module _ {P H : Type 0} (step : H → HandlerCall → H → Type 0) (fails : H �
       → ((m : ℕ) → (n == m) ≡ false → Same role log (newer ++ log) m) → SessionStands role (items (newer ++ log)) fed sent after
       → ((m : ℕ) → (n == m) ≡ false → now m ≡ streams m)
       → AgreesOn (seen role (items (newer ++ log)) n) (all_heard n later rest) → later.ended ≡ view.ended
+      → ((m : ℕ) → left_behind role (newer ++ log) m ≡ left_behind role log m)
       → Around step fails is_closed is_finished inbound_makes outbound_makes eager names peer role (newer ++ log) fed sent after now past n later rest
-  grown log newer fed sent before after streams now past n view later rest a due others there elsewhere heard ended = record {
+  grown log newer fed sent before after streams now past n view later rest a due others there elsewhere heard ended behind = record {
     session_stands = there;
     due = due;
     others = λ m apart. subst (λ (t : Option (Streaming H)). IfSome t (λ it. IsAtRest step is_closed is_finished names role (newer ++ log) m it)) (sym (elsewhere m apart))
@@ -47,7 +42,7 @@ module _ {P H : Type 0} (step : H → HandlerCall → H → Type 0) (fails : H �
     heard = heard;
     opens_none = a.opens_none;
     ends_last = subst (λ b. EndsLast b rest) (sym ended) a.ends_last;
-    earlier = all_past log newer past a.earlier;
+    earlier = λ m. left_same step is_closed is_finished names role log newer m 0 (earlier_of m past) (behind m) (a.earlier m);
   }
 
   -- nothing was done: at most this stream is another, or is there no more
@@ -57,4 +52,4 @@ module _ {P H : Type 0} (step : H → HandlerCall → H → Type 0) (fails : H �
       → Around step fails is_closed is_finished inbound_makes outbound_makes eager names peer role log fed sent after now past n view rest
   still log fed sent before after streams now past n view rest same_session elsewhere a =
       grown log [] fed sent before after streams now past n view view rest a a.due (λ m apart. same_refl role log m)
-      (subst (λ (t : State). SessionStands role (items log) fed sent t) (sym same_session) a.session_stands) elsewhere a.heard refl
+      (subst (λ (t : State). SessionStands role (items log) fed sent t) (sym same_session) a.session_stands) elsewhere a.heard refl (λ m. refl)

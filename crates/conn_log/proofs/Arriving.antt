@@ -1,8 +1,7 @@
 -- What arrives changes: the list grows by it, and of the streams only the one that is named moves.
-use Rattle.std.proofs.Common.{◌≡◌, ◌≢◌, ◌⊎◌, inl, inr, ℕ, ◌==◌, ◌||◌, ◌&&◌, not, Bool, true, false, cond, List, [], ◌∷◌, ◌++◌, map, Option, Some, None, refl, sym, ap, ◌∙◌, subst}
-use Rattle.std.specs.Prelude.{IfSome, IsSome, drop}
+use Rattle.std.proofs.Common.{◌≡◌, ℕ, suc, ◌==◌, ◌||◌, ◌&&◌, not, Bool, true, false, cond, List, [], ◌∷◌, ◌++◌, map, refl, sym, ap, ◌∙◌, subst}
+use Rattle.std.specs.Prelude.{is_some}
 use Rattle.std.specs.List.{AllByRecursion}
-use Rattle.std.proofs.lemmas.List.{append_assoc, append-nil}
 use Rattle.handlers.specs.Calls.{HandlerCall, Asked}
 use Rattle.yamux_frames.specs.Frames.{Arrival}
 use Rattle.yamux_session.specs.declared.event.Role.{Role}
@@ -10,17 +9,17 @@ use Rattle.yamux_session.specs.declared.event.Event.{Event}
 use Rattle.yamux_session.specs.declared.event.Event.TheVariants as event
 use Rattle.yamux_session.specs.History.{Item}
 use Rattle.yamux_session.specs.History.Item.{Came}
-use Rattle.yamux_session.specs.Openings.{opens, is_live}
-use Rattle.yamux_session.specs.Arrives.{telling, tellings, HasData}
+use Rattle.yamux_session.specs.Openings.{opens}
+use Rattle.yamux_session.specs.Arrives.{tellings}
 use Rattle.yamux_session.specs.Naming.{IsAbout, IsNoOpening as OpensNone}
 use Rattle.yamux_session.specs.Events.{Told}
-use Rattle.yamux_session.specs.Seen.{Seen, seen, hears, all_heard, just_opened, IsQuiet}
+use Rattle.yamux_session.specs.Seen.{Seen, hears, all_heard, just_opened, IsQuiet}
 use Rattle.yamux_session.specs.Endings.{opened_in, told_opened, EndsOnce}
-use Rattle.conn_log.specs.Entries.{Entry, items, since, asked}
+use Rattle.conn_log.specs.Entries.{Entry, items, since, made_in, over_in, is_kept, left_behind, asked}
 use Rattle.conn_log.specs.Entries.Entry.{Of}
 use Rattle.conn_log.specs.Due.{AllDue}
 use Rattle.conn_log.specs.Routes.{IsStill, IsNoOpening, EndsLast}
-use Rattle.conn_log.proofs.Views.{same, its_own}
+use Rattle.conn_log.proofs.Views.{its_own}
 
 -- entries for what arrived
 abbrev pub arrived : {H : Type 0} → List Arrival → List (Entry H)
@@ -34,6 +33,10 @@ items_arrived (x ∷ came) log = ap (λ t. Came x ∷ t) (items_arrived came log
 pub said_arrived : {H : Type 0} (came : List Arrival) → Rattle.conn_log.specs.Entries.said {H = H} (arrived came) ≡ []
 said_arrived [] = refl
 said_arrived (x ∷ came) = said_arrived came
+
+pub asks_arrived : (H : Type 0) (came : List Arrival) → Rattle.conn_log.specs.Entries.asks {H = H} (arrived came) ≡ []
+asks_arrived H [] = refl
+asks_arrived H (x ∷ came) = asks_arrived H came
 
 pub asked_arrived : {H : Type 0} (came : List Arrival) (log : List (Entry H)) (n : ℕ) → asked (arrived came ++ log) n ≡ asked log n
 asked_arrived [] log n = refl
@@ -50,6 +53,30 @@ since_arrived role (x ∷ came) log n =
     ap (λ (t : List Item). cond (opens role t (Came x) n) [] (since role (arrived came ++ log) n)) (items_arrived came log)
     ∙ ap (λ t. cond (opens role (map Came came ++ items log) (Came x) n) [] t) (since_arrived role came log n)
     ∙ either (opens role (map Came came ++ items log) (Came x) n) (opened_in role (items log) came n) (since role log n)
+
+-- a number leaves a stream behind where it is opened anew while the handler is held
+pub left_arrived : {H : Type 0} (role : Role) (came : List Arrival) (log : List (Entry H)) (n : ℕ)
+    → left_behind role (arrived came ++ log) n ≡ cond (opened_in role (items log) came n && is_kept role log n) (suc (left_behind role log n)) (left_behind role log n)
+left_arrived role [] log n = refl
+left_arrived {H = H} role (x ∷ came) log n =
+    ap (λ k. cond (opens role (items (arrived came ++ log)) (Came x) n && is_kept role (arrived came ++ log) n) (suc k) k) (left_arrived role came log n)
+    ∙ ap (λ (t : List Item). cond (opens role t (Came x) n && is_kept role (arrived came ++ log) n) (suc (left (opened_in role (items log) came n))) (left (opened_in role (items log) came n)))
+    (items_arrived came log)
+    ∙ by_opening (opens role (map Came came ++ items log) (Came x) n) (opened_in role (items log) came n) refl where
+      left : Bool → ℕ
+      left before = cond (before && is_kept role log n) (suc (left_behind role log n)) (left_behind role log n)
+
+      kept_behind : (since_then : List (Entry H)) → since role (arrived came ++ log) n ≡ since_then
+          → is_kept role (arrived came ++ log) n ≡ is_some (made_in n since_then) && not (over_in n since_then)
+      kept_behind since_then is = ap (λ t. is_some (made_in n t) && not (over_in n t)) is
+
+      by_opening : (now before : Bool) → opened_in role (items log) came n ≡ before
+          → cond (now && is_kept role (arrived came ++ log) n) (suc (left before)) (left before) ≡ left (now || before)
+      by_opening false before is = refl
+      by_opening true true is = ap (λ b. cond b (suc (left true)) (left true))
+          (kept_behind [] (since_arrived role came log n ∙ ap (λ b. cond b [] (since role log n)) is))
+      by_opening true false is = ap (λ b. cond b (suc (left_behind role log n)) (left_behind role log n))
+          (kept_behind (since role log n) (since_arrived role came log n ∙ ap (λ b. cond b [] (since role log n)) is))
 
 pub due_arrived : {P H : Type 0} (step : H → HandlerCall → H → Type 0) (fails : H → Asked → ℕ → Type 0)
     (is_closed is_finished : H → Bool) (inbound_makes outbound_makes : P → ℕ → List ℕ → H → Type 0)

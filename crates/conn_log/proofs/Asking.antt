@@ -29,19 +29,19 @@ use Rattle.routing.specs.declared.delivered.Outcome.TheVariants as outcomes
 use Rattle.routing.specs.Routing.{Came as CameTo}
 use Rattle.conn_log.specs.declared.earlier.Earlier.{Earlier}
 use Rattle.conn_log.specs.declared.event.ConnEvent.{ConnEvent}
-use Rattle.conn_log.specs.Entries.{Entry, items, said, since, agreed_in, over_in, made_in, asked}
+use Rattle.conn_log.specs.Entries.{Entry, items, said, asks, since, agreed_in, over_in, made_in, left_behind, asked}
 use Rattle.conn_log.specs.Entries.Entry.{Of, Says, Made, Asks}
 use Rattle.conn_log.specs.Due.{AllDue, IsSide, direction_of}
-use Rattle.conn_log.specs.Held.{IsHeld, IsAtRest}
+use Rattle.conn_log.specs.Held.{IsHeld, IsAtRest, AreLeft, earlier_of}
 use Rattle.conn_log.specs.Rests.{AreAtRest}
 use Rattle.conn_log.specs.Asked as ask
 use Rattle.conn_log.specs.Asked.{IsEarly, told_of, IsBrokenOf}
 use Rattle.conn_log.specs.Routes.{Around, Routed}
-use Rattle.conn_log.proofs.Same.{Same, same_trans, same_by_making, at_rest_same}
-use Rattle.conn_log.proofs.Around.{if_some, all_past}
+use Rattle.conn_log.proofs.Same.{Same, same_trans, same_by_making, at_rest_same, left_same}
+use Rattle.conn_log.proofs.Around.{if_some}
 use Rattle.conn_log.proofs.Views.{same}
 use Rattle.conn_log.proofs.StageKinds.{talking_kind, talking_awaits}
-use Rattle.conn_log.proofs.Settling.{said_append}
+use Rattle.conn_log.proofs.Settling.{said_append, none_asked}
 use Rattle.conn_log.proofs.Rested.{rested}
 
 -- what the list begins with, once the stream is opened: the handler of an eager protocol is made at once
@@ -52,6 +52,10 @@ at_first n (Some handler) = Made n handler ∷ []
 said_first : {H : Type 0} (n : ℕ) (handler : Option H) → said (at_first n handler) ≡ []
 said_first n None = refl
 said_first n (Some handler) = refl
+
+unasked_first : {H : Type 0} (n : ℕ) (handler : Option H) → asks (at_first n handler) ≡ []
+unasked_first n None = refl
+unasked_first n (Some handler) = refl
 
 -- a stream that talks comes to nothing, or is given up
 talks_not_served : {H : Type 0} (stage : Stage H) → is_talking stage ≡ true → kind_of stage ≡ Served → ⊥
@@ -146,6 +150,10 @@ module _ {P H : Type 0} (step : H → HandlerCall → H → Type 0) (fails : H �
     items_first None = refl
     items_first (Some handler) = refl
 
+    left_first : (handler : Option H) (m : ℕ) → left_behind role ((at_first n handler ++ Asks n index ∷ []) ++ log) m ≡ left_behind role log m
+    left_first None m = refl
+    left_first (Some handler) m = refl
+
     own : is_own role n ≡ true
     own = ap (is_own role) there.answered.0.1 ∙ own_next role (items log) there.answered.1
 
@@ -169,9 +177,8 @@ module _ {P H : Type 0} (step : H → HandlerCall → H → Type 0) (fails : H �
           (record { live = refl; closed = refl; came = refl; sent = refl; ended = λ on. on; live_ended = λ on. refl }));
       opens_none = tt;
       ends_last = tt;
-      earlier = subst (λ (t : List (Entry H)). Rattle.std.specs.List.AllByRecursion (λ it. Rattle.conn_log.specs.Held.IsPast step is_closed is_finished names role t it.number it.stream) past)
-          (append_assoc (at_first n handler) (Asks n index ∷ []) log)
-          (all_past step fails is_closed is_finished inbound_makes outbound_makes eager names peer role log (at_first n handler ++ Asks n index ∷ []) past r.earlier);
+      earlier = λ m. subst (λ (t : List (Entry H)). AreLeft step is_closed is_finished names role t m 0 (earlier_of m past)) (append_assoc (at_first n handler) (Asks n index ∷ []) log)
+          (left_same step is_closed is_finished names role log (at_first n handler ++ Asks n index ∷ []) m 0 (earlier_of m past) (left_first handler m) (r.earlier m));
     }
 
     since_first : (handler : Option H) → since role (at_first n handler ++ Asks n index ∷ log) n ≡ at_first n handler
@@ -220,6 +227,7 @@ module _ {P H : Type 0} (step : H → HandlerCall → H → Type 0) (fails : H �
       later = routed.newer ++ at_first n handler;
       number_is = there.answered.0.1;
       told_is = routed.told_is ∙ ap (λ t. told ++ t) (sym (said_append routed.newer (at_first n handler) ∙ ap (λ t. t ++ said routed.newer) (said_first n handler)));
+      alone = none_asked routed.newer (at_first n handler) routed.unasked (unasked_first n handler);
       only_broken = subst (λ (t : List (ConnEvent H)). AllByRecursion (IsBrokenOf n) t)
           (append_cancel_left told more (said routed.newer) (sym is ∙ routed.told_is) ∙ sym (said_append routed.newer (at_first n handler) ∙ ap (λ t. t ++ said routed.newer) (said_first n handler))) broken;
       at_once = λ on. by_handler handler early on;

@@ -1,15 +1,12 @@
 -- Where the streams stand once one of them was served.
-use Rattle.std.proofs.Common.{◌≡◌, ◌≢◌, ℕ, ◌==◌, ◌-◌, Bool, true, false, ◌||◌, cond, List, [], ◌∷◌, ◌++◌, map, Option, Some, None, refl, sym, ap, ◌∙◌, subst}
+use Rattle.std.proofs.Common.{◌≡◌, ◌≢◌, ℕ, ◌==◌, ◌-◌, Bool, true, false, ◌||◌, List, [], ◌∷◌, ◌++◌, Option, Some, None, refl, sym, ap, ◌∙◌, subst}
 use Rattle.std.specs.Prelude.{IfSome, IfNone, IsSome}
 use Rattle.std.specs.List.{AllByRecursion}
 use Rattle.handlers.specs.Calls.{HandlerCall, Asked, ToGive}
 use Rattle.handlers.specs.declared.handler.HandlerFault.{HandlerFault}
 use Rattle.yamux_session.specs.declared.event.Role.{Role}
-use Rattle.yamux_session.specs.History.{Item, Act}
-use Rattle.yamux_session.specs.History.Item.{Did}
-use Rattle.yamux_session.specs.Openings.{is_live, closed}
-use Rattle.yamux_session.specs.Windows.{credit, untaken}
-use Rattle.yamux_session.specs.Data.{written}
+use Rattle.yamux_session.specs.History.{Item}
+use Rattle.yamux_session.specs.Openings.{is_live}
 use Rattle.yamux_session.specs.Acts.{open_credit}
 use Rattle.yamux_session.specs.Events.{Told, events}
 use Rattle.yamux_session.specs.Seen.{Seen, ActsDo, ActsMove}
@@ -28,16 +25,16 @@ use Rattle.routing.specs.Routing.{Came}
 use Rattle.conn_log.specs.declared.earlier.Earlier.{Earlier}
 use Rattle.conn_log.specs.declared.event.ConnEvent.{ConnEvent}
 use Rattle.conn_log.specs.declared.event.ConnEvent.TheVariants as event
-use Rattle.conn_log.specs.Entries.{Entry, items, said, agreed, is_over, made_of, asked}
-use Rattle.conn_log.specs.Entries.Entry.{Of, Says}
+use Rattle.conn_log.specs.Entries.{Entry, items, said, asks, is_over}
+use Rattle.conn_log.specs.Entries.Entry.{Says}
 use Rattle.conn_log.specs.Due.{IsSide, HasCome, IsThere, IsDone, IsDue, AllDue, HandlerFails}
-use Rattle.conn_log.specs.Held.{IsHeld, IsAtRest, IsPast}
-use Rattle.conn_log.specs.Routes.{IsStill, IsMoving, Around, Routes, Comes}
-use Rattle.conn_log.proofs.Same.{same_by_event, IsOf, side_same, settled_same, at_rest_same, past_same}
+use Rattle.conn_log.specs.Held.{IsHeld}
+use Rattle.conn_log.specs.Routes.{IsMoving, Around, Routes, Comes}
+use Rattle.conn_log.proofs.Same.{same_by_event, IsOf, side_same}
 use Rattle.conn_log.proofs.Around.{grown, still}
 use Rattle.conn_log.proofs.Views.{same}
 use Rattle.conn_log.proofs.StageKinds.{same_talking, same_awaiting, same_handed, served_talking, served_handed}
-use Rattle.conn_log.proofs.Served.{did, items_did, said_did, did_untold, view_by, AllOn, Own, did_own, all_on, come_of, come_on, view_came, view_ended, view_over, around_acts}
+use Rattle.conn_log.proofs.Served.{did, items_did, said_did, did_untold, did_unasked, view_by, AllOn, Own, did_own, all_on, come_of, come_on, view_came, view_ended, view_over, around_acts}
 
 module _ {P H : Type 0} (step : H → HandlerCall → H → Type 0) (fails : H → Asked → ℕ → Type 0)
     (is_closed is_finished : H → Bool) (inbound_makes outbound_makes : P → ℕ → List ℕ → H → Type 0)
@@ -50,7 +47,7 @@ module _ {P H : Type 0} (step : H → HandlerCall → H → Type 0) (fails : H �
       → Around step fails is_closed is_finished inbound_makes outbound_makes eager names peer role (Says told ∷ log) fed sent session streams past n view rest
   around_event log fed sent session streams past n view rest told of is_due a =
       grown step fails is_closed is_finished inbound_makes outbound_makes eager names peer role log (Says told ∷ []) fed sent session session streams streams past n view view rest a
-      (is_due, a.due) (λ m apart. same_by_event role log n m told of apart) a.session_stands (λ m apart. refl) a.heard refl
+      (is_due, a.due) (λ m apart. same_by_event role log n m told of apart) a.session_stands (λ m apart. refl) a.heard refl (λ m. refl)
 
   -- ---- a stream that was served
 
@@ -208,11 +205,12 @@ module _ {P H : Type 0} (step : H → HandlerCall → H → Type 0) (fails : H �
       pub newer : List (Entry H)
       pub none_said : said newer ≡ []
       pub untold : events role (items (newer ++ log)) ≡ events role (items log)
+      pub unasked : asks newer ≡ []
       pub seen_now : Seen
       pub comes : Comes step fails is_closed is_finished inbound_makes outbound_makes eager names peer role (newer ++ log) fed sent after now past n seen_now rest outcome
 
     pub went : (outcome : Outcome H) → Came step fails is_closed is_finished role (items log) fed sent n h.so_far old before outcome after new → Went outcome
-    went outcomes.Going c = record { newer = did c.0.goes.acts; none_said = said_did c.0.goes.acts; untold = did_untold role c.0.goes.acts log; seen_now = view_by c.0.goes.acts view; comes = goes_on c.0 c.1 }
-    went (outcomes.Done handler) c = record { newer = did c.0.goes.acts; none_said = said_did c.0.goes.acts; untold = did_untold role c.0.goes.acts log; seen_now = view_by c.0.goes.acts view; comes = is_done handler c.0 c.1 }
+    went outcomes.Going c = record { newer = did c.0.goes.acts; none_said = said_did c.0.goes.acts; untold = did_untold role c.0.goes.acts log; unasked = did_unasked H c.0.goes.acts; seen_now = view_by c.0.goes.acts view; comes = goes_on c.0 c.1 }
+    went (outcomes.Done handler) c = record { newer = did c.0.goes.acts; none_said = said_did c.0.goes.acts; untold = did_untold role c.0.goes.acts log; unasked = did_unasked H c.0.goes.acts; seen_now = view_by c.0.goes.acts view; comes = is_done handler c.0 c.1 }
     went outcomes.Refused c = absurd c
-    went (outcomes.Broken cause) c = record { newer = []; none_said = refl; untold = refl; seen_now = view; comes = is_broken c.1.0 cause c.0 c.1.1 c.1.2 }
+    went (outcomes.Broken cause) c = record { newer = []; none_said = refl; untold = refl; unasked = refl; seen_now = view; comes = is_broken c.1.0 cause c.0 c.1.1 c.1.2 }

@@ -1,43 +1,37 @@
 -- Where the streams stand once data of one of them was told.
-use Rattle.std.proofs.Common.{◌≡◌, ◌≢◌, ◌⊎◌, inl, inr, ℕ, ◌==◌, ◌||◌, Bool, true, false, not, ◌&&◌, cond, List, [], ◌∷◌, ◌++◌, map, Option, Some, None, refl, sym, ap, ◌∙◌, subst}
-use Rattle.std.specs.Prelude.{IfSome, IsSome, slice_get}
+use Rattle.std.proofs.Common.{◌≡◌, ◌≢◌, inl, inr, ℕ, ◌==◌, Bool, true, false, cond, List, [], ◌∷◌, ◌++◌, map, Option, Some, None, refl, sym, ap, ◌∙◌, subst}
 use Rattle.std.specs.List.{AllByRecursion}
 use Rattle.std.proofs.lemmas.List.{append-nil, append_assoc}
 use Rattle.handlers.specs.Calls.{HandlerCall, Asked, ToTake}
 use Rattle.handlers.specs.declared.handler.HandlerFault.{HandlerFault}
-use Rattle.talks.specs.Talks.{Side, Asks, Answers, Agrees}
+use Rattle.talks.specs.Talks.{Side, Asks, Answers}
 use Rattle.yamux_session.specs.declared.event.Role.{Role}
-use Rattle.yamux_session.specs.History.{is_own}
-use Rattle.yamux_session.specs.Openings.{finished}
 use Rattle.yamux_session.specs.Data.{inbound}
 use Rattle.yamux_session.specs.Events.{Told, events}
-use Rattle.yamux_session.specs.Seen.{Seen, seen, hears, all_heard, AgreesOn, ActsDo, ActsMove}
+use Rattle.yamux_session.specs.Seen.{Seen, seen, all_heard, AgreesOn, ActsDo, ActsMove}
 use Rattle.yamux_session.specs.State.{State}
-use Rattle.streams.specs.declared.stop.Cause.{Cause}
 use Rattle.streams.specs.declared.stop.Cause.TheVariants as causes
-use Rattle.streams.specs.declared.stage.Stage.TheVariants as stages
 use Rattle.streams.specs.Streams.{Past}
 use Rattle.streams.specs.State.{Streaming, Stands, is_talking, awaits_handler, was_handed_out, kind_of, Served}
-use Rattle.dispatch.specs.declared.direction.Direction.{Direction}
 use Rattle.dispatch.specs.declared.direction.Direction.TheVariants.{Inbound, Outbound}
 use Rattle.dispatch.specs.Dispatch.{IsKnown, IsMade, made_by}
 use Rattle.routing.specs.declared.delivered.Outcome.{Outcome}
 use Rattle.routing.specs.declared.delivered.Outcome.TheVariants as outcomes
 use Rattle.routing.specs.declared.delivered.Delivered.{Delivered}
-use Rattle.routing.specs.Routing.{Came, Hands, Takes, HasAgreed, Stops, InTalk, Delivers}
+use Rattle.routing.specs.Routing.{Came, Takes, HasAgreed, Stops, InTalk, Delivers}
 use Rattle.conn_log.specs.declared.earlier.Earlier.{Earlier}
 use Rattle.conn_log.specs.declared.event.ConnEvent.{ConnEvent}
 use Rattle.conn_log.specs.declared.event.ConnEvent.TheVariants as event
-use Rattle.conn_log.specs.Entries.{Entry, items, said, agreed, is_over, made_of, asked, agreement}
+use Rattle.conn_log.specs.Entries.{Entry, items, said, asks, agreed, is_over, made_of, agreement}
 use Rattle.conn_log.specs.Entries.Entry.{Says, Made}
-use Rattle.conn_log.specs.Due.{IsSide, direction_of, HasCome, ComesTo, HandlerFails, IsDue, AllDue, Makes}
-use Rattle.conn_log.specs.Held.{IsHeld, IsAtRest, IsPast}
+use Rattle.conn_log.specs.Due.{IsSide, direction_of, IsDue}
+use Rattle.conn_log.specs.Held.{IsHeld}
 use Rattle.conn_log.specs.Routes.{IsNoOpening, EndsLast, Around, Comes}
-use Rattle.conn_log.proofs.Same.{same_by_making, at_rest_same, past_same}
+use Rattle.conn_log.proofs.Same.{same_by_making}
 use Rattle.conn_log.proofs.Around.{grown, still}
 use Rattle.conn_log.proofs.Views.{same, came_front}
 use Rattle.conn_log.proofs.StageKinds.{same_talking, same_awaiting, same_handed, served_talking, served_handed, served_awaits, talking_kind, talking_awaits}
-use Rattle.conn_log.proofs.Settling.{said_append}
+use Rattle.conn_log.proofs.Settling.{said_append, none_asked}
 use Rattle.conn_log.proofs.Comes.{went, around_event}
 
 -- what is seen of a stream of which these bytes came
@@ -96,7 +90,7 @@ module _ {P H : Type 0} (step : H → HandlerCall → H → Type 0) (fails : H �
       → Around step fails is_closed is_finished inbound_makes outbound_makes eager names peer role (Made n made ∷ log) fed sent session streams past n view rest
   around_making log fed sent session streams past n view rest made is_due a =
       grown step fails is_closed is_finished inbound_makes outbound_makes eager names peer role log (Made n made ∷ []) fed sent session session streams streams past n view view rest a
-      (is_due, a.due) (λ m apart. same_by_making role log n m made apart) a.session_stands (λ m apart. refl) a.heard refl
+      (is_due, a.due) (λ m apart. same_by_making role log n m made apart) a.session_stands (λ m apart. refl) a.heard refl (λ m. refl)
 
   -- What data came to: by these entries, that tell this.
   pub record Went (log : List (Entry H)) (told : List (ConnEvent H)) (fed sent : List ℕ) (session : State) (streams : ℕ → Option (Streaming H)) (past : List (Earlier H)) (n : ℕ) (rest : List Told)
@@ -104,6 +98,7 @@ module _ {P H : Type 0} (step : H → HandlerCall → H → Type 0) (fails : H �
     pub newer : List (Entry H)
     pub said_is : said newer ≡ told
     pub untold : events role (items (newer ++ log)) ≡ events role (items log)
+    pub unasked : asks newer ≡ []
     pub seen_now : Seen
     pub comes : Comes step fails is_closed is_finished inbound_makes outbound_makes eager names peer role (newer ++ log) fed sent session streams past n seen_now rest outcome
 
@@ -121,6 +116,7 @@ module _ {P H : Type 0} (step : H → HandlerCall → H → Type 0) (fails : H �
       newer = [];
       said_is = refl;
       untold = refl;
+      unasked = refl;
       seen_now = view;
       comes = come (around_event step fails is_closed is_finished inbound_makes outbound_makes eager names peer role log fed sent after now past n view rest told of is_due (still step fails is_closed is_finished inbound_makes outbound_makes eager names peer role log fed sent before after streams now past n view rest same_session elsewhere a));
     }
@@ -151,7 +147,7 @@ module _ {P H : Type 0} (step : H → HandlerCall → H → Type 0) (fails : H �
         } in
         let it = went step fails is_closed is_finished inbound_makes outbound_makes eager names peer role acts_do acts_move log fed sent before after streams now past n view rest middle new a held over
         elsewhere here outcome served.3 in
-        record { newer = it.newer; said_is = it.none_said; untold = it.untold; seen_now = it.seen_now; comes = it.comes }
+        record { newer = it.newer; said_is = it.none_said; untold = it.untold; unasked = it.unasked; seen_now = it.seen_now; comes = it.comes }
     takes log bytes old got outcome a came going h (inr f) =
         let front = came_front n view rest a.opens_none in
         let data_is : inbound role (items log) n ≡ h.so_far.got ++ bytes ++ front.0 =
@@ -251,7 +247,7 @@ module _ {P H : Type 0} (step : H → HandlerCall → H → Type 0) (fails : H �
           } in
           let it = went step fails is_closed is_finished inbound_makes outbound_makes eager names peer role acts_do acts_move log fed sent before after streams now past n view rest middle new a held over
           elsewhere here outcome came_to in
-          record { newer = it.newer; said_is = it.none_said; untold = it.untold; seen_now = it.seen_now; comes = it.comes }
+          record { newer = it.newer; said_is = it.none_said; untold = it.untold; unasked = it.unasked; seen_now = it.seen_now; comes = it.comes }
 
       -- both ends agree by a front of these bytes, and the handler takes the rest
       agreed_on : (outcome : Outcome H) (index : ℕ) (front more : List ℕ) (middle : Streaming H) → is_talking old.stage ≡ true
@@ -319,6 +315,7 @@ module _ {P H : Type 0} (step : H → HandlerCall → H → Type 0) (fails : H �
               newer = it.newer ++ Says (event.Agreed n index) ∷ [];
               said_is = said_append it.newer (Says (event.Agreed n index) ∷ []) ∙ ap (λ t. (event.Agreed n index ∷ []) ++ t) it.said_is;
               untold = ap (λ t. events role (items t)) (append_assoc it.newer (Says (event.Agreed n index) ∷ []) log) ∙ it.untold;
+              unasked = none_asked it.newer (Says (event.Agreed n index) ∷ []) it.unasked refl;
               seen_now = it.seen_now;
               comes = subst (λ t. Comes step fails is_closed is_finished inbound_makes outbound_makes eager names peer role t fed sent after now past n it.seen_now rest outcome)
                   (sym (append_assoc it.newer (Says (event.Agreed n index) ∷ []) log)) it.comes;
@@ -331,6 +328,7 @@ module _ {P H : Type 0} (step : H → HandlerCall → H → Type 0) (fails : H �
               newer = it.newer ++ Made n has.made ∷ Says (event.Agreed n index) ∷ [];
               said_is = said_append it.newer (Made n has.made ∷ Says (event.Agreed n index) ∷ []) ∙ ap (λ t. (event.Agreed n index ∷ []) ++ t) it.said_is;
               untold = ap (λ t. events role (items t)) (append_assoc it.newer (Made n has.made ∷ Says (event.Agreed n index) ∷ []) log) ∙ it.untold;
+              unasked = none_asked it.newer (Made n has.made ∷ Says (event.Agreed n index) ∷ []) it.unasked refl;
               seen_now = it.seen_now;
               comes = subst (λ t. Comes step fails is_closed is_finished inbound_makes outbound_makes eager names peer role t fed sent after now past n it.seen_now rest outcome)
                   (sym (append_assoc it.newer (Made n has.made ∷ Says (event.Agreed n index) ∷ []) log)) it.comes;

@@ -1,10 +1,9 @@
 -- Where the streams stand once the end of one of them was told.
-use Rattle.std.proofs.Common.{◌≡◌, ◌≢◌, ◌⊎◌, inl, inr, ℕ, ◌==◌, Bool, true, false, not, ◌&&◌, cond, List, [], ◌∷◌, ◌++◌, Option, Some, None, refl, sym, ap, ◌∙◌, subst}
-use Rattle.std.specs.Prelude.{IfSome, IsSome}
+use Rattle.std.proofs.Common.{◌≡◌, inl, inr, ℕ, ◌==◌, Bool, true, false, not, ◌&&◌, cond, List, [], ◌∷◌, ◌++◌, Option, Some, None, refl, sym, ap, ◌∙◌, subst}
 use Rattle.std.proofs.lemmas.List.{append-nil}
 use Rattle.handlers.specs.Calls.{HandlerCall, Asked, ToEnd}
 use Rattle.handlers.specs.declared.handler.HandlerFault.{HandlerFault}
-use Rattle.talks.specs.Talks.{Side, IsOpen}
+use Rattle.talks.specs.Talks.{IsOpen}
 use Rattle.yamux_session.specs.declared.event.Role.{Role}
 use Rattle.yamux_session.specs.Openings.{finished}
 use Rattle.yamux_session.specs.Data.{inbound}
@@ -22,16 +21,16 @@ use Rattle.routing.specs.declared.delivered.Outcome.TheVariants as outcomes
 use Rattle.routing.specs.Routing.{Came, Ends}
 use Rattle.conn_log.specs.declared.earlier.Earlier.{Earlier}
 use Rattle.conn_log.specs.declared.event.ConnEvent.TheVariants as event
-use Rattle.conn_log.specs.Entries.{Entry, items, agreed, is_over}
+use Rattle.conn_log.specs.Entries.{Entry, items, asks, agreed, is_over}
 use Rattle.conn_log.specs.Entries.Entry.{Says}
-use Rattle.conn_log.specs.Due.{HasCome, ComesTo, HandlerFails, IsBroken, IsDue}
+use Rattle.conn_log.specs.Due.{HasCome, IsDue}
 use Rattle.conn_log.specs.Held.{IsHeld}
-use Rattle.conn_log.specs.Routes.{EndsLast, IsMoving, Around, Routes, Comes}
+use Rattle.conn_log.specs.Routes.{Around, Comes}
 use Rattle.conn_log.proofs.Around.{still}
 use Rattle.conn_log.proofs.Views.{same}
 use Rattle.conn_log.proofs.StageKinds.{same_talking, same_awaiting, same_handed}
-use Rattle.conn_log.proofs.Served.{none_behind, ended_stays, not_yet}
-use Rattle.conn_log.proofs.Comes.{come, went, around_event, Went}
+use Rattle.conn_log.proofs.Served.{none_behind, ended_stays}
+use Rattle.conn_log.proofs.Comes.{went, around_event}
 
 -- what is seen of a stream that has ended
 abbrev pub ended_view : Seen → Seen
@@ -119,6 +118,7 @@ module _ {P H : Type 0} (step : H → HandlerCall → H → Type 0) (fails : H �
       pub newer : List (Entry H)
       pub none_said : Rattle.conn_log.specs.Entries.said newer ≡ []
       pub untold : events role (items (newer ++ log)) ≡ events role (items log)
+      pub unasked : asks newer ≡ []
       pub seen_now : Seen
       pub comes : Comes step fails is_closed is_finished inbound_makes outbound_makes eager names peer role (newer ++ log) fed sent after now past n seen_now rest outcome
 
@@ -145,6 +145,7 @@ module _ {P H : Type 0} (step : H → HandlerCall → H → Type 0) (fails : H �
           newer = [];
           none_said = refl;
           untold = refl;
+          unasked = refl;
           seen_now = ended_view view;
           comes = subst (λ (o : Outcome H). Comes step fails is_closed is_finished inbound_makes outbound_makes eager names peer role log fed sent after now past n (ended_view view) rest o) (sym is) (
             around_event step fails is_closed is_finished inbound_makes outbound_makes eager names peer role log fed sent after now past n (ended_view view) rest (event.Broken n causes.Ended) refl was_due
@@ -171,6 +172,7 @@ module _ {P H : Type 0} (step : H → HandlerCall → H → Type 0) (fails : H �
           newer = [];
           none_said = refl;
           untold = refl;
+          unasked = refl;
           seen_now = ended_view view;
           comes = subst (λ (o : Outcome H). Comes step fails is_closed is_finished inbound_makes outbound_makes eager names peer role log fed sent after now past n (ended_view view) rest o) (sym is) (
             around_event step fails is_closed is_finished inbound_makes outbound_makes eager names peer role log fed sent after now past n (ended_view view) rest (event.Broken n (causes.Handler fault)) refl was_due
@@ -187,7 +189,7 @@ module _ {P H : Type 0} (step : H → HandlerCall → H → Type 0) (fails : H �
           let held = told_end served.0 served.1 served.2 in
           let now_it = went step fails is_closed is_finished inbound_makes outbound_makes eager names peer role acts_do acts_move log fed sent before after streams now past n (ended_view view) rest served.0 new
           a held (λ off. refl) elsewhere here outcome served.3 in
-          record { newer = now_it.newer; none_said = now_it.none_said; untold = now_it.untold; seen_now = now_it.seen_now; comes = now_it.comes }
+          record { newer = now_it.newer; none_said = now_it.none_said; untold = now_it.untold; unasked = now_it.unasked; seen_now = now_it.seen_now; comes = now_it.comes }
       by_hands (inr f) = failed outcome f.1.0 f.1.1 f.1.2 f.1.3 f.1.4 f.0
 
       by_talk : (b : Bool) → is_talking old.stage ≡ b → Ended outcome

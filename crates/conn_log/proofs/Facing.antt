@@ -1,19 +1,18 @@
 -- A frame arrived at streams that are at rest: what it told is to be routed.
-use Rattle.std.proofs.Common.{◌≡◌, ◌≢◌, ◌⊎◌, inl, inr, ℕ, ◌==◌, ◌||◌, Bool, true, false, cond, List, [], ◌∷◌, ◌++◌, map, Option, Some, None, refl, sym, ap, ◌∙◌, subst}
-use Rattle.std.specs.Prelude.{IfSome, IsSome, drop}
+use Rattle.std.proofs.Common.{◌≡◌, ◌≢◌, ◌⊎◌, inl, inr, ℕ, suc, ◌==◌, ◌||◌, ◌&&◌, Bool, true, false, cond, List, [], ◌∷◌, ◌++◌, map, Option, refl, sym, ap, ◌∙◌, subst}
+use Rattle.std.specs.Prelude.{IfSome, drop}
 use Rattle.std.specs.List.{AllByRecursion}
-use Rattle.std.proofs.lemmas.List.{append_assoc, append-nil}
+use Rattle.std.proofs.lemmas.List.{append_assoc}
+use Rattle.std.proofs.lemmas.Bool.Decides.{eqb_tells}
 use Rattle.handlers.specs.Calls.{HandlerCall, Asked}
 use Rattle.yamux_frames.specs.Frames.{Arrival}
 use Rattle.yamux_session.specs.declared.event.Role.{Role}
 use Rattle.yamux_session.specs.declared.event.Event.{Event}
 use Rattle.yamux_session.specs.declared.event.Event.TheVariants as event
-use Rattle.yamux_session.specs.History.{Item, is_own}
+use Rattle.yamux_session.specs.History.{Item}
 use Rattle.yamux_session.specs.History.Item.{Came}
-use Rattle.yamux_session.specs.Openings.{is_live, closed, finished}
-use Rattle.yamux_session.specs.Windows.{credit, untaken}
-use Rattle.yamux_session.specs.Data.{inbound, written}
-use Rattle.yamux_session.specs.Arrives.{telling, tellings, HasData}
+use Rattle.yamux_session.specs.Openings.{is_live, finished}
+use Rattle.yamux_session.specs.Arrives.{tellings, HasData}
 use Rattle.yamux_session.specs.Naming.{IsAbout, IsNoOpening as OpensNone, NamesOne}
 use Rattle.yamux_session.specs.Events.{Told, events}
 use Rattle.yamux_session.specs.Seen.{Seen, seen, all_heard, just_opened, AgreesOn, TellsFrom, EventsTell, Windows, windows, CreditIsTold}
@@ -22,17 +21,17 @@ use Rattle.yamux_session.specs.Endings.{opened_in, told_opened, OpeningsAreTold,
 use Rattle.yamux_session.specs.State.{State, Stands as SessionStands}
 use Rattle.streams.specs.State.{Streaming}
 use Rattle.conn_log.specs.declared.earlier.Earlier.{Earlier}
-use Rattle.conn_log.specs.Entries.{Entry, items, since, agreed, agreed_in, is_over, over_in, made_of, made_in, asked}
-use Rattle.conn_log.specs.Due.{WasReset}
-use Rattle.conn_log.specs.Held.{IsHeld, IsAtRest, IsPast}
+use Rattle.conn_log.specs.Entries.{Entry, items, since, agreed_in, over_in, made_in, is_kept, left_behind}
+use Rattle.conn_log.specs.Held.{IsAtRest, AreLeft, earlier_of}
 use Rattle.conn_log.specs.Rests.{AreAtRest}
-use Rattle.conn_log.specs.Routes.{IsStill, IsFor, IsNoOpening, IsMoving, Around, Opening, Routes, Awaits}
-use Rattle.conn_log.proofs.Same.{Same, side_same, settled_same, at_rest_same, past_same}
-use Rattle.conn_log.proofs.Around.{if_some, all_past}
+use Rattle.conn_log.specs.Routes.{IsStill, IsFor, IsNoOpening, IsMoving, Around, Opening, Routes, Awaits, set_aside}
+use Rattle.conn_log.proofs.Same.{Same, side_same, settled_same, at_rest_same, left_same}
+use Rattle.conn_log.proofs.Around.{if_some}
 use Rattle.conn_log.proofs.Views.{same, its_own}
 use Rattle.conn_log.proofs.Opening.{sent_stays}
+use Rattle.conn_log.proofs.Leaving.{earlier_other, are_left}
 use Rattle.conn_log.proofs.Rested.{end_agrees}
-use Rattle.conn_log.proofs.Arriving.{arrived, items_arrived, asked_arrived, since_arrived, due_arrived, IsNamed, named, opens_none, not_heard, not_opened, quiet, unopened, still_quiet, still_heard, ends_last, all_join}
+use Rattle.conn_log.proofs.Arriving.{arrived, items_arrived, asked_arrived, since_arrived, left_arrived, due_arrived, IsNamed, named, opens_none, not_heard, not_opened, quiet, unopened, still_quiet, still_heard, ends_last, all_join}
 
 -- what holds of every session
 pub record SessionLaws : Type 0 where
@@ -150,10 +149,18 @@ module _ {P H : Type 0} (step : H → HandlerCall → H → Type 0) (fails : H �
   others : (m : ℕ) → (n == m) ≡ false → IfSome (streams m) (λ it. IsAtRest step is_closed is_finished names role then m it)
   others m apart = if_some (streams m) (λ it r. at_rest_same step is_closed is_finished names role log then m it (other_same m apart r.over_by_end) r) (rests.each m)
 
-  around : (view : Seen) (rest : List Told) → AgreesOn (seen role (items then) n) (all_heard n view rest) → AllByRecursion (IsNoOpening n) rest
-      → Rattle.conn_log.specs.Routes.EndsLast view.ended rest
-      → Around step fails is_closed is_finished inbound_makes outbound_makes eager names peer role then later sent now streams past n view rest
-  around view rest heard none last = record {
+  -- a number that isn't opened leaves none behind
+  none_left : (m : ℕ) → told_opened m (tellings told) ≡ false → left_behind role then m ≡ left_behind role log m
+  none_left m off = left_arrived role came log m
+      ∙ ap (λ b. cond (b && is_kept role log m) (suc (left_behind role log m)) (left_behind role log m)) (laws.openings_are_told role (items log) came (tellings told) m tells ∙ off)
+
+  others_left : (m : ℕ) → (n == m) ≡ false → AreLeft step is_closed is_finished names role then m 0 (earlier_of m past)
+  others_left m apart = left_same step is_closed is_finished names role log (arrived came) m 0 (earlier_of m past) (none_left m (not_opened n m apart (tellings told) about)) (rests.earlier m)
+
+  around : (aside : List (Earlier H)) (view : Seen) (rest : List Told) → AgreesOn (seen role (items then) n) (all_heard n view rest) → AllByRecursion (IsNoOpening n) rest
+      → Rattle.conn_log.specs.Routes.EndsLast view.ended rest → ((m : ℕ) → AreLeft step is_closed is_finished names role then m 0 (earlier_of m aside))
+      → Around step fails is_closed is_finished inbound_makes outbound_makes eager names peer role then later sent now streams aside n view rest
+  around aside view rest heard none last left = record {
     session_stands = subst (λ (t : List Item). SessionStands role t later sent now) (sym items_are) there;
     due = due_arrived step fails is_closed is_finished inbound_makes outbound_makes eager names peer role came log rests.due;
     others = others;
@@ -164,7 +171,7 @@ module _ {P H : Type 0} (step : H → HandlerCall → H → Type 0) (fails : H �
     heard = heard;
     opens_none = none;
     ends_last = last;
-    earlier = all_past step fails is_closed is_finished inbound_makes outbound_makes eager names peer role log (arrived came) past rests.earlier;
+    earlier = left;
   }
 
   -- ---- of the one that is named
@@ -220,7 +227,8 @@ module _ {P H : Type 0} (step : H → HandlerCall → H → Type 0) (fails : H �
         awaits = inr (
           view,
           record {
-            around = around view (tellings told) (agrees n) none (ends_last n view.ended (tellings told) about none (laws.ends_are_last role (items log) came (tellings told) n tells));
+            around = around past view (tellings told) (agrees n) none (ends_last n view.ended (tellings told) about none (laws.ends_are_last role (items log) came (tellings told) n tells))
+                (λ m. left_by m none (eqb_tells n m));
             own = if_some (streams n) (λ it r. moving it none r) (rests.each n);
             own_held = rests.live_held n;
             own_kept = λ made going.
@@ -228,7 +236,12 @@ module _ {P H : Type 0} (step : H → HandlerCall → H → Type 0) (fails : H �
                 rests.made_held n (λ none_made. made (ap (made_in n) (since_same n off) ∙ none_made)) (sym (ap (over_in n) (since_same n off)) ∙ going);
           },
         );
-      }
+      } where
+        left_by : (m : ℕ) → AllByRecursion (IsNoOpening n) (tellings told) → (((n == m) ≡ true) × (n ≡ m)) ⊎ (((n == m) ≡ false) × (n ≢ m))
+            → AreLeft step is_closed is_finished names role then m 0 (earlier_of m past)
+        left_by m none (inl it) = subst (λ (k : ℕ). AreLeft step is_closed is_finished names role then k 0 (earlier_of k past)) it.1
+            (left_same step is_closed is_finished names role log (arrived came) n 0 (earlier_of n past) (none_left n (unopened n (tellings told) none)) (rests.earlier n))
+        left_by m none (inr it) = others_left m it.0
 
   -- it is opened by what arrived
   opened_faced : (rest : List Event) → told ≡ event.Opened n ∷ rest → AllByRecursion OpensNone rest → AllByRecursion (IsAbout n) rest → AllByRecursion HasData rest → Faced
@@ -254,22 +267,21 @@ module _ {P H : Type 0} (step : H → HandlerCall → H → Type 0) (fails : H �
           tellings rest,
           told_is,
           record {
-            around = around just_opened (tellings rest)
+            around = around (past ++ set_aside n (streams n)) just_opened (tellings rest)
                 (subst (λ (b : Bool). AgreesOn (seen role (items then) n) (all_heard n (cond b just_opened view) (tellings rest))) (same n)
                 (subst (λ (t : List Told). AgreesOn (seen role (items then) n) (all_heard n view t)) told_is (agrees n)))
-                none (ends_last n false (tellings rest) (named n rest rest_about) none once);
-            earlier = if_some (streams n) (λ it r. record {
-              newer = arrived came;
-              older = log;
-              log_is = refl;
-              over = laws.opened_anew role (items log) came (tellings rest) n tells_it;
-              at_rest = r;
-            }) (rests.each n);
+                none (ends_last n false (tellings rest) (named n rest rest_about) none once) (λ m. left_by m opened tells_it (eqb_tells n m));
             fresh = since_arrived role came log n ∙ ap (λ b. cond b [] (since role log n)) opened;
             theirs = laws.opened_by_the_other role (items log) came n opened;
           },
         );
-      }
+      } where
+        left_by : (m : ℕ) → opened_in role (items log) came n ≡ true → TellsFrom role (items log) came (Told.Opened n ∷ tellings rest) → (((n == m) ≡ true) × (n ≡ m)) ⊎ (((n == m) ≡ false) × (n ≢ m))
+            → AreLeft step is_closed is_finished names role then m 0 (earlier_of m (past ++ set_aside n (streams n)))
+        left_by m opened tells_it (inl it) = subst (λ (k : ℕ). AreLeft step is_closed is_finished names role then k 0 (earlier_of k (past ++ set_aside n (streams n)))) it.1
+            (are_left step is_closed is_finished names role log (arrived came) n past (laws.opened_anew role (items log) came (tellings rest) n tells_it)
+            (left_arrived role came log n ∙ ap (λ b. cond (b && is_kept role log n) (suc (left_behind role log n)) (left_behind role log n)) opened) (rests.earlier n) (streams n) (rests.each n) (rests.made_held n))
+        left_by m opened tells_it (inr it) = subst (λ (t : List (Streaming H)). AreLeft step is_closed is_finished names role then m 0 t) (sym (earlier_other n m past (streams n) it.0)) (others_left m it.0)
 
   pub faced : Faced
   faced = by_told told refl where

@@ -13,3 +13,5 @@ pub mod Rested
 pub mod Arriving
 pub mod Facing
 pub mod Asking
+pub mod Leaving
+pub mod Early

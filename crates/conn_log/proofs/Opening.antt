@@ -1,21 +1,19 @@
 -- Where the streams stand once the other end's opening of one of them was told.
-use Rattle.std.proofs.Common.{◌≡◌, ◌≢◌, ◌⊎◌, inl, inr, ℕ, ◌==◌, Bool, true, false, not, ◌&&◌, cond, List, [], ◌∷◌, ◌++◌, Option, Some, None, refl, sym, ap, ◌∙◌, subst}
+use Rattle.std.proofs.Common.{◌≡◌, ℕ, ◌==◌, Bool, true, false, not, ◌&&◌, cond, List, [], ◌∷◌, ◌++◌, Option, None, refl, sym, ap, ◌∙◌, subst}
 use Rattle.std.specs.Prelude.{IfSome, IsSome}
 use Rattle.std.specs.List.{AllByRecursion}
-use Rattle.std.proofs.lemmas.List.{append-nil}
 use Rattle.handlers.specs.Calls.{HandlerCall, Asked}
 use Rattle.talks.specs.Talks.{Answers}
 use Rattle.yamux_session.specs.declared.event.Role.{Role}
 use Rattle.yamux_session.specs.History.{is_own}
-use Rattle.yamux_session.specs.Data.{written}
 use Rattle.yamux_session.specs.Events.{Told}
-use Rattle.yamux_session.specs.Seen.{Seen, seen, hears, all_heard, just_opened, AgreesOn}
+use Rattle.yamux_session.specs.Seen.{Seen, hears, all_heard, just_opened}
 use Rattle.yamux_session.specs.State.{State}
 use Rattle.streams.specs.Streams.{fresh}
-use Rattle.streams.specs.State.{Streaming, Stands, is_talking, was_handed_out}
+use Rattle.streams.specs.State.{Streaming, Stands, is_talking}
 use Rattle.conn_log.specs.declared.earlier.Earlier.{Earlier}
-use Rattle.conn_log.specs.Entries.{Entry, items, since, agreed_in, over_in, made_in}
-use Rattle.conn_log.specs.Held.{IsHeld, IsAtRest, IsPast}
+use Rattle.conn_log.specs.Entries.{Entry, since, agreed_in, over_in, made_in}
+use Rattle.conn_log.specs.Held.{IsHeld, IsAtRest, AreLeft, earlier_of}
 use Rattle.conn_log.specs.Routes.{IsNoOpening, Around, set_aside}
 use Rattle.conn_log.proofs.StageKinds.{talking_kind, talking_awaits}
 
@@ -41,11 +39,11 @@ module _ {P H : Type 0} (step : H → HandlerCall → H → Type 0) (fails : H �
     (is_closed is_finished : H → Bool) (inbound_makes outbound_makes : P → ℕ → List ℕ → H → Type 0)
     (eager : ℕ → Bool) (names : List (List ℕ)) (peer : List ℕ) (role : Role) (log : List (Entry H)) (fed sent : List ℕ) (session : State) (streams now : ℕ → Option (Streaming H))
     (past later : List (Earlier H)) (n : ℕ) (rest : List Told)
-    (a : Around step fails is_closed is_finished inbound_makes outbound_makes eager names peer role log fed sent session streams past n just_opened rest) where
+    (a : Around step fails is_closed is_finished inbound_makes outbound_makes eager names peer role log fed sent session streams (past ++ set_aside n (streams n)) n just_opened rest) where
   -- the other streams stay, and that of an earlier opening is put aside
-  pub put_aside : ((m : ℕ) → (n == m) ≡ false → now m ≡ streams m) → AllByRecursion (λ it. IsPast step is_closed is_finished names role log it.number it.stream) later
+  pub put_aside : ((m : ℕ) → (n == m) ≡ false → now m ≡ streams m) → later ≡ past ++ set_aside n (streams n)
       → Around step fails is_closed is_finished inbound_makes outbound_makes eager names peer role log fed sent session now later n just_opened rest
-  put_aside elsewhere earlier = record {
+  put_aside elsewhere aside = record {
     session_stands = a.session_stands;
     due = a.due;
     others = λ m apart. subst (λ (t : Option (Streaming H)). IfSome t (λ it. IsAtRest step is_closed is_finished names role log m it)) (sym (elsewhere m apart)) (a.others m apart);
@@ -54,7 +52,7 @@ module _ {P H : Type 0} (step : H → HandlerCall → H → Type 0) (fails : H �
     heard = a.heard;
     opens_none = a.opens_none;
     ends_last = a.ends_last;
-    earlier = earlier;
+    earlier = λ m. subst (λ (t : List (Earlier H)). AreLeft step is_closed is_finished names role log m 0 (earlier_of m t)) (sym aside) (a.earlier m);
   }
 
   -- the new stream answers, and nothing has come yet
@@ -73,24 +71,3 @@ module _ {P H : Type 0} (step : H → HandlerCall → H → Type 0) (fails : H �
     over = ap (over_in n) none ∙ sym (talking_kind stream.stage talks);
     served = talking_awaits stream.stage talks;
   }
-
-all_and : {A : Type 0} (Q : A → Type 0) (xs : List A) (x : A) → AllByRecursion Q xs → Q x → AllByRecursion Q (xs ++ x ∷ [])
-all_and Q [] x all q = (q, tt)
-all_and Q (y ∷ xs) x all q = (all.0, all_and Q xs x all.1 q)
-
--- the streams of earlier openings, where one was put aside
-pub earlier_on : {H : Type 0} (step : H → HandlerCall → H → Type 0) (is_closed is_finished : H → Bool) (names : List (List ℕ)) (role : Role) (log : List (Entry H)) (past later : List (Earlier H)) (n : ℕ)
-    (held : Option (Streaming H)) → AllByRecursion (λ it. IsPast step is_closed is_finished names role log it.number it.stream) past
-    → IfSome held (λ it. IsPast step is_closed is_finished names role log n it) → later ≡ past ++ set_aside n held
-    → AllByRecursion (λ it. IsPast step is_closed is_finished names role log it.number it.stream) later
-earlier_on step is_closed is_finished names role log past later n held all one is =
-    subst (λ (t : List (Earlier _)). AllByRecursion (λ it. IsPast step is_closed is_finished names role log it.number it.stream) t) (sym is) (by_held held one) where
-      by_end : (stream : Streaming _) → IsPast step is_closed is_finished names role log n stream → (b : Bool)
-          → AllByRecursion (λ (it : Earlier _). IsPast step is_closed is_finished names role log it.number it.stream) (past ++ cond b [] (record { number = n; stream = stream } ∷ []))
-      by_end stream one true = subst (λ (t : List (Earlier _)). AllByRecursion (λ it. IsPast step is_closed is_finished names role log it.number it.stream) t) (sym (append-nil past)) all
-      by_end stream one false = all_and (λ (it : Earlier _). IsPast step is_closed is_finished names role log it.number it.stream) past (record { number = n; stream = stream }) all one
-
-      by_held : (held : Option (Streaming _)) → IfSome held (λ it. IsPast step is_closed is_finished names role log n it)
-          → AllByRecursion (λ (it : Earlier _). IsPast step is_closed is_finished names role log it.number it.stream) (past ++ set_aside n held)
-      by_held None one = subst (λ (t : List (Earlier _)). AllByRecursion (λ it. IsPast step is_closed is_finished names role log it.number it.stream) t) (sym (append-nil past)) all
-      by_held (Some stream) one = by_end stream one (was_handed_out stream.stage)

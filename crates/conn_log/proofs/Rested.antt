@@ -10,7 +10,6 @@ use Rattle.yamux_session.specs.declared.event.Event.{Event}
 use Rattle.yamux_session.specs.declared.event.Event.TheVariants as heard
 use Rattle.yamux_session.specs.History.{Item}
 use Rattle.yamux_session.specs.Openings.{is_live, finished}
-use Rattle.yamux_session.specs.Data.{inbound}
 use Rattle.yamux_session.specs.Events.{Told, events}
 use Rattle.yamux_session.specs.Seen.{Seen, seen, hears, all_heard, AgreesOn}
 use Rattle.yamux_session.specs.State.{State}
@@ -22,7 +21,7 @@ use Rattle.conn_log.specs.Entries.{Entry, items, said, is_over, made_of}
 use Rattle.conn_log.specs.Due.{WasReset}
 use Rattle.conn_log.specs.Held.{IsAtRest}
 use Rattle.conn_log.specs.Rests.{AreAtRest, Grows}
-use Rattle.conn_log.specs.Routes.{IsStill, IsFor, EndsLast, IsMoving, Around, Routes, Routed, Opening, Awaits, IsUnderWay}
+use Rattle.conn_log.specs.Routes.{IsStill, IsFor, EndsLast, IsMoving, Routes, Routed, Awaits, IsUnderWay}
 use Rattle.conn_log.proofs.Settling.{routed_behind}
 
 -- a reset that was told was told, whatever this end did since
@@ -112,7 +111,7 @@ module _ {P H : Type 0} (step : H → HandlerCall → H → Type 0) (fails : H �
       (told rest : List Told) where
     pub begun : mid ≡ before → Awaits step fails is_closed is_finished inbound_makes outbound_makes eager names peer role log fed sent session streams past n told
         → IsUnderWay step fails is_closed is_finished inbound_makes outbound_makes eager names peer role log before mid fed sent session streams past n told
-    begun same a = record { newer = []; told_is = same ∙ sym (append-nil before); untold = refl; awaits = a }
+    begun same a = record { newer = []; told_is = same ∙ sym (append-nil before); untold = refl; unasked = refl; awaits = a }
 
     -- one more was routed
     pub went_on : (u : IsUnderWay step fails is_closed is_finished inbound_makes outbound_makes eager names peer role log before mid fed sent session streams past n told)
@@ -120,8 +119,8 @@ module _ {P H : Type 0} (step : H → HandlerCall → H → Type 0) (fails : H �
         → IsUnderWay step fails is_closed is_finished inbound_makes outbound_makes eager names peer role log before after fed sent middle then later n rest
     went_on u r =
         let both = routed_behind step fails is_closed is_finished inbound_makes outbound_makes eager names peer role log u.newer before mid after (said u.newer) fed sent middle then later n rest refl
-        u.told_is u.untold r in
-        record { newer = both.newer; told_is = both.told_is; untold = both.untold; awaits = inr (both.view, both.routes) }
+        u.told_is u.untold u.unasked r in
+        record { newer = both.newer; told_is = both.told_is; untold = both.untold; unasked = both.unasked; awaits = inr (both.view, both.routes) }
 
   -- ---- behind the last
 
@@ -185,4 +184,4 @@ module _ {P H : Type 0} (step : H → HandlerCall → H → Type 0) (fails : H �
     by_cases : Awaits step fails is_closed is_finished inbound_makes outbound_makes eager names peer role (u.newer ++ log) fed sent session streams past n []
         → Grows step fails is_closed is_finished inbound_makes outbound_makes eager names peer role log before after fed sent session streams past
     by_cases (inl o) = absurd (let e : [] ≡ Told.Opened n ∷ o.0 = o.1 in cc e)
-    by_cases (inr r) = record { newer = u.newer; told_is = u.told_is; at_rest = rested (u.newer ++ log) fed sent session streams past n r.0 r.1 }
+    by_cases (inr r) = record { newer = u.newer; told_is = u.told_is; unasked = u.unasked; at_rest = rested (u.newer ++ log) fed sent session streams past n r.0 r.1 }

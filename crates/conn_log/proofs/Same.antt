@@ -1,5 +1,5 @@
 -- What entries about one stream leave of another one.
-use Rattle.std.proofs.Common.{◌≡◌, ◌≢◌, ◌⊎◌, inl, inr, ℕ, ◌<◌, ◌==◌, Bool, true, false, ◌||◌, ◌&&◌, ◌-◌, not, length, cond, List, [], ◌∷◌, ◌++◌, Option, Some, None, refl, sym, ap, ◌∙◌, subst, arith}
+use Rattle.std.proofs.Common.{◌≡◌, ◌⊎◌, inl, inr, ℕ, suc, ◌<◌, ◌==◌, Bool, true, false, ◌||◌, ◌&&◌, ◌-◌, not, length, cond, List, [], ◌∷◌, ◌++◌, Option, Some, refl, sym, ap, ◌∙◌, arith}
 use Rattle.std.specs.Prelude.{sum_by}
 use Rattle.std.specs.List.{concat}
 use Rattle.std.proofs.lemmas.List.{append_assoc}
@@ -11,16 +11,16 @@ use Rattle.yamux_session.specs.History.Item.{Did}
 use Rattle.yamux_session.specs.History.Act.{Start, Write, Taken, Close, Reset}
 use Rattle.yamux_session.specs.Openings.{is_live, closed, finished}
 use Rattle.yamux_session.specs.Windows.{credit, untaken}
-use Rattle.yamux_session.specs.Data.{inbound, written}
-use Rattle.yamux_session.specs.Seen.{Seen, seen, does, Windows, windows, moves, ActsDo, ActsMove}
+use Rattle.yamux_session.specs.Data.{inbound}
+use Rattle.yamux_session.specs.Seen.{Seen, seen, Windows, windows, ActsDo, ActsMove}
 use Rattle.streams.specs.State.{Streaming}
 use Rattle.serving.specs.Served.{IsSettled}
 use Rattle.conn_log.specs.declared.event.ConnEvent.{ConnEvent}
 use Rattle.conn_log.specs.declared.event.ConnEvent.TheVariants as event
-use Rattle.conn_log.specs.Entries.{Entry, items, since, agreed, agreed_in, is_over, over_in, made_of, made_in, asked}
+use Rattle.conn_log.specs.Entries.{Entry, items, agreed, is_over, made_of, asked, is_kept, left_behind}
 use Rattle.conn_log.specs.Entries.Entry.{Of, Says, Made}
 use Rattle.conn_log.specs.Due.{IsSide}
-use Rattle.conn_log.specs.Held.{IsHeld, IsAtRest, IsPast}
+use Rattle.conn_log.specs.Held.{IsHeld, IsAtRest, IsPast, AreLeft}
 
 -- these are of the stream what they were
 pub record Same {H : Type 0} (role : Role) (log now : List (Entry H)) (m : ℕ) : Type 0 where
@@ -229,12 +229,29 @@ module _ {H : Type 0} (step : H → HandlerCall → H → Type 0) (is_closed is_
         over_by_end = λ off. sym ended ∙ r.over_by_end (sym live ∙ off);
       }
 
-  pub past_same : (log newer : List (Entry H)) (n : ℕ) (stream : Streaming H) → IsPast step is_closed is_finished names role log n stream
-      → IsPast step is_closed is_finished names role (newer ++ log) n stream
-  past_same log newer n stream p = record {
+  pub past_same : (log newer : List (Entry H)) (n place : ℕ) (stream : Streaming H) → IsPast step is_closed is_finished names role log n place stream
+      → IsPast step is_closed is_finished names role (newer ++ log) n place stream
+  past_same log newer n place stream p = record {
     newer = newer ++ p.newer;
     older = p.older;
     log_is = ap (λ t. newer ++ t) p.log_is ∙ sym (append_assoc newer p.newer p.older);
     over = p.over;
+    kept = p.kept;
+    place_is = p.place_is;
     at_rest = p.at_rest;
   }
+
+  -- those that a number has left stay
+  pub left_same : (log newer : List (Entry H)) (n place : ℕ) (streams : List (Streaming H)) → left_behind role (newer ++ log) n ≡ left_behind role log n
+      → AreLeft step is_closed is_finished names role log n place streams → AreLeft step is_closed is_finished names role (newer ++ log) n place streams
+  left_same log newer n place [] still all = still ∙ all
+  left_same log newer n place (it ∷ streams) still all = (past_same log newer n place it all.0, left_same log newer n (suc place) streams still all.1)
+
+  -- and one more was left
+  pub left_one : (log newer : List (Entry H)) (n place : ℕ) (it : Streaming H) (streams : List (Streaming H)) → left_behind role (newer ++ log) n ≡ suc (left_behind role log n)
+      → is_live role (items log) n ≡ false → is_kept role log n ≡ true → IsAtRest step is_closed is_finished names role log n it
+      → AreLeft step is_closed is_finished names role log n place streams → AreLeft step is_closed is_finished names role (newer ++ log) n place (streams ++ it ∷ [])
+  left_one log newer n place it [] more over kept rest all =
+      (record { newer = newer; older = log; log_is = refl; over = over; kept = kept; place_is = all; at_rest = rest }, more ∙ ap suc all)
+  left_one log newer n place it (one ∷ streams) more over kept rest all =
+      (past_same log newer n place one all.0, left_one log newer n (suc place) it streams more over kept rest all.1)

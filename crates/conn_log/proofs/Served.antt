@@ -1,6 +1,5 @@
 -- What serving a stream leaves of it and of the others, and why each act of it is due.
-use Rattle.std.proofs.Common.{◌≡◌, ◌≢◌, ◌⊎◌, inl, inr, ℕ, ◌<◌, ◌==◌, Bool, true, false, not, ◌&&◌, ◌||◌, cond, List, [], ◌∷◌, ◌++◌, map, Option, Some, None, refl, sym, ap, ◌∙◌, subst}
-use Rattle.std.specs.Prelude.{IfSome, IsSome}
+use Rattle.std.proofs.Common.{◌≡◌, ◌⊎◌, ℕ, ◌<◌, ◌==◌, Bool, true, false, not, ◌&&◌, cond, List, [], ◌∷◌, ◌++◌, map, Option, refl, sym, ap, ◌∙◌, subst}
 use Rattle.std.specs.List.{AllByRecursion}
 use Rattle.std.proofs.lemmas.List.{append-nil}
 use Rattle.handlers.specs.Calls.{HandlerCall, Asked}
@@ -8,24 +7,23 @@ use Rattle.yamux_session.specs.declared.event.Role.{Role}
 use Rattle.yamux_session.specs.History.{Item, Act}
 use Rattle.yamux_session.specs.History.Item.{Did}
 use Rattle.yamux_session.specs.History.Act.{Start, Write, Taken, Close, Reset}
-use Rattle.yamux_session.specs.Openings.{is_live, closed, finished}
+use Rattle.yamux_session.specs.Openings.{closed, finished}
 use Rattle.yamux_session.specs.Windows.{credit, untaken}
 use Rattle.yamux_session.specs.Data.{inbound, written}
 use Rattle.yamux_session.specs.Events.{Told, events}
 use Rattle.yamux_session.specs.Seen.{Seen, seen, all_heard, hears, just_opened, AgreesOn, ActsDo, ActsMove}
 use Rattle.yamux_session.specs.State.{State, Stands as SessionStands}
 use Rattle.streams.specs.Streams.{Past}
-use Rattle.streams.specs.State.{Streaming, Stands}
-use Rattle.serving.specs.Served.{HasSent, IsDue as ActIsDue, AreDue, with_sent}
+use Rattle.streams.specs.State.{Streaming}
+use Rattle.serving.specs.Served.{IsDue as ActIsDue, AreDue, with_sent}
 use Rattle.conn_log.specs.declared.earlier.Earlier.{Earlier}
-use Rattle.conn_log.specs.Entries.{Entry, items, said, agreed, is_over, made_of, asked}
+use Rattle.conn_log.specs.Entries.{Entry, items, said, asks, agreed, is_over, made_of, asked, left_behind}
 use Rattle.conn_log.specs.Entries.Entry.{Of}
 use Rattle.conn_log.specs.Due.{IsSide, HasCome, IsThere, HasGiven, IsDue, AllDue}
-use Rattle.conn_log.specs.Held.{IsHeld, IsAtRest, IsPast}
 use Rattle.conn_log.specs.Routes.{IsNoOpening, EndsLast, Around}
-use Rattle.conn_log.proofs.Same.{Same, same_refl, same_trans, same_by_act, IsOn, side_same, at_rest_same, past_same}
+use Rattle.conn_log.proofs.Same.{Same, same_refl, same_trans, same_by_act, IsOn, side_same}
 use Rattle.conn_log.proofs.Around.{grown}
-use Rattle.conn_log.proofs.Views.{done_by, wrote, shut, gone, does_is, moves_on, came_front}
+use Rattle.conn_log.proofs.Views.{done_by, does_is, moves_on, came_front}
 
 -- entries for these acts
 abbrev pub did : {H : Type 0} → List Act → List (Entry H)
@@ -44,6 +42,10 @@ said_did (act ∷ acts) = said_did acts
 pub did_untold : {H : Type 0} (role : Role) (acts : List Act) (log : List (Entry H)) → events role (items (did acts ++ log)) ≡ events role (items log)
 did_untold role [] log = refl
 did_untold role (act ∷ acts) log = append-nil (events role (items (did acts ++ log))) ∙ did_untold role acts log
+
+pub did_unasked : (H : Type 0) (acts : List Act) → asks {H = H} (did acts) ≡ []
+did_unasked H [] = refl
+did_unasked H (act ∷ acts) = did_unasked H acts
 
 -- what is seen of the stream behind these acts
 abbrev pub view_by : List Act → Seen → Seen
@@ -118,6 +120,18 @@ module _ {P H : Type 0} (step : H → HandlerCall → H → Type 0) (fails : H �
       → AgreesOn (seen role (items log) n) (all_heard n view rest) → AgreesOn (seen role (items (did acts ++ log)) n) (all_heard n (view_by acts view) rest)
   did_heard log n view rest [] on none a = a
   did_heard log n view rest (act ∷ acts) on none a = moves_on acts_do role (items (did acts ++ log)) n (view_by acts view) rest act on.0 none (did_heard log n view rest acts on.1 none a)
+
+  -- acts that serve a stream open none: no number leaves another stream behind
+  pub did_left : (log : List (Entry H)) (n : ℕ) (acts : List Act) → AllOn n acts → (m : ℕ) → left_behind role (did acts ++ log) m ≡ left_behind role log m
+  did_left log n [] on m = refl
+  did_left log n (act ∷ acts) on m = by_act act on.0 ∙ did_left log n acts on.1 m where
+    by_act : (act : Act) → IsOn n act → left_behind role (did (act ∷ acts) ++ log) m ≡ left_behind role (did acts ++ log) m
+    by_act (Write k pieces) on = refl
+    by_act (Taken k count) on = refl
+    by_act (Close k) on = refl
+    by_act (Reset k) on = refl
+    by_act (Start k) on = absurd on
+    by_act (Act.GoAway code) on = absurd on
 
   -- ---- what came
 
@@ -300,4 +314,4 @@ module _ {P H : Type 0} (step : H → HandlerCall → H → Type 0) (fails : H �
       grown step fails is_closed is_finished inbound_makes outbound_makes eager names peer role log (did acts) fed sent before after streams now past n view (view_by acts view) rest a
       (did_due log n so_far acts c due a.due) (λ m apart. did_same log n m acts apart on)
       (subst (λ (t : List Item). SessionStands role t fed sent after) (sym (items_did acts log)) there) elsewhere
-      (did_heard log n view rest acts on a.opens_none a.heard) (view_ended n acts view on)
+      (did_heard log n view rest acts on a.opens_none a.heard) (view_ended n acts view on) (did_left log n acts on)

@@ -1,29 +1,23 @@
 -- Where the streams stand once one of them was given up, and once something was told of it.
-use Rattle.std.proofs.Common.{◌≡◌, ◌≢◌, ◌⊎◌, inl, inr, ℕ, ◌==◌, Bool, true, false, ◌||◌, cond, List, [], ◌∷◌, ◌++◌, Option, Some, None, refl, sym, ap, ◌∙◌, subst}
-use Rattle.std.specs.Prelude.{IfSome, IsSome}
-use Rattle.std.specs.List.{AllByRecursion}
+use Rattle.std.proofs.Common.{◌≡◌, inl, inr, ℕ, ◌==◌, Bool, true, false, ◌||◌, List, [], ◌∷◌, ◌++◌, Option, None, refl, sym, ap, ◌∙◌, subst}
+use Rattle.std.specs.Prelude.{IfSome}
 use Rattle.std.proofs.lemmas.List.{append_assoc, append-nil}
 use Rattle.handlers.specs.Calls.{HandlerCall, Asked}
 use Rattle.yamux_session.specs.declared.event.Role.{Role}
-use Rattle.yamux_session.specs.History.{Item}
 use Rattle.yamux_session.specs.History.Item.{Did}
 use Rattle.yamux_session.specs.History.Act.{Reset}
 use Rattle.yamux_session.specs.Openings.{is_live}
 use Rattle.yamux_session.specs.Events.{Told, events}
 use Rattle.yamux_session.specs.Seen.{Seen, seen, all_heard, AgreesOn, ActsDo, ActsMove}
 use Rattle.yamux_session.specs.State.{State, Stands as SessionStands}
-use Rattle.streams.specs.declared.stop.Cause.TheVariants as causes
 use Rattle.streams.specs.State.{Streaming}
-use Rattle.routing.specs.declared.delivered.Outcome.{Outcome}
-use Rattle.routing.specs.declared.delivered.Outcome.TheVariants as outcomes
 use Rattle.conn_log.specs.declared.earlier.Earlier.{Earlier}
 use Rattle.conn_log.specs.declared.event.ConnEvent.{ConnEvent}
 use Rattle.conn_log.specs.declared.event.ConnEvent.TheVariants as event
-use Rattle.conn_log.specs.Entries.{Entry, items, said, is_over}
+use Rattle.conn_log.specs.Entries.{Entry, items, said, asks, is_over}
 use Rattle.conn_log.specs.Entries.Entry.{Of, Says, Made, Asks}
 use Rattle.conn_log.specs.Due.{IsGivenUp}
-use Rattle.conn_log.specs.Held.{IsAtRest, IsPast}
-use Rattle.conn_log.specs.Routes.{IsMoving, Around, Routes, Routed, Comes, Resets}
+use Rattle.conn_log.specs.Routes.{IsMoving, Around, Routes, Routed, Resets}
 use Rattle.conn_log.proofs.Same.{Same, same_refl, same_by_act}
 use Rattle.conn_log.proofs.Around.{grown}
 use Rattle.conn_log.proofs.Views.{gone, its_own, moves_on, agrees_gone, gone_first_all}
@@ -35,6 +29,18 @@ said_append (Says e ∷ newer) log = ap (λ t. t ++ e ∷ []) (said_append newer
 said_append (Made n handler ∷ newer) log = said_append newer log
 said_append (Asks n index ∷ newer) log = said_append newer log
 
+pub asks_append : {H : Type 0} (newer log : List (Entry H)) → asks (newer ++ log) ≡ asks log ++ asks newer
+asks_append [] log = sym (append-nil (asks log))
+asks_append (Of x ∷ newer) log = asks_append newer log
+asks_append (Says e ∷ newer) log = asks_append newer log
+asks_append (Made n handler ∷ newer) log = asks_append newer log
+asks_append (Asks n index ∷ newer) log =
+    ap (λ t. t ++ (n, index) ∷ []) (asks_append newer log) ∙ append_assoc (asks log) (asks newer) ((n, index) ∷ [])
+
+-- no stream was opened in either part
+pub none_asked : {H : Type 0} (newer log : List (Entry H)) → asks newer ≡ [] → asks log ≡ [] → asks (newer ++ log) ≡ []
+none_asked newer log none before = asks_append newer log ∙ ap (λ t. t ++ asks newer) before ∙ none
+
 over_by : {n : ℕ} (m : ℕ) (before : Bool) → m ≡ n → (m == n) || before ≡ false → ⊥
 over_by {n = n} m before is going = absurd (let e : true ≡ false = sym (ap (λ b. b || before) (its_own m n is)) ∙ going in cc e)
 
@@ -43,24 +49,25 @@ module _ {P H : Type 0} (step : H → HandlerCall → H → Type 0) (fails : H �
     (eager : ℕ → Bool) (names : List (List ℕ)) (peer : List ℕ) (role : Role) where
   -- what was routed in two parts, of which the first told this
   pub routed_behind : (log newer : List (Entry H)) (before mid after more : List (ConnEvent H)) (fed sent : List ℕ) (session : State) (streams : ℕ → Option (Streaming H))
-      (past : List (Earlier H)) (n : ℕ) (rest : List Told) → said newer ≡ more → mid ≡ before ++ more → events role (items (newer ++ log)) ≡ events role (items log)
+      (past : List (Earlier H)) (n : ℕ) (rest : List Told) → said newer ≡ more → mid ≡ before ++ more → events role (items (newer ++ log)) ≡ events role (items log) → asks newer ≡ []
       → Routed step fails is_closed is_finished inbound_makes outbound_makes eager names peer role (newer ++ log) mid after fed sent session streams past n rest
       → Routed step fails is_closed is_finished inbound_makes outbound_makes eager names peer role log before after fed sent session streams past n rest
-  routed_behind log newer before mid after more fed sent session streams past n rest first is none_told r = record {
+  routed_behind log newer before mid after more fed sent session streams past n rest first is none_told unasked r = record {
     newer = r.newer ++ newer;
     view = r.view;
     told_is = r.told_is ∙ ap (λ t. t ++ said r.newer) (is ∙ ap (λ t. before ++ t) (sym first)) ∙ append_assoc before (said newer) (said r.newer) ∙ ap (λ t. before ++ t) (sym (said_append r.newer newer));
     untold = ap (λ t. events role (items t)) (append_assoc r.newer newer log) ∙ r.untold ∙ none_told;
+    unasked = none_asked r.newer newer r.unasked unasked;
     routes = subst (λ t. Routes step fails is_closed is_finished inbound_makes outbound_makes eager names peer role t fed sent session streams past n r.view rest)
         (sym (append_assoc r.newer newer log)) r.routes;
   }
 
   pub routed_on : (log : List (Entry H)) (newer : List (Entry H)) (before after : List (ConnEvent H)) (fed sent : List ℕ) (session : State) (streams : ℕ → Option (Streaming H))
-      (past : List (Earlier H)) (n : ℕ) (rest : List Told) → said newer ≡ [] → events role (items (newer ++ log)) ≡ events role (items log)
+      (past : List (Earlier H)) (n : ℕ) (rest : List Told) → said newer ≡ [] → events role (items (newer ++ log)) ≡ events role (items log) → asks newer ≡ []
       → Routed step fails is_closed is_finished inbound_makes outbound_makes eager names peer role (newer ++ log) before after fed sent session streams past n rest
       → Routed step fails is_closed is_finished inbound_makes outbound_makes eager names peer role log before after fed sent session streams past n rest
-  routed_on log newer before after fed sent session streams past n rest none none_told r =
-      routed_behind log newer before before after [] fed sent session streams past n rest none (sym (append-nil before)) none_told r
+  routed_on log newer before after fed sent session streams past n rest none none_told unasked r =
+      routed_behind log newer before before after [] fed sent session streams past n rest none (sym (append-nil before)) none_told unasked r
 
   module _ (acts_do : ActsDo) (acts_move : ActsMove) (log : List (Entry H)) (fed sent : List ℕ) (before after : State) (streams now : ℕ → Option (Streaming H))
       (past : List (Earlier H)) (n : ℕ) (view : Seen) (rest : List Told)
@@ -88,7 +95,7 @@ module _ {P H : Type 0} (step : H → HandlerCall → H → Type 0) (fails : H �
         → Routes step fails is_closed is_finished inbound_makes outbound_makes eager names peer role (Of (Did (Reset n)) ∷ log) fed sent after now past n (gone view) rest
     was_reset there = record {
       around = grown step fails is_closed is_finished inbound_makes outbound_makes eager names peer role log (Of (Did (Reset n)) ∷ []) fed sent before after streams now past n view (gone view) rest a
-          (given_up, a.due) apart there elsewhere (moves_on acts_do role (items log) n view rest (Reset n) refl a.opens_none a.heard) refl;
+          (given_up, a.due) apart there elsewhere (moves_on acts_do role (items log) n view rest (Reset n) refl a.opens_none a.heard) refl (λ m. refl);
       own = subst (λ (t : Option (Streaming H)). IfSome t (λ it. IsMoving step fails is_closed is_finished inbound_makes outbound_makes eager names peer role
           (Of (Did (Reset n)) ∷ log) n (gone view) rest it)) (sym none_here) tt;
       own_held = λ live. absurd (cc live);
@@ -102,7 +109,7 @@ module _ {P H : Type 0} (step : H → HandlerCall → H → Type 0) (fails : H �
       around = grown step fails is_closed is_finished inbound_makes outbound_makes eager names peer role log [] fed sent before after streams now past n view (gone view) rest a a.due
           (λ m e. same_refl role log m) (subst (λ (t : State). SessionStands role (items log) fed sent t) (sym same_session) a.session_stands) elsewhere
           (subst (λ (x : Seen). AgreesOn (seen role (items log) n) x) (sym (gone_first_all n view rest a.opens_none))
-          (agrees_gone (seen role (items log) n) (all_heard n view rest) off a.heard)) refl;
+          (agrees_gone (seen role (items log) n) (all_heard n view rest) off a.heard)) refl (λ m. refl);
       own = subst (λ (t : Option (Streaming H)). IfSome t (λ it. IsMoving step fails is_closed is_finished inbound_makes outbound_makes eager names peer role log n (gone view) rest it)) (sym none_here) tt;
       own_held = λ live. absurd (cc live);
       own_kept = λ made going. absurd (not_going log given_up going);
@@ -115,6 +122,7 @@ module _ {P H : Type 0} (step : H → HandlerCall → H → Type 0) (fails : H �
       view = gone view;
       told_is = same_told ∙ sym (append-nil told);
       untold = append-nil (events role (items log));
+      unasked = refl;
       routes = was_reset there;
     }
     is_given_up told told_now same_told (inr over) = record {
@@ -122,5 +130,6 @@ module _ {P H : Type 0} (step : H → HandlerCall → H → Type 0) (fails : H �
       view = gone view;
       told_is = same_told ∙ sym (append-nil told);
       untold = refl;
+      unasked = refl;
       routes = was_gone over.0 over.1;
     }

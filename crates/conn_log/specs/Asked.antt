@@ -1,7 +1,7 @@
 -- What becomes of a stream that this end is asked to open, and why it is refused.
 -- Source: libp2p connections, "Opening new streams over a connection"; hashicorp yamux, "Stream ID"; that the end that
 -- opens a stream may send before the other has answered is this project's profile.
-use Rattle.std.specs.Prelude.{◌≡◌, ℕ, Bool, true, false, List, [], ◌∷◌, ◌++◌, Option, Some, None}
+use Rattle.std.specs.Prelude.{◌≡◌, ◌≢◌, ℕ, Bool, true, false, List, [], ◌∷◌, ◌++◌, Option, Some, None}
 use Rattle.std.specs.List.{AllByRecursion}
 use Rattle.handlers.specs.Calls as calls
 use Rattle.handlers.specs.Calls.{HandlerCall}
@@ -18,7 +18,7 @@ use Rattle.conn_log.specs.declared.event.ConnEvent.{ConnEvent}
 use Rattle.conn_log.specs.declared.event.ConnEvent.TheVariants as event
 use Rattle.conn_log.specs.declared.event.ConnRefused.{ConnRefused}
 use Rattle.conn_log.specs.declared.event.ConnRefused.TheVariants as refusals
-use Rattle.conn_log.specs.Entries.{Entry, items, said}
+use Rattle.conn_log.specs.Entries.{Entry, items, said, asks, asked, made_in}
 use Rattle.conn_log.specs.Entries.Entry.{Made, Asks}
 use Rattle.conn_log.specs.Rests.{AreAtRest}
 
@@ -44,6 +44,10 @@ told_of n (Done handler) = event.Done n handler ∷ []
 told_of n Refused = event.Refused n ∷ []
 told_of n (Broken cause) = event.Broken n cause ∷ []
 
+-- the handler of each eager protocol that was asked for was made
+abbrev pub AreMadeEarly : {H : Type 0} → (ℕ → Bool) → List (Entry H) → Type 0
+AreMadeEarly eager log = (n index : ℕ) → asked log n ≡ Some index → eager index ≡ true → made_in n log ≢ None
+
 -- it tells that this stream is given up
 abbrev pub IsBrokenOf : {H : Type 0} → ℕ → ConnEvent H → Type 0
 IsBrokenOf n (event.Broken m cause) = m ≡ n
@@ -59,6 +63,8 @@ module _ {P H : Type 0} (step : H → HandlerCall → H → Type 0) (fails : H �
     pub later : List (Entry H)
     pub number_is : number ≡ next_own role (items log)
     pub told_is : after ≡ before ++ said later
+    -- no other stream was opened
+    pub alone : asks later ≡ []
     -- of a stream that was just opened nothing is told but that its eager handler gave up
     pub only_broken : AllByRecursion (IsBrokenOf number) (said later)
     -- the handler of an eager protocol is made at once

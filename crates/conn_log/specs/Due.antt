@@ -1,7 +1,7 @@
 -- Why each entry of a connection's list stands where it does: what came to a stream, and what was told and done then.
 -- Source: multistream-select 1.0, "Protocol Negotiation"; libp2p connections, "Opening new streams over a connection";
 -- hashicorp yamux, "Flow Control" and "Flag Field"; what a connection tells is this project's profile.
-use Rattle.std.specs.Prelude.{◌≡◌, ◌≢◌, ◌⊎◌, ℕ, ◌<◌, ◌-◌, Bool, true, false, if◌then◌else◌, Option, Some, None}
+use Rattle.std.specs.Prelude.{◌≡◌, ◌≢◌, ◌⊎◌, ℕ, ◌<◌, ◌-◌, Bool, true, false, if◌then◌else◌, Some, None}
 use Rattle.std.specs.Prelude.{List, [], ◌∷◌, ◌++◌, length, slice_get}
 use Rattle.handlers.specs.Calls.{HandlerCall, Asked, ToTake, ToGive, ToEnd}
 use Rattle.ms_select.specs.declared.fault.SelectFault.TheVariants as select_faults

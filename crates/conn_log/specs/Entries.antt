@@ -1,7 +1,8 @@
 -- The list of a connection that is up: what came and was done in its session, and between it what was told of its
 -- streams, which handlers were made, and which protocols were asked for, each where it was. The newest stands first.
 -- Source: hashicorp yamux, "Framing"; what a connection tells is this project's profile.
-use Rattle.std.specs.Prelude.{◌≡◌, ℕ, Bool, true, false, ◌==◌, ◌||◌, if◌then◌else◌, Option, Some, None}
+use Rattle.std.specs.Prelude.{ℕ, suc, Bool, false, not, ◌==◌, ◌&&◌, ◌||◌, if◌then◌else◌}
+use Rattle.std.specs.Prelude.{Option, Some, None, is_some}
 use Rattle.std.specs.Prelude.{List, [], ◌∷◌, ◌++◌}
 use Rattle.yamux_session.specs.declared.event.Role.{Role}
 use Rattle.yamux_session.specs.History.{Item}
@@ -34,6 +35,14 @@ said (Of x ∷ log) = said log
 said (Says e ∷ log) = said log ++ e ∷ []
 said (Made n handler ∷ log) = said log
 said (Asks n index ∷ log) = said log
+
+-- the streams that this end opened, each with the index of the protocol that was asked for, in order
+abbrev pub asks : {H : Type 0} → List (Entry H) → List (ℕ × ℕ)
+asks [] = []
+asks (Of x ∷ log) = asks log
+asks (Says e ∷ log) = asks log
+asks (Made n handler ∷ log) = asks log
+asks (Asks n index ∷ log) = asks log ++ (n, index) ∷ []
 
 -- what was told and made since the stream was opened last
 abbrev pub since : {H : Type 0} → Role → List (Entry H) → ℕ → List (Entry H)
@@ -102,6 +111,19 @@ made_in n (Asks m index ∷ log) = made_in n log
 -- its handler as it was made, where it was since the opening
 abbrev pub made_of : {H : Type 0} → Role → List (Entry H) → ℕ → Option H
 made_of role log n = made_in n (since role log n)
+
+-- its handler was made since the opening, and its last event wasn't told yet
+abbrev pub is_kept : {H : Type 0} → Role → List (Entry H) → ℕ → Bool
+is_kept role log n = is_some (made_of role log n) && not (is_over role log n)
+
+-- how often the number was opened anew while the handler of its stream was still held
+abbrev pub left_behind : {H : Type 0} → Role → List (Entry H) → ℕ → ℕ
+left_behind role [] n = 0
+left_behind role (Of x ∷ log) n =
+    if opens role (items log) x n && is_kept role log n then suc (left_behind role log n) else left_behind role log n
+left_behind role (Says e ∷ log) n = left_behind role log n
+left_behind role (Made m handler ∷ log) n = left_behind role log n
+left_behind role (Asks m index ∷ log) n = left_behind role log n
 
 -- the protocol for which this end opened the stream; it opens no number twice
 abbrev pub asked : {H : Type 0} → List (Entry H) → ℕ → Option ℕ

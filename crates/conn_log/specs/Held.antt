@@ -1,17 +1,22 @@
 -- What holds of a stream that a connection holds.
 -- Source: libp2p connections, "Opening new streams over a connection"; what a connection tells is this project's
 -- profile.
-use Rattle.std.specs.Prelude.{◌≡◌, ◌≢◌, ℕ, Bool, true, false, List, ◌++◌, None}
+use Rattle.std.specs.Prelude.{◌≡◌, ◌≢◌, ℕ, suc, ◌==◌, Bool, true, false, if◌then◌else◌, List, [], ◌∷◌, ◌++◌, None}
 use Rattle.handlers.specs.Calls.{HandlerCall}
-use Rattle.talks.specs.Talks.{Side}
 use Rattle.yamux_session.specs.declared.event.Role.{Role}
 use Rattle.yamux_session.specs.Openings.{is_live, finished}
 use Rattle.yamux_session.specs.Data.{inbound, written}
 use Rattle.streams.specs.Streams.{Past}
 use Rattle.streams.specs.State.{Streaming, Stands, is_talking, awaits_handler, has_finished, was_handed_out}
 use Rattle.serving.specs.Served.{IsSettled}
-use Rattle.conn_log.specs.Entries.{Entry, items, agreed, is_over, made_of}
+use Rattle.conn_log.specs.Entries.{Entry, items, agreed, is_over, made_of, is_kept, left_behind}
+use Rattle.conn_log.specs.declared.earlier.Earlier.{Earlier}
 use Rattle.conn_log.specs.Due.{IsSide}
+
+-- those of a number, among streams of earlier openings
+abbrev pub earlier_of : {H : Type 0} → ℕ → List (Earlier H) → List (Streaming H)
+earlier_of n [] = []
+earlier_of n (it ∷ past) = if it.number == n then it.stream ∷ earlier_of n past else earlier_of n past
 
 module _ {H : Type 0} (step : H → HandlerCall → H → Type 0) (is_closed is_finished : H → Bool) (names : List (List ℕ))
     (role : Role) where
@@ -39,10 +44,18 @@ module _ {H : Type 0} (step : H → HandlerCall → H → Type 0) (is_closed is_
     -- it is live no more where both ends have ended their direction
     pub over_by_end : is_live role (items log) n ≡ false → finished role (items log) n ≡ true
 
-  -- A stream of an earlier opening of its number, whose handler is held still: it is where its end left it.
-  pub record IsPast (log : List (Entry H)) (n : ℕ) (stream : Streaming H) : Type 0 where
+  -- A stream of an earlier opening of its number, whose handler is held still: it is where its end left it, behind so
+  -- many others that the number has left.
+  pub record IsPast (log : List (Entry H)) (n place : ℕ) (stream : Streaming H) : Type 0 where
     pub newer : List (Entry H)
     pub older : List (Entry H)
     pub log_is : log ≡ newer ++ older
     pub over : is_live role (items older) n ≡ false
+    pub kept : is_kept role older n ≡ true
+    pub place_is : left_behind role older n ≡ place
     pub at_rest : IsAtRest older n stream
+
+  -- All streams that a number has left from this place on, in the order in which it was opened anew.
+  abbrev pub AreLeft : List (Entry H) → ℕ → ℕ → List (Streaming H) → Type 0
+  AreLeft log n place [] = left_behind role log n ≡ place
+  AreLeft log n place (stream ∷ streams) = IsPast log n place stream × AreLeft log n (suc place) streams

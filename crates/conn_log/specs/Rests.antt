@@ -1,8 +1,7 @@
 -- Where the streams of a connection stand when a call returns.
 -- Source: libp2p connections, "Opening new streams over a connection"; what a connection tells is this project's
 -- profile.
-use Rattle.std.specs.Prelude.{◌≡◌, ◌≢◌, ℕ, Bool, true, false, List, ◌++◌, Option, None, IfSome, IsSome}
-use Rattle.std.specs.List.{AllByRecursion}
+use Rattle.std.specs.Prelude.{◌≡◌, ◌≢◌, ℕ, Bool, true, false, List, [], ◌++◌, Option, None, IfSome, IsSome}
 use Rattle.handlers.specs.Calls.{HandlerCall, Asked}
 use Rattle.yamux_session.specs.declared.event.Role.{Role}
 use Rattle.yamux_session.specs.Openings.{is_live}
@@ -10,9 +9,9 @@ use Rattle.yamux_session.specs.State.{State, Stands as SessionStands}
 use Rattle.streams.specs.State.{Streaming}
 use Rattle.conn_log.specs.declared.earlier.Earlier.{Earlier}
 use Rattle.conn_log.specs.declared.event.ConnEvent.{ConnEvent}
-use Rattle.conn_log.specs.Entries.{Entry, items, said, is_over, made_of}
+use Rattle.conn_log.specs.Entries.{Entry, items, said, asks, is_over, made_of}
 use Rattle.conn_log.specs.Due.{AllDue}
-use Rattle.conn_log.specs.Held.{IsAtRest, IsPast}
+use Rattle.conn_log.specs.Held.{IsAtRest, AreLeft, earlier_of}
 
 module _ {P H : Type 0} (step : H → HandlerCall → H → Type 0) (fails : H → Asked → ℕ → Type 0)
     (is_closed is_finished : H → Bool) (inbound_makes outbound_makes : P → ℕ → List ℕ → H → Type 0)
@@ -28,12 +27,14 @@ module _ {P H : Type 0} (step : H → HandlerCall → H → Type 0) (fails : H �
     pub live_held : (n : ℕ) → is_live role (items log) n ≡ true → IsSome (streams n)
     -- and each handler that was made, until the last event of its stream
     pub made_held : (n : ℕ) → made_of role log n ≢ None → is_over role log n ≡ false → IsSome (streams n)
-    -- those of earlier openings are where their ends left them
-    pub earlier : AllByRecursion (λ it. IsPast step is_closed is_finished names role log it.number it.stream) past
+    -- and those of earlier openings whose handlers were never finished: they are where their ends left them
+    pub earlier : (n : ℕ) → AreLeft step is_closed is_finished names role log n 0 (earlier_of n past)
 
   -- The list has grown by entries that say what was told, these bytes came, and all is at rest again.
   pub record Grows (log : List (Entry H)) (before after : List (ConnEvent H)) (fed sent : List ℕ) (session : State)
       (streams : ℕ → Option (Streaming H)) (past : List (Earlier H)) : Type 0 where
     pub newer : List (Entry H)
     pub told_is : after ≡ before ++ said newer
+    -- this end opened no stream
+    pub unasked : asks newer ≡ []
     pub at_rest : AreAtRest (newer ++ log) fed sent session streams past

@@ -22,10 +22,10 @@ use Rattle.streams.specs.declared.stop.Cause.TheVariants as causes
 use Rattle.routing.specs.declared.delivered.Outcome.{Outcome}
 use Rattle.routing.specs.declared.delivered.Outcome.TheVariants.{Going, Done, Refused, Broken}
 use Rattle.conn_log.specs.declared.event.ConnEvent.TheVariants as event
-use Rattle.conn_log.specs.Entries.{Entry, items, said, since, is_over, made_of}
+use Rattle.conn_log.specs.Entries.{Entry, items, said, asks, since, is_over, made_of}
 use Rattle.conn_log.specs.Entries.Entry.{Says}
 use Rattle.conn_log.specs.Due.{AllDue, WasReset}
-use Rattle.conn_log.specs.Held.{IsHeld, IsAtRest, IsPast}
+use Rattle.conn_log.specs.Held.{IsHeld, IsAtRest, AreLeft, earlier_of}
 
 -- it asks nothing of the stream
 abbrev pub IsStill : Told → Type 0
@@ -93,7 +93,7 @@ module _ {P H : Type 0} (step : H → HandlerCall → H → Type 0) (fails : H �
     pub heard : AgreesOn (seen role (items log) n) (all_heard n view rest)
     pub opens_none : AllByRecursion (IsNoOpening n) rest
     pub ends_last : EndsLast view.ended rest
-    pub earlier : AllByRecursion (λ it. IsPast step is_closed is_finished names role log it.number it.stream) past
+    pub earlier : (m : ℕ) → AreLeft step is_closed is_finished names role log m 0 (earlier_of m past)
 
   -- And that one moves.
   pub record Routes (log : List (Entry H)) (fed sent : List ℕ) (session : State) (streams : ℕ → Option (Streaming H))
@@ -123,13 +123,15 @@ module _ {P H : Type 0} (step : H → HandlerCall → H → Type 0) (fails : H �
     pub told_is : after ≡ before ++ said newer
     -- the session told nothing more meanwhile
     pub untold : events role (items (newer ++ log)) ≡ events role (items log)
+    -- and this end opened no stream
+    pub unasked : asks newer ≡ []
     pub routes : Routes (newer ++ log) fed sent session streams past n view rest
 
-  -- The other end's opening of the stream that is named is to be routed, and then the rest.
+  -- The other end's opening of the stream that is named is to be routed, and then the rest: that of an earlier opening
+  -- is still to be put aside.
   pub record Opening (log : List (Entry H)) (fed sent : List ℕ) (session : State) (streams : ℕ → Option (Streaming H))
       (past : List (Earlier H)) (n : ℕ) (rest : List Told) : Type 0 where
-    pub around : Around log fed sent session streams past n just_opened rest
-    pub earlier : IfSome (streams n) (λ it. IsPast step is_closed is_finished names role log n it)
+    pub around : Around log fed sent session streams (past ++ set_aside n (streams n)) n just_opened rest
     pub fresh : since role log n ≡ []
     pub theirs : is_own role n ≡ false
 
@@ -146,4 +148,6 @@ module _ {P H : Type 0} (step : H → HandlerCall → H → Type 0) (fails : H �
     pub newer : List (Entry H)
     pub told_is : after ≡ before ++ said newer
     pub untold : events role (items (newer ++ log)) ≡ events role (items log)
+    -- and this end opened no stream
+    pub unasked : asks newer ≡ []
     pub awaits : Awaits (newer ++ log) fed sent session streams past n rest

@@ -21,8 +21,8 @@ use Rattle.conn_log.specs.declared.event.ConnEvent.{ConnEvent}
 use Rattle.conn_log.specs.Entries.{Entry, items, said}
 use Rattle.conn_log.specs.Rests.{AreAtRest, Grows}
 use Rattle.conn_log.specs.Routes.{IsFor, Awaits}
-use Rattle.conn_log.proofs.Arriving.{arrived, items_arrived, said_arrived}
-use Rattle.conn_log.proofs.Settling.{said_append}
+use Rattle.conn_log.proofs.Arriving.{arrived, items_arrived, said_arrived, asks_arrived}
+use Rattle.conn_log.proofs.Settling.{said_append, none_asked}
 use Rattle.conn_log.proofs.Facing.{SessionLaws, faced}
 use Rattle.mux.specs.Faults.{Faults}
 
@@ -53,13 +53,14 @@ module _ {P H : Type 0} (step : H → HandlerCall → H → Type 0) (fails : H �
         record { came = came; stream = it.stream; all_for = it.all_for; awaits = it.awaits }
 
     pub faulted : (telling : List (ConnEvent H)) → session.failed ≡ true → (fault : Fault) × (told ≡ event.Fault fault ∷ [])
-        → Faults step fails is_closed is_finished inbound_makes outbound_makes eager names peer role log telling telling fed bytes sent session.pending
+        → Faults step fails is_closed is_finished inbound_makes outbound_makes eager names peer role log [] telling telling fed bytes sent session.pending
     faulted telling failed alone =
         let f = led.fails failed in
         let fed_is : fed ++ [] ≡ fed = append-nil fed in
         record {
           newer = [];
           told_is = sym (append-nil telling);
+          asks_are = refl;
           front = [];
           rest = bytes;
           bytes_are = refl;
@@ -82,6 +83,7 @@ module _ {P H : Type 0} (step : H → HandlerCall → H → Type 0) (fails : H �
   grows_behind log came before after fed sent session streams past g = record {
     newer = g.newer ++ arrived came;
     told_is = g.told_is ∙ ap (λ t. before ++ t) (sym (said_append g.newer (arrived came) ∙ ap (λ t. t ++ said g.newer) (said_arrived came)));
+    unasked = none_asked g.newer (arrived came) g.unasked (asks_arrived H came);
     at_rest = subst (λ t. AreAtRest step fails is_closed is_finished inbound_makes outbound_makes eager names peer role t fed sent session streams past) (sym (append_assoc g.newer (arrived came) log)) g.at_rest;
   }
 
@@ -94,6 +96,7 @@ module _ {P H : Type 0} (step : H → HandlerCall → H → Type 0) (fails : H �
   grows_on log before middle after fed first sent between session then streams past later g h = record {
     newer = h.newer ++ g.newer;
     told_is = h.told_is ∙ ap (λ t. t ++ said h.newer) g.told_is ∙ append_assoc before (said g.newer) (said h.newer) ∙ ap (λ t. before ++ t) (sym (said_append h.newer g.newer));
+    unasked = none_asked h.newer g.newer h.unasked g.unasked;
     at_rest = subst (λ t. AreAtRest step fails is_closed is_finished inbound_makes outbound_makes eager names peer role t fed sent session streams later) (sym (append_assoc h.newer g.newer log)) h.at_rest;
   }
 
@@ -104,19 +107,21 @@ module _ {P H : Type 0} (step : H → HandlerCall → H → Type 0) (fails : H �
   grows_none log told fed sent session streams past rests = record {
     newer = [];
     told_is = sym (append-nil told);
+    unasked = refl;
     at_rest = subst (λ (t : List ℕ). AreAtRest step fails is_closed is_finished inbound_makes outbound_makes eager names peer role log t sent session streams past) (sym (append-nil fed)) rests;
   }
 
   -- the fault came behind what had come before
   pub faults_behind : (log : List (Entry H)) (before middle after : List (ConnEvent H)) (fed first second sent pending : List ℕ) (between : State) (then : ℕ → Option (Streaming H)) (past : List (Earlier H))
       (g : Grows step fails is_closed is_finished inbound_makes outbound_makes eager names peer role log before middle (fed ++ first) sent between then past)
-      → Faults step fails is_closed is_finished inbound_makes outbound_makes eager names peer role (g.newer ++ log) middle after (fed ++ first) second sent pending
-      → Faults step fails is_closed is_finished inbound_makes outbound_makes eager names peer role log before after fed (first ++ second) sent pending
+      → Faults step fails is_closed is_finished inbound_makes outbound_makes eager names peer role (g.newer ++ log) [] middle after (fed ++ first) second sent pending
+      → Faults step fails is_closed is_finished inbound_makes outbound_makes eager names peer role log [] before after fed (first ++ second) sent pending
   faults_behind log before middle after fed first second sent pending between then past g f =
       let logs : f.newer ++ (g.newer ++ log) ≡ (f.newer ++ g.newer) ++ log = sym (append_assoc f.newer g.newer log) in
       let fronts : (fed ++ first) ++ f.front ≡ fed ++ (first ++ f.front) = append_assoc fed first f.front in
       record {
         newer = f.newer ++ g.newer;
+        asks_are = none_asked f.newer g.newer f.asks_are g.unasked;
         told_is = f.told_is ∙ ap (λ t. t ++ said f.newer) g.told_is ∙ append_assoc before (said g.newer) (said f.newer) ∙ ap (λ t. before ++ t) (sym (said_append f.newer g.newer));
         front = first ++ f.front;
         rest = f.rest;
@@ -136,11 +141,12 @@ module _ {P H : Type 0} (step : H → HandlerCall → H → Type 0) (fails : H �
 
   -- what follows the fault isn't read
   pub faults_before : (log : List (Entry H)) (before after : List (ConnEvent H)) (fed bytes more sent pending : List ℕ)
-      → Faults step fails is_closed is_finished inbound_makes outbound_makes eager names peer role log before after fed bytes sent pending
-      → Faults step fails is_closed is_finished inbound_makes outbound_makes eager names peer role log before after fed (bytes ++ more) sent pending
+      → Faults step fails is_closed is_finished inbound_makes outbound_makes eager names peer role log [] before after fed bytes sent pending
+      → Faults step fails is_closed is_finished inbound_makes outbound_makes eager names peer role log [] before after fed (bytes ++ more) sent pending
   faults_before log before after fed bytes more sent pending f = record {
     newer = f.newer;
     told_is = f.told_is;
+    asks_are = f.asks_are;
     front = f.front;
     rest = f.rest ++ more;
     bytes_are = ap (λ t. t ++ more) f.bytes_are ∙ append_assoc f.front f.rest more;

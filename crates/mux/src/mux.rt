@@ -1,16 +1,21 @@
 //! The session of a connection that is up, with its streams.
 
-ghost use Rattle.std.specs.Prelude.{◌≡◌, ℕ, ◌<◌, ◌≤◌, ◌-◌, true, false, List, [], ◌++◌, length, take, drop, OnOk, IfOk};
+ghost use Rattle.std.specs.Prelude.{◌≡◌, ◌≢◌, ℕ, ◌<◌, ◌≤◌, ◌-◌, true, false, List, [], ◌++◌, length, take, drop};
+ghost use Rattle.std.specs.Prelude.{None, Err, OnOk, IfOk, IfErr};
 ghost use Rattle.std.specs.Ordering.{nat_cmp};
 ghost use Rattle.std.specs.BTreeMap as tree;
 ghost use Rattle.conn_log.specs.Entries.{Entry};
+ghost use Rattle.yamux_session.specs.Acts.{start_refusal};
+ghost use Rattle.yamux_session.specs.State.{Whenever};
 ghost use Rattle.conn_log.specs.Rests.{AreAtRest, Grows};
+ghost use Rattle.conn_log.specs.Asked.{Asked, IsRefusedAs};
 ghost use Rattle.board.specs.Boards.{Keeps};
+ghost use Rattle.board.specs.Handlers.{handlers_of, handlers_past};
 ghost use Rattle.mux.specs.Faults.{Faults};
 
 use board::Board;
 use bytes::Bytes;
-use conn_log::ConnEvent;
+use conn_log::{ConnEvent, ConnRefused};
 use handlers::Protocols;
 use peer_ids::PeerId;
 use std::alloc::{AllocError, Global};
@@ -80,7 +85,7 @@ impl<P: Protocols> Mux<P> {
             self.old.board.past.items → IfOk result (λ used. self.new.session.failed ≡ true
             → Faults P.H.steps P.H.fails P.H.is_closed P.H.is_finished P.makes_inbound P.makes_outbound
             (P.is_eager self.old.board.protocols) (P.listed self.old.board.protocols) self.old.board.peer
-            self.old.board.role log told.old.items told.new.items fed (take used (drop at piece.now)) sent
+            self.old.board.role log [] told.old.items told.new.items fed (take used (drop at piece.now)) sent
             self.new.session.pending) }
         ensures within { IfOk result (λ used. used ≤ length piece.now - at) }
         ensures goes_on { IfOk result (λ used. at < length piece.now → 0 < used) }
@@ -124,12 +129,53 @@ impl<P: Protocols> Mux<P> {
             self.old.board.past.items → OnOk result (self.new.session.failed ≡ true
             → Faults P.H.steps P.H.fails P.H.is_closed P.H.is_finished P.makes_inbound P.makes_outbound
             (P.is_eager self.old.board.protocols) (P.listed self.old.board.protocols) self.old.board.peer
-            self.old.board.role log told.old.items told.new.items fed piece.now sent self.new.session.pending) }
+            self.old.board.role log [] told.old.items told.new.items fed piece.now sent
+            self.new.session.pending) }
     {
         let mut at = 0;
         while at < piece.len() && !self.session.has_failed() {
             at += self.feed_frame(piece, at, told)?;
         }
         Ok(())
+    }
+
+    /// Opens a stream of this end's own for the protocol of this index, and tells its number. Where the protocol is
+    /// eager, its handler is made at once, and served. What is told of the stream then is owed to the connection's
+    /// owner.
+    ///
+    /// Want of memory may leave a stream that was opened and isn't held, and ends the connection.
+    pub fn ask(&mut self, index: usize, owed: &mut Vec<ConnEvent<P::H>>) -> Result<u32, ConnRefused>
+        ensures keeps { Keeps P.listed P.is_eager self.old.board self.new.board }
+        ensures asks { (log : List (Entry P.H)) (fed sent : List ℕ)
+            → AreAtRest P.H.steps P.H.fails P.H.is_closed P.H.is_finished P.makes_inbound P.makes_outbound
+            (P.is_eager self.old.board.protocols) (P.listed self.old.board.protocols) self.old.board.peer
+            self.old.board.role log fed sent self.old.session (tree.get nat_cmp self.old.board.streams)
+            self.old.board.past.items → IfOk result (λ number. Asked P.H.steps P.H.fails P.H.is_closed P.H.is_finished
+            P.makes_inbound P.makes_outbound (P.is_eager self.old.board.protocols)
+            (P.listed self.old.board.protocols) self.old.board.peer self.old.board.role number index log
+            owed.old.items owed.new.items fed sent self.new.session (tree.get nat_cmp self.new.board.streams)
+            self.new.board.past.items) }
+        ensures bad_index { length (P.listed self.old.board.protocols) ≤ index → result ≡ Err ConnRefused.BadIndex }
+        ensures within { IfOk result (λ number. index < length (P.listed self.old.board.protocols)) }
+        ensures opened { IfOk result (λ number.
+            Whenever self.old.session (λ role past. start_refusal role past ≡ None)) }
+        // Where several reasons hold, the session's own order decides.
+        ensures refused { index < length (P.listed self.old.board.protocols) → IfErr result (λ refused.
+            Whenever self.old.session (λ role past. IsRefusedAs (start_refusal role past) refused)) }
+        ensures kept { IfErr result (λ refused. refused ≢ ConnRefused.OutOfMemory
+            → (self.new ≡ self.old) × (owed.new ≡ owed.old)) }
+    {
+        self.board.ask(self.alloc, &mut self.session, index, owed)
+    }
+
+    /// The handlers that are held still, each with the number of its stream: first those of earlier openings, in the
+    /// order in which their numbers were opened anew, and then the others by their numbers.
+    pub fn into_handlers(self) -> Result<Vec<(u32, P::H)>, AllocError>
+        ensures held { IfOk result (λ held. held.items
+            ≡ handlers_past self.board.past.items ++ handlers_of self.board.streams.entries) }
+        ensures ordered { tree.IsOrdered nat_cmp self.board.streams }
+    {
+        let Self { board, alloc, .. } = self;
+        board.into_handlers(alloc)
     }
 }

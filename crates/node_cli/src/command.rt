@@ -1,6 +1,8 @@
 //! What the words of a command line ask for.
 
 use crate::options::{BadOption, config_of, replay_command};
+use crate::trace::Traced;
+use crate::trace_options::{trace_command, traced_of};
 use clap::error::ErrorKind;
 use clap::{Arg, ArgAction, Command, Error};
 use pool_state::Config;
@@ -17,6 +19,8 @@ pub enum Asked<'a> {
     Addr(&'a str),
     /// A script of pool calls, on a pool that is made with this.
     Replay(Config),
+    /// A script of what comes to an end of a connection, and what it is asked for.
+    Trace(Traced<'a>),
 }
 
 /// Why a command line asks for nothing.
@@ -25,7 +29,7 @@ pub enum Unasked {
     Told(Error),
     /// It is bad, as this text says.
     Bad(Error),
-    /// An option of a replay has a value that is none.
+    /// An option or a word has a value that is none.
     BadOption(BadOption),
     /// It could not be read.
     OutOfMemory,
@@ -77,7 +81,8 @@ fn command<'a>(alloc: Global) -> Result<Command<'a>, AllocError> {
         .subcommand(id)?
         .subcommand(hash)?
         .subcommand(addr)?
-        .subcommand(replay_command(alloc)?)
+        .subcommand(replay_command(alloc)?)?
+        .subcommand(trace_command(alloc)?)
 }
 
 /// What the words ask for, where they are a good command line.
@@ -90,11 +95,14 @@ fn parse<'a>(alloc: Global, words: &'a [&'a str]) -> Result<Result<Asked<'a>, Ba
         Some(("replay", found)) => {
             return Ok(config_of(found).map(|config| Asked::Replay(config)));
         }
+        Some(("trace", found)) => {
+            return Ok(traced_of(alloc, found).map(|traced| Asked::Trace(traced)));
+        }
         _ => None,
     };
     match word {
         Some(asked) => Ok(Ok(asked)),
-        // Each subcommand but a replay has its word.
+        // Each other subcommand has its word.
         None => Ok(Err(BadOption::Number)),
     }
 }
@@ -103,6 +111,7 @@ fn parse<'a>(alloc: Global, words: &'a [&'a str]) -> Result<Result<Asked<'a>, Ba
 pub fn read<'a>(alloc: Global, words: &'a [&'a str]) -> Result<Asked<'a>, Unasked> {
     match parse(alloc, words) {
         Ok(Ok(asked)) => Ok(asked),
+        Ok(Err(BadOption::OutOfMemory)) => Err(Unasked::OutOfMemory),
         Ok(Err(bad)) => Err(Unasked::BadOption(bad)),
         Err(error) if error.kind() == ErrorKind::OutOfMemory => Err(Unasked::OutOfMemory),
         Err(error) if error.use_stderr() => Err(Unasked::Bad(error)),

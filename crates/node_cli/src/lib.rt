@@ -10,6 +10,9 @@ mod line;
 mod options;
 mod peer;
 mod replay;
+mod trace;
+mod trace_line;
+mod trace_options;
 
 pub use addr::{AddrLines, addr_lines};
 use command::{Asked, Unasked, read};
@@ -19,6 +22,7 @@ use replay::replay;
 use std::alloc::{AllocGlobal, Global};
 use std::io;
 use std::io::{Read, Write};
+use trace::trace;
 
 #[cfg(test)]
 mod tests;
@@ -140,6 +144,7 @@ fn answer<I: Read, O: Write>(
             writeln!(output, "{}", lines.text)?;
         }
         Asked::Replay(config) => replay(alloc, *config, input, output)?,
+        Asked::Trace(traced) => trace(alloc, traced, input, output)?,
     }
     Ok(())
 }

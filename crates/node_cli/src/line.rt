@@ -25,7 +25,7 @@ pub fn peer_of(word: &str) -> Option<PeerId> {
 }
 
 /// The word, where it is decimal digits.
-fn digits(word: &str) -> Option<&str> {
+pub fn digits(word: &str) -> Option<&str> {
     let are_digits = !word.is_empty() && word.bytes().all(|byte| byte.is_ascii_digit());
     are_digits.then_some(word)
 }

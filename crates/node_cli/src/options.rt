@@ -116,6 +116,18 @@ pub enum BadOption {
     /// A number has a sign.
     #[error("a number is digits alone")]
     Number,
+    /// An end of a connection is none.
+    #[error("the role is 'dialer' or 'listener'")]
+    Role,
+    /// A key message is none.
+    #[error("the value of '--key' is no key message in hexadecimal")]
+    Key,
+    /// A ping's payload is none.
+    #[error("the value of '--payload' is not 32 bytes in hexadecimal")]
+    Payload,
+    /// A growth was refused.
+    #[error("out of memory")]
+    OutOfMemory,
 }
 
 /// The options that are numbers.

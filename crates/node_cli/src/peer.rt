@@ -40,12 +40,10 @@ fn are_pairs(hex: &str) -> bool
     hex.len() % 2 == 0 && hex.bytes().all(|byte| byte.is_ascii_hexdigit())
 }
 
-/// The text of the id of the key that a message in hexadecimal spells. Memory is asked for only where the text is
-/// hexadecimal: for the message, so that its want comes before a fault of the key, then for the key, then for the text.
-pub fn id_text(alloc: Global, hex: &str) -> Result<String, IdRefused>
-    ensures found { IfOk result (λ text. (bytes : List ℕ) × (key : Key) × (decode_of hex.now ≡ Ok bytes)
-        × SpellsKey bytes key
-        × IsIdText (string_bytes text) (id_of key)) }
+/// The key that a message in hexadecimal spells. Memory is asked for only where the text is hexadecimal: for the
+/// message, so that its want comes before a fault of the key, then for the key.
+pub fn key_of(alloc: Global, hex: &str) -> Result<PublicKey, IdRefused>
+    ensures found { IfOk result (λ key. (bytes : List ℕ) × (decode_of hex.now ≡ Ok bytes) × SpellsKey bytes key) }
     ensures not_hex { (result ≡ Err IdRefused.NotHex) ↔ ((bytes : List ℕ)
         → ¬ (decode_of hex.now ≡ Ok bytes)) }
     ensures no_key { (fault : KeyFault) → result ≡ Err (IdRefused.Key fault) → (fault ≢ KeyFault.OutOfMemory)
@@ -58,11 +56,26 @@ pub fn id_text(alloc: Global, hex: &str) -> Result<String, IdRefused>
     let Ok(bytes) = hex::decode(alloc, hex) else {
         return Err(IdRefused::OutOfMemory);
     };
-    let key = match PublicKey::read(alloc, &bytes) {
-        Ok(key) => key,
-        Err(KeyFault::OutOfMemory) => return Err(IdRefused::OutOfMemory),
-        Err(fault) => return Err(IdRefused::Key(fault)),
-    };
+    match PublicKey::read(alloc, &bytes) {
+        Ok(key) => Ok(key),
+        Err(KeyFault::OutOfMemory) => Err(IdRefused::OutOfMemory),
+        Err(fault) => Err(IdRefused::Key(fault)),
+    }
+}
+
+/// The text of the id of the key that a message in hexadecimal spells. Memory is asked for only where the text is
+/// hexadecimal: for the message, so that its want comes before a fault of the key, then for the key, then for the text.
+pub fn id_text(alloc: Global, hex: &str) -> Result<String, IdRefused>
+    ensures found { IfOk result (λ text. (bytes : List ℕ) × (key : Key) × (decode_of hex.now ≡ Ok bytes)
+        × SpellsKey bytes key
+        × IsIdText (string_bytes text) (id_of key)) }
+    ensures not_hex { (result ≡ Err IdRefused.NotHex) ↔ ((bytes : List ℕ)
+        → ¬ (decode_of hex.now ≡ Ok bytes)) }
+    ensures no_key { (fault : KeyFault) → result ≡ Err (IdRefused.Key fault) → (fault ≢ KeyFault.OutOfMemory)
+        × (bytes : List ℕ) × (decode_of hex.now ≡ Ok bytes) × RefusesKey bytes fault }
+    ensures memory { result ≡ Err IdRefused.OutOfMemory → (bytes : List ℕ) × (decode_of hex.now ≡ Ok bytes) }
+{
+    let key = key_of(alloc, hex)?;
     match PeerId::of_key(&key).to_text(alloc) {
         Ok(text) => Ok(text),
         Err(AllocError) => Err(IdRefused::OutOfMemory),

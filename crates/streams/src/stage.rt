@@ -88,6 +88,17 @@ impl<H: Handler> Stage<H> {
         matches!(self, Stage::Done)
     }
 
+    /// The handler that it holds.
+    pub(crate) fn into_handler(self) -> Option<H>
+        ensures { result ≡ handler_of self }
+    {
+        match self {
+            Stage::Talking(_, handler) => handler,
+            Stage::Serving(handler) => Some(handler),
+            Stage::Agreed(_) | Stage::Done | Stage::Over => None,
+        }
+    }
+
     /// Asks the handler that it holds for bytes.
     pub(crate) fn ask(self, alloc: Global, room: usize) -> Result<(Stage<H>, Vec<u8>), HandlerFault>
         ensures gives { IfOk result (λ given. StageGives H.steps H.is_closed self room given.0 given.1.items) }

@@ -309,4 +309,12 @@ impl<H: Handler> Stream<H> {
             }
         }
     }
+
+    /// The handler that it holds, where it holds one.
+    pub fn into_handler(self) -> Option<H>
+        ensures { result ≡ handler_of self.stage }
+    {
+        let Self { stage, .. } = self;
+        stage.into_handler()
+    }
 }

@@ -20,7 +20,7 @@ returns-clause-goes g c = λ role own eager names input taken upw none.
     let all : first ++ c.in-Ok.rest ≡ input ++ piece =
     ap (λ (t : List ℕ). first ++ t) rest_is ∙ append_assoc input (take used piece) (drop used piece) ∙ ap (λ (t : List ℕ). input ++ t) (take-append-drop used piece) in
     let up = subst (λ (t : List (ConnEvent _)). IsUpWith H.steps H.fails H.is_closed H.is_finished makes.makes_inbound makes.makes_outbound makes.listed makes.is_eager eager names role own
-    first t (taken ++ c.args.output.now.items) c.args.mux) (sym told_is) upw in
+    first [] t (taken ++ c.args.output.now.items) c.args.mux) (sym told_is) upw in
     subst (λ (t : List ℕ). IfOk c.go_on.result (λ phase. Connects H.steps H.fails H.is_closed H.is_finished makes.makes_inbound makes.makes_outbound makes.listed makes.is_eager eager names role own
-    t false c.go_on.new.told.items taken phase [] c.go_on.new.output.items)) all
-    (c.go_on.ensures.goes role own eager names first taken [] up)
+    t false [] c.go_on.new.told.items taken phase [] c.go_on.new.output.items)) all
+    (c.go_on.ensures.goes role own eager names first taken [] [] up)

@@ -15,7 +15,7 @@ use Rattle.conn_core.proofs.Going.{as_known, up_on, up_faults}
 use Rattle.conn_core.proofs.connection.go_on.Goals as goal
 
 pub returns-then-has_failed-clause-goes : goal.returns-then-has_failed-clause-goes
-returns-then-has_failed-clause-goes g c = λ role own eager names input taken before upw.
+returns-then-has_failed-clause-goes g c = λ role own eager names input taken asked before upw.
     let H = g.P.H.Handler in
     let makes = g.P.Protocols in
     let mux = c.args.mux in
@@ -29,20 +29,20 @@ returns-then-has_failed-clause-goes g c = λ role own eager names input taken be
     let faults = as_known (makes.is_eager board.protocols) eager (makes.listed board.protocols) names board.peer (id_of up.key) board.role (session_role role) upw.1 upw.0 upw.3.1 upw.2
     (λ e n p r. AreAtRest H.steps H.fails H.is_closed H.is_finished makes.makes_inbound makes.makes_outbound e n p r up.log up.rest sent mux.session streams board.past.items
     → after.session.failed ≡ true
-    → Faults H.steps H.fails H.is_closed H.is_finished makes.makes_inbound makes.makes_outbound e n p r up.log c.args.told.now.items c.feed.new.told.items up.rest piece sent after.session.pending)
+    → Faults H.steps H.fails H.is_closed H.is_finished makes.makes_inbound makes.makes_outbound e n p r up.log [] c.args.told.now.items c.feed.new.told.items up.rest piece sent after.session.pending)
     (c.in-Ok.ensures.faults up.log up.rest sent) up.at_rest failed in
     let it = up_faults H.steps H.fails H.is_closed H.is_finished makes.makes_inbound makes.makes_outbound makes.listed makes.is_eager eager names role own
-    input piece before c.args.told.now.items c.feed.new.told.items c.tell.new.told.items (taken ++ c.args.output.now.items) after.session.pending mux.session streams board.past.items up faults
+    input piece asked before c.args.told.now.items c.feed.new.told.items c.tell.new.told.items (taken ++ c.args.output.now.items) after.session.pending mux.session streams board.past.items up faults
     c.in_ok-tell.ensures.told in
     let written : (taken ++ c.args.output.now.items) ++ after.session.pending ≡ taken ++ c.collect.new.output.items =
     append_assoc taken c.args.output.now.items after.session.pending ∙ ap (λ (t : List ℕ). taken ++ t) (sym c.in_ok-collect.ensures.moved) in (
       refl,
       Session (subst (λ (t : List ℕ). IsFaulty H.steps H.fails H.is_closed H.is_finished makes.makes_inbound makes.makes_outbound makes.listed makes.is_eager eager names role own
-          (input ++ piece) (before ++ c.tell.new.told.items) t) written it),
+          (input ++ piece) asked (before ++ c.tell.new.told.items) t) written it),
     )
 
 pub returns-clause-goes : goal.returns-clause-goes
-returns-clause-goes g c = λ role own eager names input taken before upw.
+returns-clause-goes g c = λ role own eager names input taken asked before upw.
     let H = g.P.H.Handler in
     let makes = g.P.Protocols in
     let mux = c.args.mux in
@@ -62,15 +62,15 @@ returns-clause-goes g c = λ role own eager names input taken before upw.
     (c.in-Ok.ensures.goes up.log up.rest sent) up.at_rest still in
     let there = c.in_ok-collect.ensures.stands (session_role role) (items (grown.newer ++ up.log)) (up.rest ++ piece) sent grown.at_rest.session_stands in
     let it = up_on H.steps H.fails H.is_closed H.is_finished makes.makes_inbound makes.makes_outbound makes.listed makes.is_eager eager names role own
-    input piece before c.args.told.now.items c.feed.new.told.items (taken ++ c.args.output.now.items) mux.session after.session c.collect.new.session streams later board.past.items after.board.past.items
+    input piece asked before c.args.told.now.items c.feed.new.told.items (taken ++ c.args.output.now.items) mux.session after.session c.collect.new.session streams later board.past.items after.board.past.items
     up grown there in
     let written : (taken ++ c.args.output.now.items) ++ after.session.pending ≡ taken ++ c.collect.new.output.items =
     append_assoc taken c.args.output.now.items after.session.pending ∙ ap (λ (t : List ℕ). taken ++ t) (sym c.in_ok-collect.ensures.moved) in
     let told : before ++ c.feed.new.told.items ≡ (before ++ c.feed.new.told.items) ++ [] = sym (append-nil (before ++ c.feed.new.told.items)) in
     let keeps = c.in-Ok.ensures.keeps in
     let all = subst (λ (t : List ℕ). (x : IsUp H.steps H.fails H.is_closed H.is_finished makes.makes_inbound makes.makes_outbound makes.listed makes.is_eager eager names role own
-    (input ++ piece) ((before ++ c.feed.new.told.items) ++ []) t c.collect.new.session later after.board.past.items) × (after.board.peer ≡ id_of x.key)) written
+    (input ++ piece) asked ((before ++ c.feed.new.told.items) ++ []) t c.collect.new.session later after.board.past.items) × (after.board.peer ≡ id_of x.key)) written
     (subst (λ (t : List (ConnEvent _)). (x : IsUp H.steps H.fails H.is_closed H.is_finished makes.makes_inbound makes.makes_outbound makes.listed makes.is_eager eager names role own
-    (input ++ piece) t ((taken ++ c.args.output.now.items) ++ after.session.pending) c.collect.new.session later after.board.past.items) × (after.board.peer ≡ id_of x.key)) told
+    (input ++ piece) asked t ((taken ++ c.args.output.now.items) ++ after.session.pending) c.collect.new.session later after.board.past.items) × (after.board.peer ≡ id_of x.key)) told
     (it.0, keeps.peer_is ∙ upw.3.1 ∙ sym (ap id_of it.1))) in
     (refl, (keeps.names_are ∙ upw.0, keeps.eager_are ∙ upw.1, keeps.role_is ∙ upw.2, all))

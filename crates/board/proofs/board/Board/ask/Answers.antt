@@ -22,3 +22,6 @@ returns-in-Ok-begin-clause-unheld g c = λ log fed sent r.
 -- the session has opened the stream
 pub returns-in-Err-begin-clause-refused : goal.returns-in-Err-begin-clause-refused
 returns-in-Err-begin-clause-refused g c = λ within role past fed sent at. (c.in-Ok.ensures.ok role past fed sent at).answered.0.0
+
+pub returns-in-Ok-begin-clause-opened : goal.returns-in-Ok-begin-clause-opened
+returns-in-Ok-begin-clause-opened g c = λ role past fed sent at. (c.in-Ok.ensures.ok role past fed sent at).answered.0.0

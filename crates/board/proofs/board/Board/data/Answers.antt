@@ -57,7 +57,7 @@ returns-clause-routes g c = λ log fed sent view rest r some_data.
     on_ok c.settle.result
     (λ routed. routed_behind H.steps H.fails H.is_closed H.is_finished makes.makes_inbound makes.makes_outbound (makes.is_eager board.protocols) (makes.listed board.protocols) board.peer board.role log
     now.newer c.args.told.now.items c.tell_agreement.new.told.items c.settle.new.told.items (agreement n c.in_ok-delivered.delivered.agreed) fed sent c.settle.new.session
-    (tree.get nat_cmp c.settle.new.self.streams) c.settle.new.self.past.items n rest now.said_is c.in_ok-tell_agreement.ensures now.untold routed)
+    (tree.get nat_cmp c.settle.new.self.streams) c.settle.new.self.past.items n rest now.said_is c.in_ok-tell_agreement.ensures now.untold now.unasked routed)
     (subst
     (λ (e : ℕ → Bool). Comes H.steps H.fails H.is_closed H.is_finished makes.makes_inbound makes.makes_outbound e (makes.listed board.protocols) board.peer board.role (now.newer ++ log) fed sent
     c.deliver.new.session table board.past.items n now.seen_now rest c.in_ok-delivered.delivered.outcome

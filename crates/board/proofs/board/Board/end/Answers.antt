@@ -45,5 +45,5 @@ returns-clause-routes g c = λ log fed sent view rest r.
     c.in_ok-outcome.outcome ends in
     on_ok c.settle.result
     (λ routed. routed_on H.steps H.fails H.is_closed H.is_finished makes.makes_inbound makes.makes_outbound (makes.is_eager board.protocols) (makes.listed board.protocols) board.peer board.role log
-    now.newer c.args.told.now.items c.settle.new.told.items fed sent c.settle.new.session (tree.get nat_cmp c.settle.new.self.streams) c.settle.new.self.past.items n rest now.none_said now.untold routed)
+    now.newer c.args.told.now.items c.settle.new.told.items fed sent c.settle.new.session (tree.get nat_cmp c.settle.new.self.streams) c.settle.new.self.past.items n rest now.none_said now.untold now.unasked routed)
     (c.settle.ensures.settles (now.newer ++ log) fed sent now.seen_now rest now.comes)

@@ -6,13 +6,13 @@ use Rattle.std.specs.BTreeMap as tree
 use Rattle.yamux_session.specs.Seen.{just_opened}
 use Rattle.streams.specs.State.{Streaming}
 use Rattle.conn_log.specs.declared.earlier.Earlier.{Earlier}
-use Rattle.conn_log.specs.Held.{IsHeld, IsPast}
-use Rattle.conn_log.proofs.Opening.{put_aside, is_fresh, earlier_on}
+use Rattle.conn_log.specs.Held.{IsHeld}
+use Rattle.conn_log.proofs.Opening.{put_aside, is_fresh}
 use Rattle.board.proofs.Tables.{elsewhere, here}
 use Rattle.board.proofs.board.Board.open.Goals as goal
 
 pub returns-clause-routes : goal.returns-clause-routes
-returns-clause-routes g c = λ log fed sent rest a earlier none theirs.
+returns-clause-routes g c = λ log fed sent rest a none theirs.
     let H = g.P.H.Handler in
     let makes = g.P.Protocols in
     let board = c.args.self.now in
@@ -24,9 +24,7 @@ returns-clause-routes g c = λ log fed sent rest a earlier none theirs.
     let stream = c.in-Ok.stream in
     let around = put_aside H.steps H.fails H.is_closed H.is_finished makes.makes_inbound makes.makes_outbound (makes.is_eager board.protocols) (makes.listed board.protocols) board.peer board.role log
     fed sent c.args.session.now old now board.past.items c.put_aside.new.past.items n rest a
-    (λ m apart. elsewhere middle now n (Some stream) updates m apart ∙ c.put_aside.ensures.elsewhere m apart)
-    (earlier_on H.steps H.is_closed H.is_finished (makes.listed board.protocols) board.role log board.past.items c.put_aside.new.past.items n (old n) a.earlier earlier
-    c.in_ok-put_aside.ensures.aside) in
+    (λ m apart. elsewhere middle now n (Some stream) updates m apart ∙ c.put_aside.ensures.elsewhere m apart) c.in_ok-put_aside.ensures.aside in
     let fresh_one = is_fresh H.steps H.fails H.is_closed H.is_finished makes.makes_inbound makes.makes_outbound (makes.is_eager board.protocols) (makes.listed board.protocols) board.peer board.role log
     fed sent c.args.session.now old now board.past.items c.put_aside.new.past.items n rest a stream _ c.names.ensures.names c.in-Ok.ensures.stands c.in-Ok.ensures.talks.0 none theirs in
     let placed : now n ≡ Some stream = here middle now n (Some stream) updates in

@@ -44,11 +44,11 @@ loop-at-preserved g c =
           let frame = kept_on makes.listed makes.is_eager board c.loop-at.self.board inv.keeps
           (λ eager names peer role. AreAtRest H.steps H.fails H.is_closed H.is_finished makes.makes_inbound makes.makes_outbound eager names peer role (before.newer ++ log) (fed ++ take at piece) sent
           c.loop-at.self.session (tree.get nat_cmp c.loop-at.self.board.streams) c.loop-at.self.board.past.items → c.feed_frame.new.self.session.failed ≡ true
-          → Faults H.steps H.fails H.is_closed H.is_finished makes.makes_inbound makes.makes_outbound eager names peer role (before.newer ++ log) c.loop-at.told.items c.feed_frame.new.told.items
+          → Faults H.steps H.fails H.is_closed H.is_finished makes.makes_inbound makes.makes_outbound eager names peer role (before.newer ++ log) [] c.loop-at.told.items c.feed_frame.new.told.items
           (fed ++ take at piece) more sent c.feed_frame.new.self.session.pending)
           (c.in_ok-at.ensures.faults (before.newer ++ log) (fed ++ take at piece) sent) in
           subst (λ (t : List ℕ). Faults H.steps H.fails H.is_closed H.is_finished makes.makes_inbound makes.makes_outbound (makes.is_eager board.protocols) (makes.listed board.protocols) board.peer
-          board.role log c.args.told.now.items c.feed_frame.new.told.items fed t sent c.feed_frame.new.self.session.pending) bytes
+          board.role log [] c.args.told.now.items c.feed_frame.new.told.items fed t sent c.feed_frame.new.self.session.pending) bytes
           (faults_behind H.steps H.fails H.is_closed H.is_finished makes.makes_inbound makes.makes_outbound (makes.is_eager board.protocols) (makes.listed board.protocols) board.peer board.role
           log c.args.told.now.items c.loop-at.told.items c.feed_frame.new.told.items fed (take at piece) more sent c.feed_frame.new.self.session.pending c.loop-at.self.session
           (tree.get nat_cmp c.loop-at.self.board.streams) c.loop-at.self.board.past.items before (frame before.at_rest failed));
@@ -61,7 +61,7 @@ returns-else-not-has_failed-clause-faults g c = λ log fed sent rests failed.
     let board = c.args.self.now.board in
     let piece = c.args.piece.now in
     subst (λ (t : List ℕ). Faults H.steps H.fails H.is_closed H.is_finished makes.makes_inbound makes.makes_outbound (makes.is_eager board.protocols) (makes.listed board.protocols) board.peer
-    board.role log c.args.told.now.items c.loop-at.told.items fed t sent c.loop-at.self.session.pending) (take-append-drop c.loop-at.at piece)
+    board.role log [] c.args.told.now.items c.loop-at.told.items fed t sent c.loop-at.self.session.pending) (take-append-drop c.loop-at.at piece)
     (faults_before H.steps H.fails H.is_closed H.is_finished makes.makes_inbound makes.makes_outbound (makes.is_eager board.protocols) (makes.listed board.protocols) board.peer board.role
     log c.args.told.now.items c.loop-at.told.items fed (take c.loop-at.at piece) (drop c.loop-at.at piece) sent c.loop-at.self.session.pending
     (c.loop-at.invariant.faults log fed sent rests failed))
@@ -82,6 +82,6 @@ returns-after-loop-at-clause-faults g c = λ log fed sent rests failed.
     let makes = g.P.Protocols in
     let board = c.args.self.now.board in
     subst (λ (t : List ℕ). Faults H.steps H.fails H.is_closed H.is_finished makes.makes_inbound makes.makes_outbound (makes.is_eager board.protocols) (makes.listed board.protocols) board.peer
-    board.role log c.args.told.now.items c.loop-at.told.items fed t sent c.loop-at.self.session.pending)
+    board.role log [] c.args.told.now.items c.loop-at.told.items fed t sent c.loop-at.self.session.pending)
     (take_all c.loop-at.at c.args.piece.now (let all = c.loop-at-test.false in let size = c.len.ensures.value in omega arith))
     (c.loop-at.invariant.faults log fed sent rests failed)

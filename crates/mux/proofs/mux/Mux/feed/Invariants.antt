@@ -1,4 +1,4 @@
-use Rattle.std.proofs.Common.{◌≡◌, ℕ, ◌-◌, ◌≤◌, true, false, List, ◌++◌, length, take}
+use Rattle.std.proofs.Common.{◌≡◌, ℕ, ◌-◌, ◌≤◌, true, false, List, ◌++◌, length, take, []}
 use Rattle.std.specs.Ordering.{nat_cmp}
 use Rattle.std.specs.BTreeMap as tree
 use Rattle.conn_log.specs.Entries.{Entry}
@@ -24,7 +24,7 @@ invariant-loop-at g l =
           → AreAtRest H.steps H.fails H.is_closed H.is_finished makes.makes_inbound makes.makes_outbound (makes.is_eager board.protocols) (makes.listed board.protocols) board.peer board.role
           log fed sent l.fn.self.session (tree.get nat_cmp board.streams) board.past.items → l.self.session.failed ≡ true
           → Faults H.steps H.fails H.is_closed H.is_finished makes.makes_inbound makes.makes_outbound (makes.is_eager board.protocols) (makes.listed board.protocols) board.peer board.role
-          log l.fn.told.items l.told.items fed (take l.at l.fn.piece) sent l.self.session.pending;
+          log [] l.fn.told.items l.told.items fed (take l.at l.fn.piece) sent l.self.session.pending;
     }
 
 abbrev pub decreases-loop-at : goal.decreases-loop-at

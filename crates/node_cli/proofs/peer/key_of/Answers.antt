@@ -1,6 +1,6 @@
 use Rattle.std.proofs.Common.{◌≡◌, true, refl}
 use Rattle.node_cli.proofs.Digits.{pairs_decode, decoded_is_pairs}
-use Rattle.node_cli.proofs.peer.id_text.Goals as goal
+use Rattle.node_cli.proofs.peer.key_of.Goals as goal
 
 pub returns-then-not-are_pairs-clause-not_hex : goal.returns-then-not-are_pairs-clause-not_hex
 returns-then-not-are_pairs-clause-not_hex c = (

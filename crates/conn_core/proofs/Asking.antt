@@ -1,0 +1,73 @@
+-- A stream was opened for a protocol that was asked for.
+use Rattle.std.proofs.Common.{◌≡◌, ℕ, Bool, List, [], ◌∷◌, ◌++◌, Option, Result, Ok, Err, refl, sym, ap, ◌∙◌, subst}
+use Rattle.std.specs.Prelude.{IfOk}
+use Rattle.std.proofs.lemmas.List.{append_assoc, append-nil}
+use Rattle.handlers.specs.Calls.{HandlerCall, Asked as AskedFor}
+use Rattle.peer_ids.specs.Key.{Key}
+use Rattle.peer_ids.specs.PeerId.{id_of}
+use Rattle.upgrade.specs.declared.role.ConnRole.{ConnRole}
+use Rattle.yamux_session.specs.Output.{output}
+use Rattle.yamux_session.specs.State.{State, Stands as SessionStands}
+use Rattle.streams.specs.State.{Streaming}
+use Rattle.conn_log.specs.declared.earlier.Earlier.{Earlier}
+use Rattle.conn_log.specs.declared.event.ConnEvent.{ConnEvent}
+use Rattle.conn_log.specs.declared.event.ConnEvent.TheVariants as event
+use Rattle.conn_log.specs.Entries.{items, said, asks}
+use Rattle.conn_log.specs.Entries.Entry.{Asks}
+use Rattle.conn_log.specs.Asked.{Asked}
+use Rattle.conn_log.proofs.Settling.{said_append, asks_append}
+use Rattle.conn_log.proofs.Early.{early_asked}
+use Rattle.conn_core.specs.Connects.{IsUp, session_role}
+
+pub refused_none : {A E : Type 0} (Q : A → Type 0) (r : Result A E) (why : E) → r ≡ Err why → IfOk r Q
+refused_none Q (Ok x) why is = absurd (cc is)
+refused_none Q (Err e) why is = tt
+
+on_ok : {A E : Type 0} (Q R : A → Type 0) (r : Result A E) → ((x : A) → R x → Q x) → IfOk r R → IfOk r Q
+on_ok Q R (Ok x) f r = f x r
+on_ok Q R (Err e) f r = tt
+
+pub ok_on : {A E : Type 0} (Q R : A → Type 0) (now then : Result A E) → now ≡ then → ((x : A) → R x → Q x) → IfOk then R → IfOk now Q
+ok_on {A = A} {E = E} Q R now then is f r = subst (λ (t : Result A E). IfOk t Q) (sym is) (on_ok Q R then f r)
+
+module _ {P H : Type 0} (step : H → HandlerCall → H → Type 0) (fails : H → AskedFor → ℕ → Type 0)
+    (is_closed is_finished : H → Bool) (inbound_makes outbound_makes : P → ℕ → List ℕ → H → Type 0)
+    (listed : P → List (List ℕ)) (is_eager : P → ℕ → Bool) (eager : ℕ → Bool) (names : List (List ℕ))
+    (role : ConnRole) (own : Key) where
+  -- the list has grown by the opening and what followed it, and what the session wrote was moved
+  pub up_asked : (input : List ℕ) (asked : List (ℕ × ℕ)) (number index : ℕ) (before old new : List (ConnEvent H)) (written : List ℕ) (session between after : State)
+      (streams later : ℕ → Option (Streaming H)) (past last : List (Earlier H))
+      (up : IsUp step fails is_closed is_finished inbound_makes outbound_makes listed is_eager eager names role own input asked (before ++ old) written session streams past)
+      (a : Asked step fails is_closed is_finished inbound_makes outbound_makes eager names (id_of up.key) (session_role role) number index up.log old new up.rest
+      (output (session_role role) (items up.log)) between later last)
+      → SessionStands (session_role role) (items (a.later ++ Asks number index ∷ up.log)) up.rest (output (session_role role) (items up.log) ++ between.pending) after
+      → (x : IsUp step fails is_closed is_finished inbound_makes outbound_makes listed is_eager eager names role own input (asked ++ (number, index) ∷ []) (before ++ new) (written ++ between.pending)
+      after later last) × (x.key ≡ up.key)
+  up_asked input asked number index before old new written session between after streams later past last up a there =
+      let opened = Asks number index ∷ up.log in
+      let now = a.later ++ opened in
+      let sent = output (session_role role) (items up.log) in
+      let all_sent : sent ++ between.pending ≡ output (session_role role) (items now) = a.at_rest.session_stands.output in (
+        record {
+          key = up.key;
+          first = up.first;
+          rest = up.rest;
+          greeting = up.greeting;
+          log = now;
+          input_is = up.input_is;
+          upgraded = up.upgraded;
+          at_rest = record {
+            session_stands = subst (λ (t : List ℕ). SessionStands (session_role role) (items now) up.rest t after) all_sent there;
+            due = a.at_rest.due;
+            each = a.at_rest.each;
+            live_held = a.at_rest.live_held;
+            made_held = a.at_rest.made_held;
+            earlier = a.at_rest.earlier;
+          };
+          asks_are = asks_append a.later opened ∙ ap (λ t. (asks up.log ++ (number, index) ∷ []) ++ t) a.alone ∙ append-nil (asks up.log ++ (number, index) ∷ []) ∙ ap (λ t. t ++ (number, index) ∷ []) up.asks_are;
+          early = early_asked eager a.later up.log number index a.alone a.at_once up.early;
+          told_is = ap (λ t. before ++ t) a.told_is ∙ sym (append_assoc before old (said a.later)) ∙ ap (λ t. t ++ said a.later) up.told_is ∙ ap (λ t. event.Upgraded up.key ∷ t) (sym (said_append a.later opened));
+          written_is = ap (λ t. t ++ between.pending) up.written_is ∙ append_assoc up.greeting sent between.pending ∙ ap (λ t. up.greeting ++ t) all_sent;
+        },
+        refl,
+      )

@@ -1,0 +1,23 @@
+//! The handlers that are held still.
+
+ghost use Rattle.std.specs.Prelude.{◌≡◌, IfOk};
+ghost use Rattle.conn_core.specs.Connects.{held_in, IsOrderedIn};
+
+use crate::connection::{ConnCore, Phase};
+use handlers::Protocols;
+use std::alloc::AllocError;
+
+impl<P: Protocols> ConnCore<P> {
+    /// The handlers that are held still, each with the number of its stream: first those of earlier openings, in the
+    /// order in which their numbers were opened anew, and then the others by their numbers.
+    pub fn into_handlers(self) -> Result<Vec<(u32, P::H)>, AllocError>
+        ensures held { IfOk result (λ held. held.items ≡ held_in self.phase) }
+        ensures ordered { IsOrderedIn self.phase }
+    {
+        let Self { phase, alloc, .. } = self;
+        match phase {
+            Phase::Up(mux) => mux.into_handlers(),
+            Phase::Upgrading(..) | Phase::Over => Ok(Vec::new(alloc)),
+        }
+    }
+}

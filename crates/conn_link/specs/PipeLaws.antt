@@ -1,0 +1,27 @@
+-- The laws of a link, of a pipe: this project's profile.
+use Rattle.std.specs.Prelude.{◌≡◌, refl, ℕ, List, [], ◌∷◌, ◌++◌}
+use Rattle.std.proofs.Common.{◌∙◌, ap, sym, subst, append_assoc}
+use Rattle.std.proofs.lemmas.List.{append-nil}
+use Rattle.conn_link.specs.Moving.{MovesNothing, MovesOn, StaysEnded}
+use Rattle.conn_link.specs.Piping.{PipeMoves}
+
+pub none_moved : MovesNothing PipeMoves
+none_moved pipe = (refl, sym (append-nil pipe.written))
+
+pub moved_on : MovesOn PipeMoves
+moved_on first mid last given taken given_next taken_next before behind = (
+  before.0 ∙ ap (λ rest. given ++ rest) behind.0 ∙ sym (append_assoc given given_next last.unread),
+  behind.1 ∙ ap (λ all. all ++ taken_next) before.1 ∙ append_assoc first.written taken taken_next,
+)
+
+abbrev HasNone : List ℕ → Type 0
+HasNone [] = Unit {0}
+HasNone (byte ∷ bytes) = ⊥
+
+-- where nothing is left, nothing was in front of it
+both_none : (given rest : List ℕ) → [] ≡ given ++ rest → (given ≡ []) × (rest ≡ [])
+both_none [] rest none = (refl, sym none)
+both_none (byte ∷ given) rest none = absurd (subst HasNone none tt)
+
+pub ended_stays : StaysEnded PipeMoves (λ pipe. pipe.unread ≡ [])
+ended_stays first last given taken moved ended = both_none given last.unread (sym ended ∙ moved.0)

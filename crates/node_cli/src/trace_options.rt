@@ -1,0 +1,60 @@
+//! The words and options of a trace.
+
+use crate::options::BadOption;
+use crate::peer::{IdRefused, key_of};
+use crate::trace::Traced;
+use clap::{Arg, ArgAction, ArgMatches, Command};
+use hex::FromHex;
+use std::alloc::{AllocError, Global};
+use upgrade::ConnRole;
+
+/// The message of the Ed25519 key of 32 bytes 00.
+const ZERO_KEY: &str = "080112200000000000000000000000000000000000000000000000000000000000000000";
+
+/// 32 bytes 00.
+const ZEROS: &str = "0000000000000000000000000000000000000000000000000000000000000000";
+
+/// The command of a trace.
+pub fn trace_command<'a>(alloc: Global) -> Result<Command<'a>, AllocError> {
+    let role = Arg::new(alloc, "ROLE")
+        .required(true)
+        .action(ArgAction::Set)
+        .help("Which end it is: dialer or listener");
+    let key = Arg::new(alloc, "key")
+        .long("key")
+        .value_name("HEX")
+        .help("Its own key: a public key message in hexadecimal")
+        .action(ArgAction::Set)
+        .default_value(ZERO_KEY);
+    let payload = Arg::new(alloc, "payload")
+        .long("payload")
+        .value_name("HEX")
+        .help("What its pings send: 32 bytes in hexadecimal")
+        .action(ArgAction::Set)
+        .default_value(ZEROS);
+    Command::new(alloc, "trace")
+        .about("Runs one end of a connection on a script from standard input")
+        .arg(role)?
+        .arg(key)?
+        .arg(payload)
+}
+
+/// The end that is traced, by the words that were found.
+pub fn traced_of<'a>(alloc: Global, found: &ArgMatches<'a>) -> Result<Traced<'a>, BadOption> {
+    let role = match found.get_str("ROLE") {
+        Some("dialer") => ConnRole::Dialer,
+        Some("listener") => ConnRole::Listener,
+        _ => return Err(BadOption::Role),
+    };
+    let key = found.get_str("key").unwrap_or(ZERO_KEY);
+    match key_of(alloc, key) {
+        Ok(_) => {}
+        Err(IdRefused::OutOfMemory) => return Err(BadOption::OutOfMemory),
+        Err(_) => return Err(BadOption::Key),
+    }
+    let payload = found.get_str("payload").unwrap_or(ZEROS);
+    match <[u8; 32] as FromHex>::from_hex(payload) {
+        Ok(payload) => Ok(Traced { role, key, payload }),
+        Err(_) => Err(BadOption::Payload),
+    }
+}

@@ -1,0 +1,3 @@
+mod OwnLength
+mod Staying
+mod Rows

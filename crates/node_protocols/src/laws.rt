@@ -1,0 +1,74 @@
+//! What holds of the handlers and of the definitions.
+
+ghost use Rattle.std.specs.Prelude.{◌≡◌, ℕ, List, Bool, IfSome};
+ghost use Rattle.handlers.specs.Calls.{HandlerCall, Arises, WasHanded};
+ghost use Rattle.identify_h.specs.Reading.{Reader};
+ghost use Rattle.identify_h.specs.Sending.{Sending};
+ghost use Rattle.identify_h.specs.Streams.{Reads as SaysAll};
+ghost use Rattle.ping_h.specs.Rounds.{Round};
+ghost use Rattle.ping_h.specs.Echoes.{Echo};
+ghost use Rattle.node_protocols.specs.declared.handler.NodeHandler.{NodeHandler};
+ghost use Rattle.node_protocols.specs.declared.handler.NodeHandler.TheVariants.{Reads, Sends, Pings, Echoes};
+ghost use Rattle.node_protocols.specs.Handlers.{message_of};
+ghost use Rattle.node_protocols.specs.Makes.{Hears};
+ghost use Rattle.node_protocols.specs.Rows.{OwnRows, MakesRows, HandlerRows};
+
+use crate::handler::NodeHandler;
+use handlers::Handler;
+use identify_h::{IdentifyIn, IdentifyOut};
+use ping_h::{PingEcho, PingOut};
+
+/// The definitions say of worked nodes and handlers what the specifications and the profile say.
+pub fn worked_rows()
+    ensures own { OwnRows }
+    ensures makes { MakesRows }
+    ensures handlers { HandlerRows }
+{}
+
+/// What comes of a handler by its calls is of the same kind, and comes of it as that kind's own handler does: what is
+/// proved of those over whole lists of calls holds of a node's.
+pub fn kinds_stay()
+    ensures reads { (made : Reader) (calls : List HandlerCall) (value : NodeHandler)
+        → Arises ⟦<NodeHandler as Handler>⟧.steps (Reads made) calls value
+        → (reader : Reader) × (value ≡ Reads reader) × Arises ⟦<IdentifyIn as Handler>⟧.steps made calls reader }
+    ensures sends { (made : Sending) (calls : List HandlerCall) (value : NodeHandler)
+        → Arises ⟦<NodeHandler as Handler>⟧.steps (Sends made) calls value
+        → (out : Sending) × (value ≡ Sends out) × Arises ⟦<IdentifyOut as Handler>⟧.steps made calls out }
+    ensures pings { (made : Round) (calls : List HandlerCall) (value : NodeHandler)
+        → Arises ⟦<NodeHandler as Handler>⟧.steps (Pings made) calls value
+        → (out : Round) × (value ≡ Pings out) × Arises ⟦<PingOut as Handler>⟧.steps made calls out }
+    ensures echoes { (made : Echo) (calls : List HandlerCall) (value : NodeHandler)
+        → Arises ⟦<NodeHandler as Handler>⟧.steps (Echoes made) calls value
+        → (echo : Echo) × (value ≡ Echoes echo) × Arises ⟦<PingEcho as Handler>⟧.steps made calls echo }
+{}
+
+/// It is closed where that one is.
+pub fn closes_as_its_kind()
+    ensures reads { (reader : Reader) → ⟦<NodeHandler as Handler>⟧.is_closed (Reads reader)
+        ≡ ⟦<IdentifyIn as Handler>⟧.is_closed reader }
+    ensures sends { (out : Sending) → ⟦<NodeHandler as Handler>⟧.is_closed (Sends out)
+        ≡ ⟦<IdentifyOut as Handler>⟧.is_closed out }
+    ensures pings { (out : Round) → ⟦<NodeHandler as Handler>⟧.is_closed (Pings out)
+        ≡ ⟦<PingOut as Handler>⟧.is_closed out }
+    ensures echoes { (echo : Echo) → ⟦<NodeHandler as Handler>⟧.is_closed (Echoes echo)
+        ≡ ⟦<PingEcho as Handler>⟧.is_closed echo }
+{}
+
+/// And it is finished where that one is.
+pub fn finishes_as_its_kind()
+    ensures reads { (reader : Reader) → ⟦<NodeHandler as Handler>⟧.is_finished (Reads reader)
+        ≡ ⟦<IdentifyIn as Handler>⟧.is_finished reader }
+    ensures sends { (out : Sending) → ⟦<NodeHandler as Handler>⟧.is_finished (Sends out)
+        ≡ ⟦<IdentifyOut as Handler>⟧.is_finished out }
+    ensures pings { (out : Round) → ⟦<NodeHandler as Handler>⟧.is_finished (Pings out)
+        ≡ ⟦<PingOut as Handler>⟧.is_finished out }
+    ensures echoes { (echo : Echo) → ⟦<NodeHandler as Handler>⟧.is_finished (Echoes echo)
+        ≡ ⟦<PingEcho as Handler>⟧.is_finished echo }
+{}
+
+/// The message of a handler that was made to read is what its whole stream says.
+pub fn message_is_what_came()
+    ensures { (peer bytes : List ℕ) (ended : Bool) (made value : NodeHandler) → Hears peer made
+        → WasHanded ⟦<NodeHandler as Handler>⟧.steps made bytes ended value
+        → IfSome (message_of value) (SaysAll peer bytes) }
+{}

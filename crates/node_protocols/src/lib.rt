@@ -1,0 +1,16 @@
+//! The protocols of a node: identify, its push, and ping.
+#![tactic(auto)]
+
+mod handler;
+pub mod laws;
+mod names;
+mod own;
+mod payloads;
+mod protocols;
+#[cfg(test)]
+mod tests;
+
+pub use handler::NodeHandler;
+pub use names::{IDENTIFY, PING, PUSH};
+pub use payloads::{FixedPayload, Payloads};
+pub use protocols::NodeProtocols;

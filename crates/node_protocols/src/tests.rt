@@ -1,0 +1,196 @@
+//! A node's protocols, each driven once against those of another node.
+
+ghost use Rattle.std.specs.Prelude.{◌<◌, length};
+
+use super::*;
+use handlers::{Handler, HandlerFault, Protocols};
+use identify_h::{Identify, IdentifyFault};
+use peer_ids::{PeerId, PublicKey};
+use std::alloc::Global;
+use std::test::*;
+
+/// The bytes of a node's key.
+const KEY: [u8; 32] = [10; 32];
+
+/// What its pings send.
+const PAYLOAD: [u8; 32] = [7; 32];
+
+fn node(alloc: Global, agent: &str) -> Result<NodeProtocols<FixedPayload>, IdentifyFault> {
+    let key = PublicKey::ed25519(alloc, &KEY)?;
+    NodeProtocols::new(alloc, key, agent, FixedPayload { payload: PAYLOAD })
+}
+
+fn peer() -> PeerId {
+    PeerId::of_ed25519(&KEY)
+}
+
+// ---- names
+
+fn names<P: Protocols>(protocols: &P, all: &[&str]) -> bool {
+    protocols.names() == all
+}
+
+#[test]
+fn names_are_in_order(rt: HostRuntime) -> Result<(), Fail> {
+    let node = node(rt.alloc(), "node/0.1.0")?;
+    let all = ["/ipfs/id/1.0.0", "/ipfs/id/push/1.0.0", "/ipfs/ping/1.0.0"];
+    assert!(rt; names(&node, &all));
+    Ok(())
+}
+
+#[test]
+fn ping_alone_is_eager(rt: HostRuntime) -> Result<(), Fail> {
+    let node = node(rt.alloc(), "node/0.1.0")?;
+    let eager = [node.eager(IDENTIFY), node.eager(PUSH), node.eager(PING)];
+    assert!(rt; eager == [false, false, true]);
+    Ok(())
+}
+
+// ---- handlers
+
+/// Makes the handler of a stream that this end opened, or of one that the other end opened.
+fn made<P: Protocols>(protocols: &mut P, index: usize, inbound: bool) -> Option<P::H>
+    requires { index < length (P.listed protocols.old) }
+{
+    let handler = if inbound {
+        protocols.inbound(index, peer())
+    } else {
+        protocols.outbound(index, peer())
+    };
+    handler.ok()
+}
+
+/// Whether bytes are given by the one, and taken by the other.
+fn carries<H: Handler>(from: &mut H, to: &mut H) -> bool {
+    match from.give(1024) {
+        Ok(bytes) => !bytes.is_empty() && to.take(&bytes) == Ok(()),
+        Err(_) => false,
+    }
+}
+
+/// A ping's way there and back, and its end.
+fn comes_back(ping: &mut NodeHandler, echo: &mut NodeHandler) -> bool {
+    let is_sent = carries(ping, echo) && !ping.closed();
+    let is_back = carries(echo, ping) && ping.closed() && !ping.finished();
+    let is_over = echo.end() == Ok(()) && ping.end() == Ok(());
+    is_sent && is_back && is_over && ping.finished() && echo.finished()
+}
+
+#[test]
+fn a_ping_comes_back(rt: HostRuntime) -> Result<(), Fail> {
+    let mut node = node(rt.alloc(), "node/0.1.0")?;
+    let held = match (made(&mut node, PING, false), made(&mut node, PING, true)) {
+        (Some(mut ping), Some(mut echo)) => comes_back(&mut ping, &mut echo),
+        _ => false,
+    };
+    assert!(rt; held);
+    Ok(())
+}
+
+/// What the other end reads of what is sent.
+fn read(sender: &mut NodeHandler, reader: NodeHandler) -> Option<Identify> {
+    let mut reader = reader;
+    let is_read = carries(sender, &mut reader) && reader.end() == Ok(());
+    if is_read && sender.finished() && reader.finished() {
+        reader.into_message().ok()
+    } else {
+        None
+    }
+}
+
+fn is_text(part: &Option<Vec<u8>>, text: &str) -> bool {
+    match part {
+        Some(bytes) => bytes.as_slice() == text.as_bytes(),
+        None => false,
+    }
+}
+
+fn says(message: &Identify, agent: &str) -> bool {
+    let is_key = match &message.key {
+        Some(key) => key.body() == KEY.as_slice(),
+        None => false,
+    };
+    let is_silent = message.listen.is_empty() && message.observed.is_none();
+    let texts = is_text(&message.version, "node/1.0.0") && is_text(&message.agent, agent);
+    is_key && is_silent && texts && message.protocols.len() == 3
+}
+
+/// Whether it is read so, where identify is asked for or where it is pushed.
+fn is_heard(alloc: Global, index: usize, agent: &str) -> bool
+    requires { index < 3 }
+{
+    let Ok(mut node) = node(alloc, agent) else {
+        return false;
+    };
+    let is_push = index == PUSH;
+    let message = match (
+        made(&mut node, index, !is_push),
+        made(&mut node, index, is_push),
+    ) {
+        (Some(mut sender), Some(reader)) => read(&mut sender, reader),
+        _ => None,
+    };
+    message.is_some_and(|message| says(&message, agent))
+}
+
+#[test]
+fn what_a_node_says_is_read(rt: HostRuntime) {
+    for (index, agent) in [(IDENTIFY, "node/0.1.0"), (PUSH, "another/2")] {
+        assert!(rt; is_heard(rt.alloc(), index, agent), "protocol {index}");
+    }
+}
+
+/// A stream that is opened and ended at once: of which protocol, by whom, and which number the end is refused by.
+static ENDS: [(usize, bool, Option<u8>); 6] = [
+    (IDENTIFY, true, None),
+    (IDENTIFY, false, Some(6)),
+    (PUSH, true, Some(6)),
+    (PUSH, false, None),
+    (PING, true, None),
+    (PING, false, Some(3)),
+];
+
+/// Whether its handler answers an end so, and holds no message then.
+fn ends(
+    node: &mut NodeProtocols<FixedPayload>,
+    index: usize,
+    inbound: bool,
+    number: Option<u8>,
+) -> bool
+    requires { index < 3 }
+{
+    let Some(mut handler) = made(node, index, inbound) else {
+        return false;
+    };
+    let answer = handler.end().err().map(|fault: HandlerFault| fault.number);
+    answer == number && handler.into_message().is_err()
+}
+
+#[test]
+fn ends_of_each_kind(rt: HostRuntime) -> Result<(), Fail> {
+    let mut node = node(rt.alloc(), "node/0.1.0")?;
+    for (row, (index, inbound, number)) in ENDS.iter().enumerate() {
+        let held = *index < 3 && ends(&mut node, *index, *inbound, *number);
+        assert!(rt; held, "row {row}");
+    }
+    Ok(())
+}
+
+// ---- how much a node may say
+
+/// The fault of a node whose agent has so many bytes.
+fn fault(alloc: Global, len: usize) -> Option<IdentifyFault> {
+    let Ok(bytes) = vec![in alloc; b'x'; len] else {
+        return Some(IdentifyFault::OutOfMemory);
+    };
+    let Ok(agent) = str::from_utf8(&bytes) else {
+        return None;
+    };
+    node(alloc, agent).err()
+}
+
+#[test]
+fn a_node_says_16384_bytes_at_most(rt: HostRuntime) {
+    assert_eq!(rt; fault(rt.alloc(), 16276), None);
+    assert_eq!(rt; fault(rt.alloc(), 16277), Some(IdentifyFault::TooLong));
+}
