@@ -17,9 +17,6 @@ use yamux_session::laws::{
 };
 use yamux_session::{ActRefused, Event, Role, Session};
 
-#[cfg(test)]
-mod tests;
-
 /// Two sessions that have talked, and what they were told.
 #[derive(Drop)]
 pub struct Talk {

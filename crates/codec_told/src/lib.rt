@@ -9,6 +9,4 @@ pub mod exchanges;
 pub mod keys;
 pub mod messages;
 pub mod negotiations;
-#[cfg(test)]
-mod tests;
 pub mod varints;

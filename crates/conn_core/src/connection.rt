@@ -15,7 +15,7 @@ ghost use Rattle.yamux_session.specs.declared.event.Role.{Role};
 ghost use Rattle.conn_core.specs.Connects.{Stands, Connects, IsComing, IsUpWith, MayOpen, IsRefused, is_over};
 ghost use Rattle.conn_core.specs.Connects.{session_role, OwesOf, waiting_in};
 
-use crate::telling::{fail, last_event, session_role, tell};
+use crate::telling::{fail, last_event, last_output, session_role, tell};
 use bytes::Bytes;
 use conn_log::{ConnEvent, ConnFault, ConnRefused};
 use handlers::{Handler, Protocols};
@@ -184,12 +184,12 @@ fn bring_up<P: Protocols>(
     match upgrade.feed(piece) {
         Ok(Progress::Going) => Ok(Phase::Upgrading(upgrade, protocols)),
         Ok(Progress::Up { used, proven }) => {
-            *output = upgrade.take_output();
+            *output = last_output(upgrade);
             let mux = Mux::new(alloc, session_role(role), proven.peer(), protocols);
             come_up(mux, proven, used, output, piece, told)
         }
         Err(fault) => {
-            *output = upgrade.take_output();
+            *output = last_output(upgrade);
             match fail(fault, told) {
                 Ok(()) => Ok(Phase::Over),
                 Err(refused) => Err(refused),

@@ -9,6 +9,3 @@ mod telling;
 
 pub use calls::{ConnAct, ConnAnswer, ConnRan, run};
 pub use connection::{ConnCore, Phase};
-
-#[cfg(test)]
-mod tests;

@@ -11,7 +11,7 @@ ghost use Rattle.conn_core.specs.Connects.{Connects, Ends, is_over, told_of, ses
 use crate::connection::Phase;
 use conn_log::{ConnEvent, ConnFault, ConnRefused};
 use handlers::{Handler, Protocols};
-use upgrade::{ConnRole, UpgradeFault};
+use upgrade::{ConnRole, Upgrade, UpgradeFault};
 use yamux_session::Role;
 
 /// The dialer is the client of the session.
@@ -66,6 +66,14 @@ pub(crate) fn fail<H: Handler>(
     }
 }
 
+/// What an upgrade that has ended has written, and nobody took.
+pub(crate) fn last_output(upgrade: Upgrade) -> Vec<u8>
+    ensures output { result.items ≡ upgrade.pending }
+{
+    let mut upgrade = upgrade;
+    upgrade.take_output()
+}
+
 /// What is told last where the input ends in this phase. What an upgrade has written waits then.
 pub(crate) fn last_event<P: Protocols>(phase: Phase<P>, output: &mut Vec<u8>) -> ConnEvent<P::H>
     ensures ends { (role : ConnRole) (own : Key) (eager : ℕ → Bool) (names : List (List ℕ)) (input taken : List ℕ)
@@ -77,8 +85,7 @@ pub(crate) fn last_event<P: Protocols>(phase: Phase<P>, output: &mut Vec<u8>) ->
 {
     match phase {
         Phase::Upgrading(upgrade, _) => {
-            let mut upgrade = upgrade;
-            *output = upgrade.take_output();
+            *output = last_output(upgrade);
             ConnEvent::Fault(ConnFault::EarlyEnd)
         }
         Phase::Up(mux) => {

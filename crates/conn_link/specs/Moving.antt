@@ -1,7 +1,7 @@
 -- What the calls of a link answer, and the bytes that they move.
 -- Source: POSIX.1-2017, `read`, `write` and `shutdown` on a socket: bytes are given in the order in which they came,
--- and taken in the order in which they are to go, a front part at a time, and a read of none is the end. That a call may
--- be pending, and that failures are counted, is this project's profile.
+-- and taken in the order in which they are to go, a front part at a time, and a read of none is the end. That a call
+-- may be pending, and that failures are counted, is this project's profile.
 use Rattle.std.specs.Prelude.{ℕ, ◌+◌, ◌-◌, ◌^◌, min, List, [], ◌++◌, ◌≡◌, take, Result, Ok, Err}
 use Rattle.futures.specs.declared.task.Poll.{Poll}
 use Rattle.futures.specs.declared.task.Poll.TheVariants.{Ready, Pending}

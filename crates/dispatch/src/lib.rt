@@ -7,6 +7,3 @@ pub mod laws;
 
 pub use agreement::negotiate;
 pub use direction::Direction;
-
-#[cfg(test)]
-mod tests;

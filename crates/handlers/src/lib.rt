@@ -4,8 +4,6 @@
 mod handler;
 pub mod laws;
 mod protocols;
-#[cfg(test)]
-mod tests;
 
 pub use handler::{Handler, HandlerFault};
 pub use protocols::Protocols;

@@ -41,12 +41,22 @@ pub trait Protocols: Drop {
         requires { index < length (listed self.old) }
         ensures names { listed self.new ≡ listed self.old }
         ensures eager { is_eager self.new ≡ is_eager self.old }
-        ensures made { IfOk result (makes_inbound self.old index peer) };
+        ensures made { IfOk result (makes_inbound self.old index peer) }
+        // What may be made later might have been made before.
+        ensures kept_inbound { (at : ℕ) (to : List ℕ) (handler : Self.H) → makes_inbound self.new at to handler
+            → makes_inbound self.old at to handler }
+        ensures kept_outbound { (at : ℕ) (to : List ℕ) (handler : Self.H) → makes_outbound self.new at to handler
+            → makes_outbound self.old at to handler };
 
     /// Makes the handler of a stream that this end opened. Its only refusal is want of memory.
     fn outbound(&mut self, index: usize, peer: PeerId) -> Result<Self::H, AllocError>
         requires { index < length (listed self.old) }
         ensures names { listed self.new ≡ listed self.old }
         ensures eager { is_eager self.new ≡ is_eager self.old }
-        ensures made { IfOk result (makes_outbound self.old index peer) };
+        ensures made { IfOk result (makes_outbound self.old index peer) }
+        // What may be made later might have been made before.
+        ensures kept_inbound { (at : ℕ) (to : List ℕ) (handler : Self.H) → makes_inbound self.new at to handler
+            → makes_inbound self.old at to handler }
+        ensures kept_outbound { (at : ℕ) (to : List ℕ) (handler : Self.H) → makes_outbound self.new at to handler
+            → makes_outbound self.old at to handler };
 }

@@ -20,6 +20,10 @@ number_rows = record {
   long_length = refl;
   no_room = refl;
   unread_key = refl;
+  badly_spelt_key = refl;
+  key_without_a_type = refl;
+  key_without_data = refl;
+  key_of_a_bad_length = refl;
   no_room_for_a_key = refl;
 }
 

@@ -212,6 +212,10 @@ pub record NumberRows : Type 0 where
   pub long_length : of_incoming incoming.TooLong ≡ TooLong
   pub no_room : of_incoming incoming.OutOfMemory ≡ OutOfMemory
   pub unread_key : of_key_fault keys.UnknownType ≡ OtherKey
+  pub badly_spelt_key : of_key_fault keys.Wire ≡ OtherKey
+  pub key_without_a_type : of_key_fault keys.NoType ≡ OtherKey
+  pub key_without_data : of_key_fault keys.NoData ≡ OtherKey
+  pub key_of_a_bad_length : of_key_fault keys.BadLength ≡ OtherKey
   pub no_room_for_a_key : of_key_fault keys.OutOfMemory ≡ OutOfMemory
 
 -- The end that sends: what comes changes nothing of what is sent, nor does the end of it

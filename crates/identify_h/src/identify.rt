@@ -16,7 +16,7 @@ use crate::parts::{bodies, last_parts, owned};
 use peer_ids::{PeerId, PublicKey};
 use std::alloc::{AllocError, Global};
 use std::marker::Model;
-use varint_proto::{spell, write_body};
+use varint_proto::{field_len, write_body};
 
 /// What a node says of itself. Texts and addresses are kept as bytes, and are not parsed. Contracts see the lists and
 /// the bytes.
@@ -88,17 +88,6 @@ fn write_all(body: &mut Vec<u8>, number: u32, list: &[Vec<u8>]) -> Result<(), Al
         write_body(body, number, bytes)?;
     }
     Ok(())
-}
-
-/// How many bytes a field has that holds so many.
-fn field_len(number: u32, len: usize) -> usize
-    requires tag { IsTag (8 * number + 2) }
-    requires small { len + 20 < 2 ^ 64 }
-    ensures most { result ≤ len + 20 }
-    ensures length { (body : List ℕ) → length body ≡ len
-        → result ≡ length (shortest_field (entry number (Bytes body))) }
-{
-    spell(u64::from(8 * number + 2)).1 + spell(len as u64).1 + len
 }
 
 /// How many bytes the field of the key has where it is there.

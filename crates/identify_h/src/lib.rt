@@ -6,11 +6,9 @@ mod identify;
 pub mod laws;
 mod parts;
 mod reader;
-#[cfg(test)]
-mod tests;
 mod writer;
 
 pub use fault::IdentifyFault;
 pub use identify::Identify;
 pub use reader::IdentifyIn;
-pub use writer::IdentifyOut;
+pub use writer::{IdentifyOut, MOST_BYTES};

@@ -14,7 +14,7 @@ use std::marker::Model;
 use varint_proto::spell;
 
 /// How many bytes the bodies of a stream have together at most.
-pub(crate) const MOST_BYTES: usize = 16384;
+pub const MOST_BYTES: usize = 16384;
 
 /// Sends one message, behind its length, and drops what it is handed. Once all was given it is closed and finished.
 #[derive(Drop)]

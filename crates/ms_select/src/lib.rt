@@ -22,6 +22,3 @@ pub use fault::SelectFault;
 pub use listener::Listener;
 pub use run::{Talk, dial, listen};
 pub use verdict::Role;
-
-#[cfg(test)]
-mod tests;

@@ -15,6 +15,3 @@ mod wire;
 pub use address::Multiaddr;
 pub use fault::AddrFault;
 pub use socket::Ip;
-
-#[cfg(test)]
-mod tests;

@@ -3,67 +3,24 @@
 
 ghost use Rattle.std.specs.Prelude.{◌≤◌};
 
-mod addr;
 mod command;
+mod ending;
 mod input;
 mod line;
 mod options;
-mod peer;
 mod replay;
 mod trace;
 mod trace_line;
 mod trace_options;
 
-pub use addr::{AddrLines, addr_lines};
 use command::{Asked, Unasked, read};
-use multiaddr::AddrFault;
-pub use peer::{HashRefused, IdRefused, hash_hex, id_text};
+pub use ending::Ending;
+use node_texts::{addr_lines, hash_hex, id_text};
 use replay::replay;
 use std::alloc::{AllocGlobal, Global};
 use std::io;
 use std::io::{Read, Write};
 use trace::trace;
-
-#[cfg(test)]
-mod tests;
-
-/// Why a run ended early.
-#[derive(Drop)]
-enum Ending {
-    Id(IdRefused),
-    Hash(HashRefused),
-    Addr(AddrFault),
-    /// The line of this number, from 1 on, is of no known form.
-    Line(u64),
-    /// The input is too long, or it can't be read or held.
-    Input,
-    /// A write failed.
-    Unwritten,
-}
-
-impl From<IdRefused> for Ending {
-    fn from(refused: IdRefused) -> Ending {
-        Ending::Id(refused)
-    }
-}
-
-impl From<HashRefused> for Ending {
-    fn from(refused: HashRefused) -> Ending {
-        Ending::Hash(refused)
-    }
-}
-
-impl From<AddrFault> for Ending {
-    fn from(fault: AddrFault) -> Ending {
-        Ending::Addr(fault)
-    }
-}
-
-impl From<io::Error> for Ending {
-    fn from(_error: io::Error) -> Ending {
-        Ending::Unwritten
-    }
-}
 
 /// Does a whole run of the words behind the program's name, and gives its status: 0 good, 1 refused input or a
 /// failing write, 2 a bad command line. What it writes to `output` is flushed before it ends, and before a refusal is
@@ -105,26 +62,16 @@ fn written(outcome: io::Result<()>, good: u8) -> u8
     }
 }
 
-/// The status of a run, whose refusal is told by its name.
+/// The status of a run. What ended it is told in a line, but for a write that failed.
 fn status<E: Write>(outcome: Result<(), Ending>, faults: &mut E) -> u8
     ensures { result ≤ 1 }
 {
     let Err(ending) = outcome else {
         return 0;
     };
-    let _ = match ending {
-        Ending::Id(IdRefused::NotHex) => writeln!(faults, "refused NotHex"),
-        Ending::Id(IdRefused::Key(fault)) => writeln!(faults, "refused {fault:?}"),
-        Ending::Hash(HashRefused::Id(fault)) => writeln!(faults, "refused {fault:?}"),
-        Ending::Addr(fault) => writeln!(faults, "refused {fault:?}"),
-        Ending::Id(IdRefused::OutOfMemory) | Ending::Hash(HashRefused::OutOfMemory) => writeln!(
-            faults,
-            "refused OutOfMemory"
-        ),
-        Ending::Line(number) => writeln!(faults, "refused line {number}"),
-        Ending::Input => writeln!(faults, "refused input"),
-        Ending::Unwritten => Ok(()),
-    };
+    if !matches!(ending, Ending::Unwritten) {
+        let _ = writeln!(faults, "{ending}");
+    }
     1
 }
 

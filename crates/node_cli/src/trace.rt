@@ -2,11 +2,11 @@
 
 use crate::Ending;
 use crate::input::{Unread, read_whole};
-use crate::peer::key_of;
 use crate::trace_line::{TraceLine, trace_line_of};
 use conn_core::ConnCore;
 use conn_log::{ConnEvent, ConnRefused};
 use node_protocols::{FixedPayload, NodeHandler, NodeProtocols};
+use node_texts::key_of;
 use peer_ids::PublicKey;
 use std::alloc::Global;
 use std::io;

@@ -1,10 +1,10 @@
 //! The words and options of a trace.
 
 use crate::options::BadOption;
-use crate::peer::{IdRefused, key_of};
 use crate::trace::Traced;
 use clap::{Arg, ArgAction, ArgMatches, Command};
 use hex::FromHex;
+use node_texts::{IdRefused, key_of};
 use std::alloc::{AllocError, Global};
 use upgrade::ConnRole;
 

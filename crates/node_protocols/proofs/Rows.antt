@@ -1,11 +1,17 @@
 -- The worked rows.
-use Rattle.std.proofs.Common.{inl, inr, ◌<◌, refl, ap, ◌∙◌, ℕ, List, replicate, arith}
-use Rattle.ping_h.specs.Rounds.{round}
-use Rattle.node_protocols.specs.declared.handler.NodeHandler.TheVariants.{Pings}
+use Rattle.std.proofs.Common.{◌≡◌, inl, inr, ◌<◌, refl, sym, subst, ap, ◌∙◌, ℕ, List, [], ◌∷◌, true, replicate, arith}
+use Rattle.ping_h.specs.Rounds.{Round, round}
+use Rattle.ping_h.specs.Echoes.{Echo}
+use Rattle.identify_h.specs.Sending.{Sending}
+use Rattle.node_protocols.specs.declared.handler.NodeHandler.{NodeHandler}
+use Rattle.node_protocols.specs.declared.handler.NodeHandler.TheVariants.{Reads, Sends, Pings, Echoes}
 use Rattle.varint_proto.specs.Varint.{shortest, shortest_within}
 use Rattle.identify_h.specs.declared.fault.IdentifyFault.TheVariants.{Failed}
 use Rattle.identify_h.specs.Faults.{number_of}
-use Rattle.node_protocols.specs.Rows.{OwnRows, MakesRows, HandlerRows}
+use Rattle.identify_h.specs.Sending.{sending}
+use Rattle.ping_h.specs.Echoes.{fresh}
+use Rattle.node_protocols.specs.Handlers.{Stops}
+use Rattle.node_protocols.specs.Rows.{OwnRows, MakesRows, HandlerRows, StopRows, back}
 
 pub own : OwnRows
 unfolding shortest shortest_within
@@ -46,4 +52,54 @@ handlers = record {
   sent = refl;
   reader = refl;
   unread = refl;
+}
+
+stopped_sender : (out : Sending) (handler : NodeHandler) → Stops (Sends out) handler
+    → handler ≡ Sends (record out { failed = true })
+stopped_sender out (Sends next) h = ap Sends h
+stopped_sender out (Reads next) h = absurd h
+stopped_sender out (Pings next) h = absurd h
+stopped_sender out (Echoes next) h = absurd h
+
+stopped_ping : (out : Round) (handler : NodeHandler) → Stops (Pings out) handler
+    → handler ≡ Pings (record out { failed = true })
+stopped_ping out (Pings next) h = ap Pings h
+stopped_ping out (Reads next) h = absurd h
+stopped_ping out (Sends next) h = absurd h
+stopped_ping out (Echoes next) h = absurd h
+
+stopped_echo : (echo : Echo) (handler : NodeHandler) → Stops (Echoes echo) handler
+    → handler ≡ Echoes (record echo { failed = true })
+stopped_echo echo (Echoes next) h = ap Echoes h
+stopped_echo echo (Reads next) h = absurd h
+stopped_echo echo (Sends next) h = absurd h
+stopped_echo echo (Pings next) h = absurd h
+
+pub stops : StopRows
+stops = record {
+  sender = λ handler. (
+    stopped_sender (sending (1 ∷ [])) handler,
+    λ e. subst (λ (h : NodeHandler). Stops (Sends (sending (1 ∷ []))) h) (sym e) refl,
+  );
+  ping = λ handler. (stopped_ping back handler, λ e. subst (λ (h : NodeHandler). Stops (Pings back) h) (sym e) refl);
+  echo = λ handler. (stopped_echo fresh handler, λ e. subst (λ (h : NodeHandler). Stops (Echoes fresh) h) (sym e) refl);
+  reader = (refl, refl);
+  going_reader = λ h. cc h.0;
+  reader_with_a_message = λ h. cc h.1;
+  failed_reader = refl;
+  failed_sender = refl;
+  failed_ping = refl;
+  failed_echo = refl;
+  ended_reader = refl;
+  ended_sender = refl;
+  ended_ping = refl;
+  ended_echo = refl;
+  over_reader = refl;
+  over_sender = refl;
+  over_ping = refl;
+  over_echo = refl;
+  ended_sender_over = refl;
+  ended_ping_over = refl;
+  ended_echo_over = refl;
+  going_over = refl;
 }

@@ -12,7 +12,7 @@ use Rattle.ping_h.specs.Echoes.{Echo, fresh}
 use Rattle.ping_h.specs.Rounds.{Round, round}
 use Rattle.node_protocols.specs.declared.handler.NodeHandler.{NodeHandler}
 use Rattle.node_protocols.specs.declared.handler.NodeHandler.TheVariants.{Reads, Sends, Pings, Echoes}
-use Rattle.node_protocols.specs.Handlers.{NodeStep, NodeFails, Stops, is_over, is_closed, is_finished}
+use Rattle.node_protocols.specs.Handlers.{NodeStep, NodeFails, Stops, has_failed, is_over, is_closed, is_finished}
 use Rattle.node_protocols.specs.Handlers.{message_of}
 use Rattle.node_protocols.specs.Own.{own_message}
 use Rattle.node_protocols.specs.Makes.{Tells, Hears, MakesInbound, MakesOutbound}
@@ -78,3 +78,38 @@ pub record HandlerRows : Type 0 where
   pub sent : is_closed (Sends (sending [])) ≡ true
   pub reader : is_closed (Reads (record at_end { message = None })) ≡ true
   pub unread : is_finished (Reads (record at_end { message = None })) ≡ false
+
+-- a reader that has neither read its message nor failed
+abbrev pub unread : Reader
+unread = record at_end { message = None }
+
+-- What a fault leaves of each kind
+pub record StopRows : Type 0 where
+  -- it has failed, and nothing else of it is another
+  pub sender : (handler : NodeHandler) → Stops (Sends (sending (1 ∷ []))) handler
+      ↔ (handler ≡ Sends (record (sending (1 ∷ [])) { failed = true }))
+  pub ping : (handler : NodeHandler) → Stops (Pings back) handler ↔ (handler ≡ Pings (record back { failed = true }))
+  pub echo : (handler : NodeHandler) → Stops (Echoes fresh) handler
+      ↔ (handler ≡ Echoes (record fresh { failed = true }))
+  -- a reader has failed, and has no message
+  pub reader : Stops (Reads unread) (Reads (record unread { failed = true }))
+  pub going_reader : ¬ Stops (Reads unread) (Reads unread)
+  pub reader_with_a_message : ¬ Stops (Reads unread) (Reads (record at_end { failed = true }))
+  -- by a fault each kind has failed, and by the end none
+  pub failed_reader : has_failed (Reads (record unread { failed = true })) ≡ true
+  pub failed_sender : has_failed (Sends (record (sending []) { failed = true })) ≡ true
+  pub failed_ping : has_failed (Pings (record back { failed = true })) ≡ true
+  pub failed_echo : has_failed (Echoes (record fresh { failed = true })) ≡ true
+  pub ended_reader : has_failed (Reads at_end) ≡ false
+  pub ended_sender : has_failed (Sends (record (sending []) { ended = true })) ≡ false
+  pub ended_ping : has_failed (Pings (record back { ended = true })) ≡ false
+  pub ended_echo : has_failed (Echoes (record fresh { ended = true })) ≡ false
+  -- by either it takes nothing more
+  pub over_reader : is_over (Reads (record unread { failed = true })) ≡ true
+  pub over_sender : is_over (Sends (record (sending []) { failed = true })) ≡ true
+  pub over_ping : is_over (Pings (record back { failed = true })) ≡ true
+  pub over_echo : is_over (Echoes (record fresh { failed = true })) ≡ true
+  pub ended_sender_over : is_over (Sends (record (sending []) { ended = true })) ≡ true
+  pub ended_ping_over : is_over (Pings (record back { ended = true })) ≡ true
+  pub ended_echo_over : is_over (Echoes (record fresh { ended = true })) ≡ true
+  pub going_over : is_over (Reads unread) ≡ false

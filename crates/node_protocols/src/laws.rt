@@ -1,7 +1,7 @@
 //! What holds of the handlers and of the definitions.
 
-ghost use Rattle.std.specs.Prelude.{◌≡◌, ℕ, List, Bool, IfSome};
-ghost use Rattle.handlers.specs.Calls.{HandlerCall, Arises, WasHanded};
+ghost use Rattle.std.specs.Prelude.{◌≡◌, ◌↔◌, ℕ, List, Bool, IfSome};
+ghost use Rattle.handlers.specs.Calls.{HandlerCall, Asked, Arises, WasHanded};
 ghost use Rattle.identify_h.specs.Reading.{Reader};
 ghost use Rattle.identify_h.specs.Sending.{Sending};
 ghost use Rattle.identify_h.specs.Streams.{Reads as SaysAll};
@@ -11,7 +11,7 @@ ghost use Rattle.node_protocols.specs.declared.handler.NodeHandler.{NodeHandler}
 ghost use Rattle.node_protocols.specs.declared.handler.NodeHandler.TheVariants.{Reads, Sends, Pings, Echoes};
 ghost use Rattle.node_protocols.specs.Handlers.{message_of};
 ghost use Rattle.node_protocols.specs.Makes.{Hears};
-ghost use Rattle.node_protocols.specs.Rows.{OwnRows, MakesRows, HandlerRows};
+ghost use Rattle.node_protocols.specs.Rows.{OwnRows, MakesRows, HandlerRows, StopRows};
 
 use crate::handler::NodeHandler;
 use handlers::Handler;
@@ -23,6 +23,7 @@ pub fn worked_rows()
     ensures own { OwnRows }
     ensures makes { MakesRows }
     ensures handlers { HandlerRows }
+    ensures stops { StopRows }
 {}
 
 /// What comes of a handler by its calls is of the same kind, and comes of it as that kind's own handler does: what is
@@ -64,6 +65,38 @@ pub fn finishes_as_its_kind()
         ≡ ⟦<PingOut as Handler>⟧.is_finished out }
     ensures echoes { (echo : Echo) → ⟦<NodeHandler as Handler>⟧.is_finished (Echoes echo)
         ≡ ⟦<PingEcho as Handler>⟧.is_finished echo }
+{}
+
+/// Each call of it is answered where that one answers it, and leads to what that one becomes.
+pub fn answers_as_its_kind()
+    ensures reads { (old new : Reader) (call : HandlerCall)
+        → ⟦<NodeHandler as Handler>⟧.steps (Reads old) call (Reads new)
+        ↔ ⟦<IdentifyIn as Handler>⟧.steps old call new }
+    ensures sends { (old new : Sending) (call : HandlerCall)
+        → ⟦<NodeHandler as Handler>⟧.steps (Sends old) call (Sends new)
+        ↔ ⟦<IdentifyOut as Handler>⟧.steps old call new }
+    ensures pings { (old new : Round) (call : HandlerCall)
+        → ⟦<NodeHandler as Handler>⟧.steps (Pings old) call (Pings new)
+        ↔ ⟦<PingOut as Handler>⟧.steps old call new }
+    ensures echoes { (old new : Echo) (call : HandlerCall)
+        → ⟦<NodeHandler as Handler>⟧.steps (Echoes old) call (Echoes new)
+        ↔ ⟦<PingEcho as Handler>⟧.steps old call new }
+{}
+
+/// And each is refused where that one refuses it, by the same number.
+pub fn fails_as_its_kind()
+    ensures reads { (reader : Reader) (asked : Asked) (n : ℕ)
+        → ⟦<NodeHandler as Handler>⟧.fails (Reads reader) asked n
+        ↔ ⟦<IdentifyIn as Handler>⟧.fails reader asked n }
+    ensures sends { (out : Sending) (asked : Asked) (n : ℕ)
+        → ⟦<NodeHandler as Handler>⟧.fails (Sends out) asked n
+        ↔ ⟦<IdentifyOut as Handler>⟧.fails out asked n }
+    ensures pings { (out : Round) (asked : Asked) (n : ℕ)
+        → ⟦<NodeHandler as Handler>⟧.fails (Pings out) asked n
+        ↔ ⟦<PingOut as Handler>⟧.fails out asked n }
+    ensures echoes { (echo : Echo) (asked : Asked) (n : ℕ)
+        → ⟦<NodeHandler as Handler>⟧.fails (Echoes echo) asked n
+        ↔ ⟦<PingEcho as Handler>⟧.fails echo asked n }
 {}
 
 /// The message of a handler that was made to read is what its whole stream says.

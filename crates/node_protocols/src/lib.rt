@@ -7,8 +7,6 @@ mod names;
 mod own;
 mod payloads;
 mod protocols;
-#[cfg(test)]
-mod tests;
 
 pub use handler::NodeHandler;
 pub use names::{IDENTIFY, PING, PUSH};

@@ -11,18 +11,7 @@ use crate::names::{IDENTIFY, NAMES, PING, PUSH, VERSION};
 use identify_h::Identify;
 use peer_ids::PublicKey;
 use std::alloc::{AllocError, Global};
-use varint_proto::spell;
-
-/// How many bytes a field has that holds so many.
-fn field_len(number: u32, len: usize) -> usize
-    requires tag { IsTag (8 * number + 2) }
-    requires small { len + 20 < 2 ^ 64 }
-    ensures most { result ≤ len + 20 }
-    ensures length { (body : List ℕ) → length body ≡ len
-        → result ≡ length (shortest_field (entry number (Bytes body))) }
-{
-    spell(u64::from(8 * number + 2)).1 + spell(len as u64).1 + len
-}
+use varint_proto::field_len;
 
 /// How many bytes the field of the key has.
 fn key_len(key: &PublicKey) -> usize

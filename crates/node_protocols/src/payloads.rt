@@ -8,9 +8,13 @@ pub trait Payloads: Drop {
     /// These bytes may be given, now or later.
     ghost gives: { Self → List ℕ → Type 0 };
 
+    /// Giving these bytes, once, leads from the first value to the second.
+    ghost steps: { Self → List ℕ → Self → Type 0 };
+
     /// The bytes of the next ping. What may be given later might have been given now.
     fn next(&mut self) -> [u8; 32]
         ensures given { gives self.old result }
+        ensures step { steps self.old result self.new }
         ensures kept { (bytes : List ℕ) → gives self.new bytes → gives self.old bytes };
 }
 
@@ -23,6 +27,8 @@ pub struct FixedPayload {
 
 impl Payloads for FixedPayload {
     ghost gives = { λ fixed bytes. bytes ≡ fixed.payload };
+
+    ghost steps = { λ fixed bytes next. (bytes ≡ fixed.payload) × (next ≡ fixed) };
 
     fn next(&mut self) -> [u8; 32]
         ensures given { result ≡ self.old.payload }

@@ -3,6 +3,7 @@
 ghost use Rattle.std.specs.Prelude.{◌≡◌, ◌≢◌, ◌⊎◌, ◌↔◌, ◌<◌, ◌==◌, ℕ, List, length, IfOk, IfErr, OnErr, Err};
 ghost use Rattle.identify_h.specs.Messages.{written};
 ghost use Rattle.identify_h.specs.Sending.{most_bytes};
+ghost use Rattle.ping_h.specs.Rounds.{round};
 ghost use Rattle.node_protocols.specs.Own.{protocol_names, own_message};
 ghost use Rattle.node_protocols.specs.Makes.{Tells, Hears, MakesInbound, MakesOutbound};
 
@@ -11,14 +12,11 @@ use crate::names::{IDENTIFY, NAMES, PING, PUSH};
 use crate::own::{own_identify, own_len};
 use crate::payloads::Payloads;
 use handlers::Protocols;
-use identify_h::{Identify, IdentifyFault, IdentifyIn, IdentifyOut};
+use identify_h::{Identify, IdentifyFault, IdentifyIn, IdentifyOut, MOST_BYTES};
 use peer_ids::{PeerId, PublicKey};
 use ping_h::{PingEcho, PingOut};
 use std::alloc::{AllocError, Global};
 use std::marker::Model;
-
-/// How many bytes the bodies of an identify stream have together at most.
-const MOST_BYTES: usize = 16384;
 
 /// The protocols of a node: 0 is identify, 1 its push, and 2 is ping, which alone is eager. Contracts see what the node
 /// says of itself, and where its pings' bytes come from.
@@ -130,6 +128,9 @@ impl<R: Payloads> Protocols for NodeProtocols<R> {
         ensures kept { index ≢ 2 → self.new ≡ self.old }
         ensures own { self.new.own ≡ self.old.own }
         ensures payloads { (bytes : List ℕ) → R.gives self.new.payloads bytes → R.gives self.old.payloads bytes }
+        // A ping asks for its bytes once.
+        ensures once { index ≡ 2 → IfOk result (λ handler. (payload : List ℕ)
+            × R.steps self.old.payloads payload self.new.payloads × (handler ≡ NodeHandler.Pings (round payload))) }
         ensures memory { OnErr result (index ≡ 1) }
     {
         match index {

@@ -13,6 +13,3 @@ pub use fault::{IdFault, KeyFault};
 pub use key::PublicKey;
 pub use kind::KeyType;
 pub use peer::PeerId;
-
-#[cfg(test)]
-mod tests;

@@ -5,8 +5,6 @@ mod echo;
 mod fault;
 pub mod laws;
 mod round;
-#[cfg(test)]
-mod tests;
 
 pub use echo::PingEcho;
 pub use fault::PingFault;

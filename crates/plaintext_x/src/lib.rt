@@ -13,6 +13,3 @@ mod run;
 pub use exchange::{Exchange, Proven};
 pub use fault::ExchangeFault;
 pub use run::{Exchanged, exchange_keys};
-
-#[cfg(test)]
-mod tests;

@@ -9,4 +9,6 @@ mod calls;
 mod history;
 pub mod laws;
 #[cfg(test)]
+mod pool_tests;
+#[cfg(test)]
 mod tests;

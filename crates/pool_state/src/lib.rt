@@ -16,6 +16,3 @@ pub use limits::{Config, Limits};
 pub use listing::Listing;
 pub use pool::Pool;
 pub use row::{Agent, ConnSide, Phase, Row};
-
-#[cfg(test)]
-mod tests;

@@ -13,9 +13,6 @@ use pool_state::laws::{bounded, each_peer_once, lowest_first, table_asks_history
 use pool_state::{Call, Config, Listing, Pool, Refusal, Reply};
 use std::alloc::{AllocError, Global};
 
-#[cfg(test)]
-mod tests;
-
 /// A pool that was called.
 #[derive(Drop)]
 pub struct Told {

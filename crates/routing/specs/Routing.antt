@@ -44,8 +44,8 @@ module _ {H : Type 0} (step : H → HandlerCall → H → Type 0) (fails : H →
       (session ≡ before) × ((handler : H) × (fault : HandlerFault) × (old.stage ≡ stages.Serving handler)
       × fails handler asked fault.number × (outcome ≡ Broken (causes.Handler fault)))
 
-  -- The handler was told this, or it was dropped, and the stream was served: so far this came then. Or the handler failed
-  -- at it.
+  -- The handler was told this, or it was dropped, and the stream was served: so far this came then. Or the handler
+  -- failed at it.
   abbrev pub Hands : Asked → Past H → Streaming H → State → Outcome H → State → Streaming H → Type 0
   Hands asked so_far old before outcome session stream =
       ((middle : Streaming H) × Stands step middle so_far × (kind_of middle.stage ≡ kind_of old.stage)
@@ -64,7 +64,8 @@ module _ {H : Type 0} (step : H → HandlerCall → H → Type 0) (fails : H →
       → Hands ToEnd (record so_far { ended = true; left = None }) old before outcome session stream)
 
   module _ (makes : ℕ → H → Type 0) where
-    -- By this front both ends agree on the protocol of this index, and the handler took the rest: so far this came then.
+    -- By this front both ends agree on the protocol of this index, and the handler took the rest: so far this came
+    -- then.
     pub record HasAgreed (so_far : Past H) (bytes : List ℕ) (index : ℕ) (front rest : List ℕ) (middle : Streaming H)
         : Type 0 where
       pub agrees : AgreesBy so_far bytes index front rest
@@ -79,7 +80,8 @@ module _ {H : Type 0} (step : H → HandlerCall → H → Type 0) (fails : H →
         (front : List ℕ) × (rest : List ℕ) × (output : List ℕ) × (bytes ≡ front ++ rest)
         × IsTurnedDown so_far.side (so_far.got ++ front) output
     Stops so_far bytes (Broken (causes.Select fault)) =
-        (fault ≢ select_faults.OutOfMemory) × ((output : List ℕ) × Faults so_far.side (so_far.got ++ bytes) fault output)
+        (fault ≢ select_faults.OutOfMemory)
+        × ((output : List ℕ) × Faults so_far.side (so_far.got ++ bytes) fault output)
     Stops so_far bytes (Broken (causes.Handler fault)) = ⊥
     Stops so_far bytes (Broken causes.Reset) = ⊥
     Stops so_far bytes (Broken causes.Ended) = ⊥

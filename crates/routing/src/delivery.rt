@@ -34,8 +34,8 @@ fn stopped<H: Handler>(stop: Stop) -> Result<Outcome<H>, AllocError>
     }
 }
 
-/// Delivers credit to a stream: its handler is asked for as many bytes as there is credit, and what it gives is written.
-/// It is called once the stream is there, and whenever its credit has grown.
+/// Delivers credit to a stream: its handler is asked for as many bytes as there is credit, and what it gives is
+/// written. It is called once the stream is there, and whenever its credit has grown.
 ///
 /// Its only error is want of memory, and ends the connection. A stream that is broken is done with: its handler was
 /// dropped.
@@ -79,8 +79,8 @@ fn taken<H: Handler>(
     }
 }
 
-/// Delivers the end of the data to a stream: to its handler. Then the stream is served. An end within the talk breaks the
-/// stream.
+/// Delivers the end of the data to a stream: to its handler. Then the stream is served. An end within the talk breaks
+/// the stream.
 ///
 /// Its only error is want of memory, and ends the connection. A stream that is broken is done with: its handler was
 /// dropped.

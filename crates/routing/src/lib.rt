@@ -6,6 +6,3 @@ mod delivery;
 
 pub use delivered::{Delivered, Outcome};
 pub use delivery::{deliver, deliver_credit, deliver_end};
-
-#[cfg(test)]
-mod tests;

@@ -1,5 +1,5 @@
--- Worked rows of serving a stream (hashicorp yamux, and this project's profile): of the stream 1 of an end, whose handler
--- is closed, and finished, where it is `true`.
+-- Worked rows of serving a stream (hashicorp yamux, and this project's profile): of the stream 1 of an end, whose
+-- handler is closed, and finished, where it is `true`.
 use Rattle.std.specs.Prelude.{◌≡◌, ℕ, Bool, true, false, List, [], ◌∷◌, Option, Some, None}
 use Rattle.ms_select.specs.Rows.{header_bytes}
 use Rattle.handlers.specs.Calls.{HandlerCall, Asked, ToGive}

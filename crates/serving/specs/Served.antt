@@ -1,7 +1,8 @@
 -- What the owner of a session does on one of its streams when it serves it, and why each act is due.
--- Source: hashicorp yamux, "Flow Control" and "Flag Field"; that a handler is asked for as many bytes as there is credit,
--- and when data counts as taken, is this project's profile.
-use Rattle.std.specs.Prelude.{◌≡◌, ◌⊎◌, ℕ, ◌<◌, ◌-◌, Bool, true, false, List, [], ◌∷◌, ◌++◌, map, length, Option, Some, IfSome, IfNone}
+-- Source: hashicorp yamux, "Flow Control" and "Flag Field"; that a handler is asked for as many bytes as there is
+-- credit, and when data counts as taken, is this project's profile.
+use Rattle.std.specs.Prelude.{◌≡◌, ◌⊎◌, ℕ, ◌<◌, ◌-◌, Bool, true, false, List, [], ◌∷◌, ◌++◌, map, length}
+use Rattle.std.specs.Prelude.{Option, Some, IfSome, IfNone}
 use Rattle.handlers.specs.Calls.{HandlerCall, Asked, ToGive}
 use Rattle.yamux_session.specs.declared.event.Role.{Role}
 use Rattle.yamux_session.specs.History.{Item, Act}

@@ -1,5 +1,6 @@
 -- The parts of serving a stream. Inside: no public clause cites it.
-use Rattle.std.specs.Prelude.{◌≡◌, ◌≢◌, ◌⊎◌, ℕ, ◌<◌, ◌-◌, Bool, true, false, List, [], ◌∷◌, ◌++◌, length, Option, Some, None}
+use Rattle.std.specs.Prelude.{◌≡◌, ◌≢◌, ◌⊎◌, ℕ, ◌<◌, ◌-◌, Bool, true, false, List, [], ◌∷◌, ◌++◌, length}
+use Rattle.std.specs.Prelude.{Option, Some, None}
 use Rattle.std.specs.List.{concat}
 use Rattle.handlers.specs.Calls.{HandlerCall}
 use Rattle.yamux_session.specs.declared.event.Role.{Role}

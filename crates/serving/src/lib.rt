@@ -6,6 +6,3 @@ pub mod laws;
 mod serving;
 
 pub use serving::serve;
-
-#[cfg(test)]
-mod tests;

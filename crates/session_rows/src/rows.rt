@@ -275,6 +275,76 @@ const HIGH_NUMBERS: &[Step] = &[
     Acts(Act::Close(511), Err(ActRefused::NoStream), &[]),
 ];
 
+/// Streams whose numbers are alike but for one byte are different streams.
+const NUMBERS_ALIKE: &[Step] = &[
+    Fed(
+        &[0, 1, 0, 1, 0, 0, 0, 1, 0, 0, 0, 0],
+        &[Told::Opened(1)],
+        &[0, 1, 0, 2, 0, 0, 0, 1, 0, 0, 0, 0],
+    ),
+    Fed(
+        &[0, 1, 0, 1, 0, 0, 1, 1, 0, 0, 0, 0],
+        &[Told::Opened(257)],
+        &[0, 1, 0, 2, 0, 0, 1, 1, 0, 0, 0, 0],
+    ),
+    Fed(
+        &[0, 1, 0, 1, 0, 1, 0, 1, 0, 0, 0, 0],
+        &[Told::Opened(65537)],
+        &[0, 1, 0, 2, 0, 1, 0, 1, 0, 0, 0, 0],
+    ),
+    Fed(
+        &[0, 1, 0, 1, 1, 0, 0, 1, 0, 0, 0, 0],
+        &[Told::Opened(16777217)],
+        &[0, 1, 0, 2, 1, 0, 0, 1, 0, 0, 0, 0],
+    ),
+    Fed(
+        &[0, 1, 0, 0, 0, 0, 0, 1, 0, 0, 0, 1],
+        &[Told::Credit(1)],
+        &[],
+    ),
+    Fed(
+        &[0, 1, 0, 0, 0, 0, 1, 1, 0, 0, 0, 6],
+        &[Told::Credit(257)],
+        &[],
+    ),
+    Fed(
+        &[0, 1, 0, 0, 0, 1, 0, 1, 0, 0, 0, 26],
+        &[Told::Credit(65537)],
+        &[],
+    ),
+    Fed(
+        &[0, 1, 0, 0, 1, 0, 0, 1, 0, 0, 0, 126],
+        &[Told::Credit(16777217)],
+        &[],
+    ),
+    Credit(1, Some(262145)),
+    Credit(257, Some(262150)),
+    Credit(65537, Some(262170)),
+    Credit(16777217, Some(262270)),
+    Acts(
+        Act::Reset(257),
+        Ok(0),
+        &[0, 1, 0, 8, 0, 0, 1, 1, 0, 0, 0, 0],
+    ),
+    Credit(257, None),
+    Credit(1, Some(262145)),
+    Acts(
+        Act::Close(65537),
+        Ok(0),
+        &[0, 1, 0, 4, 0, 1, 0, 1, 0, 0, 0, 0],
+    ),
+    Fed(FIN_1, &[Told::Ended(1)], &[]),
+    Credit(65537, None),
+    Credit(1, Some(262145)),
+    Acts(Act::Close(1), Ok(0), FIN_1),
+    Credit(1, None),
+    Fed(
+        &[0, 1, 0, 4, 1, 0, 0, 1, 0, 0, 0, 0],
+        &[Told::Ended(16777217)],
+        &[],
+    ),
+];
+
 /// A stream of a high number ends once both ends have closed it.
 const HIGH_NUMBER_ENDS: &[Step] = &[
     Fed(
@@ -371,6 +441,10 @@ pub const SERVER: &[Row] = &[
         steps: HIGH_NUMBERS,
     },
     Row {
+        name: "numbers alike",
+        steps: NUMBERS_ALIKE,
+    },
+    Row {
         name: "high number ends",
         steps: HIGH_NUMBER_ENDS,
     },
@@ -414,6 +488,19 @@ const ACCEPTED_ONCE: &[Step] = &[
     Writes(1, 1, 1, 13),
 ];
 
+/// A peer may send ACK late or never: before it this end gives back, closes, and hears the end.
+const GOES_ON_BEFORE_ITS_ACK: &[Step] = &[
+    Acts(Act::Start, Ok(1), SYN_1),
+    Fed(&[0, 0, 0, 0, 0, 0, 0, 1, 0, 4, 0, 0], &[], &[]),
+    Filled(262144),
+    Acts(Act::Take(1, 131072), Ok(0), HALF_BACK_1),
+    Acts(Act::Close(1), Ok(0), FIN_1),
+    Acts(Act::Take(1, 131072), Ok(0), HALF_BACK_1),
+    Fed(FIN_1, &[Told::Ended(1)], &[]),
+    Credit(1, None),
+    Fed(ACK_1, &[], &[]),
+];
+
 /// The rows of a client.
 pub const CLIENT: &[Row] = &[
     Row {
@@ -427,6 +514,10 @@ pub const CLIENT: &[Row] = &[
     Row {
         name: "accepted once",
         steps: ACCEPTED_ONCE,
+    },
+    Row {
+        name: "goes on before its ACK",
+        steps: GOES_ON_BEFORE_ITS_ACK,
     },
 ];
 

@@ -9,6 +9,4 @@ pub mod known;
 pub mod room;
 pub mod runs;
 pub mod stopping;
-#[cfg(test)]
-mod tests;
 pub mod twins;

@@ -12,6 +12,3 @@ mod talking;
 pub use heard::Heard;
 pub use stop::{Cause, Stop};
 pub use stream::Stream;
-
-#[cfg(test)]
-mod tests;

@@ -11,6 +11,3 @@ mod talk;
 
 pub use run::{Talked, answered, asked};
 pub use talk::Talk;
-
-#[cfg(test)]
-mod tests;

@@ -80,8 +80,8 @@ const FIN: u16 = 4;
 
 // ---- rows
 
-/// Rows that are played whole and cut: a listener that serves a ping, a dialer that pings, and one that is refused. Before
-/// it is up the dialer asks in vain.
+/// Rows that are played whole and cut: a listener that serves a ping, a dialer that pings, and one that is refused.
+/// Before it is up the dialer asks in vain.
 static CUT_ROWS: [Row; 3] = [
     Row {
         name: "serves a ping",

@@ -13,6 +13,3 @@ pub use fault::UpgradeFault;
 pub use role::ConnRole;
 pub use run::{Upgraded, bring_up};
 pub use upgrade::{Progress, Upgrade};
-
-#[cfg(test)]
-mod tests;

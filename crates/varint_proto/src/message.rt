@@ -190,3 +190,14 @@ pub fn write_body(out: &mut Vec<u8>, field: u32, body: &[u8]) -> Result<(), Allo
     append(out, body);
     Ok(())
 }
+
+/// How many bytes a field (wire type 2) takes that holds so many.
+pub fn field_len(field: u32, len: usize) -> usize
+    requires tag { IsTag (8 * field + 2) }
+    requires small { len + 20 < 2 ^ 64 }
+    ensures most { result ≤ len + 20 }
+    ensures length { (body : List ℕ) → length body ≡ len
+        → result ≡ length (shortest_field (entry field (Bytes body))) }
+{
+    spell(u64::from(8 * field + 2)).1 + spell(len as u64).1 + len
+}

@@ -8,8 +8,6 @@
 mod cutter;
 mod header;
 pub mod laws;
-#[cfg(test)]
-mod tests;
 
 pub use cutter::{Cut, Cutter};
 pub use header::{FrameFault, FrameKind, Header};

@@ -14,8 +14,6 @@ pub mod laws;
 mod sending;
 mod session;
 mod streams;
-#[cfg(test)]
-mod tests;
 
 pub use calls::{Act, ActAnswer, Ran, run};
 pub use event::{ActRefused, Event, Fault, Role};

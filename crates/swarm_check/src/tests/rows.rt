@@ -239,7 +239,7 @@ fn stays_without_last<J: Identity, L: Ledgers, R: Wait>(
     with_last(open, last)
 }
 
-/// Both passes end the swarm, and either alone doesn't, nor does none.
+/// Both passes end the swarm, in either order, and either alone doesn't, nor does none.
 fn close<J: Identity, L: Ledgers, R: Wait>(
     rt: &R,
     swarm: Swarm<NoGate, J, L>,
@@ -248,8 +248,7 @@ fn close<J: Identity, L: Ledgers, R: Wait>(
     let (swarm, passes) = stays_without_all(rt, swarm, passes)?;
     let (swarm, mut passes) = stays_without_last(rt, swarm, passes)?;
     passes.reverse();
-    let (swarm, mut passes) = stays_without_last(rt, swarm, passes)?;
-    passes.reverse();
+    let (swarm, passes) = stays_without_last(rt, swarm, passes)?;
     swarm.close(rt, passes).ok()
 }
 

@@ -14,7 +14,7 @@ returns-in-Upgrading g c = record {
       let it = subst (λ (x : Phase _ _). Connects H.steps H.fails H.is_closed H.is_finished makes.makes_inbound makes.makes_outbound makes.listed makes.is_eager eager names role own
       input false asked before taken x owed c.args.output.now.items) c.in-Upgrading.is connects in
       ends_early H.steps H.fails H.is_closed H.is_finished makes.makes_inbound makes.makes_outbound makes.listed makes.is_eager eager names role own
-      input asked before owed taken c.take_output.result.items c.in-Upgrading.upgrade c.in-Upgrading.field-1 it.1 it.2 it.4 c.take_output.ensures.output;
+      input asked before owed taken c.last_output.result.items c.in-Upgrading.upgrade c.in-Upgrading.field-1 it.1 it.2 it.4 c.last_output.ensures.output;
 }
 
 pub returns-then-mid_frame : goal.returns-then-mid_frame

@@ -9,3 +9,6 @@ returns-clause-makes c = rows.makes
 
 pub returns-clause-handlers : goal.returns-clause-handlers
 returns-clause-handlers c = rows.handlers
+
+pub returns-clause-stops : goal.returns-clause-stops
+returns-clause-stops c = rows.stops

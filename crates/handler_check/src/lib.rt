@@ -1,0 +1,11 @@
+//! Tests of what serves a stream: handlers, ping, identify and the protocols of the program, by public calls.
+#![tactic(auto)]
+
+#[cfg(test)]
+mod handler_tests;
+#[cfg(test)]
+mod identify_tests;
+#[cfg(test)]
+mod ping_tests;
+#[cfg(test)]
+mod protocol_tests;

@@ -1,0 +1,257 @@
+use handlers::{Handler, HandlerFault};
+use ping_h::*;
+use std::alloc::{AllocError, Global};
+use std::test::*;
+
+/// The 32 bytes of a ping.
+const PING: [u8; 32] = [
+    0, 1, 2, 3, 4, 5, 6, 7, 8, 9, 10, 11, 12, 13, 14, 15, 16, 17, 18, 19, 20, 21, 22, 23, 24, 25,
+    26, 27, 28, 29, 30, 255,
+];
+
+/// The same, one bit changed.
+const OTHER: [u8; 32] = [
+    0, 1, 2, 3, 4, 5, 6, 7, 8, 9, 10, 11, 12, 13, 14, 15, 16, 17, 18, 19, 20, 21, 22, 23, 24, 25,
+    26, 27, 28, 29, 30, 127,
+];
+
+/// Both in turn, and the ping with a byte behind it.
+const BOTH: [u8; 64] = [
+    0, 1, 2, 3, 4, 5, 6, 7, 8, 9, 10, 11, 12, 13, 14, 15, 16, 17, 18, 19, 20, 21, 22, 23, 24, 25,
+    26, 27, 28, 29, 30, 255, 0, 1, 2, 3, 4, 5, 6, 7, 8, 9, 10, 11, 12, 13, 14, 15, 16, 17, 18, 19,
+    20, 21, 22, 23, 24, 25, 26, 27, 28, 29, 30, 127,
+];
+
+const LONGER: [u8; 33] = [
+    0, 1, 2, 3, 4, 5, 6, 7, 8, 9, 10, 11, 12, 13, 14, 15, 16, 17, 18, 19, 20, 21, 22, 23, 24, 25,
+    26, 27, 28, 29, 30, 255, 0,
+];
+
+const FAILED: Result<(), HandlerFault> = Err(HandlerFault { number: 1 });
+
+/// Hands the bytes over in pieces of this size, asking for bytes with this room after each, and then says the end.
+/// Gives what was given, or the number of the fault.
+fn serve<H: Handler>(
+    handler: &mut H,
+    given: &mut Vec<u8>,
+    bytes: &[u8],
+    size: usize,
+    room: usize,
+) -> Option<u8> {
+    for piece in bytes.chunks(size.max(1)) {
+        if let Err(fault) = handler.take(piece) {
+            return Some(fault.number);
+        }
+        match handler.give(room) {
+            Ok(more) => given.extend_from_slice(&more).ok()?,
+            Err(fault) => return Some(fault.number),
+        }
+    }
+    handler.end().err().map(|fault: HandlerFault| fault.number)
+}
+
+/// Whether just these bytes are given.
+fn gives<H: Handler>(handler: &mut H, room: usize, bytes: &[u8]) -> bool {
+    match handler.give(room) {
+        Ok(given) => given.as_slice() == bytes,
+        Err(_) => false,
+    }
+}
+
+/// Whether so many times what this room holds is given.
+fn gives_often<H: Handler>(
+    handler: &mut H,
+    given: &mut Vec<u8>,
+    times: usize,
+    room: usize,
+) -> bool {
+    let mut held = true;
+    for _ in 0..times {
+        held = held
+            && match handler.give(room) {
+                Ok(more) => given.extend_from_slice(&more).is_ok(),
+                Err(_) => false,
+            };
+    }
+    held
+}
+
+/// Whether a handler has failed for good.
+fn has_failed<H: Handler>(handler: &mut H) -> bool {
+    let is_silent = matches!(handler.give(64), Err(HandlerFault { number: 1 }));
+    let is_deaf = handler.take(&[1]) == FAILED && handler.end() == FAILED;
+    is_silent && is_deaf && !handler.finished()
+}
+
+// ---- echoes
+
+fn is_echoed(alloc: Global, size: usize, room: usize) -> bool {
+    let mut echo = PingEcho::new(alloc);
+    let mut given = Vec::new(alloc);
+    let is_empty = echo.take(&[]) == Ok(());
+    let is_served = serve(&mut echo, &mut given, &BOTH, size, room).is_none();
+    let is_early = echo.finished() && given.len() != BOTH.len();
+    let is_given = gives_often(&mut echo, &mut given, 64, 1) && given.as_slice() == BOTH.as_slice();
+    let is_over = echo.closed() && echo.finished();
+    is_empty && is_served && !is_early && is_given && is_over
+}
+
+#[test]
+fn an_echo_gives_whole_rounds_back(rt: HostRuntime) {
+    for (size, room) in [(64, 64), (1, 64), (7, 64), (1, 1), (64, 0)] {
+        assert!(rt;
+            is_echoed(rt.alloc(), size, room),
+            "pieces of {size}, room {room}"
+        );
+    }
+}
+
+/// As many bytes as a stream may bring before any is given back.
+fn is_long(alloc: Global) -> Result<bool, AllocError> {
+    let input = vec![in alloc; 7u8; 262144]?;
+    let mut echo = PingEcho::new(alloc);
+    let mut held = true;
+    for piece in input.chunks(131072) {
+        held = echo.take(piece) == Ok(()) && held;
+    }
+    held = echo.end() == Ok(()) && held;
+    let front = echo.give(2000).map(|given| given.len());
+    let rest = echo.give(usize::MAX).map(|given| given.len());
+    Ok(held && front == Ok(2000) && rest == Ok(260144) && echo.finished())
+}
+
+#[test]
+fn a_long_input_is_echoed(rt: HostRuntime) {
+    assert!(rt; is_long(rt.alloc()) == Ok(true));
+}
+
+fn is_cut(alloc: Global, size: usize) -> bool {
+    let mut echo = PingEcho::new(alloc);
+    let mut given = Vec::new(alloc);
+    let fault = serve(&mut echo, &mut given, &PING[..31], size, 64);
+    has_failed(&mut echo) && fault == Some(PingFault::Cut as u8) && given.is_empty()
+}
+
+#[test]
+fn an_echo_is_cut_within_a_round(rt: HostRuntime) {
+    for size in [31, 1, 7] {
+        assert!(rt; is_cut(rt.alloc(), size), "pieces of {size}");
+    }
+}
+
+/// Whether an echo takes nothing behind the end, and gives the round that it owes.
+fn takes_nothing(alloc: Global) -> bool {
+    let mut echo = PingEcho::new(alloc);
+    let is_open = !echo.closed();
+    let is_taken = echo.take(&PING) == Ok(()) && echo.end() == Ok(());
+    let is_owed = !echo.closed();
+    let is_deaf = echo.take(&[1]) == FAILED && echo.end() == FAILED;
+    let is_given = gives(&mut echo, 64, &PING) && echo.finished();
+    is_open && is_taken && is_owed && is_deaf && is_given
+}
+
+#[test]
+fn nothing_is_taken_behind_the_end(rt: HostRuntime) {
+    assert!(rt; takes_nothing(rt.alloc()));
+}
+
+// ---- pings
+
+/// Whether the ping is given whole, and no more.
+fn is_sent(out: &mut PingOut) -> bool {
+    let is_begun = gives(out, 0, &[]) && gives(out, 1, &PING[..1]);
+    is_begun && gives(out, 64, &PING[1..]) && gives(out, 64, &[]) && !out.closed()
+}
+
+/// Whether the echo of the ping is taken, and is finished by the end alone.
+fn is_heard(out: &mut PingOut, size: usize) -> bool {
+    let mut held = true;
+    for piece in PING.chunks(size.max(1)) {
+        held = out.take(piece) == Ok(()) && held;
+    }
+    let is_closed = out.closed() && !out.finished();
+    held && is_closed && out.take(&[]) == Ok(()) && out.end() == Ok(()) && out.finished()
+}
+
+fn comes_back(alloc: Global, size: usize) -> bool {
+    let mut out = PingOut::new(alloc, PING);
+    let held = is_sent(&mut out) && is_heard(&mut out, size);
+    let is_deaf = out.take(&[]) == FAILED && out.end() == FAILED;
+    held && is_deaf && out.finished() && gives(&mut out, 64, &[])
+}
+
+#[test]
+fn a_ping_that_comes_back_is_finished(rt: HostRuntime) {
+    for size in [32, 1, 7] {
+        assert!(rt; comes_back(rt.alloc(), size), "pieces of {size}");
+    }
+}
+
+fn fills(alloc: Global, room: usize) -> bool {
+    let mut out = PingOut::new(alloc, PING);
+    let mut given = Vec::new(alloc);
+    let is_first = gives_often(&mut out, &mut given, 1, room);
+    let is_full = given.as_slice() == &PING[..room.min(32)];
+    let all = if room == 0 { 0 } else { 32 };
+    let is_given = gives_often(&mut out, &mut given, 32, room);
+    is_first && is_full && is_given && given.as_slice() == &PING[..all]
+}
+
+#[test]
+fn a_ping_fills_each_room(rt: HostRuntime) {
+    for room in 0..34 {
+        assert!(rt; fills(rt.alloc(), room), "room {room}");
+    }
+    assert!(rt; fills(rt.alloc(), usize::MAX));
+}
+
+static REFUSED: [(&[u8], PingFault); 3] = [
+    (&OTHER, PingFault::WrongEcho),
+    (&LONGER, PingFault::WrongEcho),
+    (
+        &[
+            0, 1, 2, 3, 4, 5, 6, 7, 8, 9, 10, 11, 12, 13, 14, 15, 16, 17, 18, 19, 20, 21, 22, 23,
+            24, 25, 26, 27, 28, 29, 30,
+        ],
+        PingFault::Cut,
+    ),
+];
+
+fn is_refused(alloc: Global, bytes: &[u8], size: usize, fault: PingFault) -> bool {
+    let mut out = PingOut::new(alloc, PING);
+    let mut given = Vec::new(alloc);
+    let answer = serve(&mut out, &mut given, bytes, size, 64);
+    has_failed(&mut out) && answer == Some(fault as u8)
+}
+
+#[test]
+fn another_echo_is_refused(rt: HostRuntime) {
+    for (row, (bytes, fault)) in REFUSED.iter().enumerate() {
+        for size in [64, 1, 7] {
+            let held = is_refused(rt.alloc(), *bytes, size, *fault);
+            assert!(rt; held, "row {row} in pieces of {size}");
+        }
+    }
+}
+
+// ---- faults
+
+static FAULTS: [(PingFault, u8, &str); 4] = [
+    (PingFault::Failed, 1, "the ping failed or ended before"),
+    (PingFault::WrongEcho, 2, "the echo differs from the ping"),
+    (PingFault::Cut, 3, "the stream ended within a round"),
+    (PingFault::OutOfMemory, 4, "out of memory"),
+];
+
+fn has_sentence(alloc: Global, fault: PingFault, sentence: &str) -> Result<bool, AllocError> {
+    let told = format!(in alloc; "{fault}")?;
+    Ok(told.as_str() == sentence)
+}
+
+#[test]
+fn numbers_and_sentences_of_faults(rt: HostRuntime) {
+    for (fault, number, sentence) in FAULTS.iter() {
+        let is_told = has_sentence(rt.alloc(), *fault, *sentence) == Ok(true);
+        assert!(rt; is_told && *fault as u8 == *number, "fault {number}");
+    }
+}

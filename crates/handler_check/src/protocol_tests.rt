@@ -1,0 +1,254 @@
+//! A node's protocols, each driven once against those of another node.
+
+ghost use Rattle.std.specs.Prelude.{◌<◌, length};
+
+use handlers::{Handler, HandlerFault, Protocols};
+use identify_h::{Identify, IdentifyFault};
+use node_protocols::*;
+use peer_ids::{PeerId, PublicKey};
+use std::alloc::Global;
+use std::test::*;
+
+/// The bytes of a node's key.
+const KEY: [u8; 32] = [10; 32];
+
+/// What its pings send.
+const PAYLOAD: [u8; 32] = [
+    7, 1, 2, 3, 4, 5, 6, 7, 8, 9, 10, 11, 12, 13, 14, 15, 16, 17, 18, 19, 20, 21, 22, 23, 24, 25,
+    26, 27, 28, 29, 30, 255,
+];
+
+/// The names of its protocols.
+const NAMES: [&str; 3] = ["/ipfs/id/1.0.0", "/ipfs/id/push/1.0.0", "/ipfs/ping/1.0.0"];
+
+fn node(alloc: Global, agent: &str) -> Result<NodeProtocols<FixedPayload>, IdentifyFault> {
+    let key = PublicKey::ed25519(alloc, &KEY)?;
+    NodeProtocols::new(alloc, key, agent, FixedPayload { payload: PAYLOAD })
+}
+
+fn peer() -> PeerId {
+    PeerId::of_ed25519(&KEY)
+}
+
+// ---- names
+
+fn names<P: Protocols>(protocols: &P, all: &[&str]) -> bool {
+    protocols.names() == all
+}
+
+#[test]
+fn names_are_in_order(rt: HostRuntime) -> Result<(), Fail> {
+    let node = node(rt.alloc(), "node/0.1.0")?;
+    assert!(rt; names(&node, &NAMES));
+    Ok(())
+}
+
+#[test]
+fn ping_alone_is_eager(rt: HostRuntime) -> Result<(), Fail> {
+    let node = node(rt.alloc(), "node/0.1.0")?;
+    let eager = [node.eager(IDENTIFY), node.eager(PUSH), node.eager(PING)];
+    assert!(rt; eager == [false, false, true]);
+    Ok(())
+}
+
+// ---- handlers
+
+/// Makes the handler of a stream that this end opened, or of one that the other end opened.
+fn made<P: Protocols>(protocols: &mut P, index: usize, inbound: bool) -> Option<P::H>
+    requires { index < length (P.listed protocols.old) }
+{
+    let handler = if inbound {
+        protocols.inbound(index, peer())
+    } else {
+        protocols.outbound(index, peer())
+    };
+    handler.ok()
+}
+
+/// Whether bytes are given by the one, and taken by the other.
+fn carries<H: Handler>(from: &mut H, to: &mut H) -> bool {
+    match from.give(1024) {
+        Ok(bytes) => !bytes.is_empty() && to.take(&bytes) == Ok(()),
+        Err(_) => false,
+    }
+}
+
+/// A ping's way there and back, and its end.
+fn comes_back(ping: &mut NodeHandler, echo: &mut NodeHandler) -> bool {
+    let is_sent = carries(ping, echo) && !ping.closed();
+    let is_back = carries(echo, ping) && ping.closed() && !ping.finished();
+    let is_over = echo.end() == Ok(()) && ping.end() == Ok(());
+    is_sent && is_back && is_over && ping.finished() && echo.finished()
+}
+
+#[test]
+fn a_ping_comes_back(rt: HostRuntime) -> Result<(), Fail> {
+    let mut node = node(rt.alloc(), "node/0.1.0")?;
+    let held = match (made(&mut node, PING, false), made(&mut node, PING, true)) {
+        (Some(mut ping), Some(mut echo)) => comes_back(&mut ping, &mut echo),
+        _ => false,
+    };
+    assert!(rt; held);
+    Ok(())
+}
+
+/// Whether a ping that is made now sends these bytes.
+fn pings(node: &mut NodeProtocols<FixedPayload>, payload: &[u8]) -> bool {
+    match made(node, PING, false) {
+        Some(mut ping) => ping
+            .give(1024)
+            .is_ok_and(|bytes| bytes.as_slice() == payload),
+        None => false,
+    }
+}
+
+#[test]
+fn each_ping_sends_the_payload(rt: HostRuntime) -> Result<(), Fail> {
+    let mut node = node(rt.alloc(), "node/0.1.0")?;
+    for _ in 0..2 {
+        assert!(rt; pings(&mut node, &PAYLOAD));
+    }
+    Ok(())
+}
+
+/// What the other end reads of what is sent.
+fn read(sender: &mut NodeHandler, reader: NodeHandler) -> Option<Identify> {
+    let mut reader = reader;
+    let is_read = carries(sender, &mut reader) && reader.end() == Ok(());
+    if is_read && sender.finished() && reader.finished() {
+        reader.into_message().ok()
+    } else {
+        None
+    }
+}
+
+fn is_text(part: &Option<Vec<u8>>, text: &str) -> bool {
+    match part {
+        Some(bytes) => bytes.as_slice() == text.as_bytes(),
+        None => false,
+    }
+}
+
+fn are_names(list: &[Vec<u8>]) -> bool {
+    let [identify, push, ping] = list else {
+        return false;
+    };
+    identify.as_slice() == NAMES[0].as_bytes()
+        && push.as_slice() == NAMES[1].as_bytes()
+        && ping.as_slice() == NAMES[2].as_bytes()
+}
+
+fn says(message: &Identify, agent: &str) -> bool {
+    let is_key = match &message.key {
+        Some(key) => key.body() == KEY.as_slice(),
+        None => false,
+    };
+    let is_silent = message.listen.is_empty() && message.observed.is_none();
+    let texts = is_text(&message.version, "node/1.0.0") && is_text(&message.agent, agent);
+    is_key && is_silent && texts && are_names(&message.protocols)
+}
+
+/// Whether it is read so, where identify is asked for or where it is pushed.
+fn is_heard(alloc: Global, index: usize, agent: &str) -> bool
+    requires { index < 3 }
+{
+    let Ok(mut node) = node(alloc, agent) else {
+        return false;
+    };
+    let is_push = index == PUSH;
+    let message = match (
+        made(&mut node, index, !is_push),
+        made(&mut node, index, is_push),
+    ) {
+        (Some(mut sender), Some(reader)) => read(&mut sender, reader),
+        _ => None,
+    };
+    message.is_some_and(|message| says(&message, agent))
+}
+
+#[test]
+fn what_a_node_says_is_read(rt: HostRuntime) {
+    for (index, agent) in [
+        (IDENTIFY, "node/0.1.0"),
+        (PUSH, "another/2"),
+        (IDENTIFY, ""),
+    ] {
+        assert!(rt; is_heard(rt.alloc(), index, agent), "protocol {index}");
+    }
+}
+
+/// Whether a node doesn't read of another peer what it says of itself, and by which number it refuses that.
+fn is_refused_of(node: &mut NodeProtocols<FixedPayload>, other: PeerId) -> bool {
+    let Some(mut sender) = made(node, IDENTIFY, true) else {
+        return false;
+    };
+    let Ok(mut reader) = node.outbound(IDENTIFY, other) else {
+        return false;
+    };
+    let is_read = carries(&mut sender, &mut reader);
+    is_read && reader.end() == Err(HandlerFault { number: 5 }) && !reader.finished()
+}
+
+#[test]
+fn what_another_peer_says_is_refused(rt: HostRuntime) -> Result<(), Fail> {
+    let mut node = node(rt.alloc(), "node/0.1.0")?;
+    let mut key = KEY;
+    key[31] = 11;
+    assert!(rt; is_refused_of(&mut node, PeerId::of_ed25519(&key)));
+    Ok(())
+}
+
+/// A stream that is opened and ended at once: of which protocol, by whom, and which number the end is refused by.
+static ENDS: [(usize, bool, Option<u8>); 6] = [
+    (IDENTIFY, true, None),
+    (IDENTIFY, false, Some(6)),
+    (PUSH, true, Some(6)),
+    (PUSH, false, None),
+    (PING, true, None),
+    (PING, false, Some(3)),
+];
+
+/// Whether its handler answers an end so, and holds no message then.
+fn ends(
+    node: &mut NodeProtocols<FixedPayload>,
+    index: usize,
+    inbound: bool,
+    number: Option<u8>,
+) -> bool
+    requires { index < 3 }
+{
+    let Some(mut handler) = made(node, index, inbound) else {
+        return false;
+    };
+    let answer = handler.end().err().map(|fault: HandlerFault| fault.number);
+    answer == number && handler.into_message().is_err()
+}
+
+#[test]
+fn ends_of_each_kind(rt: HostRuntime) -> Result<(), Fail> {
+    let mut node = node(rt.alloc(), "node/0.1.0")?;
+    for (row, (index, inbound, number)) in ENDS.iter().enumerate() {
+        let held = *index < 3 && ends(&mut node, *index, *inbound, *number);
+        assert!(rt; held, "row {row}");
+    }
+    Ok(())
+}
+
+// ---- how much a node may say
+
+/// The fault of a node whose agent has so many bytes.
+fn fault(alloc: Global, len: usize) -> Option<IdentifyFault> {
+    let Ok(bytes) = vec![in alloc; b'x'; len] else {
+        return Some(IdentifyFault::OutOfMemory);
+    };
+    let Ok(agent) = str::from_utf8(&bytes) else {
+        return None;
+    };
+    node(alloc, agent).err()
+}
+
+#[test]
+fn a_node_says_16384_bytes_at_most(rt: HostRuntime) {
+    assert_eq!(rt; fault(rt.alloc(), 16276), None);
+    assert_eq!(rt; fault(rt.alloc(), 16277), Some(IdentifyFault::TooLong));
+}

@@ -1,0 +1,53 @@
+//! Why a run of `node` ends early, and the line that tells it.
+
+use multiaddr::AddrFault;
+use node_texts::{HashRefused, IdRefused};
+use std::io;
+use thiserror::Error;
+
+/// Why a run ended early, with the line that tells it.
+#[derive(Debug, Drop, Error)]
+pub enum Ending {
+    /// The key has no id.
+    #[error("refused {0}")]
+    Id(IdRefused),
+    /// The text of an id has no multihash.
+    #[error("refused {0}")]
+    Hash(HashRefused),
+    /// The address is none.
+    #[error("refused {0:?}")]
+    Addr(AddrFault),
+    /// The line of this number, from 1 on, is of no known form.
+    #[error("refused line {0}")]
+    Line(u64),
+    /// The input is too long, or it can't be read or held.
+    #[error("refused input")]
+    Input,
+    /// A write failed.
+    #[error("a write failed")]
+    Unwritten,
+}
+
+impl From<IdRefused> for Ending {
+    fn from(refused: IdRefused) -> Ending {
+        Ending::Id(refused)
+    }
+}
+
+impl From<HashRefused> for Ending {
+    fn from(refused: HashRefused) -> Ending {
+        Ending::Hash(refused)
+    }
+}
+
+impl From<AddrFault> for Ending {
+    fn from(fault: AddrFault) -> Ending {
+        Ending::Addr(fault)
+    }
+}
+
+impl From<io::Error> for Ending {
+    fn from(_error: io::Error) -> Ending {
+        Ending::Unwritten
+    }
+}

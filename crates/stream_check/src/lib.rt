@@ -1,0 +1,13 @@
+//! Tests of streams, serving, dispatch, routing and an end of a connection, by public calls.
+#![tactic(auto)]
+
+#[cfg(test)]
+mod core_tests;
+#[cfg(test)]
+mod dispatch_tests;
+#[cfg(test)]
+mod routing_tests;
+#[cfg(test)]
+mod serving_tests;
+#[cfg(test)]
+mod stream_tests;

@@ -1,0 +1,11 @@
+//! Tests of varints, messages, peer ids, multiaddrs and frames, by public calls.
+#![tactic(auto)]
+
+#[cfg(test)]
+mod address_tests;
+#[cfg(test)]
+mod frame_tests;
+#[cfg(test)]
+mod id_tests;
+#[cfg(test)]
+mod varint_tests;

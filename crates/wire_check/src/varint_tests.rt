@@ -1,0 +1,376 @@
+use std::alloc::{AllocError, Global};
+use std::test::*;
+use varint_proto::*;
+
+// ---- writing
+
+/// Numbers, and how each is taken and what is written so far.
+static WRITES: [(u64, Result<(), VarintRefused>, &[u8]); 3] = [
+    (300, Ok(()), &[0xac, 0x02]),
+    (1 << 63, Err(VarintRefused::TooLarge), &[0xac, 0x02]),
+    (
+        (1 << 63) - 1,
+        Ok(()),
+        &[
+            0xac, 0x02, 0xff, 0xff, 0xff, 0xff, 0xff, 0xff, 0xff, 0xff, 0x7f,
+        ],
+    ),
+];
+
+/// How many rows hold, from the first on.
+fn written(alloc: Global) -> usize {
+    let mut out = Vec::new(alloc);
+    for (row, (number, outcome, bytes)) in WRITES.iter().enumerate() {
+        if write_varint(&mut out, *number) != *outcome || out.as_slice() != *bytes {
+            return row;
+        }
+    }
+    WRITES.len()
+}
+
+#[test]
+fn writes_the_shortest_spelling(rt: HostRuntime) {
+    assert_eq!(rt; written(rt.alloc()), 3, "so many rows hold");
+}
+
+fn has_fields(alloc: Global) -> Result<bool, AllocError> {
+    let mut out = Vec::new(alloc);
+    write_number(&mut out, 1, 300)?;
+    write_body(&mut out, 2, b"ab")?;
+    Ok(out.as_slice() == [0x08, 0xac, 0x02, 0x12, 0x02, b'a', b'b'].as_slice())
+}
+
+#[test]
+fn writes_fields(rt: HostRuntime) {
+    assert!(rt; has_fields(rt.alloc()) == Ok(true));
+}
+
+// ---- reading
+
+static VARINTS: [(&[u8], Result<Option<(u64, usize)>, WireFault>); 8] = [
+    (&[0xac, 0x02], Ok(Some((300, 2)))),
+    (&[0x80], Ok(None)),
+    (&[], Ok(None)),
+    (&[0x80, 0x00], Err(WireFault::NotShortest)),
+    (&[0xff; 9], Err(WireFault::TooLong)),
+    (
+        &[0xff, 0xff, 0xff, 0xff, 0xff, 0xff, 0xff, 0xff, 0x7f],
+        Ok(Some(((1 << 63) - 1, 9))),
+    ),
+    (&[0x00, 0x01], Ok(Some((0, 1)))),
+    (&[0x7f, 0x80], Ok(Some((127, 1)))),
+];
+
+#[test]
+fn reads_multiformats_varints(rt: HostRuntime) {
+    for (row, (bytes, outcome)) in VARINTS.iter().enumerate() {
+        assert!(rt; read_varint(*bytes) == *outcome, "row {row}");
+    }
+}
+
+static MESSAGE: [u8; 21] = [
+    0x08, 0x81, 0x00, 0x11, 1, 2, 3, 4, 5, 6, 7, 8, 0x1a, 0x02, 0xff, 0xfe, 0x25, 9, 8, 7, 6,
+];
+
+/// A field of each wire type.
+static FIELDS: [Field<'static>; 4] = [
+    Field {
+        number: 1,
+        value: Value::Varint(1),
+    },
+    Field {
+        number: 2,
+        value: Value::Fixed64([1, 2, 3, 4, 5, 6, 7, 8]),
+    },
+    Field {
+        number: 3,
+        value: Value::Bytes(&[0xff, 0xfe]),
+    },
+    Field {
+        number: 4,
+        value: Value::Fixed32([9, 8, 7, 6]),
+    },
+];
+
+/// How many fields are read, and one more where no further one is.
+fn read() -> usize {
+    let mut fields = Fields::new(&MESSAGE);
+    for (row, field) in FIELDS.iter().enumerate() {
+        if fields.next() != Ok(Some(*field)) {
+            return row;
+        }
+    }
+    FIELDS
+        .len()
+        .saturating_add((fields.next() == Ok(None)) as usize)
+}
+
+#[test]
+fn reads_fields_of_every_wire_type(rt: HostRuntime) {
+    assert_eq!(rt; read(), 5, "so many rows hold");
+}
+
+/// Messages, how many fields each has, and at last the fault, if there is one.
+static MESSAGES: [(&[u8], usize, Option<WireFault>); 9] = [
+    (&[], 0, None),
+    (&[0x0b], 0, Some(WireFault::BadWire)),
+    (&[0x08, 0x01, 0x09], 1, Some(WireFault::Cut)),
+    (&[0x08], 0, Some(WireFault::Cut)),
+    (&[0x12, 0x02, 0x00], 0, Some(WireFault::Cut)),
+    (&[0x07], 0, Some(WireFault::BadNumber)),
+    (
+        &[0x80, 0x80, 0x80, 0x80, 0x10],
+        0,
+        Some(WireFault::BadNumber),
+    ),
+    (
+        &[
+            0x08, 0xff, 0xff, 0xff, 0xff, 0xff, 0xff, 0xff, 0xff, 0xff, 0x02,
+        ],
+        0,
+        Some(WireFault::TooLong),
+    ),
+    (&[0x08, 0x80, 0x00], 1, None),
+];
+
+/// Whether so many fields are read, and then this fault, which comes again, or none.
+fn ends_so(bytes: &[u8], count: usize, fault: Option<WireFault>) -> bool {
+    let mut fields = Fields::new(bytes);
+    let mut found = 0usize;
+    for _ in 0..bytes.len() {
+        match fields.next() {
+            Ok(None) => break,
+            Ok(Some(_)) => found = found.saturating_add(1),
+            Err(came) => {
+                let is_same = fields.next() == Err(came);
+                return is_same && fault == Some(came) && found == count;
+            }
+        }
+    }
+    fault.is_none() && found == count
+}
+
+#[test]
+fn faults_of_messages(rt: HostRuntime) {
+    for (row, (bytes, count, fault)) in MESSAGES.iter().enumerate() {
+        assert!(rt; ends_so(*bytes, *count, *fault), "row {row}");
+    }
+}
+
+// ---- messages that come in
+
+/// The bytes used, and whether the message is whole, or the fault.
+type Came = Result<(usize, bool), IncomingRefused>;
+
+fn heard(incoming: &mut Incoming, input: &[u8], size: usize) -> Came {
+    let mut used = 0usize;
+    let mut whole = false;
+    for piece in input.chunks(size.max(1)) {
+        let step = incoming.feed(piece)?;
+        used = used.saturating_add(step.0);
+        whole = step.1;
+    }
+    Ok((used, whole))
+}
+
+/// An input, what a message of at most 4 bytes came to, and its body.
+static INPUTS: [(&[u8], Came, &[u8]); 8] = [
+    (b"\x03abcd", Ok((4, true)), b"abc"),
+    (b"\x03ab", Ok((3, false)), b"ab"),
+    (b"\x00a", Ok((1, true)), b""),
+    (b"\xac", Ok((1, false)), b""),
+    (b"", Ok((0, false)), b""),
+    (b"\x05abcde", Err(IncomingRefused::TooLong), b""),
+    (b"\x80\x00a", Err(IncomingRefused::BadLength), b""),
+    (&[0xff; 9], Err(IncomingRefused::BadLength), b""),
+];
+
+fn comes_to(alloc: Global, input: &[u8], size: usize, outcome: Came, body: &[u8]) -> bool {
+    let mut incoming = Incoming::new(alloc, 4);
+    let came = heard(&mut incoming, input, size);
+    let is_as = came == outcome && incoming.body() == body;
+    match outcome {
+        Ok((_, whole)) => is_as && incoming.is_whole() == whole,
+        Err(_) => {
+            let has_failed = incoming.feed(b"a") == Err(IncomingRefused::Failed);
+            is_as && !incoming.is_whole() && has_failed
+        }
+    }
+}
+
+#[test]
+fn reads_messages_however_they_are_cut(rt: HostRuntime) {
+    for (row, (input, outcome, body)) in INPUTS.iter().enumerate() {
+        for size in [1, 2, 1024] {
+            let held = comes_to(rt.alloc(), *input, size, *outcome, *body);
+            assert!(rt; held, "row {row} in pieces of {size}");
+        }
+    }
+}
+
+/// What is done with messages that come in.
+enum Does {
+    /// The bytes come: how many are used, and whether the message is whole.
+    Feed(&'static [u8], Came),
+    /// The bytes of a length come: how many are used, and which length is known then.
+    Length(&'static [u8], usize, Option<usize>),
+    /// The next message begins, of at most so many bytes.
+    Next(usize),
+    /// The message is at its start, or not.
+    Starts(bool),
+    Body(&'static [u8]),
+}
+
+static STEPS: [Does; 23] = [
+    Does::Starts(true),
+    Does::Feed(b"\x02ab\x03cde", Ok((3, true))),
+    Does::Feed(b"\x03cde", Ok((0, true))),
+    Does::Next(3),
+    Does::Starts(true),
+    Does::Length(b"\x03cde", 1, Some(3)),
+    Does::Starts(false),
+    Does::Feed(b"cde", Ok((3, true))),
+    Does::Body(b"cde"),
+    // The next message may begin within a length, and within a body: what came is dropped.
+    Does::Next(4),
+    Does::Feed(b"\xac", Ok((1, false))),
+    Does::Starts(false),
+    Does::Next(4),
+    Does::Starts(true),
+    Does::Feed(b"\x02a", Ok((2, false))),
+    Does::Next(4),
+    Does::Body(b""),
+    Does::Feed(b"\x01b", Ok((2, true))),
+    Does::Body(b"b"),
+    Does::Next(1),
+    Does::Feed(b"\x02", Err(IncomingRefused::TooLong)),
+    Does::Next(4),
+    Does::Feed(b"\x01", Err(IncomingRefused::Failed)),
+];
+
+fn has_body(incoming: &Incoming, body: &[u8]) -> bool {
+    incoming.body() == body
+}
+
+fn goes(incoming: &mut Incoming, does: &Does) -> bool {
+    match does {
+        Does::Feed(bytes, came) => incoming.feed(*bytes) == *came,
+        Does::Length(bytes, used, known) => {
+            incoming.feed_length(*bytes) == Ok(*used) && incoming.announced() == *known
+        }
+        Does::Next(limit) => {
+            incoming.begin_next(*limit);
+            true
+        }
+        Does::Starts(starts) => incoming.is_at_start() == *starts,
+        Does::Body(body) => has_body(incoming, *body),
+    }
+}
+
+/// How many steps go so.
+fn gone(alloc: Global) -> usize {
+    let mut incoming = Incoming::new(alloc, 4);
+    for (row, does) in STEPS.iter().enumerate() {
+        if !goes(&mut incoming, does) {
+            return row;
+        }
+    }
+    STEPS.len()
+}
+
+#[test]
+fn reads_one_message_after_another(rt: HostRuntime) {
+    assert_eq!(rt; gone(rt.alloc()), STEPS.len(), "so many steps go so");
+}
+
+// ---- faults and refusals
+
+static FAULTS: [(WireFault, usize, &str); 5] = [
+    (WireFault::TooLong, 1, "a varint is too long"),
+    (WireFault::NotShortest, 2, "a varint has a shorter spelling"),
+    (WireFault::Cut, 3, "the bytes end within a field"),
+    (WireFault::BadNumber, 4, "a field has a number out of range"),
+    (WireFault::BadWire, 5, "a field has an unknown wire type"),
+];
+
+static REFUSALS: [(VarintRefused, usize, &str); 2] = [
+    (
+        VarintRefused::TooLarge,
+        1,
+        "a number of 2^63 or more has no varint",
+    ),
+    (VarintRefused::OutOfMemory, 2, "out of memory"),
+];
+
+static REFUSED_MESSAGES: [(IncomingRefused, usize, &str); 4] = [
+    (IncomingRefused::Failed, 1, "the message failed before"),
+    (
+        IncomingRefused::BadLength,
+        2,
+        "the length of the message is badly spelt",
+    ),
+    (IncomingRefused::TooLong, 3, "the message is too long"),
+    (IncomingRefused::OutOfMemory, 4, "out of memory"),
+];
+
+/// Whether the fault has this number and text, and is equal to that of this number alone.
+fn is_fault(
+    alloc: Global,
+    fault: WireFault,
+    number: usize,
+    text: &str,
+) -> Result<bool, AllocError> {
+    let mut held = fault as usize == number;
+    for (other, place, _) in FAULTS.iter() {
+        held = held && (fault == *other) == (number == *place);
+    }
+    Ok(held && format!(in alloc; "{fault}")?.as_str() == text)
+}
+
+fn is_refusal(
+    alloc: Global,
+    refused: VarintRefused,
+    number: usize,
+    text: &str,
+) -> Result<bool, AllocError> {
+    let mut held = refused as usize == number;
+    for (other, place, _) in REFUSALS.iter() {
+        held = held && (refused == *other) == (number == *place);
+    }
+    Ok(held && format!(in alloc; "{refused}")?.as_str() == text)
+}
+
+fn is_refused(
+    alloc: Global,
+    refused: IncomingRefused,
+    number: usize,
+    text: &str,
+) -> Result<bool, AllocError> {
+    let mut held = refused as usize == number;
+    for (other, place, _) in REFUSED_MESSAGES.iter() {
+        held = held && (refused == *other) == (number == *place);
+    }
+    Ok(held && format!(in alloc; "{refused}")?.as_str() == text)
+}
+
+#[test]
+fn numbers_and_texts_of_faults_and_refusals(rt: HostRuntime) {
+    for (fault, number, text) in FAULTS.iter() {
+        assert!(rt;
+            is_fault(rt.alloc(), *fault, *number, *text) == Ok(true),
+            "fault {number}"
+        );
+    }
+    for (refused, number, text) in REFUSALS.iter() {
+        assert!(rt;
+            is_refusal(rt.alloc(), *refused, *number, *text) == Ok(true),
+            "refusal {number}"
+        );
+    }
+    for (refused, number, text) in REFUSED_MESSAGES.iter() {
+        assert!(rt;
+            is_refused(rt.alloc(), *refused, *number, *text) == Ok(true),
+            "message {number}"
+        );
+    }
+}
