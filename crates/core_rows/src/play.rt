@@ -1,6 +1,6 @@
 //! Plays a row, and compares.
 
-use crate::rows::{KEY, Row, Said};
+use crate::rows::{KEY, RESETS, Row, Said, UPGRADE};
 use conn_core::{ConnAnswer, ConnRan, run};
 use conn_log::{ConnEvent, ConnRefused};
 use node_protocols::{FixedPayload, NodeHandler, NodeProtocols};
@@ -111,19 +111,31 @@ impl Reader {
     }
 }
 
-/// Whether the output is the row's, or begins it where memory was refused, and the handlers are its.
-fn are_left(ran: &Ran, row: Row, played: Played) -> bool {
+/// Whether the output is the row's, and the handlers are its. Where memory was refused to the end, the output begins the
+/// row's; where it was refused to a handler, its stream was reset.
+fn are_left(ran: &Ran, row: Row, reader: &Reader) -> bool {
     let whole = row.output().iter().flat_map(|part| part.iter());
-    if played == Played::Refused {
-        let begins = ran
-            .output
-            .iter()
-            .zip(whole)
-            .all(|(one, other)| one == other);
-        return begins || ran.output.is_empty();
-    }
     let held = ran.handlers.iter().map(|(number, _)| *number);
-    ran.output.iter().eq(whole) && held.eq(row.held().iter().copied())
+    match reader.played {
+        Played::AsSaid => ran.output.iter().eq(whole) && held.eq(row.held().iter().copied()),
+        Played::Refused if reader.is_over => {
+            let begins = ran
+                .output
+                .iter()
+                .zip(whole)
+                .all(|(one, other)| one == other);
+            begins && ran.handlers.is_empty()
+        }
+        Played::Refused => {
+            let is_up = ran.output.starts_with(UPGRADE);
+            is_up
+                && ran
+                    .output
+                    .windows(RESETS.len())
+                    .any(|frame| frame == RESETS)
+        }
+        Played::Otherwise => false,
+    }
 }
 
 /// Plays a row.
@@ -140,7 +152,7 @@ pub fn play(alloc: Global, row: Row) -> Played {
         reader.read(answer);
     }
     let is_whole = reader.rest.is_empty() || reader.is_over;
-    if is_whole && are_left(&ran, row, reader.played) {
+    if is_whole && are_left(&ran, row, &reader) {
         reader.played
     } else {
         Played::Otherwise

@@ -85,7 +85,7 @@ const GREETS: &[u8] = b"\0\0\0\0\0\0\0\x01\0\0\0\x14\x13/multistream/1.0.0\n";
 const NAMES_PING: &[u8] = b"\0\0\0\0\0\0\0\x01\0\0\0\x12\x11/ipfs/ping/1.0.0\n";
 
 /// RST of stream 1.
-const RESETS: &[u8] = b"\0\x01\0\x08\0\0\0\x01\0\0\0\0";
+pub const RESETS: &[u8] = b"\0\x01\0\x08\0\0\0\x01\0\0\0\0";
 
 /// SYN of stream 1, and on it the header, the name of ping, and a ping before any answer.
 const PINGS: &[u8] = b"\0\x01\0\x01\0\0\0\x01\0\0\0\0\0\0\0\0\0\0\0\x01\0\0\0\x46\
