@@ -94,6 +94,14 @@ impl Reader {
         self.played = Played::Otherwise;
     }
 
+    /// Whether all was said, but for what names the stream that was broken for want of memory.
+    fn is_read(&self) -> bool {
+        let is_short = self.played == Played::Refused;
+        self.rest
+            .iter()
+            .all(|said| is_short && said.names_a_stream())
+    }
+
     fn read(&mut self, answer: &ConnAnswer<NodeHandler>) {
         match answer {
             ConnAnswer::Events(events) => {
@@ -151,7 +159,7 @@ pub fn play(alloc: Global, row: Row) -> Played {
     for answer in &ran.answers {
         reader.read(answer);
     }
-    let is_whole = reader.rest.is_empty() || reader.is_over;
+    let is_whole = reader.is_over || reader.is_read();
     if is_whole && are_left(&ran, row, &reader) {
         reader.played
     } else {
