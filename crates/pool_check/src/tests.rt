@@ -49,6 +49,42 @@ impl Met {
     }
 }
 
+/// Whom drawn calls name.
+fn cast(config: &Config) -> Result<Cast, Fail> {
+    Ok(Cast {
+        peers: [config.own, peer(0x11), peer(0x22), peer(0x33)],
+        agents: [
+            Agent::from_bytes(b"node/1.0.0").ok_or("a name")?,
+            Agent::from_bytes(b"x").ok_or("a name")?,
+        ],
+        latest: config.first_conn,
+    })
+}
+
+/// The listing is that of the history.
+fn is_of(
+    rt: &impl Abort,
+    alloc: Global,
+    shown: &Listing,
+    config: &Config,
+    history: &[Entry],
+) -> Result<(), Fail> {
+    assert_eq!(rt; shown.front, front(config, history));
+    assert_eq!(rt;
+        shown.conns.as_slice(),
+        rows(alloc, config, history)?.as_slice()
+    );
+    assert_eq!(rt;
+        shown.blocked.as_slice(),
+        listed(alloc, history, true)?.as_slice()
+    );
+    assert_eq!(rt;
+        shown.allowed.as_slice(),
+        listed(alloc, history, false)?.as_slice()
+    );
+    Ok(())
+}
+
 /// Runs a script of drawn calls, and compares each reply and each listing. It marks what is met.
 fn compare(
     rt: &impl Abort,
@@ -58,14 +94,7 @@ fn compare(
     calls: usize,
     met: &mut Met,
 ) -> Result<(), Fail> {
-    let mut cast = Cast {
-        peers: [config.own, peer(0x11), peer(0x22), peer(0x33)],
-        agents: [
-            Agent::from_bytes(b"node/1.0.0").ok_or("a name")?,
-            Agent::from_bytes(b"x").ok_or("a name")?,
-        ],
-        latest: config.first_conn,
-    };
+    let mut cast = cast(&config)?;
     let mut draws = Draws::new(seed);
     let mut pool = Pool::new(config);
     let mut kept = pool.listing();
@@ -86,19 +115,7 @@ fn compare(
             kept.add(call, answer);
         }
         let shown = pool.listing();
-        assert_eq!(rt; shown.front, front(&config, &history));
-        assert_eq!(rt;
-            shown.conns.as_slice(),
-            rows(alloc, &config, &history)?.as_slice()
-        );
-        assert_eq!(rt;
-            shown.blocked.as_slice(),
-            listed(alloc, &history, true)?.as_slice()
-        );
-        assert_eq!(rt;
-            shown.allowed.as_slice(),
-            listed(alloc, &history, false)?.as_slice()
-        );
+        is_of(rt, alloc, &shown, &config, &history)?;
         assert_eq!(rt; kept, shown);
     }
     Ok(())

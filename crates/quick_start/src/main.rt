@@ -13,12 +13,16 @@ use yamux_session::{Event, Role, Session};
 fn agree(alloc: Global, name: &str) -> anyhow::Result<()> {
     let mut dialer = Dialer::new(alloc, &[name])?;
     let mut listener = Listener::new(alloc, &[name])?;
-    let heard = listener.feed(&dialer.take_output())?;
-    let answered = dialer.feed(&listener.take_output())?;
-    if heard.answer != Answer::Agreed(0) || answered.answer != Answer::Agreed(0) {
+    if !do_agree(&mut dialer, &mut listener)? {
         bail!("no agreement on {name}");
     }
     Ok(())
+}
+
+fn do_agree(dialer: &mut Dialer, listener: &mut Listener) -> anyhow::Result<bool> {
+    let heard = listener.feed(&dialer.take_output())?;
+    let answered = dialer.feed(&listener.take_output())?;
+    Ok(heard.answer == Answer::Agreed(0) && answered.answer == Answer::Agreed(0))
 }
 
 /// Each end shows its key. Gives what the dialer knows of the listener then.
@@ -48,27 +52,46 @@ fn echo(session: &mut Session, bytes: &[u8]) -> anyhow::Result<()> {
     Ok(())
 }
 
-fn main(rt: HostRuntime) -> anyhow::Result<()> {
-    let alloc = rt.alloc();
-    agree(alloc, "/plaintext/2.0.0")?;
+/// Each end makes its key, and shows it.
+fn meet(alloc: Global) -> anyhow::Result<Proven> {
     let dialer_key = PublicKey::ed25519(alloc, &[0; 32])?;
     let listener_key = PublicKey::ed25519(alloc, &[0x11; 32])?;
-    let listener = prove(alloc, &dialer_key, &listener_key)?;
-    println!(rt; "connected to {}", listener.peer())?;
-    agree(alloc, "/yamux/1.0.0")?;
+    prove(alloc, &dialer_key, &listener_key)
+}
 
-    let mut dialer = Session::new(alloc, Role::Client);
-    let mut listener = Session::new(alloc, Role::Server);
-    let stream = dialer.open_stream()?;
-    dialer.write(stream, b"hello")?;
-    echo(&mut listener, &dialer.take_output())?;
-    for event in &dialer.feed(&listener.take_output())? {
+/// Sends `hello` on a new stream.
+fn greet(session: &mut Session) -> anyhow::Result<()> {
+    let stream = session.open_stream()?;
+    session.write(stream, b"hello")?;
+    Ok(())
+}
+
+/// Tells what came on each stream.
+fn tell(rt: &HostRuntime, alloc: Global, events: &[Event]) -> anyhow::Result<()> {
+    for event in events {
         if let Event::Payload(stream, bytes) = event {
-            println!(rt;
-                "stream {stream}: {}",
-                String::from_utf8_lossy(alloc, bytes.as_slice())?
-            )?;
+            let text = String::from_utf8_lossy(alloc, bytes.as_slice())?;
+            println!(rt; "stream {stream}: {text}")?;
         }
     }
     Ok(())
+}
+
+/// The dialer sends on a stream, the listener echoes it, and the dialer tells what came back.
+fn talk(rt: &HostRuntime, alloc: Global) -> anyhow::Result<()> {
+    let mut dialer = Session::new(alloc, Role::Client);
+    let mut listener = Session::new(alloc, Role::Server);
+    greet(&mut dialer)?;
+    echo(&mut listener, &dialer.take_output())?;
+    let events = dialer.feed(&listener.take_output())?;
+    tell(rt, alloc, &events)
+}
+
+fn main(rt: HostRuntime) -> anyhow::Result<()> {
+    let alloc = rt.alloc();
+    agree(alloc, "/plaintext/2.0.0")?;
+    let listener = meet(alloc)?;
+    println!(rt; "connected to {}", listener.peer())?;
+    agree(alloc, "/yamux/1.0.0")?;
+    talk(&rt, alloc)
 }

@@ -93,23 +93,36 @@ fn play_others(rt: &impl Eprint, alloc: Global, text: &[u8], tally: &mut Tally) 
     report(rt, "two joined sessions", before, tally)
 }
 
-fn main(rt: HostRuntime) -> io::Result<ExitCode> {
-    let alloc = rt.alloc();
-    let Ok(zeros) = Bytes::from_vec(vec![in alloc; 0u8; ZEROS]?) else {
-        return Err(io::Error::from(AllocError));
-    };
+/// A piece of zeros, as long as a row may write.
+fn zeros(alloc: Global) -> io::Result<Bytes> {
+    let zeros = Bytes::from_vec(vec![in alloc; 0u8; ZEROS]?);
+    zeros.map_err(|_| io::Error::from(AllocError))
+}
+
+/// A text that two joined sessions write of: each byte differs from those near it.
+fn text(alloc: Global) -> io::Result<Vec<u8>> {
     let mut text = vec![in alloc; 0u8; TEXT]?;
     for (index, byte) in text.iter_mut().enumerate() {
         *byte = (index % 251) as u8;
     }
+    Ok(text)
+}
+
+/// Plays all rows of both roles, whole and frame by frame.
+fn play_rows(rt: &impl Eprint, alloc: Global, zeros: &Bytes, tally: &mut Tally) -> io::Result<()> {
+    play_all(rt, alloc, Role::Server, SERVER, zeros, tally)?;
+    play_all(rt, alloc, Role::Client, CLIENT, zeros, tally)?;
+    play_all_frames(rt, alloc, zeros, tally)
+}
+
+fn main(rt: HostRuntime) -> io::Result<ExitCode> {
+    let alloc = rt.alloc();
     let mut tally = Tally {
         refused: 0,
         wrong: 0,
     };
-    play_all(&rt, alloc, Role::Server, SERVER, &zeros, &mut tally)?;
-    play_all(&rt, alloc, Role::Client, CLIENT, &zeros, &mut tally)?;
-    play_all_frames(&rt, alloc, &zeros, &mut tally)?;
-    play_others(&rt, alloc, &text, &mut tally)?;
+    play_rows(&rt, alloc, &zeros(alloc)?, &mut tally)?;
+    play_others(&rt, alloc, &text(alloc)?, &mut tally)?;
     println!(rt;
         "{} calls refused, {} not as said",
         tally.refused, tally.wrong

@@ -1,6 +1,6 @@
 //! Plays rows, and looks at the session where a call was refused for memory.
 
-use crate::rows::{Act, FrameRow, LEAVING, PING, PING_ANSWERED, SYN_1, Step, Told};
+use crate::rows::{Act, FrameRow, LEAVING, PING, PING_ANSWERED, SYN_1, Step, Told, Turn};
 use bytes::Bytes;
 use std::alloc::{AllocError, Global};
 use yamux_session::{ActRefused, Event, Role, Session};
@@ -288,8 +288,55 @@ pub fn play(alloc: Global, role: Role, row: &[Step], way: Way<'_>, tally: &mut T
     }
 }
 
-/// Plays a row of a server frame by frame, up to the first part that is refused for memory: it has then told and sent
-/// nothing.
+/// Feeds one part of the piece, and acts: both tell and send what the turn says. Answers where the next part begins, if
+/// none was refused for memory: of one that was, nothing is told and nothing sent.
+fn play_turn(
+    alloc: Global,
+    session: &mut Session,
+    (piece, at): (&Bytes, usize),
+    told: &mut Vec<Event>,
+    turn: &Turn,
+    zeros: &[u8],
+    tally: &mut Tally,
+) -> Option<usize> {
+    let before = told.len();
+    let used = match session.feed_frame(piece, at, told) {
+        Ok(used) => used,
+        Err(refused) => {
+            tally.expect(refused == ActRefused::OutOfMemory && told.len() == before);
+            look_at_failed(alloc, session, &[], tally);
+            return None;
+        }
+    };
+    let events = told.get(before..).unwrap_or(&[]);
+    tally.expect(behind_all(turn.told, events) == Some(&[]));
+    tally.expect(session.take_output().as_slice() == turn.sent);
+    let given = act(session, turn.act, zeros, tally);
+    tally.expect(given == turn.answer);
+    tally.expect(session.take_output().as_slice() == turn.output);
+    Some(at.saturating_add(used))
+}
+
+/// Plays the turns of a row of a server, up to the first part that is refused for memory.
+fn play_turns(
+    alloc: Global,
+    session: &mut Session,
+    row: &FrameRow,
+    zeros: &[u8],
+    tally: &mut Tally,
+) -> Option<()> {
+    let piece = Bytes::from_static(row.piece);
+    let mut told = Vec::new(alloc);
+    let mut at = 0;
+    for turn in row.turns {
+        at = play_turn(alloc, session, (&piece, at), &mut told, turn, zeros, tally)?;
+    }
+    tally.expect(at == row.piece.len());
+    tally.expect(session.feed_frame(&piece, at, &mut told) == Ok(0));
+    Some(())
+}
+
+/// Plays a row of a server frame by frame.
 pub fn play_frames(alloc: Global, row: &FrameRow, way: Way<'_>, tally: &mut Tally) {
     let mut session = Session::new(alloc, Role::Server);
     for step in row.before {
@@ -297,28 +344,7 @@ pub fn play_frames(alloc: Global, row: &FrameRow, way: Way<'_>, tally: &mut Tall
             return;
         }
     }
-    let piece = Bytes::from_static(row.piece);
-    let mut told = Vec::new(alloc);
-    let mut at: usize = 0;
-    for turn in row.turns {
-        let before = told.len();
-        match session.feed_frame(&piece, at, &mut told) {
-            Ok(used) => at = at.saturating_add(used),
-            Err(refused) => {
-                tally.expect(refused == ActRefused::OutOfMemory && told.len() == before);
-                look_at_failed(alloc, &mut session, &[], tally);
-                return;
-            }
-        }
-        let events = told.get(before..).unwrap_or(&[]);
-        tally.expect(behind_all(turn.told, events) == Some(&[]));
-        tally.expect(session.take_output().as_slice() == turn.sent);
-        let given = act(&mut session, turn.act, way.zeros.as_slice(), tally);
-        tally.expect(given == turn.answer);
-        tally.expect(session.take_output().as_slice() == turn.output);
-    }
-    tally.expect(at == row.piece.len());
-    tally.expect(session.feed_frame(&piece, at, &mut told) == Ok(0));
+    let _ = play_turns(alloc, &mut session, row, way.zeros.as_slice(), tally);
 }
 
 /// Opens as many streams of this end as may be live, and one more, before and after the other end goes away.

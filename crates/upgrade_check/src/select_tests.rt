@@ -488,19 +488,23 @@ impl Came {
     }
 }
 
+fn begin(alloc: Global, row: &Row) -> Result<Came, Fail> {
+    Ok(Came {
+        end: End::new(alloc, row.role, row.names).ok().ok_or("names")?,
+        answer: Ok(Answer::Going),
+        used: 0,
+        output: Vec::new(alloc),
+    })
+}
+
+fn holds_so(alloc: Global, row: &Row, size: usize, at_once: bool) -> Result<bool, Fail> {
+    Ok(begin(alloc, row)?.plays(row, size, at_once)?)
+}
+
+/// Whether the row holds in pieces of this size, behind each of which output is taken, and where it is taken at the end
+/// alone.
 fn holds(alloc: Global, row: &Row, size: usize) -> Result<bool, Fail> {
-    let mut held = true;
-    for at_once in [true, false] {
-        let end = End::new(alloc, row.role, row.names).ok().ok_or("names")?;
-        let mut came = Came {
-            end,
-            answer: Ok(Answer::Going),
-            used: 0,
-            output: Vec::new(alloc),
-        };
-        held = came.plays(row, size, at_once)? && held;
-    }
-    Ok(held)
+    Ok(holds_so(alloc, row, size, true)? && holds_so(alloc, row, size, false)?)
 }
 
 #[test]

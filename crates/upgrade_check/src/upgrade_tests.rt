@@ -357,12 +357,26 @@ fn begin(alloc: Global, role: ConnRole) -> Option<Came> {
     })
 }
 
-fn holds(alloc: Global, row: &Row, size: usize, at_once: bool) -> Option<bool> {
+fn is_played(
+    came: &mut Came,
+    alloc: Global,
+    row: &Row,
+    size: usize,
+    at_once: bool,
+) -> Option<bool> {
     let input = joined(alloc, row.input).ok()?;
+    Some(came.plays(&input, size, at_once))
+}
+
+fn is_ended(came: &Came, alloc: Global, row: &Row) -> Option<bool> {
     let output = joined(alloc, row.output).ok()?;
+    Some(came.is_as(row, &output))
+}
+
+fn holds(alloc: Global, row: &Row, size: usize, at_once: bool) -> Option<bool> {
     let mut came = begin(alloc, row.role)?;
-    let held = came.plays(&input, size, at_once);
-    Some(held && came.is_as(row, &output))
+    let held = is_played(&mut came, alloc, row, size, at_once)?;
+    Some(held && is_ended(&came, alloc, row)?)
 }
 
 /// Whether the row holds in pieces of this size, behind each of which output is taken, and where it is taken at the end
@@ -417,10 +431,14 @@ fn come_up(dialer: &mut Upgrade, listener: &mut Upgrade) -> (Option<u8>, Option<
     (dialed, accepted)
 }
 
+fn meets_listener(alloc: Global, dialer: &mut Upgrade) -> Option<(Option<u8>, Option<u8>)> {
+    let mut listener = upgrade(alloc, ConnRole::Listener, OTHER_KEY)?;
+    Some(come_up(dialer, &mut listener))
+}
+
 fn two_ends(alloc: Global) -> Option<(Option<u8>, Option<u8>)> {
     let mut dialer = upgrade(alloc, ConnRole::Dialer, OWN_KEY)?;
-    let mut listener = upgrade(alloc, ConnRole::Listener, OTHER_KEY)?;
-    Some(come_up(&mut dialer, &mut listener))
+    meets_listener(alloc, &mut dialer)
 }
 
 #[test]
