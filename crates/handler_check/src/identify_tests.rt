@@ -310,13 +310,14 @@ fn is_refused(alloc: Global, stream: &[u8], size: usize, fault: IdentifyFault) -
     has_failed(reader) && came == Err(HandlerFault { number })
 }
 
+fn reads(alloc: Global, input: &[u8], size: usize, said: &Said) -> Result<bool, Fail> {
+    Ok(is_read(alloc, input, size, &message(alloc, said)?))
+}
+
 fn comes_to(alloc: Global, stream: &Stream, size: usize) -> Result<bool, Fail> {
     let input = joined(alloc, stream.input)?;
     match &stream.outcome {
-        Ok(said) => {
-            let message = message(alloc, said)?;
-            Ok(is_read(alloc, &input, size, &message))
-        }
+        Ok(said) => reads(alloc, &input, size, said),
         Err(fault) => Ok(is_refused(alloc, &input, size, *fault)),
     }
 }
@@ -416,10 +417,14 @@ fn is_written(alloc: Global, message: &Identify, parts: Parts) -> Result<bool, A
     Ok(written == joined(alloc, parts)?)
 }
 
+fn is_body_of(alloc: Global, body: &Body, message: &Identify) -> Result<bool, Fail> {
+    let bytes = joined(alloc, body.body)?;
+    Ok(says(alloc, &bytes, message) && is_own(alloc, &bytes, message))
+}
+
 fn is_body(alloc: Global, body: &Body) -> Result<bool, Fail> {
     let message = message(alloc, &body.said)?;
-    let bytes = joined(alloc, body.body)?;
-    let is_read = says(alloc, &bytes, &message) && is_own(alloc, &bytes, &message);
+    let is_read = is_body_of(alloc, body, &message)?;
     Ok(is_read && is_written(alloc, &message, body.written)?)
 }
 
@@ -626,9 +631,8 @@ fn stream_of(alloc: Global, message: &Identify) -> Result<Vec<u8>, Fail> {
 /// Whether this is read back once it was sent, in pieces of this size.
 fn comes_back(alloc: Global, said: &Said, size: usize) -> Result<bool, Fail> {
     let message = message(alloc, said)?;
-    let stream = stream_of(alloc, &message)?;
     let is_own = is_own(alloc, &message.write()?, &message);
-    Ok(is_own && is_read(alloc, &stream, size, &message))
+    Ok(is_own && is_read(alloc, &stream_of(alloc, &message)?, size, &message))
 }
 
 #[test]
@@ -733,11 +737,14 @@ static PUSHES: [Push; 3] = [
     },
 ];
 
-fn merges(alloc: Global, push: &Push) -> Result<bool, Fail> {
-    let merged = message(alloc, &push.merged)?;
+fn merged(alloc: Global, push: &Push) -> Result<Identify, Fail> {
     let said = message(alloc, &push.push)?;
-    let known = message(alloc, &push.known)?;
-    Ok(is_same(&known.merged_with(said), &merged))
+    Ok(message(alloc, &push.known)?.merged_with(said))
+}
+
+fn merges(alloc: Global, push: &Push) -> Result<bool, Fail> {
+    let merged = merged(alloc, push)?;
+    Ok(is_same(&merged, &message(alloc, &push.merged)?))
 }
 
 #[test]

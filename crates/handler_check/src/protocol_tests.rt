@@ -81,14 +81,24 @@ fn comes_back(ping: &mut NodeHandler, echo: &mut NodeHandler) -> bool {
     is_sent && is_back && is_over && ping.finished() && echo.finished()
 }
 
+fn is_echoed(node: &mut NodeProtocols<FixedPayload>, ping: &mut NodeHandler) -> bool {
+    let Some(mut echo) = made(node, PING, true) else {
+        return false;
+    };
+    comes_back(ping, &mut echo)
+}
+
+fn pings_itself(node: &mut NodeProtocols<FixedPayload>) -> bool {
+    let Some(mut ping) = made(node, PING, false) else {
+        return false;
+    };
+    is_echoed(node, &mut ping)
+}
+
 #[test]
 fn a_ping_comes_back(rt: HostRuntime) -> Result<(), Fail> {
     let mut node = node(rt.alloc(), "node/0.1.0")?;
-    let held = match (made(&mut node, PING, false), made(&mut node, PING, true)) {
-        (Some(mut ping), Some(mut echo)) => comes_back(&mut ping, &mut echo),
-        _ => false,
-    };
-    assert!(rt; held);
+    assert!(rt; pings_itself(&mut node));
     Ok(())
 }
 
@@ -148,6 +158,25 @@ fn says(message: &Identify, agent: &str) -> bool {
     is_key && is_silent && texts && are_names(&message.protocols)
 }
 
+/// What the end that reads this protocol reads of what the other sends.
+fn heard(
+    node: &mut NodeProtocols<FixedPayload>,
+    index: usize,
+    sender: &mut NodeHandler,
+) -> Option<Identify>
+    requires { index < 3 }
+{
+    let reader = made(node, index, index == PUSH)?;
+    read(sender, reader)
+}
+
+fn sent(node: &mut NodeProtocols<FixedPayload>, index: usize) -> Option<Identify>
+    requires { index < 3 }
+{
+    let mut sender = made(node, index, index != PUSH)?;
+    heard(node, index, &mut sender)
+}
+
 /// Whether it is read so, where identify is asked for or where it is pushed.
 fn is_heard(alloc: Global, index: usize, agent: &str) -> bool
     requires { index < 3 }
@@ -155,14 +184,7 @@ fn is_heard(alloc: Global, index: usize, agent: &str) -> bool
     let Ok(mut node) = node(alloc, agent) else {
         return false;
     };
-    let is_push = index == PUSH;
-    let message = match (
-        made(&mut node, index, !is_push),
-        made(&mut node, index, is_push),
-    ) {
-        (Some(mut sender), Some(reader)) => read(&mut sender, reader),
-        _ => None,
-    };
+    let message = sent(&mut node, index);
     message.is_some_and(|message| says(&message, agent))
 }
 
@@ -177,16 +199,24 @@ fn what_a_node_says_is_read(rt: HostRuntime) {
     }
 }
 
+fn is_refused_by(
+    node: &mut NodeProtocols<FixedPayload>,
+    other: PeerId,
+    sender: &mut NodeHandler,
+) -> bool {
+    let Ok(mut reader) = node.outbound(IDENTIFY, other) else {
+        return false;
+    };
+    let is_read = carries(sender, &mut reader);
+    is_read && reader.end() == Err(HandlerFault { number: 5 }) && !reader.finished()
+}
+
 /// Whether a node doesn't read of another peer what it says of itself, and by which number it refuses that.
 fn is_refused_of(node: &mut NodeProtocols<FixedPayload>, other: PeerId) -> bool {
     let Some(mut sender) = made(node, IDENTIFY, true) else {
         return false;
     };
-    let Ok(mut reader) = node.outbound(IDENTIFY, other) else {
-        return false;
-    };
-    let is_read = carries(&mut sender, &mut reader);
-    is_read && reader.end() == Err(HandlerFault { number: 5 }) && !reader.finished()
+    is_refused_by(node, other, &mut sender)
 }
 
 #[test]

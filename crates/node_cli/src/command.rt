@@ -36,53 +36,59 @@ pub enum Unasked {
 }
 
 /// A subcommand with one word.
-fn with_word<'a>(
-    alloc: Global,
-    name: &'a str,
-    about: &'a str,
-    word: &'a str,
-    help: &'a str,
-) -> Result<Command<'a>, AllocError> {
-    let word = Arg::new(alloc, word)
-        .required(true)
-        .action(ArgAction::Set)
-        .help(help);
-    Command::new(alloc, name).about(about).arg(word)
+struct Worded {
+    name: &'static str,
+    about: &'static str,
+    word: &'static str,
+    help: &'static str,
 }
 
-fn command<'a>(alloc: Global) -> Result<Command<'a>, AllocError> {
-    let id = with_word(
-        alloc,
-        "id",
-        "Prints the text of the peer id of a public key",
-        "HEX",
-        "A public key message in hexadecimal",
-    )?;
-    let hash = with_word(
-        alloc,
-        "hash",
-        "Prints the multihash of a peer id in hexadecimal",
-        "TEXT",
-        "The text of a peer id",
-    )?;
-    let addr = with_word(
-        alloc,
-        "addr",
-        "Prints the bytes of a multiaddr in hexadecimal, and its text",
-        "TEXT",
-        "The text of a multiaddr",
-    )?;
-    Command::new(alloc, "node")
+static WORDED: [Worded; 3] = [
+    Worded {
+        name: "id",
+        about: "Prints the text of the peer id of a public key",
+        word: "HEX",
+        help: "A public key message in hexadecimal",
+    },
+    Worded {
+        name: "hash",
+        about: "Prints the multihash of a peer id in hexadecimal",
+        word: "TEXT",
+        help: "The text of a peer id",
+    },
+    Worded {
+        name: "addr",
+        about: "Prints the bytes of a multiaddr in hexadecimal, and its text",
+        word: "TEXT",
+        help: "The text of a multiaddr",
+    },
+];
+
+fn with_word<'a>(alloc: Global, it: &'static Worded) -> Result<Command<'a>, AllocError> {
+    let word = Arg::new(alloc, it.word)
+        .required(true)
+        .action(ArgAction::Set)
+        .help(it.help);
+    Command::new(alloc, it.name).about(it.about).arg(word)
+}
+
+fn node<'a>(alloc: Global) -> Result<Command<'a>, AllocError> {
+    let node = Command::new(alloc, "node")
         .no_binary_name(true)
         .bin_name("node")?
         .version("0.1.0")
         .about("A libp2p node's peers and connections")
-        .subcommand_required(true)
-        .subcommand(id)?
-        .subcommand(hash)?
-        .subcommand(addr)?
-        .subcommand(replay_command(alloc)?)?
-        .subcommand(trace_command(alloc)?)
+        .subcommand_required(true);
+    Ok(node)
+}
+
+fn command<'a>(alloc: Global) -> Result<Command<'a>, AllocError> {
+    let mut command = node(alloc)?;
+    for it in &WORDED {
+        command = command.subcommand(with_word(alloc, it)?)?;
+    }
+    command = command.subcommand(replay_command(alloc)?)?;
+    command.subcommand(trace_command(alloc)?)
 }
 
 /// What the words ask for, where they are a good command line.

@@ -6,105 +6,129 @@ use pool_state::{Config, Limits};
 use std::alloc::{AllocError, Global};
 use thiserror::Error;
 
-/// The option of this name, a number of this range.
-fn number<'a>(
-    alloc: Global,
-    name: &'a str,
-    help: &'a str,
-    default: &'a str,
+/// An option that is a number of a range.
+struct NumberOption {
+    name: &'static str,
+    help: &'static str,
+    default: &'static str,
     least: i64,
     most: i64,
-) -> Arg<'a> {
-    Arg::new(alloc, name)
-        .long(name)
-        .value_name("N")
-        .help(help)
-        .action(ArgAction::Set)
-        .value_parser(value_parser!(u32).range(least..=most))
-        .default_value(default)
 }
 
-/// The command of a replay.
-pub fn replay_command<'a>(alloc: Global) -> Result<Command<'a>, AllocError> {
-    let own = Arg::new(alloc, "own")
+static NUMBERS: [NumberOption; 8] = [
+    NumberOption {
+        name: "conns",
+        help: "How many connections may stand",
+        default: "64",
+        least: 1,
+        most: 256,
+    },
+    NumberOption {
+        name: "per-peer",
+        help: "How many of one peer",
+        default: "8",
+        least: 1,
+        most: 8,
+    },
+    NumberOption {
+        name: "streams",
+        help: "How many open streams on one connection",
+        default: "64",
+        least: 1,
+        most: 64,
+    },
+    NumberOption {
+        name: "blocked",
+        help: "How many peers may be blocked",
+        default: "64",
+        least: 0,
+        most: 64,
+    },
+    NumberOption {
+        name: "inbound",
+        help: "How many accepted connections may stand",
+        default: "256",
+        least: 0,
+        most: 256,
+    },
+    NumberOption {
+        name: "outbound",
+        help: "How many dialed connections may stand",
+        default: "256",
+        least: 0,
+        most: 256,
+    },
+    NumberOption {
+        name: "allowed",
+        help: "How many peers may be allowed",
+        default: "64",
+        least: 0,
+        most: 64,
+    },
+    NumberOption {
+        name: "first-conn",
+        help: "The first connection's number",
+        default: "1",
+        least: 0,
+        most: 4_294_967_295,
+    },
+];
+
+/// The front's option, whose range is no range of `clap`'s.
+const FIRST_FRONT: &str = "first-front";
+
+fn number<'a>(alloc: Global, number: &'static NumberOption) -> Arg<'a> {
+    Arg::new(alloc, number.name)
+        .long(number.name)
+        .value_name("N")
+        .help(number.help)
+        .action(ArgAction::Set)
+        .value_parser(value_parser!(u32).range(number.least..=number.most))
+        .default_value(number.default)
+}
+
+fn own<'a>(alloc: Global) -> Arg<'a> {
+    Arg::new(alloc, "own")
         .long("own")
         .value_name("PEER")
         .help("The node's own peer: the text of an id, or @hh for the key of 32 bytes hh")
         .action(ArgAction::Set)
-        .default_value("@00");
-    let first_front = Arg::new(alloc, "first-front")
-        .long("first-front")
+        .default_value("@00")
+}
+
+fn first_front<'a>(alloc: Global) -> Arg<'a> {
+    Arg::new(alloc, FIRST_FRONT)
+        .long(FIRST_FRONT)
         .value_name("N")
         .help("The front of the empty history")
         .action(ArgAction::Set)
         .value_parser(value_parser!(u64))
-        .default_value("0");
-    let allow_only = Arg::new(alloc, "allow-only")
+        .default_value("0")
+}
+
+fn allow_only<'a>(alloc: Global) -> Arg<'a> {
+    Arg::new(alloc, "allow-only")
         .long("allow-only")
         .help("Only allowed peers may connect")
-        .action(ArgAction::SetTrue);
-    Command::new(alloc, "replay")
+        .action(ArgAction::SetTrue)
+}
+
+fn with_numbers<'a>(alloc: Global, command: Command<'a>) -> Result<Command<'a>, AllocError> {
+    let mut command = command;
+    for option in &NUMBERS {
+        command = command.arg(number(alloc, option))?;
+    }
+    Ok(command)
+}
+
+/// The command of a replay.
+pub fn replay_command<'a>(alloc: Global) -> Result<Command<'a>, AllocError> {
+    let command = Command::new(alloc, "replay")
         .about("Runs a script of pool calls from standard input")
-        .arg(own)?
-        .arg(number(
-            alloc,
-            "conns",
-            "How many connections may stand",
-            "64",
-            1,
-            256,
-        ))?
-        .arg(number(alloc, "per-peer", "How many of one peer", "8", 1, 8))?
-        .arg(number(
-            alloc,
-            "streams",
-            "How many open streams on one connection",
-            "64",
-            1,
-            64,
-        ))?
-        .arg(number(
-            alloc,
-            "blocked",
-            "How many peers may be blocked",
-            "64",
-            0,
-            64,
-        ))?
-        .arg(number(
-            alloc,
-            "inbound",
-            "How many accepted connections may stand",
-            "256",
-            0,
-            256,
-        ))?
-        .arg(number(
-            alloc,
-            "outbound",
-            "How many dialed connections may stand",
-            "256",
-            0,
-            256,
-        ))?
-        .arg(number(
-            alloc,
-            "allowed",
-            "How many peers may be allowed",
-            "64",
-            0,
-            64,
-        ))?
-        .arg(number(
-            alloc,
-            "first-conn",
-            "The first connection's number",
-            "1",
-            0,
-            4_294_967_295,
-        ))?
-        .arg(first_front)?
-        .arg(allow_only)
+        .arg(own(alloc))?;
+    with_numbers(alloc, command)?
+        .arg(first_front(alloc))?
+        .arg(allow_only(alloc))
 }
 
 /// An option whose value is none, where the parser of the command line knows no better.
@@ -130,19 +154,6 @@ pub enum BadOption {
     OutOfMemory,
 }
 
-/// The options that are numbers.
-const NUMBERS: [&str; 9] = [
-    "conns",
-    "per-peer",
-    "streams",
-    "blocked",
-    "inbound",
-    "outbound",
-    "allowed",
-    "first-conn",
-    "first-front",
-];
-
 /// Whether the value of an option is digits alone. The parser of numbers takes a sign.
 fn is_digits(found: &ArgMatches<'_>, name: &str) -> bool {
     let word = found.get_str(name).unwrap_or("");
@@ -151,7 +162,8 @@ fn is_digits(found: &ArgMatches<'_>, name: &str) -> bool {
 
 /// What a pool is made with, by the options that were found.
 pub fn config_of(found: &ArgMatches<'_>) -> Result<Config, BadOption> {
-    if !NUMBERS.iter().all(|name| is_digits(found, name)) {
+    let are_digits = NUMBERS.iter().all(|option| is_digits(found, option.name));
+    if !are_digits || !is_digits(found, FIRST_FRONT) {
         return Err(BadOption::Number);
     }
     let number = |name: &str| found.get_one::<u32>(name).unwrap_or(0);
@@ -170,7 +182,7 @@ pub fn config_of(found: &ArgMatches<'_>) -> Result<Config, BadOption> {
         own: own.ok_or(BadOption::Peer)?,
         limits,
         first_conn: number("first-conn"),
-        first_front: found.get_one::<u64>("first-front").unwrap_or(0),
+        first_front: found.get_one::<u64>(FIRST_FRONT).unwrap_or(0),
         allow_only: found.get_flag("allow-only"),
     })
 }

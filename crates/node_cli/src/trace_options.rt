@@ -14,29 +14,37 @@ const ZERO_KEY: &str = "08011220000000000000000000000000000000000000000000000000
 /// 32 bytes 00.
 const ZEROS: &str = "0000000000000000000000000000000000000000000000000000000000000000";
 
-/// The command of a trace.
-pub fn trace_command<'a>(alloc: Global) -> Result<Command<'a>, AllocError> {
-    let role = Arg::new(alloc, "ROLE")
+fn role<'a>(alloc: Global) -> Arg<'a> {
+    Arg::new(alloc, "ROLE")
         .required(true)
         .action(ArgAction::Set)
-        .help("Which end it is: dialer or listener");
-    let key = Arg::new(alloc, "key")
-        .long("key")
+        .help("Which end it is: dialer or listener")
+}
+
+/// An option in hexadecimal.
+fn digits<'a>(
+    alloc: Global,
+    name: &'static str,
+    help: &'static str,
+    default: &'static str,
+) -> Arg<'a> {
+    Arg::new(alloc, name)
+        .long(name)
         .value_name("HEX")
-        .help("Its own key: a public key message in hexadecimal")
+        .help(help)
         .action(ArgAction::Set)
-        .default_value(ZERO_KEY);
-    let payload = Arg::new(alloc, "payload")
-        .long("payload")
-        .value_name("HEX")
-        .help("What its pings send: 32 bytes in hexadecimal")
-        .action(ArgAction::Set)
-        .default_value(ZEROS);
+        .default_value(default)
+}
+
+/// The command of a trace.
+pub fn trace_command<'a>(alloc: Global) -> Result<Command<'a>, AllocError> {
+    let key = "Its own key: a public key message in hexadecimal";
+    let payload = "What its pings send: 32 bytes in hexadecimal";
     Command::new(alloc, "trace")
         .about("Runs one end of a connection on a script from standard input")
-        .arg(role)?
-        .arg(key)?
-        .arg(payload)
+        .arg(role(alloc))?
+        .arg(digits(alloc, "key", key, ZERO_KEY))?
+        .arg(digits(alloc, "payload", payload, ZEROS))
 }
 
 /// The end that is traced, by the words that were found.

@@ -166,33 +166,44 @@ struct Pair {
     place: Place,
 }
 
+/// Opens stream 1.
+fn open(direction: Direction, own: &mut Session, other: &mut Session) -> Result<(), Fail> {
+    match direction {
+        Direction::Inbound => {
+            other.open_stream()?;
+            own.feed(&other.take_output())?;
+        }
+        Direction::Outbound => {
+            own.open_stream()?;
+        }
+    }
+    Ok(())
+}
+
+fn stream(alloc: Global, direction: Direction) -> Result<Stream<Echo>, Fail> {
+    let stream = match direction {
+        Direction::Inbound => Stream::answer(alloc, &NAMES),
+        Direction::Outbound => Stream::ask(alloc, NAMES[1], 1, None),
+    };
+    Ok(stream.ok().ok_or("a stream")?)
+}
+
 fn begin(alloc: Global, direction: Direction, most: usize) -> Result<Pair, Fail> {
     let (own, other) = match direction {
         Direction::Inbound => (Role::Server, Role::Client),
         Direction::Outbound => (Role::Client, Role::Server),
     };
-    let mut own = Session::new(alloc, own);
-    let mut other = Session::new(alloc, other);
-    let stream = match direction {
-        Direction::Inbound => {
-            other.open_stream()?;
-            own.feed(&other.take_output())?;
-            Stream::answer(alloc, &NAMES)
-        }
-        Direction::Outbound => {
-            own.open_stream()?;
-            Stream::ask(alloc, NAMES[1], 1, None)
-        }
-    };
-    Ok(Pair {
+    let mut pair = Pair {
         protocols: Echoes { alloc, most },
         direction,
-        own,
-        other,
-        stream: stream.ok().ok_or("a stream")?,
+        own: Session::new(alloc, own),
+        other: Session::new(alloc, other),
+        stream: stream(alloc, direction)?,
         agreed: None,
         place: Place::Going,
-    })
+    };
+    open(direction, &mut pair.own, &mut pair.other)?;
+    Ok(pair)
 }
 
 impl Pair {

@@ -102,13 +102,16 @@ struct Pair {
     stream: Stream<Echo>,
 }
 
-fn agreed(alloc: Global, failing: bool) -> Result<Pair, Fail> {
-    let mut client = Session::new(alloc, Role::Client);
-    let mut server = Session::new(alloc, Role::Server);
+/// The client opens a stream, and asks.
+fn open(client: &mut Session, server: &mut Session) -> Result<(), Fail> {
     let number = client.open_stream()?;
     client.write(number, M_X)?;
     server.feed(&client.take_output())?;
-    let mut stream = Stream::answer(alloc, &["/x"]).ok().ok_or("a name")?;
+    Ok(())
+}
+
+/// The stream hears what was asked, and gets its handler.
+fn agree(alloc: Global, stream: &mut Stream<Echo>, failing: bool) -> Result<(), Fail> {
     stream.hear(M_X).ok().ok_or("an agreement")?;
     if !stream.awaits_handler() {
         return Err("no agreement".into());
@@ -119,11 +122,18 @@ fn agreed(alloc: Global, failing: bool) -> Result<Pair, Fail> {
         ended: false,
         failing,
     });
-    Ok(Pair {
-        client,
-        server,
-        stream,
-    })
+    Ok(())
+}
+
+fn agreed(alloc: Global, failing: bool) -> Result<Pair, Fail> {
+    let mut pair = Pair {
+        client: Session::new(alloc, Role::Client),
+        server: Session::new(alloc, Role::Server),
+        stream: Stream::answer(alloc, &["/x"]).ok().ok_or("a name")?,
+    };
+    open(&mut pair.client, &mut pair.server)?;
+    agree(alloc, &mut pair.stream, failing)?;
+    Ok(pair)
 }
 
 impl Pair {

@@ -24,18 +24,19 @@ fn peer(byte: u8) -> PeerId {
     PeerId::of_ed25519(&[byte; 32])
 }
 
+/// What the holder of this key shows of it.
+fn shown(alloc: Global, key: &PublicKey) -> Result<Vec<u8>, Fail> {
+    Ok(Exchange::new(alloc, key)?.take_output())
+}
+
 /// What an exchange with the holder of that key proves.
 fn proven(alloc: Global, byte: u8) -> Result<Proven, Fail> {
-    let mut message = [byte; 36];
-    message[..4].copy_from_slice(&[0x08, 0x01, 0x12, 0x20]);
-    let key = PublicKey::read(alloc, &message).ok().ok_or("a key")?;
-    let mut other = Exchange::new(alloc, &key).ok().ok_or("memory")?;
-    let sent = other.take_output();
+    let key = PublicKey::ed25519(alloc, &[byte; 32])?;
+    let sent = shown(alloc, &key)?;
     let came = exchange_keys(alloc, &key, &[sent.as_slice()])
         .ok()
         .ok_or("an exchange")?;
-    let proven = came.proven.ok_or("a proof")?;
-    Ok(proven)
+    Ok(came.proven.ok_or("a proof")?)
 }
 
 /// The widest limits but for connections of one peer, for the node whose id is that of zeros.

@@ -25,6 +25,32 @@ fn call<J: Identity, L: Ledgers, R: Wait>(
     (pass, listing)
 }
 
+/// The last pass, and the one before it.
+fn last_two<J: Identity, L: Ledgers>(
+    passes: &mut Vec<Pass<J, L>>,
+) -> Option<(Pass<J, L>, Pass<J, L>)> {
+    let last = passes.pop()?;
+    let before = passes.pop()?;
+    Some((last, before))
+}
+
+/// The callers meet, and the swarm is closed.
+fn end<J: Identity, L: Ledgers, R: Wait>(
+    rt: &R,
+    swarm: Swarm<NoGate, J, L>,
+    passes: Vec<Pass<J, L>>,
+    one: Pass<J, L>,
+    two: Pass<J, L>,
+) -> Option<(Listing, Closed)> {
+    let (mut passes, mut one, mut two) = (passes, one, two);
+    swarm.meet(rt, &mut one, &mut two);
+    let listing = swarm.list(&mut one);
+    passes.push(one).ok()?;
+    passes.push(two).ok()?;
+    let closed = swarm.close(rt, passes).ok()?;
+    Some((listing, closed))
+}
+
 /// A swarm of two callers, from its making to its end.
 fn serve<
     J: Identity + Send + Sync,
@@ -60,19 +86,14 @@ fn serve<
         rt, alloc, config, 2, NoGate, history, ledgers,
     );
     let (swarm, mut passes) = made.ok()?;
-    let (two, one) = (passes.pop()?, passes.pop()?);
+    let (two, one) = last_two(&mut passes)?;
     let shared = &swarm;
-    let ((mut one, _), (mut two, _)) = join(
+    let ((one, _), (two, _)) = join(
         rt,
         move || call(rt, shared, one),
         move || call(rt, shared, two),
     );
-    swarm.meet(rt, &mut one, &mut two);
-    let listing = swarm.list(&mut one);
-    passes.push(one).ok()?;
-    passes.push(two).ok()?;
-    let closed = swarm.close(rt, passes).ok()?;
-    Some((listing, closed))
+    end(rt, swarm, passes, one, two)
 }
 
 #[test]
