@@ -14,6 +14,7 @@ ghost use Rattle.conn_log.specs.Held.{IsHeld};
 ghost use Rattle.conn_log.specs.Routes.{Around, Routes, Routed, Comes, Resets, set_aside};
 ghost use Rattle.conn_log.specs.Asked.{told_of};
 ghost use Rattle.board.specs.Boards.{Keeps};
+ghost use Rattle.board.specs.Resets.{told_of_reset};
 
 use conn_log::{ConnEvent, Earlier};
 use dispatch::Direction;
@@ -298,6 +299,10 @@ impl<P: Protocols> Board<P> {
     pub fn reset(&mut self, number: u32, told: &mut Vec<ConnEvent<P::H>>) -> Result<(), AllocError>
         ensures keeps { Keeps P.listed P.is_eager self.old self.new }
         ensures past { self.new.past.items ≡ self.old.past.items }
+        // Each reset is told, also of a stream whose talk isn't over.
+        ensures tells { OnOk result (told.new.items
+            ≡ told.old.items ++ told_of_reset number (tree.get nat_cmp self.old.streams number)) }
+        ensures unheld { tree.get nat_cmp self.new.streams number ≡ None }
         ensures routes { (log : List (Entry P.H)) (fed sent : List ℕ) (session : State) (view : Seen) (rest : List Told)
             → Routes P.H.steps P.H.fails P.H.is_closed P.H.is_finished P.makes_inbound P.makes_outbound
             (P.is_eager self.old.protocols) (P.listed self.old.protocols) self.old.peer self.old.role log fed sent

@@ -1,6 +1,6 @@
 //! What holds of the handlers and of the definitions.
 
-ghost use Rattle.std.specs.Prelude.{◌≡◌, ◌↔◌, ℕ, List, Bool, IfSome};
+ghost use Rattle.std.specs.Prelude.{◌≡◌, ◌↔◌, ℕ, List, Bool, true, IfSome};
 ghost use Rattle.handlers.specs.Calls.{HandlerCall, Asked, Arises, WasHanded};
 ghost use Rattle.identify_h.specs.Reading.{Reader};
 ghost use Rattle.identify_h.specs.Sending.{Sending};
@@ -10,11 +10,15 @@ ghost use Rattle.ping_h.specs.Echoes.{Echo};
 ghost use Rattle.node_protocols.specs.declared.handler.NodeHandler.{NodeHandler};
 ghost use Rattle.node_protocols.specs.declared.handler.NodeHandler.TheVariants.{Reads, Sends, Pings, Echoes};
 ghost use Rattle.node_protocols.specs.Handlers.{message_of};
-ghost use Rattle.node_protocols.specs.Makes.{Hears};
+ghost use Rattle.node_protocols.specs.Makes.{Node, Hears, MakesInbound, MakesOutbound};
+ghost use Rattle.node_protocols.specs.Own.{protocol_names};
 ghost use Rattle.node_protocols.specs.Rows.{OwnRows, MakesRows, HandlerRows, StopRows};
 
 use crate::handler::NodeHandler;
-use handlers::Handler;
+use crate::names::{IDENTIFY, PING, PUSH};
+use crate::payloads::{FixedPayload, Payloads};
+use crate::protocols::NodeProtocols;
+use handlers::{Handler, Protocols};
 use identify_h::{IdentifyIn, IdentifyOut};
 use ping_h::{PingEcho, PingOut};
 
@@ -104,4 +108,27 @@ pub fn message_is_what_came()
     ensures { (peer bytes : List ℕ) (ended : Bool) (made value : NodeHandler) → Hears peer made
         → WasHanded ⟦<NodeHandler as Handler>⟧.steps made bytes ended value
         → IfSome (message_of value) (SaysAll peer bytes) }
+{}
+
+/// What a node's protocols are to whoever knows them as protocols alone: their names by their indexes, that ping alone
+/// is eager, and which handlers they make.
+pub fn protocols_of_a_node<R: Payloads>()
+    ensures indexes { (IDENTIFY ≡ 0) × (PUSH ≡ 1) × (PING ≡ 2) }
+    ensures names { (node : Node R) → ⟦<NodeProtocols<R> as Protocols>⟧.listed node ≡ protocol_names }
+    ensures eager { (node : Node R) (index : ℕ)
+        → (⟦<NodeProtocols<R> as Protocols>⟧.is_eager node index ≡ true) ↔ (index ≡ 2) }
+    ensures inbound { (node : Node R) (index : ℕ) (peer : List ℕ) (handler : NodeHandler)
+        → ⟦<NodeProtocols<R> as Protocols>⟧.makes_inbound node index peer handler
+        ↔ MakesInbound node.own index peer handler }
+    ensures outbound { (node : Node R) (index : ℕ) (peer : List ℕ) (handler : NodeHandler)
+        → ⟦<NodeProtocols<R> as Protocols>⟧.makes_outbound node index peer handler
+        ↔ MakesOutbound node.own (R.gives node.payloads) index peer handler }
+{}
+
+/// A fixed payload is given at each call, and no other bytes are.
+pub fn payload_is_fixed()
+    ensures gives { (fixed : FixedPayload) (bytes : List ℕ)
+        → ⟦<FixedPayload as Payloads>⟧.gives fixed bytes ↔ (bytes ≡ fixed.payload) }
+    ensures steps { (fixed next : FixedPayload) (bytes : List ℕ)
+        → ⟦<FixedPayload as Payloads>⟧.steps fixed bytes next ↔ ((bytes ≡ fixed.payload) × (next ≡ fixed)) }
 {}
