@@ -59,7 +59,7 @@ const OF_ONES: Key = Key {
     ..OF_ZEROS
 };
 
-static KEYS: [Key; 11] = [
+static KEYS: [Key; 12] = [
     OF_ZEROS,
     OF_ONES,
     // Long varints, and unknown fields.
@@ -86,6 +86,17 @@ static KEYS: [Key; 11] = [
         message: (
             &[
                 0x08, 0x00, 0x12, 0x01, 0x07, 0x0a, 0x00, 0x08, 0x01, 0x12, 0x20,
+            ],
+            0,
+            32,
+        ),
+        ..OF_ZEROS
+    },
+    // So they do behind two others.
+    Key {
+        message: (
+            &[
+                0x08, 0x00, 0x12, 0x01, 0x07, 0x08, 0x02, 0x12, 0x01, 0x08, 0x08, 0x01, 0x12, 0x20,
             ],
             0,
             32,
