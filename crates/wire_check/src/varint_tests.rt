@@ -172,7 +172,7 @@ fn is_picked_by(number: u32, other: u32) -> bool {
 fn numbers_that_differ_in_one_bit(rt: HostRuntime) {
     for bit in 0..29u32 {
         for number in [1, 2, 3, 4, 5, 6] {
-            let other = number ^ (1 << bit);
+            let other = number ^ 1u32.wrapping_shl(bit);
             let held = is_picked_by(number, other) && is_picked_by(other, number);
             assert!(rt; held, "field {number}, bit {bit}");
         }
