@@ -34,6 +34,11 @@ const KEY_IN_PARTS: &[u8] =
     b"\x50\x0a\x26\0\x24\x08\x01\x12\x20\0\0\0\0\0\0\0\0\0\0\0\0\0\0\0\0\0\0\0\0\0\0\0\0\0\0\0\0\0\0\0\0\
     \x12\x23\x08\x01\x12\x20\0\0\0\0\0\0\0\0\0\0\0\0\0\0\0\0\0\0\0\0\0\0\0\0\0\0\0\0\0\0\0\x12\x01\0";
 
+/// The same with its key in four fields, the second of which is empty, round the id.
+const KEY_IN_MORE_PARTS: &[u8] =
+    b"\x54\x12\x01\x08\x12\x00\x0a\x26\0\x24\x08\x01\x12\x20\0\0\0\0\0\0\0\0\0\0\0\0\0\0\0\0\0\0\0\0\0\0\0\0\0\0\0\0\0\0\0\0\
+    \x12\x22\x01\x12\x20\0\0\0\0\0\0\0\0\0\0\0\0\0\0\0\0\0\0\0\0\0\0\0\0\0\0\0\0\0\0\0\x12\x01\0";
+
 /// The id of another key, with that key.
 const OTHER_ID: &[u8] =
     b"\x4e\x0a\x26\0\x24\x08\x01\x12\x20\xff\xff\xff\xff\xff\xff\xff\xff\xff\xff\xff\xff\xff\xff\xff\xff\
@@ -97,11 +102,12 @@ fn came(exchange: &mut Exchange, input: &[u8], size: usize) -> Came {
 
 // ---- inputs, however they are cut
 
-static ROWS: [(&[u8], Came); 24] = [
+static ROWS: [(&[u8], Came); 25] = [
     (MESSAGE, Ok((79, true))),
     // What follows isn't used.
     (MESSAGE_AND_MORE, Ok((79, true))),
     (KEY_IN_PARTS, Ok((81, true))),
+    (KEY_IN_MORE_PARTS, Ok((85, true))),
     // A message of 8192 bytes may come, and none of 8193.
     (b"\x80\x40", Ok((2, false))),
     (b"\x81\x40", Err(ExchangeFault::TooLong)),
@@ -172,17 +178,26 @@ fn inputs_however_they_are_cut(rt: HostRuntime) {
     }
 }
 
-/// Whether the last of two ids counts.
-fn is_last_id(alloc: Global) -> Option<bool> {
+/// Messages up to the id of the exchange, with one id before it and with two, and how many bytes they then have.
+static EARLIER_IDS: [(&[u8], usize); 2] = [
+    (b"\x50\x0a\x00", 81),
+    (b"\x53\x0a\x00\x0a\x01\x07", 84),
+];
+
+/// Whether the last of the ids counts.
+fn is_last_id(alloc: Global, front: &[u8], used: usize) -> Option<bool> {
     let mut input = Vec::new(alloc);
-    input.extend_from_slice(b"\x50\x0a\x00").ok()?;
+    input.extend_from_slice(front).ok()?;
     input.extend_from_slice(MESSAGE.get(1..)?).ok()?;
-    comes_to(alloc, &input, 7, Ok((81, true)))
+    comes_to(alloc, &input, 7, Ok((used, true)))
 }
 
 #[test]
 fn the_last_id_counts(rt: HostRuntime) {
-    assert!(rt; is_last_id(rt.alloc()) == Some(true));
+    for (row, (front, used)) in EARLIER_IDS.iter().enumerate() {
+        let held = is_last_id(rt.alloc(), *front, *used) == Some(true);
+        assert!(rt; held, "row {row}");
+    }
 }
 
 /// Whether an exchange that was fed all but the last byte is handed back, and proves by that byte.

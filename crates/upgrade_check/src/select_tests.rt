@@ -615,6 +615,102 @@ fn whole_talks_of_two_ends(rt: HostRuntime) {
     }
 }
 
+// ---- many names
+
+/// How many names an end has, each of two bytes, the first of which tell them apart.
+const MANY: usize = 90;
+
+/// The name of this index, and nothing where that is none of them.
+fn name_of(all: &str, index: usize) -> &str {
+    let at = index.saturating_mul(2);
+    match all.get(at..at.saturating_add(2)) {
+        Some(name) => name,
+        None => "",
+    }
+}
+
+/// All names, joined: each a printable letter and x.
+fn joined_names(alloc: Global) -> Result<String, AllocError> {
+    let mut all = String::new(alloc);
+    for index in 0..MANY {
+        let letter = b'!'.saturating_add(index as u8);
+        all.push(char::from(letter))?;
+        all.push('x')?;
+    }
+    Ok(all)
+}
+
+/// A text of two bytes as a message.
+fn message_of(text: &str) -> [u8; 4] {
+    let mut message = [3, 0, 0, b'\n'];
+    for (place, byte) in message.iter_mut().skip(1).zip(text.as_bytes()) {
+        *place = *byte;
+    }
+    message
+}
+
+/// Whether an end that has come so far answers this to a piece.
+fn goes_to(end: &mut End, piece: &[u8], answer: Answer) -> bool {
+    let used = piece.len();
+    end.feed(piece) == Ok(Step { used, answer })
+}
+
+/// Whether the header and so many refusals lead a dialer through as many names, and then the name of the next index is
+/// agreed on; or none is left, where each is refused.
+fn is_dialed(alloc: Global, names: &[&str], refusals: usize) -> Result<bool, SelectFault> {
+    let mut end = End::new(alloc, Role::Dialer, names)?;
+    let mut held = goes_to(&mut end, M, Answer::Going);
+    for refused in 0..refusals {
+        let is_last = refused.saturating_add(1) == names.len();
+        let answer = if is_last {
+            Answer::NoneLeft
+        } else {
+            Answer::Going
+        };
+        held = goes_to(&mut end, NA, answer) && held;
+    }
+    match names.get(refusals) {
+        Some(name) => Ok(goes_to(&mut end, &message_of(*name), Answer::Agreed(refusals)) && held),
+        None => Ok(held),
+    }
+}
+
+/// Whether a listener agrees on the name of this index, behind as many refusals.
+fn is_listened(alloc: Global, names: &[&str], index: usize) -> Result<bool, SelectFault> {
+    let mut end = End::new(alloc, Role::Listener, names)?;
+    let mut held = goes_to(&mut end, M, Answer::Going);
+    for _ in 0..index {
+        held = goes_to(&mut end, b"\x03/z\n", Answer::Going) && held;
+    }
+    match names.get(index) {
+        Some(name) => Ok(goes_to(&mut end, &message_of(*name), Answer::Agreed(index)) && held),
+        None => Ok(false),
+    }
+}
+
+/// The names of an end that has many.
+fn many<'a>(alloc: Global, all: &'a str) -> Result<Vec<&'a str>, AllocError> {
+    let mut names = Vec::new(alloc);
+    for index in 0..MANY {
+        names.push(name_of(all, index))?;
+    }
+    Ok(names)
+}
+
+#[test]
+fn ends_of_many_names(rt: HostRuntime) -> Result<(), Fail> {
+    let all = joined_names(rt.alloc())?;
+    let names = many(rt.alloc(), all.as_str())?;
+    for index in [0, 1, 2, 3, 4, 5, 6, 7, 8, 9, 16, 33, 64, 89] {
+        let is_dialed = is_dialed(rt.alloc(), &names, index) == Ok(true);
+        assert!(rt; is_dialed, "the name {index} of a dialer");
+        let is_listened = is_listened(rt.alloc(), &names, index) == Ok(true);
+        assert!(rt; is_listened, "the name {index} of a listener");
+    }
+    assert!(rt; is_dialed(rt.alloc(), &names, MANY) == Ok(true), "no name");
+    Ok(())
+}
+
 // ---- faults
 
 static FAULTS: [(SelectFault, usize, &str); 6] = [

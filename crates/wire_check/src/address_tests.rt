@@ -99,7 +99,7 @@ fn printed_forms_of_ip6(rt: HostRuntime) {
     }
 }
 
-static BAD_TEXTS: [(&str, AddrFault); 22] = [
+static BAD_TEXTS: [(&str, AddrFault); 28] = [
     ("", AddrFault::Empty),
     ("ip4/1.2.3.4", AddrFault::BadValue),
     ("/ip4", AddrFault::Cut),
@@ -107,6 +107,12 @@ static BAD_TEXTS: [(&str, AddrFault); 22] = [
     ("/quic/1", AddrFault::UnknownProtocol),
     ("/ip4/1.2.3.4/", AddrFault::UnknownProtocol),
     ("/ip4/", AddrFault::BadValue),
+    ("/tcp/", AddrFault::BadValue),
+    ("/ip6/", AddrFault::BadValue),
+    ("/dns4/", AddrFault::BadValue),
+    ("/dns6/", AddrFault::BadValue),
+    ("/p2p/", AddrFault::BadValue),
+    ("/ip4/1.2.3.4/tcp//p2p/bafzaaaa", AddrFault::BadValue),
     ("/ip4/1.2.3", AddrFault::BadValue),
     ("/ip4/1.2.3.04", AddrFault::BadValue),
     ("/ip4/1.2.3.256", AddrFault::BadValue),

@@ -214,6 +214,28 @@ fn input_ends_within_a_frame(rt: HostRuntime) {
     assert!(rt; !cutter.is_mid_frame());
 }
 
+/// How long a payload is whose length has this one bit.
+fn left_of(bit: u32) -> u32 {
+    let header = Header {
+        kind: FrameKind::Payload,
+        flags: 0,
+        stream: 9,
+        length: 1u32.wrapping_shl(bit),
+    };
+    let mut cutter = Cutter::new();
+    match cutter.feed(&header.write()) {
+        Ok(_) => cutter.bytes_left(),
+        Err(_) => 0,
+    }
+}
+
+#[test]
+fn payloads_have_up_to_32_bits_of_bytes(rt: HostRuntime) {
+    for bit in 0..32u32 {
+        assert_eq!(rt; left_of(bit), 1u32.wrapping_shl(bit), "bit {bit}");
+    }
+}
+
 #[test]
 fn fault_comes_with_its_last_byte_and_stays(rt: HostRuntime) {
     let mut cutter = Cutter::new();

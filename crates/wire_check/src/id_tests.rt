@@ -59,7 +59,7 @@ const OF_ONES: Key = Key {
     ..OF_ZEROS
 };
 
-static KEYS: [Key; 11] = [
+static KEYS: [Key; 12] = [
     OF_ZEROS,
     OF_ONES,
     // Long varints, and unknown fields.
@@ -86,6 +86,17 @@ static KEYS: [Key; 11] = [
         message: (
             &[
                 0x08, 0x00, 0x12, 0x01, 0x07, 0x0a, 0x00, 0x08, 0x01, 0x12, 0x20,
+            ],
+            0,
+            32,
+        ),
+        ..OF_ZEROS
+    },
+    // So they do behind two others.
+    Key {
+        message: (
+            &[
+                0x08, 0x00, 0x12, 0x01, 0x07, 0x08, 0x02, 0x12, 0x01, 0x08, 0x08, 0x01, 0x12, 0x20,
             ],
             0,
             32,
@@ -308,7 +319,7 @@ fn faults_of_texts(rt: HostRuntime) {
 }
 
 /// Bytes, and the text of the id that they are, if they are one.
-static MULTIHASHES: [(Bytes, Option<&str>); 10] = [
+static MULTIHASHES: [(Bytes, Option<&str>); 14] = [
     ((&[0x12, 0x20], 0, 32), Some(DIGEST_OF_ZEROS)),
     ((&[0x00, 0x00], 0, 0), Some("bafzaaaa")),
     ((&[], 0, 0), None),
@@ -320,6 +331,11 @@ static MULTIHASHES: [(Bytes, Option<&str>); 10] = [
     ((&[0x00], 43, 44), None),
     ((&[0x12], 33, 34), None),
     ((&[0x12], 0x20, 34), None),
+    // Kinds of hashes and lengths that are spelt longer than they need be.
+    ((&[0x12, 0xa0, 0x00], 0, 32), None),
+    ((&[0x92, 0x00, 0x20], 0, 32), None),
+    ((&[0x00, 0x80, 0x00], 0, 0), None),
+    ((&[0x80, 0x00, 0x00], 0, 0), None),
 ];
 
 fn is_multihash(alloc: Global, bytes: Bytes, text: Option<&str>) -> Result<bool, AllocError> {
@@ -338,6 +354,53 @@ fn ids_are_multihashes(rt: HostRuntime) -> Result<(), Fail> {
         assert!(rt; held, "row {row}");
     }
     Ok(())
+}
+
+/// Whether a hash of this kind and of this length, zeros all, is an id where it must be, and else none.
+fn is_known(kind: u8, length: u8) -> bool {
+    let mut multihash = [0; 64];
+    multihash[0] = kind;
+    multihash[1] = length;
+    let Some(bytes) = multihash.get(..usize::from(length).saturating_add(2)) else {
+        return false;
+    };
+    let is_id = (kind == 0 && length <= 42) || (kind == 18 && length == 32);
+    match PeerId::from_bytes(bytes) {
+        Ok(id) => is_id && id.as_bytes() == bytes,
+        Err(fault) => !is_id && fault == IdFault::BadHash,
+    }
+}
+
+#[test]
+fn no_other_hash_is_an_id(rt: HostRuntime) {
+    for kind in 0..=255u8 {
+        for length in [0, 1, 20, 28, 31, 32, 33, 42, 43, 48] {
+            assert!(rt; is_known(kind, length), "hash {kind} of {length} bytes");
+        }
+    }
+}
+
+/// Whether the letter is one of base32 where it must be, and else none; and whether b alone begins a text.
+fn is_in_place(letter: u8) -> bool {
+    let second = [b'b', letter, b'a'];
+    let first = [letter, b'a', b'f', b'z', b'a', b'a', b'a', b'a'];
+    let (Ok(second), Ok(first)) = (str::from_utf8(&second), str::from_utf8(&first)) else {
+        return false;
+    };
+    let fault = if matches!(letter, b'a'..=b'z' | b'2'..=b'7') {
+        IdFault::BadPrefix
+    } else {
+        IdFault::NotBase32
+    };
+    let begins = PeerId::from_text(first) != Err(IdFault::NotB);
+    PeerId::from_text(second) == Err(fault) && begins == (letter == b'b')
+}
+
+#[test]
+fn no_other_letter_is_read(rt: HostRuntime) {
+    for letter in 0..128u8 {
+        assert!(rt; is_in_place(letter), "letter {letter}");
+    }
 }
 
 /// Ids from the lowest on: the bytes decide in turn. The last is the digest of a key.

@@ -110,6 +110,75 @@ fn reads_fields_of_every_wire_type(rt: HostRuntime) {
     assert_eq!(rt; read(), 5, "so many rows hold");
 }
 
+/// A field whose tag, number or length is spelt in ten bytes, the longest that a spelling may be.
+static LONG_SPELLINGS: [(&[u8], Field<'static>); 3] = [
+    (
+        &[
+            0x88, 0x80, 0x80, 0x80, 0x80, 0x80, 0x80, 0x80, 0x80, 0x00, 7,
+        ],
+        Field {
+            number: 1,
+            value: Value::Varint(7),
+        },
+    ),
+    (
+        &[
+            0x08, 0x87, 0x80, 0x80, 0x80, 0x80, 0x80, 0x80, 0x80, 0x80, 0x00,
+        ],
+        Field {
+            number: 1,
+            value: Value::Varint(7),
+        },
+    ),
+    (
+        &[
+            0x12, 0x81, 0x80, 0x80, 0x80, 0x80, 0x80, 0x80, 0x80, 0x80, 0x00, 7,
+        ],
+        Field {
+            number: 2,
+            value: Value::Bytes(&[7]),
+        },
+    ),
+];
+
+/// Whether these bytes are this field alone.
+fn is_alone(bytes: &[u8], field: Field) -> bool {
+    let mut fields = Fields::new(bytes);
+    fields.next() == Ok(Some(field)) && fields.next() == Ok(None)
+}
+
+#[test]
+fn spellings_have_up_to_ten_bytes(rt: HostRuntime) {
+    for (row, (bytes, field)) in LONG_SPELLINGS.iter().enumerate() {
+        assert!(rt; is_alone(*bytes, *field), "row {row}");
+    }
+}
+
+/// Whether a field of this number is picked by it, and not by another that differs from it in one bit.
+fn is_picked_by(number: u32, other: u32) -> bool {
+    let held = Field {
+        number,
+        value: Value::Varint(7),
+    };
+    let body = Field {
+        number,
+        value: Value::Bytes(b"a"),
+    };
+    let is_picked = held.varint(number) == Some(7) && body.body(number) == Some(b"a".as_slice());
+    is_picked && held.varint(other).is_none() && body.body(other).is_none()
+}
+
+#[test]
+fn numbers_that_differ_in_one_bit(rt: HostRuntime) {
+    for bit in 0..29u32 {
+        for number in [1, 2, 3, 4, 5, 6] {
+            let other = number ^ 1u32.wrapping_shl(bit);
+            let held = is_picked_by(number, other) && is_picked_by(other, number);
+            assert!(rt; held, "field {number}, bit {bit}");
+        }
+    }
+}
+
 /// Messages, how many fields each has, and at last the fault, if there is one.
 static MESSAGES: [(&[u8], usize, Option<WireFault>); 9] = [
     (&[], 0, None),
