@@ -187,3 +187,23 @@ fn play<S: Script, R: Wait>(
         script,
     )
 }
+
+/// The passes of two callers.
+fn both<J: Identity, L: Ledgers>(passes: Vec<Pass<J, L>>) -> Option<(Pass<J, L>, Pass<J, L>)> {
+    let mut passes = passes;
+    let two = passes.pop()?;
+    let one = passes.pop()?;
+    Some((one, two))
+}
+
+/// Two passes as `close` takes them.
+fn in_one<J: Identity, L: Ledgers>(
+    alloc: Global,
+    one: Pass<J, L>,
+    two: Pass<J, L>,
+) -> Option<Vec<Pass<J, L>>> {
+    let mut passes = Vec::new(alloc);
+    passes.push(one).ok()?;
+    passes.push(two).ok()?;
+    Some(passes)
+}

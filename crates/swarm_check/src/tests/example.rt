@@ -2,7 +2,7 @@
 
 ghost use Rattle.std.specs.Prelude.{◌≡◌};
 
-use super::config;
+use super::{both, config, in_one};
 use pool_state::{Config, Listing};
 use std::alloc::Global;
 use std::marker::Brand;
@@ -25,29 +25,18 @@ fn call<J: Identity, L: Ledgers, R: Wait>(
     (pass, listing)
 }
 
-/// The last pass, and the one before it.
-fn last_two<J: Identity, L: Ledgers>(
-    passes: &mut Vec<Pass<J, L>>,
-) -> Option<(Pass<J, L>, Pass<J, L>)> {
-    let last = passes.pop()?;
-    let before = passes.pop()?;
-    Some((last, before))
-}
-
 /// The callers meet, and the swarm is closed.
 fn end<J: Identity, L: Ledgers, R: Wait>(
     rt: &R,
+    alloc: Global,
     swarm: Swarm<NoGate, J, L>,
-    passes: Vec<Pass<J, L>>,
     one: Pass<J, L>,
     two: Pass<J, L>,
 ) -> Option<(Listing, Closed)> {
-    let (mut passes, mut one, mut two) = (passes, one, two);
+    let (mut one, mut two) = (one, two);
     swarm.meet(rt, &mut one, &mut two);
     let listing = swarm.list(&mut one);
-    passes.push(one).ok()?;
-    passes.push(two).ok()?;
-    let closed = swarm.close(rt, passes).ok()?;
+    let closed = swarm.close(rt, in_one(alloc, one, two)?).ok()?;
     Some((listing, closed))
 }
 
@@ -85,15 +74,15 @@ fn serve<
     let made = Swarm::<NoGate, J, Eight<L1, L2, L3, L4, L5, L6, L7, L8>>::new(
         rt, alloc, config, 2, NoGate, history, ledgers,
     );
-    let (swarm, mut passes) = made.ok()?;
-    let (two, one) = last_two(&mut passes)?;
+    let (swarm, passes) = made.ok()?;
+    let (one, two) = both(passes)?;
     let shared = &swarm;
     let ((one, _), (two, _)) = join(
         rt,
         move || call(rt, shared, one),
         move || call(rt, shared, two),
     );
-    end(rt, swarm, passes, one, two)
+    end(rt, alloc, swarm, one, two)
 }
 
 #[test]

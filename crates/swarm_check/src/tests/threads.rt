@@ -5,7 +5,7 @@ ghost use Rattle.std.specs.Prelude.{◌≡◌};
 use super::crowd::{History, Told, run_caller};
 use super::gate::{ENOUGH, HoldFirst, PATIENT, Watch};
 use super::held::{hold_each_call, wait_for_the_first};
-use super::{config, peer};
+use super::{both, config, in_one, peer};
 use peer_ids::PeerId;
 use pool_state::{Config, Refusal, Reply};
 use std::alloc::{AllocError, Global};
@@ -117,14 +117,6 @@ fn dial<G: Gate, J: Identity, L: Ledgers, R: Wait>(
     (pass, reply)
 }
 
-/// The passes of two callers.
-fn both<J: Identity, L: Ledgers>(passes: Vec<Pass<J, L>>) -> Option<(Pass<J, L>, Pass<J, L>)> {
-    let mut passes = passes;
-    let two = passes.pop()?;
-    let one = passes.pop()?;
-    Some((one, two))
-}
-
 /// How many calls were made, and how many connections stand, where these are all passes.
 fn close<G: Gate, J: Identity, L: Ledgers, R: Wait>(
     rt: &R,
@@ -133,17 +125,6 @@ fn close<G: Gate, J: Identity, L: Ledgers, R: Wait>(
 ) -> Option<(u64, usize)> {
     let closed = swarm.close(rt, passes).ok()?;
     Some((closed.calls, closed.listing.conns.len()))
-}
-
-fn in_one<J: Identity, L: Ledgers>(
-    alloc: Global,
-    one: Pass<J, L>,
-    two: Pass<J, L>,
-) -> Option<Vec<Pass<J, L>>> {
-    let mut passes = Vec::new(alloc);
-    passes.push(one).ok()?;
-    passes.push(two).ok()?;
-    Some(passes)
 }
 
 /// Whether one of both dials has a connection, and each pass comes to both calls, which are all.
