@@ -1,7 +1,6 @@
 ghost use Rattle.std.specs.Prelude.{◌≡◌};
 
 mod crowd;
-mod example;
 mod gate;
 mod held;
 mod rows;

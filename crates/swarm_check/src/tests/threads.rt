@@ -21,6 +21,8 @@ use swarm_calls::{BlankHistory, BlankLedgers, Eight, Gate, Identity, Ledgers, Pa
 /// What several threads do with a swarm.
 #[derive(Clone, Copy)]
 enum Plan {
+    /// Two accept at once.
+    Accept,
     /// Two dial one peer at once.
     Dial,
     /// One lists while the other's call is held under the lock.
@@ -76,7 +78,8 @@ fn run<
         return Err(Fail::from("a swarm"));
     };
     match plan {
-        Plan::Dial => Ok(dial_at_once(rt, alloc, swarm, passes) as usize),
+        Plan::Accept => Ok(call_at_once(rt, alloc, swarm, passes, None) as usize),
+        Plan::Dial => Ok(call_at_once(rt, alloc, swarm, passes, Some(peer(0x22))) as usize),
         Plan::Hold => Ok(list_while_held(rt, swarm, passes, watch) as usize),
         Plan::Wait => Ok(call_while_held(rt, swarm, passes, watch) as usize),
         Plan::Count => hold_each_call(rt, alloc, swarm, passes, watch),
@@ -107,13 +110,21 @@ fn play<R: Threads + Wait + Clock + Sync>(
     )
 }
 
-fn dial<G: Gate, J: Identity, L: Ledgers, R: Wait>(
+/// What a caller does in its thread: it dials this peer, or accepts and lists.
+fn call<G: Gate, J: Identity, L: Ledgers, R: Wait>(
     rt: &R,
     swarm: &Swarm<G, J, L>,
     mut pass: Pass<J, L>,
-    peer: PeerId,
+    whom: Option<PeerId>,
 ) -> (Pass<J, L>, Reply) {
-    let reply = swarm.dial(rt, &mut pass, Some(peer));
+    let reply = match whom {
+        Some(_) => swarm.dial(rt, &mut pass, whom),
+        None => {
+            let reply = swarm.accept(rt, &mut pass);
+            swarm.renew(&mut pass);
+            reply
+        }
+    };
     (pass, reply)
 }
 
@@ -127,28 +138,31 @@ fn close<G: Gate, J: Identity, L: Ledgers, R: Wait>(
     Some((closed.calls, closed.listing.conns.len()))
 }
 
-/// Whether one of both dials has a connection, and each pass comes to both calls, which are all.
-fn have_dialed<G: Gate, J: Identity, L: Ledgers, R: Wait>(
+/// Whether both calls were answered so, in either order.
+fn are_answered(first: Reply, second: Reply, one: Reply, other: Reply) -> bool {
+    (first == one && second == other) || (first == other && second == one)
+}
+
+/// Whether each pass comes to both calls, which are all, and so many connections stand then.
+fn have_met<G: Gate, J: Identity, L: Ledgers, R: Wait>(
     rt: &R,
     alloc: Global,
     swarm: Swarm<G, J, L>,
-    one: (Pass<J, L>, Reply),
-    two: (Pass<J, L>, Reply),
+    one: Pass<J, L>,
+    two: Pass<J, L>,
+    conns: usize,
 ) -> bool {
-    let (mut one, first) = one;
-    let (mut two, second) = two;
-    let full = Reply::Refused(Refusal::PeerFull);
-    let conn = Reply::Conn(1);
-    let is_one = (first == conn && second == full) || (first == full && second == conn);
+    let (mut one, mut two) = (one, two);
     swarm.meet(rt, &mut one, &mut two);
-    let have_met = one.front() == 2 && two.front() == 2;
+    let are_both = one.front() == 2 && two.front() == 2;
     let Some(passes) = in_one(alloc, one, two) else {
         return false;
     };
-    close(rt, swarm, passes) == Some((2, 1)) && is_one && have_met
+    close(rt, swarm, passes) == Some((2, conns)) && are_both
 }
 
-fn dial_at_once<
+/// Two callers dial this peer, of which one alone has a connection, or accept, and both have one.
+fn call_at_once<
     G: Gate + Sync,
     J: Identity + Send + Sync,
     L1: Ledger + Send + Sync,
@@ -165,18 +179,23 @@ fn dial_at_once<
     alloc: Global,
     swarm: Swarm<G, J, Eight<L1, L2, L3, L4, L5, L6, L7, L8>>,
     passes: Vec<Pass<J, Eight<L1, L2, L3, L4, L5, L6, L7, L8>>>,
+    whom: Option<PeerId>,
 ) -> bool {
     let Some((one, two)) = both(passes) else {
         return false;
     };
-    let same = peer(0x22);
     let shared = &swarm;
-    let (one, two) = join(
+    let ((one, first), (two, second)) = join(
         rt,
-        move || dial(rt, shared, one, same),
-        move || dial(rt, shared, two, same),
+        move || call(rt, shared, one, whom),
+        move || call(rt, shared, two, whom),
     );
-    have_dialed(rt, alloc, swarm, one, two)
+    let (other, conns) = match whom {
+        Some(_) => (Reply::Refused(Refusal::PeerFull), 1),
+        None => (Reply::Conn(2), 2),
+    };
+    are_answered(first, second, Reply::Conn(1), other)
+        && have_met(rt, alloc, swarm, one, two, conns)
 }
 
 /// Lists often enough for the gate. Gives the front of the last listing.
@@ -229,7 +248,7 @@ fn list_while_held<
     let shared = &swarm;
     let (_one, mut two) = join(
         rt,
-        move || dial(rt, shared, one, first),
+        move || call(rt, shared, one, Some(first)),
         move || list_often(shared, two, watch),
     );
     has_listed(&swarm, &mut two, watch)
@@ -271,10 +290,10 @@ fn call_while_held<
     let shared = &swarm;
     let (one, two) = join(
         rt,
-        move || dial(rt, shared, one, first),
+        move || call(rt, shared, one, Some(first)),
         move || {
             wait_for_the_first(rt, watch);
-            dial(rt, shared, two, second)
+            call(rt, shared, two, Some(second))
         },
     );
     have_called(&one, &two, watch)
@@ -362,7 +381,16 @@ struct Row {
     holds: usize,
 }
 
-static ROWS: [Row; 5] = [
+static ROWS: [Row; 6] = [
+    Row {
+        plan: Plan::Accept,
+        first_front: 0,
+        per_peer: 1,
+        callers: 2,
+        listed: ENOUGH,
+        patience: PATIENT,
+        holds: 1,
+    },
     Row {
         plan: Plan::Dial,
         first_front: 0,
