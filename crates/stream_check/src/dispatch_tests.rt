@@ -250,29 +250,32 @@ fn was_handed(came: Came, direction: Direction, index: usize, bytes: &[u8]) -> b
     }
 }
 
+fn holds(alloc: Global, script: &Script, size: usize) -> Option<bool> {
+    let mut protocols = Two {
+        alloc,
+        most: script.most,
+        out_of_memory: script.out_of_memory,
+    };
+    let mut came = Came {
+        stream: stream(alloc, &protocols, script).ok()?,
+        agreed: None,
+        last: Ok(Heard::Going),
+    };
+    for piece in script.input.chunks(size.max(1)) {
+        hand(&mut protocols, script.direction, &mut came, piece);
+    }
+    let held = came.agreed == script.agreed && came.last == script.last;
+    match script.handed {
+        Some(bytes) => Some(held && was_handed(came, script.direction, 1, bytes)),
+        None => Some(held),
+    }
+}
+
 #[test]
 fn scripts_in_pieces(rt: HostRuntime) -> Result<(), Fail> {
     for size in [1, 7, 1024] {
         for (number, script) in SCRIPTS.iter().enumerate() {
-            let mut protocols = Two {
-                alloc: rt.alloc(),
-                most: script.most,
-                out_of_memory: script.out_of_memory,
-            };
-            let mut came = Came {
-                stream: stream(rt.alloc(), &protocols, script)
-                    .ok()
-                    .ok_or("a stream")?,
-                agreed: None,
-                last: Ok(Heard::Going),
-            };
-            for piece in script.input.chunks(size.max(1)) {
-                hand(&mut protocols, script.direction, &mut came, piece);
-            }
-            let mut held = came.agreed == script.agreed && came.last == script.last;
-            if let Some(bytes) = script.handed {
-                held = held && was_handed(came, script.direction, 1, bytes);
-            }
+            let held = holds(rt.alloc(), script, size) == Some(true);
             assert!(rt; held, "script {number}, in pieces of {size}");
         }
     }

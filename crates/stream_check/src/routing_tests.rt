@@ -403,20 +403,41 @@ static SCRIPTS: [Script; 6] = [
     },
 ];
 
+/// Whether all comes as the step says.
+fn holds(pair: &mut Pair, alloc: Global, step: &Step, size: usize) -> Result<bool, Fail> {
+    pair.does(step.does, size)?;
+    let is_told = match step.told {
+        Some(data) => pair.tells(alloc, data)?,
+        None => true,
+    };
+    Ok(is_told && pair.agreed == step.agreed && pair.place == step.place)
+}
+
+/// How many steps hold, from the first on.
+fn plays(pair: &mut Pair, alloc: Global, steps: &[Step], size: usize) -> Result<usize, Fail> {
+    for (row, step) in steps.iter().enumerate() {
+        if !holds(pair, alloc, step, size)? {
+            return Ok(row);
+        }
+    }
+    Ok(steps.len())
+}
+
+fn play(alloc: Global, script: &Script, size: usize) -> Result<usize, Fail> {
+    let mut pair = begin(alloc, script.direction, script.most)?;
+    plays(&mut pair, alloc, script.steps, size)
+}
+
 #[test]
 fn scripts_in_pieces(rt: HostRuntime) -> Result<(), Fail> {
     for size in [1, 7, 1024] {
         for (number, script) in SCRIPTS.iter().enumerate() {
-            let mut pair = begin(rt.alloc(), script.direction, script.most)?;
-            for (row, step) in script.steps.iter().enumerate() {
-                pair.does(step.does, size)?;
-                let is_told = match step.told {
-                    Some(data) => pair.tells(rt.alloc(), data)?,
-                    None => true,
-                };
-                let held = is_told && pair.agreed == step.agreed && pair.place == step.place;
-                assert!(rt; held, "script {number}, row {row}, in pieces of {size}");
-            }
+            let held = play(rt.alloc(), script, size)?;
+            assert_eq!(rt;
+                held,
+                script.steps.len(),
+                "script {number}, in pieces of {size}: so many rows hold"
+            );
         }
     }
     Ok(())
