@@ -1,0 +1,4 @@
+pub mod Lists
+pub mod Moved
+pub mod Unlinked
+pub mod Standing

@@ -1,0 +1,19 @@
+-- Lists in turn.
+use Rattle.std.proofs.Common.{◌≡◌, ℕ, Bool, true, false, List, [], ◌∷◌, ◌++◌, take, drop, length, refl, sym, ap, ◌∙◌, append_assoc}
+use Rattle.std.proofs.lemmas.List.{append-nil, take-append-drop}
+
+pub none_of : {A : Type 0} (xs : List A) → length xs ≡ 0 → xs ≡ []
+none_of [] is = refl
+none_of (x ∷ xs) is = absurd (cc is)
+
+pub one_on : {A : Type 0} (before : List A) (x : A) (behind : List A) → before ++ x ∷ behind ≡ (before ++ x ∷ []) ++ behind
+one_on before x behind = sym (append_assoc before (x ∷ []) behind)
+
+-- what is behind the first part
+pub rest_of : (took left : List ℕ) (count : ℕ) → took ++ left ≡ (took ++ take count left) ++ drop count left
+rest_of took left count =
+    ap (λ l. took ++ l) (sym (take-append-drop count left)) ∙ sym (append_assoc took (take count left) (drop count left))
+
+pub not_true : (b : Bool) → (b ≡ true → ⊥) → b ≡ false
+not_true false never = refl
+not_true true never = absurd (never refl)
