@@ -1,6 +1,7 @@
 -- Lists in turn.
-use Rattle.std.proofs.Common.{◌≡◌, ℕ, Bool, true, false, List, [], ◌∷◌, ◌++◌, take, drop, length, refl, sym, ap, ◌∙◌, append_assoc}
+use Rattle.std.proofs.Common.{◌≡◌, ℕ, Bool, true, false, List, [], ◌∷◌, ◌++◌, take, drop, length, refl, sym, ap, ◌∙◌, subst, append_assoc}
 use Rattle.std.proofs.lemmas.List.{append-nil, take-append-drop}
+use Rattle.std.proofs.Math.Seq.{take-append_seam}
 
 pub none_of : {A : Type 0} (xs : List A) → length xs ≡ 0 → xs ≡ []
 none_of [] is = refl
@@ -17,3 +18,8 @@ rest_of took left count =
 pub not_true : (b : Bool) → (b ≡ true → ⊥) → b ≡ false
 not_true false never = refl
 not_true true never = absurd (never refl)
+
+-- what stands in a vector whose room was written as a slice
+pub written_back : (len : ℕ) (buffer items : List ℕ) → length buffer ≡ len → take len (buffer ++ drop (length buffer) items) ≡ buffer
+written_back len buffer items is =
+    subst (λ (n : ℕ). take n (buffer ++ drop (length buffer) items) ≡ buffer) is (take-append_seam buffer (drop (length buffer) items))

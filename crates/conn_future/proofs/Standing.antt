@@ -18,7 +18,8 @@ use Rattle.conn_future.specs.Stages.{is_live}
 use Rattle.conn_future.specs.Follows.{CoreStands, Joins, GoesOn, Parts, Ends, Stays}
 use Rattle.conn_future.specs.Follows.Ends.{Told, Failed, Refused, Shut}
 use Rattle.conn_future.proofs.Lists.{one_on, rest_of}
-use Rattle.conn_future.proofs.Unlinked.{never_links, fresh_goes_on, same_over}
+use Rattle.conn_core.specs.Runs.{is_end}
+use Rattle.conn_future.proofs.Unlinked.{never_links, none_behind_end, none_ends, fresh_goes_on, same_over}
 
 module _ {L P H : Type 0} (link : LinkGhosts L) (protocols : ProtocolsGhosts P H) (handler : HandlerGhosts H)
     (eager : ℕ → Bool) (names : List (List ℕ)) (role : ConnRole) (own : Key) where
@@ -62,6 +63,7 @@ module _ {L P H : Type 0} (link : LinkGhosts L) (protocols : ProtocolsGhosts P H
         core = parts.core;
         moved = parts.moved;
         stands = subst (λ (told : List (ConnEvent H)). CoreStands link protocols handler eager names role own parts.given parts.ended asked told (parts.took ++ parts.left) parts.core) (one_on gave e held) parts.stands;
+        goes_on = parts.goes_on;
       }
   stays_give first asked gave now core left e held all Over is (Told ended rest over joins) =
       Told ended rest over (joins_give first asked gave ended now core rest e held (subst (λ (l : List (ConnEvent H)). Joins link protocols handler eager names role own first asked gave ended now core rest l) is joins))
@@ -199,10 +201,10 @@ module _ {L P H : Type 0} (link : LinkGhosts L) (protocols : ProtocolsGhosts P H
 
   -- ---- memory was refused
 
-  pub parts_of : (first : L) (asked : List (ℕ × ℕ)) (gave : List (ConnEvent H)) (ended : Bool) (now next : L) (core : ConnCore P H) (left : List ℕ) (held after : List (ConnEvent H)) → next ≡ now → after ≡ held
+  pub parts_of : (first : L) (asked : List (ℕ × ℕ)) (gave : List (ConnEvent H)) (ended : Bool) (now next : L) (core : ConnCore P H) (left : List ℕ) (held after : List (ConnEvent H)) → next ≡ now → after ≡ held → is_over core.phase ≡ false
       → Joins link protocols handler eager names role own first asked gave ended now core left held
       → Parts link protocols handler eager names role own first asked gave next after
-  parts_of first asked gave ended now next core left held after same kept joins = record {
+  parts_of first asked gave ended now next core left held after same kept goes joins = record {
     given = joins.given;
     lost = [];
     took = joins.took;
@@ -211,6 +213,7 @@ module _ {L P H : Type 0} (link : LinkGhosts L) (protocols : ProtocolsGhosts P H
     core = core;
     moved = subst (λ (l : List ℕ). link.moves first l joins.took next) (sym (append-nil joins.given)) (subst (λ (l : L). link.moves first joins.given joins.took l) (sym same) joins.moved);
     stands = subst (λ (l : List (ConnEvent H)). CoreStands link protocols handler eager names role own joins.given ended asked (gave ++ l) (joins.took ++ left) core) (sym kept) joins.stands;
+    goes_on = goes;
   }
 
   -- what the link gave last was lost
@@ -227,6 +230,7 @@ module _ {L P H : Type 0} (link : LinkGhosts L) (protocols : ProtocolsGhosts P H
     moved = subst (λ (l : L). link.moves first (goes.joins.given ++ piece) goes.joins.took l) (sym same)
         (subst (λ (l : List ℕ). link.moves first (goes.joins.given ++ piece) l now) (append-nil goes.joins.took) (on first before now goes.joins.given goes.joins.took piece [] goes.joins.moved moved));
     stands = subst (λ (l : List (ConnEvent H)). CoreStands link protocols handler eager names role own goes.joins.given false asked (gave ++ l) (goes.joins.took ++ left) core) (sym none) goes.joins.stands;
+    goes_on = goes.goes_on;
   }
 
   pub parts_stay : (first : L) (asked : List (ℕ × ℕ)) (gave : List (ConnEvent H)) (now next : L) (core : ConnCore P H) (left : List ℕ) (held after : List (ConnEvent H)) (stage : Stage) → stage ≡ Starved → next ≡ now → after ≡ held
@@ -369,3 +373,41 @@ module _ {L P H : Type 0} (link : LinkGhosts L) (protocols : ProtocolsGhosts P H
         stands = there;
       } in goes_collected first opened gave false now after mid next left more held kept collected same is refl
       (over ∙ (same_over link protocols handler eager names role own goes.joins.given goes.joins.given false false opened asked (gave ++ held) _ _ mid core there goes.joins.stands ∙ goes.goes_on)) none joins
+
+  -- ---- behind a Fault or Shut
+
+  joins_end : (first : L) (asked : List (ℕ × ℕ)) (gave : List (ConnEvent H)) (last : ConnEvent H) (ended : Bool) (now : L) (core : ConnCore P H) (left : List ℕ) (held : List (ConnEvent H))
+      → Joins link protocols handler eager names role own first asked (gave ++ last ∷ []) ended now core left held → is_end last ≡ true → held ≡ []
+  joins_end first asked gave last ended now core left held joins ends =
+      none_behind_end link protocols handler eager names role own joins.given ended asked gave last held (joins.took ++ left) core ends
+      (subst (λ (told : List (ConnEvent H)). CoreStands link protocols handler eager names role own joins.given ended asked told (joins.took ++ left) core) (sym (one_on gave last held)) joins.stands)
+
+  goes_end : (first : L) (asked : List (ℕ × ℕ)) (gave : List (ConnEvent H)) (last : ConnEvent H) (now : L) (core : ConnCore P H) (left : List ℕ) (held : List (ConnEvent H))
+      → GoesOn link protocols handler eager names role own first asked (gave ++ last ∷ []) now core left held → is_end last ≡ true → ⊥
+  goes_end first asked gave last now core left held goes ends =
+      none_ends link protocols handler eager names role own goes.joins.given false asked gave last held (goes.joins.took ++ left) core ends
+      (subst (λ (told : List (ConnEvent H)). CoreStands link protocols handler eager names role own goes.joins.given false asked told (goes.joins.took ++ left) core) (sym (one_on gave last held)) goes.joins.stands)
+      goes.goes_on
+
+  pub stays_end : (first : L) (asked : List (ℕ × ℕ)) (gave : List (ConnEvent H)) (last : ConnEvent H) (now : L) (core : ConnCore P H) (left : List ℕ) (held : List (ConnEvent H)) (stage : Stage)
+      → Stays link protocols handler eager names role own first asked (gave ++ last ∷ []) now core left held stage → is_end last ≡ true
+      → (stage ≡ Over) × (held ≡ [])
+  stays_end first asked gave last now core left held Going stays ends = absurd (goes_end first asked gave last now core left held stays ends)
+  stays_end first asked gave last now core left held Shutting stays ends = absurd (goes_end first asked gave last now core left held stays ends)
+  stays_end first asked gave last now core left held Starved parts ends =
+      absurd (none_ends link protocols handler eager names role own parts.given parts.ended asked gave last held (parts.took ++ parts.left) parts.core ends
+      (subst (λ (told : List (ConnEvent H)). CoreStands link protocols handler eager names role own parts.given parts.ended asked told (parts.took ++ parts.left) parts.core) (sym (one_on gave last held)) parts.stands)
+      parts.goes_on)
+  stays_end first asked gave last now core left held Over (Told ended rest over joins) ends = (refl, joins_end first asked gave last ended now core rest held joins ends)
+  stays_end first asked gave last now core left held Over (Failed before rest none gave_is joins) ends = (refl, none)
+  stays_end first asked gave last now core left held Over (Refused before none gave_is parts) ends = (refl, none)
+  stays_end first asked gave last now core left held Over (Shut before none gave_is is_shut joins) ends = (refl, none)
+
+  -- the core took no stream
+  pub stays_same_core : (first : L) (asked : List (ℕ × ℕ)) (gave : List (ConnEvent H)) (now : L) (core next : ConnCore P H) (left : List ℕ) (held : List (ConnEvent H)) (stage : Stage)
+      → next ≡ core
+      → Stays link protocols handler eager names role own first asked gave now core left held stage
+      → Stays link protocols handler eager names role own first asked (gave ++ []) now next left held stage
+  stays_same_core first asked gave now core next left held stage same stays =
+      subst (λ (c : ConnCore P H). Stays link protocols handler eager names role own first asked (gave ++ []) now c left held stage) (sym same)
+      (stays_none first asked gave now core left held held stage refl stays)

@@ -14,6 +14,7 @@ use Rattle.conn_log.specs.declared.event.ConnEvent.TheVariants as event
 use Rattle.conn_log.specs.declared.event.ConnFault.TheVariants as fault
 use Rattle.conn_core.specs.declared.connection.ConnCore.{ConnCore}
 use Rattle.conn_core.specs.Connects.{Stands, is_over, waiting_in}
+use Rattle.conn_core.specs.Runs.{is_end}
 use Rattle.conn_future.specs.declared.stage.Stage.{Stage}
 use Rattle.conn_future.specs.declared.stage.Stage.TheVariants.{Going, Shutting, Starved, Over}
 use Rattle.conn_future.specs.declared.conn.Conn.{Conn}
@@ -61,6 +62,7 @@ module _ {L P H : Type 0} (link : LinkGhosts L) (protocols : ProtocolsGhosts P H
     pub core : ConnCore P H
     pub moved : link.moves first (given ++ lost) took now
     pub stands : CoreStands given ended asked (gave ++ held) (took ++ left) core
+    pub goes_on : is_over core.phase ≡ false
 
   -- why it makes no link call more
   pub data Ends (first : L) (asked : List (ℕ × ℕ)) (gave : List (ConnEvent H)) (now : L) (core : ConnCore P H)
@@ -102,3 +104,12 @@ Carries link protocols handler old events new =
     (gave : List (ConnEvent _))
     → Follows link protocols handler eager names role own first asked gave old
     → Follows link protocols handler eager names role own first asked (gave ++ events) new
+
+-- Behind a Fault or Shut it is over, and no event is held: it gives none more, and makes no link call.
+abbrev pub EndsBehind : {L P H : Type 0} (link : LinkGhosts L) (protocols : ProtocolsGhosts P H)
+    (handler : HandlerGhosts H) → Type 0
+EndsBehind {L} {P} {H} link protocols handler =
+    (eager : ℕ → Bool) (names : List (List ℕ)) (role : ConnRole) (own : Key) (first : L) (asked : List (ℕ × ℕ))
+    (gave : List (ConnEvent H)) (last : ConnEvent H) (conn : Conn L P H link protocols handler)
+    → Follows link protocols handler eager names role own first asked (gave ++ last ∷ []) conn → is_end last ≡ true
+    → (conn.stage ≡ Over) × (conn.held.items ≡ [])

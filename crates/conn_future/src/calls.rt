@@ -103,11 +103,13 @@ impl<L: Link, P: Protocols> Conn<L, P> {
                 };
                 Ok(number)
             }
-            Err(ConnRefused::OutOfMemory) => {
-                self.stop(Stage::Starved);
-                Err(ConnRefused::OutOfMemory)
-            }
-            Err(refused) => Err(refused),
+            Err(refused) => match refused {
+                ConnRefused::OutOfMemory => {
+                    self.stop(Stage::Starved);
+                    Err(ConnRefused::OutOfMemory)
+                }
+                refused => Err(refused),
+            },
         }
     }
 
@@ -141,7 +143,8 @@ impl<L: Link, P: Protocols> Conn<L, P> {
             → (result ≡ Ready (Some event)) × (self.new.held.items ≡ rest) × (self.new.stage ≡ self.old.stage)
             × (self.new.link ≡ self.old.link) }
         ensures starved { self.old.held.items ≡ [] → self.old.stage ≡ Stage.Starved
-            → result ≡ Ready (Some (event.Fault fault.OutOfMemory)) }
+            → (result ≡ Ready (Some (event.Fault fault.OutOfMemory))) × (self.new.held.items ≡ [])
+            × (self.new.stage ≡ Stage.Over) }
         ensures over { self.old.held.items ≡ [] → self.old.stage ≡ Stage.Over
             → (result ≡ Ready None) × (self.new.held.items ≡ []) × (self.new.stage ≡ Stage.Over) }
         ensures no_call { is_live self.old.stage ≡ false → self.new.link ≡ self.old.link }

@@ -1,6 +1,6 @@
 //! A connection over a link.
 
-ghost use Rattle.std.specs.Prelude.{◌≡◌, ◌-◌, ◌<◌, ◌^◌, true};
+ghost use Rattle.std.specs.Prelude.{◌≡◌, ◌-◌, ◌<◌, ◌^◌, true, false, []};
 ghost use Rattle.conn_future.specs.Stages.{is_live};
 
 use crate::stage::Stage;
@@ -27,4 +27,6 @@ pub struct Conn<L: Link, P: Protocols> {
     pub(crate) alloc: Global,
     // A call of the link that fails is counted.
     ghost can_fail: { is_live stage ≡ true → L.failed link < 2 ^ 64 - 1 },
+    // Where it makes no call more, the output that was left is dropped.
+    ghost none_left: { is_live stage ≡ false → unsent ≡ [] },
 }

@@ -24,7 +24,8 @@ impl<L: Link, P: Protocols> Conn<L, P> {
         ensures held { (event : ConnEvent P.H) (rest : List (ConnEvent P.H)) → self.old.held.items ≡ event ∷ rest
             → (result ≡ Some event) × (self.new.held.items ≡ rest) × (self.new.stage ≡ self.old.stage) }
         ensures starved { self.old.held.items ≡ [] → self.old.stage ≡ Stage.Starved
-            → (result ≡ Some (event.Fault fault.OutOfMemory)) × (self.new.stage ≡ Stage.Over) }
+            → (result ≡ Some (event.Fault fault.OutOfMemory)) × (self.new.held.items ≡ [])
+            × (self.new.stage ≡ Stage.Over) }
         ensures none { self.old.held.items ≡ [] → self.old.stage ≢ Stage.Starved → (result ≡ None)
             × (self.new.held.items ≡ []) × (self.new.stage ≡ self.old.stage) }
         ensures link { self.new.link ≡ self.old.link }
@@ -54,7 +55,7 @@ impl<L: Link, P: Protocols> Conn<L, P> {
         ensures core { self.new.core ≡ self.old.core }
         ensures held { self.new.held ≡ self.old.held }
     {
-        self.stage = stage;
         self.unsent = Unsent::none(self.alloc);
+        self.stage = stage;
     }
 }

@@ -40,6 +40,7 @@ use std::mem;
 impl<L: Link, P: Protocols> Conn<L, P> {
     // Moves what the core has written behind what is left.
     pub(crate) fn collect(&mut self) -> Result<(), AllocError>
+        requires { self.old.stage ≡ Stage.Going }
         ensures stands { (eager : ℕ → Bool) (names : List (List ℕ)) (role : ConnRole) (own : Key)
             (input taken : List ℕ) (ended : Bool) (asked : List (ℕ × ℕ)) (told : List (ConnEvent P.H))
             → Stands P.H.steps P.H.fails P.H.is_closed P.H.is_finished P.makes_inbound P.makes_outbound P.listed

@@ -6,6 +6,7 @@ mod calls;
 mod conn;
 mod giving;
 mod hearing;
+pub mod laws;
 mod stage;
 mod turns;
 mod unsent;

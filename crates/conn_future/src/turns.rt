@@ -86,8 +86,8 @@ impl<L: Link, P: Protocols> Conn<L, P> {
                 Turn::Again
             }
             Poll::Ready(Err(_fault)) => {
-                self.stage = Stage::Over;
                 self.unsent = Unsent::none(self.alloc);
+                self.stage = Stage::Over;
                 Turn::Failed
             }
             Poll::Pending => {
@@ -121,8 +121,8 @@ impl<L: Link, P: Protocols> Conn<L, P> {
             Poll::Ready(Ok(0)) => self.end(),
             Poll::Ready(Ok(count)) => self.hear(count),
             Poll::Ready(Err(_fault)) => {
-                self.stage = Stage::Over;
                 self.unsent = Unsent::none(self.alloc);
+                self.stage = Stage::Over;
                 Turn::Failed
             }
             Poll::Pending => {
@@ -152,13 +152,13 @@ impl<L: Link, P: Protocols> Conn<L, P> {
     {
         match self.link.poll_shut(cx) {
             Poll::Ready(Ok(())) => {
-                self.stage = Stage::Over;
                 self.unsent = Unsent::none(self.alloc);
+                self.stage = Stage::Over;
                 Turn::Give(Some(ConnEvent::Shut))
             }
             Poll::Ready(Err(_fault)) => {
-                self.stage = Stage::Over;
                 self.unsent = Unsent::none(self.alloc);
+                self.stage = Stage::Over;
                 Turn::Failed
             }
             Poll::Pending => Turn::Wait,

@@ -18,10 +18,10 @@ pub returns-in-Err-clause-follows : goal.returns-in-Err-clause-follows
 returns-in-Err-clause-follows g c eager names role own first asked gave goes reached =
     c.starve.ensures.follows eager names role own first asked gave
     (parts_of g.L.Link g.P.Protocols g.P.H.Handler eager names role own first asked gave false c.args.self.now.link c.args.self.now.link c.args.self.now.core c.args.self.now.unsent [] c.args.self.now.held.items
-    refl c.requires.none_held goes.joins)
+    refl c.requires.none_held goes.goes_on goes.joins)
 
 pub returns-in-Err-clause-not_link : goal.returns-in-Err-clause-not_link
 returns-in-Err-clause-not_link g c eager names role own first asked gave goes reached =
     c.starve.ensures.not_link eager names role own first asked gave
     (parts_of g.L.Link g.P.Protocols g.P.H.Handler eager names role own first asked gave false c.args.self.now.link c.args.self.now.link c.args.self.now.core c.args.self.now.unsent [] c.args.self.now.held.items
-    refl c.requires.none_held goes.joins)
+    refl c.requires.none_held goes.goes_on goes.joins)

@@ -1,8 +1,10 @@
-use Rattle.std.proofs.Common.{◌≡◌, ◌∙◌, ℕ, List, [], ◌++◌, rules, refl, ap, sym, subst}
+use Rattle.std.proofs.Common.{◌≡◌, ◌∙◌, ℕ, List, [], ◌++◌, length, deque_len, arith, rules, refl, ap, sym, subst}
+use Rattle.std.proofs.lemmas.Bool.{eqb-true}
 use Rattle.std.proofs.lemmas.List.{append-nil}
 use Rattle.conn_log.specs.declared.event.ConnEvent.{ConnEvent}
 use Rattle.conn_future.specs.Stages.{is_live}
-use Rattle.conn_future.specs.Follows.{Follows}
+use Rattle.conn_future.specs.Follows.{Follows, given_by}
+use Rattle.conn_future.proofs.Lists.{none_of}
 use Rattle.conn_future.proofs.Moved.{shut_on}
 use Rattle.conn_future.proofs.conn.Conn.poll.Goals as goal
 
@@ -10,16 +12,19 @@ pub returns-then-not-is_empty-clause-fault : goal.returns-then-not-is_empty-clau
 returns-then-not-is_empty-clause-fault g c eager names role own first asked gave stays is = absurd (c.give.ensures.not_link eager names role own first asked gave stays (cc is))
 
 pub loop-init : goal.loop-init
-loop-init g c = record {
-  live = search rules;
-  stage = refl;
-  none_held = search rules;
-  failures = refl;
-  follows = λ eager names role own first asked gave stays. stays;
-  shutting = λ is. ([], g.met.L.Link.moves_nothing c.args.self.now.link);
-  waits = record { reading = λ is. absurd (cc is); writing = λ is. absurd (cc is) };
-  kept = λ fact holds. holds;
-}
+loop-init g c =
+    let empty = eqb-true (deque_len c.args.self.now.held) 0 (sym c.is_empty.ensures ∙ c.if-not-is_empty.false) in
+    let none : length c.args.self.now.held.items ≡ 0 = omega (arith, empty, c.args.self.now.held.ok) in
+    record {
+      live = sym c.is_live.ensures ∙ c.if-not-is_live.false;
+      stage = refl;
+      none_held = none_of c.args.self.now.held.items none;
+      failures = refl;
+      follows = λ eager names role own first asked gave stays. stays;
+      shutting = λ is. ([], g.met.L.Link.moves_nothing c.args.self.now.link);
+      waits = record { reading = λ is. absurd (cc is); writing = λ is. absurd (cc is) };
+      kept = λ fact holds. holds;
+    }
 
 pub loop-preserved : goal.loop-preserved
 loop-preserved g c = record {
@@ -61,3 +66,7 @@ returns-in-Give-clause-fault g c eager names role own first asked gave stays is 
 
 pub returns-in-Wait-clause-registered : goal.returns-in-Wait-clause-registered
 returns-in-Wait-clause-registered g c = c.in-Wait.ensures.covers c.loop.invariant.waits
+
+pub returns-clause-follows : goal.returns-clause-follows
+returns-clause-follows g c eager names role own first asked gave stays = subst (λ (l : List (ConnEvent _)). Follows g.L.Link g.P.Protocols g.P.H.Handler eager names role own first asked l c.loop.self) (sym (ap (λ p. gave ++ given_by p) c.yield_now.ensures.pending ∙ append-nil gave))
+    (c.loop.invariant.follows eager names role own first asked gave stays)

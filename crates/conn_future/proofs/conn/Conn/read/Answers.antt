@@ -1,19 +1,22 @@
 use Rattle.std.proofs.Common.{◌≡◌, ◌∙◌, List, ℕ, [], false, refl, ap, sym, subst}
 use Rattle.conn_future.specs.Stages.{is_live}
 use Rattle.conn_future.proofs.Moved.{of_count, of_fault, of_pending}
-use Rattle.conn_future.proofs.Standing.{parts_of, goes_of, goes_still, stays_failed, stays_pending}
+use Rattle.conn_future.proofs.Lists.{written_back}
+use Rattle.conn_future.proofs.Standing.{parts_of, goes_of, goes_still, goes_none, stays_failed, stays_pending}
 use Rattle.conn_future.proofs.conn.Conn.read.Goals as goal
 
 pub returns-in_default-clause-follows : goal.returns-in_default-clause-follows
 returns-in_default-clause-follows g c eager names role own first asked gave stays =
     c.starve.ensures.follows eager names role own first asked gave
     (parts_of g.L.Link g.P.Protocols g.P.H.Handler eager names role own first asked gave false c.args.self.now.link c.args.self.now.link c.args.self.now.core c.args.self.now.unsent c.args.self.now.held.items c.args.self.now.held.items refl refl
+    (goes_of g.L.Link g.P.Protocols g.P.H.Handler eager names role own first asked gave c.args.self.now.link c.args.self.now.core c.args.self.now.unsent c.args.self.now.held.items c.args.self.now.stage c.requires.going stays).goes_on
     (goes_of g.L.Link g.P.Protocols g.P.H.Handler eager names role own first asked gave c.args.self.now.link c.args.self.now.core c.args.self.now.unsent c.args.self.now.held.items c.args.self.now.stage c.requires.going stays).joins)
 
 pub returns-in_default-clause-not_link : goal.returns-in_default-clause-not_link
 returns-in_default-clause-not_link g c eager names role own first asked gave stays =
     c.starve.ensures.not_link eager names role own first asked gave
     (parts_of g.L.Link g.P.Protocols g.P.H.Handler eager names role own first asked gave false c.args.self.now.link c.args.self.now.link c.args.self.now.core c.args.self.now.unsent c.args.self.now.held.items c.args.self.now.held.items refl refl
+    (goes_of g.L.Link g.P.Protocols g.P.H.Handler eager names role own first asked gave c.args.self.now.link c.args.self.now.core c.args.self.now.unsent c.args.self.now.held.items c.args.self.now.stage c.requires.going stays).goes_on
     (goes_of g.L.Link g.P.Protocols g.P.H.Handler eager names role own first asked gave c.args.self.now.link c.args.self.now.core c.args.self.now.unsent c.args.self.now.held.items c.args.self.now.stage c.requires.going stays).joins)
 
 pub returns-in-Ready-Ok-eq0-clause-follows : goal.returns-in-Ready-Ok-eq0-clause-follows
@@ -43,3 +46,21 @@ returns-in-Pending-clause-follows g c eager names role own first asked gave stay
     c.args.self.now.held.items c.args.self.now.stage (ap is_live c.requires.going) stays
     (subst (λ (l : List ℕ). g.L.Link.moves c.args.self.now.link l [] c.poll_read.new.self)
     (of_pending c.poll_read.result _ c.in-Pending.is) c.poll_read.ensures.moved)
+
+pub returns-in-Ready-Ok-clause-follows : goal.returns-in-Ready-Ok-clause-follows
+returns-in-Ready-Ok-clause-follows g c eager names role own first asked gave stays =
+    c.hear.ensures.follows eager names role own first asked gave c.args.self.now.link
+    (goes_none g.L.Link g.P.Protocols g.P.H.Handler eager names role own first asked gave c.args.self.now.link c.args.self.now.core c.args.self.now.unsent c.args.self.now.held.items c.args.self.now.stage
+    c.requires.going c.requires.none_held stays)
+    (subst (λ (l : List ℕ). g.L.Link.moves c.args.self.now.link l [] c.poll_read.new.self)
+    (of_count c.poll_read.result c.poll_read.new.buffer _ c.in-Ready-Ok.count (cc (c.in-Ready-Ok.is, c.in-Ready-Ok.field-0-is))
+    (sym (written_back c.fill.new.kept.len c.poll_read.new.buffer c.fill.new.kept.items (c.poll_read.auto.buffer ∙ c.as_mut_slice.ensures.len)))) c.poll_read.ensures.moved)
+
+pub returns-in-Ready-Ok-clause-not_link : goal.returns-in-Ready-Ok-clause-not_link
+returns-in-Ready-Ok-clause-not_link g c eager names role own first asked gave stays =
+    c.hear.ensures.not_link eager names role own first asked gave c.args.self.now.link
+    (goes_none g.L.Link g.P.Protocols g.P.H.Handler eager names role own first asked gave c.args.self.now.link c.args.self.now.core c.args.self.now.unsent c.args.self.now.held.items c.args.self.now.stage
+    c.requires.going c.requires.none_held stays)
+    (subst (λ (l : List ℕ). g.L.Link.moves c.args.self.now.link l [] c.poll_read.new.self)
+    (of_count c.poll_read.result c.poll_read.new.buffer _ c.in-Ready-Ok.count (cc (c.in-Ready-Ok.is, c.in-Ready-Ok.field-0-is))
+    (sym (written_back c.fill.new.kept.len c.poll_read.new.buffer c.fill.new.kept.items (c.poll_read.auto.buffer ∙ c.as_mut_slice.ensures.len)))) c.poll_read.ensures.moved)

@@ -22,13 +22,13 @@ pub returns-in_default-clause-follows : goal.returns-in_default-clause-follows
 returns-in_default-clause-follows g c eager names role own first asked gave ended joins ends =
     c.starve.ensures.follows eager names role own first asked gave
     (parts_of g.L.Link g.P.Protocols g.P.H.Handler eager names role own first asked gave ended c.args.self.now.link c.collect.new.self.link c.args.self.now.core c.args.self.now.unsent c.args.events.items
-    c.collect.new.self.held.items c.collect.ensures.link (ap (λ h. h.items) c.collect.ensures.held ∙ c.from.ensures.0) joins)
+    c.collect.new.self.held.items c.collect.ensures.link (ap (λ h. h.items) c.collect.ensures.held ∙ c.from.ensures.0) (sym c.is_over.ensures ∙ c.if-is_over.false) joins)
 
 pub returns-in_default-clause-not_link : goal.returns-in_default-clause-not_link
 returns-in_default-clause-not_link g c eager names role own first asked gave ended joins ends is =
     c.starve.ensures.not_link eager names role own first asked gave
     (parts_of g.L.Link g.P.Protocols g.P.H.Handler eager names role own first asked gave ended c.args.self.now.link c.collect.new.self.link c.args.self.now.core c.args.self.now.unsent c.args.events.items
-    c.collect.new.self.held.items c.collect.ensures.link (ap (λ h. h.items) c.collect.ensures.held ∙ c.from.ensures.0) joins) is
+    c.collect.new.self.held.items c.collect.ensures.link (ap (λ h. h.items) c.collect.ensures.held ∙ c.from.ensures.0) (sym c.is_over.ensures ∙ c.if-is_over.false) joins) is
 
 pub returns-then-is_empty-clause-follows : goal.returns-then-is_empty-clause-follows
 returns-then-is_empty-clause-follows g c eager names role own first asked gave ended joins ends =
