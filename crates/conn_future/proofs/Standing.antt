@@ -18,8 +18,8 @@ use Rattle.conn_future.specs.Stages.{is_live}
 use Rattle.conn_future.specs.Follows.{CoreStands, Joins, GoesOn, Parts, Ends, Stays}
 use Rattle.conn_future.specs.Follows.Ends.{Told, Failed, Refused, Shut}
 use Rattle.conn_future.proofs.Lists.{one_on, rest_of}
-use Rattle.conn_core.specs.Runs.{is_end}
-use Rattle.conn_future.proofs.Unlinked.{never_links, none_behind_end, none_ends, fresh_goes_on, same_over}
+use Rattle.conn_core.specs.Runs.{is_end, has_ended}
+use Rattle.conn_future.proofs.Unlinked.{never_links, none_behind_end, none_ends, over_is, fresh_goes_on, same_over}
 
 module _ {L P H : Type 0} (link : LinkGhosts L) (protocols : ProtocolsGhosts P H) (handler : HandlerGhosts H)
     (eager : ℕ → Bool) (names : List (List ℕ)) (role : ConnRole) (own : Key) where
@@ -411,3 +411,21 @@ module _ {L P H : Type 0} (link : LinkGhosts L) (protocols : ProtocolsGhosts P H
   stays_same_core first asked gave now core next left held stage same stays =
       subst (λ (c : ConnCore P H). Stays link protocols handler eager names role own first asked (gave ++ []) now c left held stage) (sym same)
       (stays_none first asked gave now core left held held stage refl stays)
+
+  -- ---- something is told where it comes to its end
+
+  -- one that goes on and holds none has given no end
+  pub goes_unended : (first : L) (asked : List (ℕ × ℕ)) (gave : List (ConnEvent H)) (now : L) (core : ConnCore P H) (left : List ℕ)
+      → GoesOn link protocols handler eager names role own first asked gave now core left [] → has_ended gave ≡ false
+  goes_unended first asked gave now core left goes =
+      subst (λ (told : List (ConnEvent H)). has_ended told ≡ false) (append-nil gave)
+      (over_is link protocols handler eager names role own goes.joins.given false asked (gave ++ []) (goes.joins.took ++ left) core goes.joins.stands ∙ goes.goes_on)
+
+  pub tells_some : (first : L) (asked : List (ℕ × ℕ)) (gave : List (ConnEvent H)) (ended : Bool) (now : L) (core : ConnCore P H) (left : List ℕ) (events : List (ConnEvent H))
+      → Joins link protocols handler eager names role own first asked gave ended now core left events → has_ended gave ≡ false → is_over core.phase ≡ true
+      → events ≡ [] → ⊥
+  tells_some first asked gave ended now core left events joins unended over none =
+      let told : has_ended (gave ++ events) ≡ is_over core.phase = over_is link protocols handler eager names role own joins.given ended asked (gave ++ events) (joins.took ++ left) core joins.stands in
+      let same : gave ++ events ≡ gave = ap (λ l. gave ++ l) none ∙ append-nil gave in
+      let before : has_ended (gave ++ events) ≡ false = ap has_ended same ∙ unended in
+      cc (told, before, over)

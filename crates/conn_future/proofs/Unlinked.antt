@@ -185,7 +185,7 @@ module _ {L P H : Type 0} (link : LinkGhosts L) (protocols : ProtocolsGhosts P H
       last_of gave e held ends (core_tells given ended asked (gave ++ e ∷ held) taken core stands)
 
   -- whether a core is over is seen from what it told
-  over_is : (given : List ℕ) (ended : Bool) (asked : List (ℕ × ℕ)) (told : List (ConnEvent H)) (taken : List ℕ) (core : ConnCore P H)
+  pub over_is : (given : List ℕ) (ended : Bool) (asked : List (ℕ × ℕ)) (told : List (ConnEvent H)) (taken : List ℕ) (core : ConnCore P H)
       → CoreStands link protocols handler eager names role own given ended asked told taken core → has_ended told ≡ is_over core.phase
   over_is given ended asked told taken core stands =
       told_over handler.steps handler.fails handler.is_closed handler.is_finished protocols.makes_inbound

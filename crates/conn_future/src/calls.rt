@@ -147,6 +147,11 @@ impl<L: Link, P: Protocols> Conn<L, P> {
             × (self.new.stage ≡ Stage.Over) }
         ensures over { self.old.held.items ≡ [] → self.old.stage ≡ Stage.Over
             → (result ≡ Ready None) × (self.new.held.items ≡ []) × (self.new.stage ≡ Stage.Over) }
+        ensures ends { (eager : ℕ → Bool) (names : List (List ℕ)) (role : ConnRole) (own : Key) (first : L)
+            (asked : List (ℕ × ℕ)) (gave : List (ConnEvent P.H))
+            → Follows L.Link P.Protocols P.H.Handler eager names role own first asked gave self.old
+            → result ≡ Ready None → (self.old.held.items ≡ []) × (self.old.stage ≡ Stage.Over) }
+        ensures stage { is_live self.new.stage ≡ true → self.new.stage ≡ self.old.stage }
         ensures no_call { is_live self.old.stage ≡ false → self.new.link ≡ self.old.link }
         ensures shutting { self.old.stage ≡ Stage.Shutting
             → (took : List ℕ) × L.moves self.old.link [] took self.new.link }

@@ -1,6 +1,6 @@
 //! What is given without a link call.
 
-ghost use Rattle.std.specs.Prelude.{◌≡◌, ◌≢◌, ℕ, Bool, false, List, [], ◌∷◌, ◌++◌, Some, None};
+ghost use Rattle.std.specs.Prelude.{◌≡◌, ◌≢◌, ℕ, Bool, true, false, List, [], ◌∷◌, ◌++◌, Some, None};
 ghost use Rattle.futures.specs.declared.task.Poll.TheVariants.{Ready};
 ghost use Rattle.peer_ids.specs.Key.{Key};
 ghost use Rattle.upgrade.specs.declared.role.ConnRole.{ConnRole};
@@ -28,6 +28,9 @@ impl<L: Link, P: Protocols> Conn<L, P> {
             × (self.new.stage ≡ Stage.Over) }
         ensures none { self.old.held.items ≡ [] → self.old.stage ≢ Stage.Starved → (result ≡ None)
             × (self.new.held.items ≡ []) × (self.new.stage ≡ self.old.stage) }
+        ensures live { is_live self.new.stage ≡ is_live self.old.stage }
+        ensures kept { is_live self.old.stage ≡ true → self.new.stage ≡ self.old.stage }
+        ensures empty { result ≡ None → (self.old.held.items ≡ []) × (self.old.stage ≢ Stage.Starved) }
         ensures link { self.new.link ≡ self.old.link }
         ensures not_link { (eager : ℕ → Bool) (names : List (List ℕ)) (role : ConnRole) (own : Key) (first : L)
             (asked : List (ℕ × ℕ)) (gave : List (ConnEvent P.H))

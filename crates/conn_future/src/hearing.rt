@@ -13,6 +13,7 @@ ghost use Rattle.std.specs.Prelude.{
   [],
   ◌++◌,
   Some,
+  None,
   OnOk,
   take,
   vec_len,
@@ -23,6 +24,8 @@ ghost use Rattle.conn_log.specs.declared.event.ConnEvent.{ConnEvent};
 ghost use Rattle.conn_log.specs.declared.event.ConnEvent.TheVariants as event;
 ghost use Rattle.conn_log.specs.declared.event.ConnFault.TheVariants as fault;
 ghost use Rattle.conn_core.specs.Connects.{Stands, is_over, waiting_in};
+ghost use Rattle.conn_core.specs.Runs.{has_ended};
+ghost use Rattle.conn_future.specs.Stages.{is_live};
 ghost use Rattle.conn_future.specs.Follows.{Follows, Joins, GoesOn, Parts};
 ghost use Rattle.conn_future.specs.Turning.{OnGoing, OnWait, gave_by, faults_of};
 
@@ -70,6 +73,8 @@ impl<L: Link, P: Protocols> Conn<L, P> {
             self.old.held.items → result ≢ Turn.Give (Some (event.Fault fault.Link)) }
         ensures gives { OnGoing result ⊥ }
         ensures fails { faults_of result ≡ 0 }
+        ensures not_none { result ≢ Turn.Give None }
+        ensures stage { is_live self.new.stage ≡ false }
         ensures link { self.new.link ≡ self.old.link }
     {
         self.stop(Stage::Starved);
@@ -94,6 +99,12 @@ impl<L: Link, P: Protocols> Conn<L, P> {
         ensures goes_on { OnGoing result ((self.new.stage ≡ Stage.Going) × (self.new.held.items ≡ [])) }
         ensures no_wait { OnWait result ⊥ }
         ensures fails { faults_of result ≡ 0 }
+        ensures not_none { (eager : ℕ → Bool) (names : List (List ℕ)) (role : ConnRole) (own : Key) (first : L)
+            (asked : List (ℕ × ℕ)) (gave : List (ConnEvent P.H))
+            (ended : Bool) → Joins L.Link P.Protocols P.H.Handler eager names role own first asked gave ended
+            self.old.link self.old.core self.old.unsent events.items → has_ended gave ≡ false
+            → result ≢ Turn.Give None }
+        ensures stage { is_live self.new.stage ≡ true → self.new.stage ≡ Stage.Going }
         ensures link { self.new.link ≡ self.old.link }
     {
         self.held = VecDeque::from(events);
@@ -130,6 +141,13 @@ impl<L: Link, P: Protocols> Conn<L, P> {
         ensures goes_on { OnGoing result ((self.new.stage ≡ Stage.Going) × (self.new.held.items ≡ [])) }
         ensures no_wait { OnWait result ⊥ }
         ensures fails { faults_of result ≡ 0 }
+        ensures not_none { (eager : ℕ → Bool) (names : List (List ℕ)) (role : ConnRole) (own : Key) (first : L)
+            (asked : List (ℕ × ℕ)) (gave : List (ConnEvent P.H)) (before : L)
+            → GoesOn L.Link P.Protocols P.H.Handler eager names role own first asked gave before self.old.core
+            self.old.unsent []
+            → L.moves before (take count self.old.buffer.items) [] self.old.link
+            → result ≢ Turn.Give None }
+        ensures stage { is_live self.new.stage ≡ true → self.new.stage ≡ Stage.Going }
         ensures link { self.new.link ≡ self.old.link }
     {
         let mut piece = mem::replace(&mut self.buffer, Vec::new(self.alloc));
@@ -161,6 +179,12 @@ impl<L: Link, P: Protocols> Conn<L, P> {
         ensures goes_on { OnGoing result ((self.new.stage ≡ Stage.Going) × (self.new.held.items ≡ [])) }
         ensures no_wait { OnWait result ⊥ }
         ensures fails { faults_of result ≡ 0 }
+        ensures not_none { (eager : ℕ → Bool) (names : List (List ℕ)) (role : ConnRole) (own : Key) (first : L)
+            (asked : List (ℕ × ℕ)) (gave : List (ConnEvent P.H))
+            → GoesOn L.Link P.Protocols P.H.Handler eager names role own first asked gave self.old.link self.old.core
+            self.old.unsent [] → L.has_ended self.old.link
+            → result ≢ Turn.Give None }
+        ensures stage { is_live self.new.stage ≡ true → self.new.stage ≡ Stage.Going }
         ensures link { self.new.link ≡ self.old.link }
     {
         match self.core.ended() {

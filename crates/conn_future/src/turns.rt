@@ -1,6 +1,6 @@
 //! A turn of a poll: at most one call of the link.
 
-ghost use Rattle.std.specs.Prelude.{◌≡◌, ◌≢◌, ◌+◌, ◌<◌, ℕ, Bool, true, false, List, [], Some, length, IfOk, OnOk};
+ghost use Rattle.std.specs.Prelude.{◌≡◌, ◌≢◌, ◌+◌, ◌<◌, ℕ, Bool, true, false, List, [], Some, None, length, IfOk, OnOk};
 ghost use Rattle.futures.specs.Task.{Covers, Keeps};
 ghost use Rattle.conn_future.specs.Stages.{is_live, WaitsAt};
 ghost use Rattle.peer_ids.specs.Key.{Key};
@@ -78,6 +78,8 @@ impl<L: Link, P: Protocols> Conn<L, P> {
         ensures no_wait { OnWait result ⊥ }
         ensures waits { HasWaited waits.old cx.old (L.reads_at self.old.link) (L.writes_at self.old.link)
             → OnAgain result (HasWaited waits.new cx.new (L.reads_at self.new.link) (L.writes_at self.new.link)) }
+        ensures not_none { result ≢ Turn.Give None }
+        ensures stage { is_live self.new.stage ≡ true → self.new.stage ≡ self.old.stage }
         ensures kept { Keeps cx.old cx.new }
     {
         match self.link.poll_write(cx, self.unsent.as_slice()) {
@@ -112,6 +114,11 @@ impl<L: Link, P: Protocols> Conn<L, P> {
         ensures no_wait { OnWait result ⊥ }
         ensures waits { HasWaited waits.old cx.old (L.reads_at self.old.link) (L.writes_at self.old.link)
             → OnAgain result (HasWaited waits.new cx.new (L.reads_at self.new.link) (L.writes_at self.new.link)) }
+        ensures not_none { (eager : ℕ → Bool) (names : List (List ℕ)) (role : ConnRole) (own : Key) (first : L)
+            (asked : List (ℕ × ℕ)) (gave : List (ConnEvent P.H))
+            → Follows L.Link P.Protocols P.H.Handler eager names role own first asked gave self.old
+            → result ≢ Turn.Give None }
+        ensures stage { is_live self.new.stage ≡ true → self.new.stage ≡ self.old.stage }
         ensures kept { Keeps cx.old cx.new }
     {
         let Ok(()) = fill(self.alloc, &mut self.buffer) else {
@@ -148,6 +155,8 @@ impl<L: Link, P: Protocols> Conn<L, P> {
         ensures no_turn { OnAgain result ⊥ }
         ensures covers { OnWait result (Covers cx.new (WaitsAt (L.reads_at self.new.link) (L.writes_at self.new.link)
             (L.shuts_at self.new.link) self.new.stage self.new.unsent)) }
+        ensures not_none { result ≢ Turn.Give None }
+        ensures stage { is_live self.new.stage ≡ true → self.new.stage ≡ self.old.stage }
         ensures kept { Keeps cx.old cx.new }
     {
         match self.link.poll_shut(cx) {
@@ -183,6 +192,11 @@ impl<L: Link, P: Protocols> Conn<L, P> {
         ensures covers { HasWaited waits.old cx.old (L.reads_at self.old.link) (L.writes_at self.old.link)
             → OnWait result (Covers cx.new (WaitsAt (L.reads_at self.new.link) (L.writes_at self.new.link)
             (L.shuts_at self.new.link) self.new.stage self.new.unsent)) }
+        ensures not_none { (eager : ℕ → Bool) (names : List (List ℕ)) (role : ConnRole) (own : Key) (first : L)
+            (asked : List (ℕ × ℕ)) (gave : List (ConnEvent P.H))
+            → Follows L.Link P.Protocols P.H.Handler eager names role own first asked gave self.old
+            → result ≢ Turn.Give None }
+        ensures stage { is_live self.new.stage ≡ true → self.new.stage ≡ self.old.stage }
         ensures kept { Keeps cx.old cx.new }
     {
         if !self.unsent.is_empty() && !waits.writing {

@@ -1,12 +1,14 @@
 use Rattle.std.proofs.Common.{◌≡◌, ◌∙◌, ℕ, List, [], ◌++◌, length, deque_len, arith, rules, refl, ap, sym, subst}
-use Rattle.std.proofs.lemmas.Bool.{eqb-true}
+use Rattle.std.proofs.lemmas.Bool.{eqb-true, eq-eqb}
 use Rattle.std.proofs.lemmas.List.{append-nil}
 use Rattle.conn_log.specs.declared.event.ConnEvent.{ConnEvent}
 use Rattle.conn_future.specs.Stages.{is_live}
 use Rattle.conn_future.specs.Follows.{Follows, given_by}
 use Rattle.conn_future.proofs.Lists.{none_of}
 use Rattle.conn_future.proofs.Moved.{shut_on}
+use Rattle.conn_future.proofs.Stopped.{over_of}
 use Rattle.conn_future.proofs.conn.Conn.poll.Goals as goal
+use Rattle.conn_future.proofs.conn.Conn.poll.Goals.{then-not-is_empty-via-then-not-is_empty, then-not-is_empty-via-else-not-is_empty+then-not-is_live}
 
 pub returns-then-not-is_empty-clause-fault : goal.returns-then-not-is_empty-clause-fault
 returns-then-not-is_empty-clause-fault g c eager names role own first asked gave stays is = absurd (c.give.ensures.not_link eager names role own first asked gave stays (cc is))
@@ -70,3 +72,21 @@ returns-in-Wait-clause-registered g c = c.in-Wait.ensures.covers c.loop.invarian
 pub returns-clause-follows : goal.returns-clause-follows
 returns-clause-follows g c eager names role own first asked gave stays = subst (λ (l : List (ConnEvent _)). Follows g.L.Link g.P.Protocols g.P.H.Handler eager names role own first asked l c.loop.self) (sym (ap (λ p. gave ++ given_by p) c.yield_now.ensures.pending ∙ append-nil gave))
     (c.loop.invariant.follows eager names role own first asked gave stays)
+
+pub returns-in-Give-clause-ends : goal.returns-in-Give-clause-ends
+returns-in-Give-clause-ends g c eager names role own first asked gave stays is =
+    absurd (c.in-Give.ensures.not_none eager names role own first asked gave (c.loop.invariant.follows eager names role own first asked gave stays) (cc is))
+
+pub returns-then-not-is_empty-clause-stage : goal.returns-then-not-is_empty-clause-stage
+returns-then-not-is_empty-clause-stage g c is = c.give.ensures.kept (sym c.give.ensures.live ∙ is)
+
+pub returns-then-not-is_empty-clause-ends : goal.returns-then-not-is_empty-clause-ends
+returns-then-not-is_empty-clause-ends g c eager names role own first asked gave stays is =
+    let empty = c.give.ensures.empty (cc is) in
+    let zero : deque_len c.args.self.now.held ≡ 0 = omega (arith, ap length empty.0, c.args.self.now.held.ok) in (
+      empty.0,
+      elim c.then-not-is_empty.branch [
+        | then-not-is_empty-via-then-not-is_empty w ↦ absurd (cc (c.is_empty.ensures, eq-eqb (deque_len c.args.self.now.held) 0 zero, w.if-not-is_empty.true))
+        | then-not-is_empty-via-else-not-is_empty+then-not-is_live w ↦ over_of c.args.self.now.stage (sym w.is_live.ensures ∙ w.if-not-is_live.true) empty.1
+      ],
+    )

@@ -64,3 +64,19 @@ returns-in-Ready-Ok-clause-not_link g c eager names role own first asked gave st
     (subst (λ (l : List ℕ). g.L.Link.moves c.args.self.now.link l [] c.poll_read.new.self)
     (of_count c.poll_read.result c.poll_read.new.buffer _ c.in-Ready-Ok.count (cc (c.in-Ready-Ok.is, c.in-Ready-Ok.field-0-is))
     (sym (written_back c.fill.new.kept.len c.poll_read.new.buffer c.fill.new.kept.items (c.poll_read.auto.buffer ∙ c.as_mut_slice.ensures.len)))) c.poll_read.ensures.moved)
+
+pub returns-in-Ready-Ok-eq0-clause-not_none : goal.returns-in-Ready-Ok-eq0-clause-not_none
+returns-in-Ready-Ok-eq0-clause-not_none g c eager names role own first asked gave stays =
+    c.end.ensures.not_none eager names role own first asked gave
+    (goes_still g.L.Link g.P.Protocols g.P.H.Handler eager names role own g.met.L.Link.moves_on g.met.L.Link.stays_ended first asked gave c.args.self.now.link c.poll_read.new.self c.args.self.now.core c.args.self.now.unsent _ c.args.self.now.held.items c.args.self.now.stage
+    c.requires.going c.requires.none_held (of_count c.poll_read.result _ _ 0 (cc (c.in-Ready-Ok-eq0.is, c.in-Ready-Ok-eq0.field-0-is)) refl) stays c.poll_read.ensures.moved)
+    (c.poll_read.ensures.end (cc (c.in-Ready-Ok-eq0.is, c.in-Ready-Ok-eq0.field-0-is)) (rw c.as_mut_slice.ensures.value c.in-Ok.ensures))
+
+pub returns-in-Ready-Ok-clause-not_none : goal.returns-in-Ready-Ok-clause-not_none
+returns-in-Ready-Ok-clause-not_none g c eager names role own first asked gave stays =
+    c.hear.ensures.not_none eager names role own first asked gave c.args.self.now.link
+    (goes_none g.L.Link g.P.Protocols g.P.H.Handler eager names role own first asked gave c.args.self.now.link c.args.self.now.core c.args.self.now.unsent c.args.self.now.held.items c.args.self.now.stage
+    c.requires.going c.requires.none_held stays)
+    (subst (λ (l : List ℕ). g.L.Link.moves c.args.self.now.link l [] c.poll_read.new.self)
+    (of_count c.poll_read.result c.poll_read.new.buffer _ c.in-Ready-Ok.count (cc (c.in-Ready-Ok.is, c.in-Ready-Ok.field-0-is))
+    (sym (written_back c.fill.new.kept.len c.poll_read.new.buffer c.fill.new.kept.items (c.poll_read.auto.buffer ∙ c.as_mut_slice.ensures.len)))) c.poll_read.ensures.moved)

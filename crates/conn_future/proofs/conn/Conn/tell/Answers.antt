@@ -1,7 +1,9 @@
-use Rattle.std.proofs.Common.{◌≡◌, ◌∙◌, Bool, true, false, List, [], ap, sym, refl, subst}
+use Rattle.std.proofs.Common.{◌≡◌, ◌∙◌, Bool, true, false, List, [], length, deque_len, arith, ap, sym, refl, subst}
+use Rattle.std.proofs.lemmas.Bool.{eq-eqb}
 use Rattle.conn_core.specs.Connects.{is_over}
-use Rattle.conn_future.proofs.Lists.{not_true, none_of}
-use Rattle.conn_future.proofs.Standing.{told_stays, parts_of, goes_collected, going_stays, stays_none, told_links_not}
+use Rattle.conn_future.specs.Stages.{is_live}
+use Rattle.conn_future.proofs.Lists.{not_true, none_of, some_given}
+use Rattle.conn_future.proofs.Standing.{told_stays, parts_of, goes_collected, going_stays, stays_none, told_links_not, tells_some}
 use Rattle.conn_future.proofs.conn.Conn.tell.Goals as goal
 
 pub returns-then-is_over-clause-follows : goal.returns-then-is_over-clause-follows
@@ -69,3 +71,23 @@ returns-clause-not_link g c eager names role own first asked gave ended joins en
     (λ input taken end told stood. c.in-Ok.ensures.stands eager names role own input taken end asked told stood)
     c.collect.ensures.link (ap (λ h. h.items) c.collect.ensures.held ∙ c.from.ensures.0) unended
     (c.collect.ensures.over ∙ goes_on) c.collect.ensures.none_waits joins)) (cc is)
+
+pub returns-then-is_over-clause-not_none : goal.returns-then-is_over-clause-not_none
+returns-then-is_over-clause-not_none g c eager names role own first asked gave ended joins unended is =
+    some_given c.stop.new.self.held.items c.give.result (λ x rest held. (c.give.ensures.held x rest held).0)
+    (λ none. tells_some g.L.Link g.P.Protocols g.P.H.Handler eager names role own first asked gave ended c.args.self.now.link c.args.self.now.core c.args.self.now.unsent c.args.events.items joins unended
+    (sym c.is_over.ensures ∙ c.if-is_over.true) (sym (ap (λ h. h.items) c.stop.ensures.held ∙ c.from.ensures.0) ∙ none)) (cc is)
+
+pub returns-clause-not_none : goal.returns-clause-not_none
+returns-clause-not_none g c eager names role own first asked gave ended joins unended is =
+    some_given c.collect.new.self.held.items c.give-2.result (λ x rest held. (c.give-2.ensures.held x rest held).0)
+    (λ none. let zero : deque_len c.collect.new.self.held ≡ 0 = omega (arith, ap length none, c.collect.new.self.held.ok) in
+    cc (c.is_empty.ensures, eq-eqb (deque_len c.collect.new.self.held) 0 zero, c.if-is_empty.false)) (cc is)
+
+pub returns-then-is_over-clause-stage : goal.returns-then-is_over-clause-stage
+returns-then-is_over-clause-stage g c is =
+    let over : is_live c.give.new.self.stage ≡ false = c.give.ensures.live ∙ ap is_live c.stop.ensures.stage in absurd (cc (is, over))
+
+pub returns-clause-stage : goal.returns-clause-stage
+returns-clause-stage g c is =
+    let going = c.collect.ensures.stage ∙ c.requires in c.give-2.ensures.kept (ap is_live going) ∙ going
