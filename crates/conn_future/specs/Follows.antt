@@ -1,0 +1,115 @@
+-- Where a connection over a link stands: the core was fed what the link gave, the link took what the core wrote, and
+-- the events of the core were given.
+-- Source: this project's profile of a connection.
+use Rattle.std.specs.Prelude.{◌≡◌, ◌≢◌, ◌⊎◌, ℕ, Bool, true, false, List, [], ◌∷◌, ◌++◌, Option, Some, None}
+use Rattle.futures.specs.declared.task.Poll.{Poll}
+use Rattle.futures.specs.declared.task.Poll.TheVariants.{Ready, Pending}
+use Rattle.conn_link.specs.declared.link.Link.{Ghosts as LinkGhosts}
+use Rattle.handlers.specs.declared.handler.Handler.{Ghosts as HandlerGhosts}
+use Rattle.handlers.specs.declared.protocols.Protocols.{Ghosts as ProtocolsGhosts}
+use Rattle.peer_ids.specs.Key.{Key}
+use Rattle.upgrade.specs.declared.role.ConnRole.{ConnRole}
+use Rattle.conn_log.specs.declared.event.ConnEvent.{ConnEvent}
+use Rattle.conn_log.specs.declared.event.ConnEvent.TheVariants as event
+use Rattle.conn_log.specs.declared.event.ConnFault.TheVariants as fault
+use Rattle.conn_core.specs.declared.connection.ConnCore.{ConnCore}
+use Rattle.conn_core.specs.Connects.{Stands, is_over, waiting_in}
+use Rattle.conn_core.specs.Runs.{is_end}
+use Rattle.conn_future.specs.declared.stage.Stage.{Stage}
+use Rattle.conn_future.specs.declared.stage.Stage.TheVariants.{Going, Shutting, Starved, Over}
+use Rattle.conn_future.specs.declared.conn.Conn.{Conn}
+
+-- the event that a poll gave
+abbrev pub given_by : {H : Type 0} → Poll (Option (ConnEvent H)) → List (ConnEvent H)
+given_by (Ready (Some e)) = e ∷ []
+given_by (Ready None) = []
+given_by Pending = []
+
+module _ {L P H : Type 0} (link : LinkGhosts L) (protocols : ProtocolsGhosts P H) (handler : HandlerGhosts H)
+    (eager : ℕ → Bool) (names : List (List ℕ)) (role : ConnRole) (own : Key) where
+  -- The core was fed this input, told these events, and this of its output was taken.
+  abbrev pub CoreStands : (input : List ℕ) (ended : Bool) → List (ℕ × ℕ) → List (ConnEvent H) → List ℕ → ConnCore P H
+      → Type 0
+  CoreStands = Stands handler.steps handler.fails handler.is_closed handler.is_finished protocols.makes_inbound
+      protocols.makes_outbound protocols.listed protocols.is_eager eager names role own
+
+  -- Since the first state of the link the core was fed exactly what the link gave, and told the events that were given
+  -- and then those that are held. Of what was taken from it the link took a first part, and the rest is left.
+  pub record Joins (first : L) (asked : List (ℕ × ℕ)) (gave : List (ConnEvent H)) (ended : Bool) (now : L)
+      (core : ConnCore P H) (left : List ℕ) (held : List (ConnEvent H)) : Type 0 where
+    pub given : List ℕ
+    pub took : List ℕ
+    pub moved : link.moves first given took now
+    pub reached : ended ≡ true → link.has_ended now
+    pub stands : CoreStands given ended asked (gave ++ held) (took ++ left) core
+
+  -- It goes on: the core isn't over, its input hasn't ended, and nothing waits in it.
+  pub record GoesOn (first : L) (asked : List (ℕ × ℕ)) (gave : List (ConnEvent H)) (now : L) (core : ConnCore P H)
+      (left : List ℕ) (held : List (ConnEvent H)) : Type 0 where
+    pub joins : Joins first asked gave false now core left held
+    pub goes_on : is_over core.phase ≡ false
+    pub none_waits : waiting_in core.phase core.output.items ≡ []
+
+  -- Memory was refused to it. The core as it was before that had been fed all that the link gave, but for what came
+  -- last, and told the events that were given or are held; the link took a first part of what it wrote.
+  pub record Parts (first : L) (asked : List (ℕ × ℕ)) (gave : List (ConnEvent H)) (now : L)
+      (held : List (ConnEvent H)) : Type 0 where
+    pub given : List ℕ
+    pub lost : List ℕ
+    pub took : List ℕ
+    pub left : List ℕ
+    pub ended : Bool
+    pub core : ConnCore P H
+    pub moved : link.moves first (given ++ lost) took now
+    pub stands : CoreStands given ended asked (gave ++ held) (took ++ left) core
+    pub goes_on : is_over core.phase ≡ false
+
+  -- why it makes no link call more
+  pub data Ends (first : L) (asked : List (ℕ × ℕ)) (gave : List (ConnEvent H)) (now : L) (core : ConnCore P H)
+      (held : List (ConnEvent H)) : Type 0 where
+    -- the core told a Fault or Shut
+    Told : (ended : Bool) (left : List ℕ) → is_over core.phase ≡ true
+        → Joins first asked gave ended now core left held → Ends first asked gave now core held
+    -- a link call failed, and it told so
+    Failed : (before : List (ConnEvent H)) (left : List ℕ) → held ≡ []
+        → gave ≡ before ++ event.Fault fault.Link ∷ [] → Joins first asked before false now core left []
+        → Ends first asked gave now core held
+    -- memory was refused, and it told so
+    Refused : (before : List (ConnEvent H)) → held ≡ [] → gave ≡ before ++ event.Fault fault.OutOfMemory ∷ []
+        → Parts first asked before now [] → Ends first asked gave now core held
+    -- the link took all of the output and is shut, and it told so
+    Shut : (before : List (ConnEvent H)) → held ≡ [] → gave ≡ before ++ event.Shut ∷ [] → link.is_shut now
+        → Joins first asked before false now core [] [] → Ends first asked gave now core held
+
+  -- where its parts stand, at each stage
+  abbrev pub Stays : (first : L) → List (ℕ × ℕ) → (gave : List (ConnEvent H)) → L → ConnCore P H → (left : List ℕ)
+      → (held : List (ConnEvent H)) → Stage → Type 0
+  Stays first asked gave now core left held Going = GoesOn first asked gave now core left held
+  Stays first asked gave now core left held Shutting = GoesOn first asked gave now core left held
+  Stays first asked gave now core left held Starved = Parts first asked gave now held
+  Stays first asked gave now core left held Over = Ends first asked gave now core held
+
+  -- A connection over a link, since the link was in this first state, that has opened the streams that it was asked for
+  -- and given these events.
+  abbrev pub Follows : (first : L) → List (ℕ × ℕ) → (gave : List (ConnEvent H))
+      → Conn L P H link protocols handler → Type 0
+  Follows first asked gave conn = Stays first asked gave conn.link conn.core conn.unsent conn.held.items conn.stage
+
+-- Wherever the first one stood, the second one stands with these events given behind the others.
+abbrev pub Carries : {L P H : Type 0} (link : LinkGhosts L) (protocols : ProtocolsGhosts P H)
+    (handler : HandlerGhosts H) → Conn L P H link protocols handler → List (ConnEvent H)
+    → Conn L P H link protocols handler → Type 0
+Carries link protocols handler old events new =
+    (eager : ℕ → Bool) (names : List (List ℕ)) (role : ConnRole) (own : Key) (first : _) (asked : List (ℕ × ℕ))
+    (gave : List (ConnEvent _))
+    → Follows link protocols handler eager names role own first asked gave old
+    → Follows link protocols handler eager names role own first asked (gave ++ events) new
+
+-- Behind a Fault or Shut it is over, and no event is held: it gives none more, and makes no link call.
+abbrev pub EndsBehind : {L P H : Type 0} (link : LinkGhosts L) (protocols : ProtocolsGhosts P H)
+    (handler : HandlerGhosts H) → Type 0
+EndsBehind {L} {P} {H} link protocols handler =
+    (eager : ℕ → Bool) (names : List (List ℕ)) (role : ConnRole) (own : Key) (first : L) (asked : List (ℕ × ℕ))
+    (gave : List (ConnEvent H)) (last : ConnEvent H) (conn : Conn L P H link protocols handler)
+    → Follows link protocols handler eager names role own first asked (gave ++ last ∷ []) conn → is_end last ≡ true
+    → (conn.stage ≡ Over) × (conn.held.items ≡ [])

@@ -1,0 +1,191 @@
+//! The calls of a connection over a link.
+
+ghost use Rattle.std.specs.Prelude.{◌≡◌, ◌≢◌, ◌-◌, ◌<◌, ◌^◌, ◌+◌, ℕ, Bool, true, false, List, [], ◌∷◌, ◌++◌};
+ghost use Rattle.std.specs.Prelude.{length, Some, None, Ok, Err, IfOk, IfErr, OnErr};
+ghost use Rattle.futures.specs.Poll.{OnPending};
+ghost use Rattle.futures.specs.Task.{Covers, Keeps};
+ghost use Rattle.futures.specs.declared.task.Poll.TheVariants.{Ready};
+ghost use Rattle.peer_ids.specs.Key.{Key};
+ghost use Rattle.upgrade.specs.declared.role.ConnRole.{ConnRole};
+ghost use Rattle.conn_log.specs.declared.event.ConnEvent.{ConnEvent};
+ghost use Rattle.conn_log.specs.declared.event.ConnEvent.TheVariants as event;
+ghost use Rattle.conn_log.specs.declared.event.ConnFault.TheVariants as fault;
+ghost use Rattle.conn_core.specs.Connects.{Stands, MayOpen, IsRefused};
+ghost use Rattle.conn_future.specs.Stages.{is_live, shut_stage, WaitsAt};
+ghost use Rattle.conn_future.specs.Follows.{Carries, Follows, given_by};
+
+use crate::conn::Conn;
+use crate::stage::Stage;
+use crate::turns::{Turn, Waits, buffer};
+use crate::unsent::Unsent;
+use conn_core::ConnCore;
+use conn_link::Link;
+use conn_log::{ConnEvent, ConnFault, ConnRefused};
+use futures::Stream;
+use futures::task::{Context, Poll};
+use handlers::{Handler, Protocols};
+use std::alloc::Global;
+use std::collections::VecDeque;
+
+/// How many calls of the link one poll makes at most.
+const MOST_CALLS: u32 = 32;
+
+impl<L: Link, P: Protocols> Conn<L, P> {
+    /// A connection over this link, whose core is as [`ConnCore::new`] left it. Its only refusal is want of memory.
+    pub fn new(alloc: Global, link: L, core: ConnCore<P>) -> Result<Conn<L, P>, ConnRefused>
+        requires can_fail { L.failed link < 2 ^ 64 - 1 }
+        ensures follows { (eager : ℕ → Bool) (names : List (List ℕ)) (role : ConnRole) (own : Key)
+            → Stands P.H.steps P.H.fails P.H.is_closed P.H.is_finished P.makes_inbound P.makes_outbound P.listed
+            P.is_eager eager names role own [] false [] [] [] core
+            → IfOk result (λ conn. Follows L.Link P.Protocols P.H.Handler eager names role own link [] [] conn) }
+        ensures link { IfOk result (λ conn. conn.link ≡ link) }
+        ensures going { IfOk result (λ conn. (conn.stage ≡ Stage.Going) × (conn.held.items ≡ [])) }
+        ensures memory { OnErr result (result ≡ Err ConnRefused.OutOfMemory) }
+    {
+        let mut core = core;
+        let unsent = Unsent::new(core.take_output());
+        match buffer(alloc) {
+            Ok(buffer) => Ok(Conn {
+                link,
+                core,
+                unsent,
+                held: VecDeque::new(alloc),
+                stage: Stage::Going,
+                buffer,
+                alloc,
+            }),
+            Err(_) => Err(ConnRefused::OutOfMemory),
+        }
+    }
+
+    /// The link.
+    pub fn link(&self) -> &L
+        ensures { result.now ≡ self.now.link }
+    {
+        &self.link
+    }
+
+    /// How many bytes of the output the link hasn't taken yet.
+    pub fn waiting(&self) -> usize
+        ensures { result ≡ length self.now.unsent }
+    {
+        self.unsent.len()
+    }
+
+    /// Opens a stream for the protocol of this index, and tells its number, as the core does. Behind `shut`, a Fault or
+    /// Shut the answer is [`ConnRefused::Failed`].
+    ///
+    /// Where memory was refused, the events that are held are given, then Fault(OutOfMemory), and no link call is made.
+    pub fn ask(&mut self, index: usize) -> Result<u32, ConnRefused>
+        ensures asked { (eager : ℕ → Bool) (names : List (List ℕ)) (role : ConnRole) (own : Key) (first : L)
+            (asked : List (ℕ × ℕ)) (gave : List (ConnEvent P.H))
+            → Follows L.Link P.Protocols P.H.Handler eager names role own first asked gave self.old
+            → IfOk result (λ number. Follows L.Link P.Protocols P.H.Handler eager names role own first (asked ++
+            (number, index) ∷ []) gave self.new) }
+        ensures refused { OnErr result (Carries L.Link P.Protocols P.H.Handler self.old [] self.new) }
+        ensures failed { self.old.stage ≢ Stage.Going → (result ≡ Err ConnRefused.Failed) × (self.new ≡ self.old) }
+        ensures opened { IfOk result (λ number. MayOpen P.listed self.old.core.phase index) }
+        ensures why { self.old.stage ≡ Stage.Going
+            → IfErr result (λ refused. IsRefused P.listed self.old.core.phase index refused) }
+        ensures unchanged { IfErr result (λ refused. refused ≢ ConnRefused.OutOfMemory → self.new ≡ self.old) }
+        ensures memory { result ≡ Err ConnRefused.OutOfMemory → self.new.stage ≡ Stage.Starved }
+        ensures link { self.new.link ≡ self.old.link }
+        ensures held { self.new.held ≡ self.old.held }
+    {
+        let Stage::Going = self.stage else {
+            return Err(ConnRefused::Failed);
+        };
+        match self.core.ask(index) {
+            Ok(number) => {
+                let Ok(()) = self.collect() else {
+                    self.stop(Stage::Starved);
+                    return Err(ConnRefused::OutOfMemory);
+                };
+                Ok(number)
+            }
+            Err(refused) => match refused {
+                ConnRefused::OutOfMemory => {
+                    self.stop(Stage::Starved);
+                    Err(ConnRefused::OutOfMemory)
+                }
+                refused => Err(refused),
+            },
+        }
+    }
+
+    /// From now on it reads no more, writes the output that is left, shuts the link and gives Shut. It takes no memory.
+    pub fn shut(&mut self)
+        ensures follows { Carries L.Link P.Protocols P.H.Handler self.old [] self.new }
+        ensures stage { self.new.stage ≡ shut_stage self.old.stage }
+        ensures link { self.new.link ≡ self.old.link }
+        ensures unsent { self.new.unsent ≡ self.old.unsent }
+        ensures held { self.new.held ≡ self.old.held }
+    {
+        if let Stage::Going = self.stage {
+            self.stage = Stage::Shutting;
+        }
+    }
+
+    /// The next event, in the order of the core; None, where no more comes. It makes at most 32 calls of the link, and
+    /// then asks for another poll.
+    ///
+    /// Where it is pending, it has asked for another poll, or has registered at each source that it waits for.
+    pub fn poll(&mut self, cx: &mut Context<'_>) -> Poll<Option<ConnEvent<P::H>>>
+        ensures follows { Carries L.Link P.Protocols P.H.Handler self.old (given_by result) self.new }
+        ensures rose { L.failed self.old.link < L.failed self.new.link
+            → result ≡ Ready (Some (event.Fault fault.Link)) }
+        ensures fault { (eager : ℕ → Bool) (names : List (List ℕ)) (role : ConnRole) (own : Key) (first : L)
+            (asked : List (ℕ × ℕ)) (gave : List (ConnEvent P.H))
+            → Follows L.Link P.Protocols P.H.Handler eager names role own first asked gave self.old
+            → result ≡ Ready (Some (event.Fault fault.Link))
+            → L.failed self.new.link ≡ L.failed self.old.link + 1 }
+        ensures held { (event : ConnEvent P.H) (rest : List (ConnEvent P.H)) → self.old.held.items ≡ event ∷ rest
+            → (result ≡ Ready (Some event)) × (self.new.held.items ≡ rest) × (self.new.stage ≡ self.old.stage)
+            × (self.new.link ≡ self.old.link) }
+        ensures starved { self.old.held.items ≡ [] → self.old.stage ≡ Stage.Starved
+            → (result ≡ Ready (Some (event.Fault fault.OutOfMemory))) × (self.new.held.items ≡ [])
+            × (self.new.stage ≡ Stage.Over) }
+        ensures over { self.old.held.items ≡ [] → self.old.stage ≡ Stage.Over
+            → (result ≡ Ready None) × (self.new.held.items ≡ []) × (self.new.stage ≡ Stage.Over) }
+        ensures ends { (eager : ℕ → Bool) (names : List (List ℕ)) (role : ConnRole) (own : Key) (first : L)
+            (asked : List (ℕ × ℕ)) (gave : List (ConnEvent P.H))
+            → Follows L.Link P.Protocols P.H.Handler eager names role own first asked gave self.old
+            → result ≡ Ready None → (self.old.held.items ≡ []) × (self.old.stage ≡ Stage.Over) }
+        ensures stage { is_live self.new.stage ≡ true → self.new.stage ≡ self.old.stage }
+        ensures no_call { is_live self.old.stage ≡ false → self.new.link ≡ self.old.link }
+        ensures shutting { self.old.stage ≡ Stage.Shutting
+            → (took : List ℕ) × L.moves self.old.link [] took self.new.link }
+        ensures none_held { OnPending result ((self.new.held.items ≡ []) × (self.new.stage ≡ self.old.stage)) }
+        ensures registered { OnPending result (Covers cx.new (WaitsAt (L.reads_at self.new.link)
+            (L.writes_at self.new.link) (L.shuts_at self.new.link) self.new.stage self.new.unsent)) }
+        ensures kept { Keeps cx.old cx.new }
+    {
+        if !self.held.is_empty() || !self.stage.is_live() {
+            return Poll::Ready(self.give());
+        }
+        let mut waits = Waits {
+            reading: false,
+            writing: false,
+        };
+        for _ in 0..MOST_CALLS {
+            match self.turn(cx, &mut waits) {
+                Turn::Again => {}
+                Turn::Give(given) => return Poll::Ready(given),
+                Turn::Failed => return Poll::Ready(Some(ConnEvent::Fault(ConnFault::Link))),
+                Turn::Wait => return Poll::Pending,
+            }
+        }
+        cx.yield_now()
+    }
+}
+
+impl<L: Link, P: Protocols> Stream for Conn<L, P> {
+    type Item = ConnEvent<P::H>;
+
+    ghost needs = { λ conn source. WaitsAt (L.reads_at conn.link) (L.writes_at conn.link) (L.shuts_at conn.link)
+        conn.stage conn.unsent source };
+
+    fn poll_next(&mut self, cx: &mut Context<'_>) -> Poll<Option<ConnEvent<P::H>>> {
+        self.poll(cx)
+    }
+}

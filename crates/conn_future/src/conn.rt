@@ -1,0 +1,32 @@
+//! A connection over a link.
+
+ghost use Rattle.std.specs.Prelude.{◌≡◌, ◌-◌, ◌<◌, ◌^◌, true, false, []};
+ghost use Rattle.conn_future.specs.Stages.{is_live};
+
+use crate::stage::Stage;
+use crate::unsent::Unsent;
+use conn_core::ConnCore;
+use conn_link::Link;
+use conn_log::ConnEvent;
+use handlers::{Handler, Protocols};
+use std::alloc::Global;
+use std::collections::VecDeque;
+
+/// A connection over a link, polled by hand.
+#[derive(Drop)]
+pub struct Conn<L: Link, P: Protocols> {
+    pub(crate) link: L,
+    pub(crate) core: ConnCore<P>,
+    /// The output of the core that the link hasn't taken yet.
+    pub(crate) unsent: Unsent,
+    /// The events of the core that were not given yet, in order.
+    pub(crate) held: VecDeque<ConnEvent<P::H>>,
+    pub(crate) stage: Stage,
+    /// What the next read fills; empty, where one is to be made.
+    pub(crate) buffer: Vec<u8>,
+    pub(crate) alloc: Global,
+    // A call of the link that fails is counted.
+    ghost can_fail: { is_live stage ≡ true → L.failed link < 2 ^ 64 - 1 },
+    // Where it makes no call more, the output that was left is dropped.
+    ghost none_left: { is_live stage ≡ false → unsent ≡ [] },
+}

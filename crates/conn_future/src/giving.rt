@@ -1,0 +1,64 @@
+//! What is given without a link call.
+
+ghost use Rattle.std.specs.Prelude.{◌≡◌, ◌≢◌, ℕ, Bool, true, false, List, [], ◌∷◌, ◌++◌, Some, None};
+ghost use Rattle.futures.specs.declared.task.Poll.TheVariants.{Ready};
+ghost use Rattle.peer_ids.specs.Key.{Key};
+ghost use Rattle.upgrade.specs.declared.role.ConnRole.{ConnRole};
+ghost use Rattle.conn_log.specs.declared.event.ConnEvent.{ConnEvent};
+ghost use Rattle.conn_log.specs.declared.event.ConnEvent.TheVariants as event;
+ghost use Rattle.conn_log.specs.declared.event.ConnFault.TheVariants as fault;
+ghost use Rattle.conn_future.specs.Stages.{is_live};
+ghost use Rattle.conn_future.specs.Follows.{Carries, Follows, given_by};
+
+use crate::conn::Conn;
+use crate::stage::Stage;
+use crate::unsent::Unsent;
+use conn_link::Link;
+use conn_log::{ConnEvent, ConnFault};
+use handlers::{Handler, Protocols};
+
+impl<L: Link, P: Protocols> Conn<L, P> {
+    // The next event that it holds, and behind them that memory was refused.
+    pub(crate) fn give(&mut self) -> Option<ConnEvent<P::H>>
+        ensures follows { Carries L.Link P.Protocols P.H.Handler self.old (given_by (Ready result)) self.new }
+        ensures held { (event : ConnEvent P.H) (rest : List (ConnEvent P.H)) → self.old.held.items ≡ event ∷ rest
+            → (result ≡ Some event) × (self.new.held.items ≡ rest) × (self.new.stage ≡ self.old.stage) }
+        ensures starved { self.old.held.items ≡ [] → self.old.stage ≡ Stage.Starved
+            → (result ≡ Some (event.Fault fault.OutOfMemory)) × (self.new.held.items ≡ [])
+            × (self.new.stage ≡ Stage.Over) }
+        ensures none { self.old.held.items ≡ [] → self.old.stage ≢ Stage.Starved → (result ≡ None)
+            × (self.new.held.items ≡ []) × (self.new.stage ≡ self.old.stage) }
+        ensures live { is_live self.new.stage ≡ is_live self.old.stage }
+        ensures kept { is_live self.old.stage ≡ true → self.new.stage ≡ self.old.stage }
+        ensures empty { result ≡ None → (self.old.held.items ≡ []) × (self.old.stage ≢ Stage.Starved) }
+        ensures link { self.new.link ≡ self.old.link }
+        ensures not_link { (eager : ℕ → Bool) (names : List (List ℕ)) (role : ConnRole) (own : Key) (first : L)
+            (asked : List (ℕ × ℕ)) (gave : List (ConnEvent P.H))
+            → Follows L.Link P.Protocols P.H.Handler eager names role own first asked gave self.old
+            → result ≢ Some (event.Fault fault.Link) }
+    {
+        if let Some(event) = self.held.pop_front() {
+            return Some(event);
+        }
+        match self.stage {
+            Stage::Starved => {
+                self.stage = Stage::Over;
+                Some(ConnEvent::Fault(ConnFault::OutOfMemory))
+            }
+            Stage::Going | Stage::Shutting | Stage::Over => None,
+        }
+    }
+
+    // It makes no link call more, and its output is dropped.
+    pub(crate) fn stop(&mut self, stage: Stage)
+        requires { is_live stage ≡ false }
+        ensures stage { self.new.stage ≡ stage }
+        ensures unsent { self.new.unsent ≡ [] }
+        ensures link { self.new.link ≡ self.old.link }
+        ensures core { self.new.core ≡ self.old.core }
+        ensures held { self.new.held ≡ self.old.held }
+    {
+        self.unsent = Unsent::none(self.alloc);
+        self.stage = stage;
+    }
+}

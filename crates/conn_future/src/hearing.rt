@@ -1,0 +1,195 @@
+//! What a read leads to.
+
+ghost use Rattle.std.specs.Prelude.{
+  ◌≡◌,
+  ◌≢◌,
+  ◌<◌,
+  ◌≤◌,
+  ℕ,
+  Bool,
+  true,
+  false,
+  List,
+  [],
+  ◌++◌,
+  Some,
+  None,
+  OnOk,
+  take,
+  vec_len,
+};
+ghost use Rattle.peer_ids.specs.Key.{Key};
+ghost use Rattle.upgrade.specs.declared.role.ConnRole.{ConnRole};
+ghost use Rattle.conn_log.specs.declared.event.ConnEvent.{ConnEvent};
+ghost use Rattle.conn_log.specs.declared.event.ConnEvent.TheVariants as event;
+ghost use Rattle.conn_log.specs.declared.event.ConnFault.TheVariants as fault;
+ghost use Rattle.conn_core.specs.Connects.{Stands, is_over, waiting_in};
+ghost use Rattle.conn_core.specs.Runs.{has_ended};
+ghost use Rattle.conn_future.specs.Stages.{is_live};
+ghost use Rattle.conn_future.specs.Follows.{Follows, Joins, GoesOn, Parts};
+ghost use Rattle.conn_future.specs.Turning.{OnGoing, OnWait, gave_by, faults_of};
+
+use crate::conn::Conn;
+use crate::stage::Stage;
+use crate::turns::Turn;
+use bytes::Bytes;
+use conn_link::Link;
+use conn_log::ConnEvent;
+use handlers::{Handler, Protocols};
+use std::alloc::AllocError;
+use std::collections::VecDeque;
+use std::mem;
+
+impl<L: Link, P: Protocols> Conn<L, P> {
+    // Moves what the core has written behind what is left.
+    pub(crate) fn collect(&mut self) -> Result<(), AllocError>
+        requires { self.old.stage ≡ Stage.Going }
+        ensures stands { (eager : ℕ → Bool) (names : List (List ℕ)) (role : ConnRole) (own : Key)
+            (input taken : List ℕ) (ended : Bool) (asked : List (ℕ × ℕ)) (told : List (ConnEvent P.H))
+            → Stands P.H.steps P.H.fails P.H.is_closed P.H.is_finished P.makes_inbound P.makes_outbound P.listed
+            P.is_eager eager names role own input ended asked told (taken ++ self.old.unsent) self.old.core
+            → OnOk result (Stands P.H.steps P.H.fails P.H.is_closed P.H.is_finished P.makes_inbound P.makes_outbound
+            P.listed P.is_eager eager names role own input ended asked told (taken ++ self.new.unsent) self.new.core) }
+        ensures none_waits { waiting_in self.new.core.phase self.new.core.output.items ≡ [] }
+        ensures over { is_over self.new.core.phase ≡ is_over self.old.core.phase }
+        ensures link { self.new.link ≡ self.old.link }
+        ensures held { self.new.held ≡ self.old.held }
+        ensures stage { self.new.stage ≡ self.old.stage }
+    {
+        let more = self.core.take_output();
+        self.unsent.append(more)
+    }
+
+    // Memory was refused: it tells so behind the events that it holds.
+    pub(crate) fn starve(&mut self) -> Turn<P::H>
+        ensures follows { (eager : ℕ → Bool) (names : List (List ℕ)) (role : ConnRole) (own : Key) (first : L)
+            (asked : List (ℕ × ℕ)) (gave : List (ConnEvent P.H))
+            → Parts L.Link P.Protocols P.H.Handler eager names role own first asked gave self.old.link
+            self.old.held.items → Follows L.Link P.Protocols P.H.Handler eager names role own first asked (gave ++
+            gave_by result) self.new }
+        ensures not_link { (eager : ℕ → Bool) (names : List (List ℕ)) (role : ConnRole) (own : Key) (first : L)
+            (asked : List (ℕ × ℕ)) (gave : List (ConnEvent P.H))
+            → Parts L.Link P.Protocols P.H.Handler eager names role own first asked gave self.old.link
+            self.old.held.items → result ≢ Turn.Give (Some (event.Fault fault.Link)) }
+        ensures gives { OnGoing result ⊥ }
+        ensures fails { faults_of result ≡ 0 }
+        ensures not_none { result ≢ Turn.Give None }
+        ensures stage { is_live self.new.stage ≡ false }
+        ensures link { self.new.link ≡ self.old.link }
+    {
+        self.stop(Stage::Starved);
+        Turn::Give(self.give())
+    }
+
+    // The core told these events.
+    fn tell(&mut self, events: Vec<ConnEvent<P::H>>) -> Turn<P::H>
+        requires { self.old.stage ≡ Stage.Going }
+        ensures follows { (eager : ℕ → Bool) (names : List (List ℕ)) (role : ConnRole) (own : Key) (first : L)
+            (asked : List (ℕ × ℕ)) (gave : List (ConnEvent P.H))
+            (ended : Bool) → Joins L.Link P.Protocols P.H.Handler eager names role own first asked gave ended
+            self.old.link self.old.core self.old.unsent events.items
+            → (ended ≡ true → is_over self.old.core.phase ≡ true)
+            → Follows L.Link P.Protocols P.H.Handler eager names role own first asked (gave ++ gave_by result)
+            self.new }
+        ensures not_link { (eager : ℕ → Bool) (names : List (List ℕ)) (role : ConnRole) (own : Key) (first : L)
+            (asked : List (ℕ × ℕ)) (gave : List (ConnEvent P.H))
+            (ended : Bool) → Joins L.Link P.Protocols P.H.Handler eager names role own first asked gave ended
+            self.old.link self.old.core self.old.unsent events.items
+            → (ended ≡ true → is_over self.old.core.phase ≡ true) → result ≢ Turn.Give (Some (event.Fault fault.Link)) }
+        ensures goes_on { OnGoing result ((self.new.stage ≡ Stage.Going) × (self.new.held.items ≡ [])) }
+        ensures no_wait { OnWait result ⊥ }
+        ensures fails { faults_of result ≡ 0 }
+        ensures not_none { (eager : ℕ → Bool) (names : List (List ℕ)) (role : ConnRole) (own : Key) (first : L)
+            (asked : List (ℕ × ℕ)) (gave : List (ConnEvent P.H))
+            (ended : Bool) → Joins L.Link P.Protocols P.H.Handler eager names role own first asked gave ended
+            self.old.link self.old.core self.old.unsent events.items → has_ended gave ≡ false
+            → result ≢ Turn.Give None }
+        ensures stage { is_live self.new.stage ≡ true → self.new.stage ≡ Stage.Going }
+        ensures link { self.new.link ≡ self.old.link }
+    {
+        self.held = VecDeque::from(events);
+        if self.core.is_over() {
+            self.stop(Stage::Over);
+            return Turn::Give(self.give());
+        }
+        let Ok(()) = self.collect() else {
+            return self.starve();
+        };
+        if self.held.is_empty() {
+            return Turn::Again;
+        }
+        Turn::Give(self.give())
+    }
+
+    // The link has given so many bytes, which stand at the front of the buffer.
+    pub(crate) fn hear(&mut self, count: usize) -> Turn<P::H>
+        requires going { self.old.stage ≡ Stage.Going }
+        requires none_held { self.old.held.items ≡ [] }
+        ensures follows { (eager : ℕ → Bool) (names : List (List ℕ)) (role : ConnRole) (own : Key) (first : L)
+            (asked : List (ℕ × ℕ)) (gave : List (ConnEvent P.H)) (before : L)
+            → GoesOn L.Link P.Protocols P.H.Handler eager names role own first asked gave before self.old.core
+            self.old.unsent []
+            → L.moves before (take count self.old.buffer.items) [] self.old.link
+            → Follows L.Link P.Protocols P.H.Handler eager names role own first asked (gave ++ gave_by result)
+            self.new }
+        ensures not_link { (eager : ℕ → Bool) (names : List (List ℕ)) (role : ConnRole) (own : Key) (first : L)
+            (asked : List (ℕ × ℕ)) (gave : List (ConnEvent P.H)) (before : L)
+            → GoesOn L.Link P.Protocols P.H.Handler eager names role own first asked gave before self.old.core
+            self.old.unsent []
+            → L.moves before (take count self.old.buffer.items) [] self.old.link
+            → result ≢ Turn.Give (Some (event.Fault fault.Link)) }
+        ensures goes_on { OnGoing result ((self.new.stage ≡ Stage.Going) × (self.new.held.items ≡ [])) }
+        ensures no_wait { OnWait result ⊥ }
+        ensures fails { faults_of result ≡ 0 }
+        ensures not_none { (eager : ℕ → Bool) (names : List (List ℕ)) (role : ConnRole) (own : Key) (first : L)
+            (asked : List (ℕ × ℕ)) (gave : List (ConnEvent P.H)) (before : L)
+            → GoesOn L.Link P.Protocols P.H.Handler eager names role own first asked gave before self.old.core
+            self.old.unsent []
+            → L.moves before (take count self.old.buffer.items) [] self.old.link
+            → result ≢ Turn.Give None }
+        ensures stage { is_live self.new.stage ≡ true → self.new.stage ≡ Stage.Going }
+        ensures link { self.new.link ≡ self.old.link }
+    {
+        let mut piece = mem::replace(&mut self.buffer, Vec::new(self.alloc));
+        piece.truncate(count);
+        let Ok(piece) = Bytes::from_vec(piece) else {
+            return self.starve();
+        };
+        match self.core.feed_shared(piece) {
+            Ok(events) => self.tell(events),
+            Err(_) => self.starve(),
+        }
+    }
+
+    // The input of the link has ended.
+    pub(crate) fn end(&mut self) -> Turn<P::H>
+        requires going { self.old.stage ≡ Stage.Going }
+        requires none_held { self.old.held.items ≡ [] }
+        ensures follows { (eager : ℕ → Bool) (names : List (List ℕ)) (role : ConnRole) (own : Key) (first : L)
+            (asked : List (ℕ × ℕ)) (gave : List (ConnEvent P.H))
+            → GoesOn L.Link P.Protocols P.H.Handler eager names role own first asked gave self.old.link self.old.core
+            self.old.unsent [] → L.has_ended self.old.link
+            → Follows L.Link P.Protocols P.H.Handler eager names role own first asked (gave ++ gave_by result)
+            self.new }
+        ensures not_link { (eager : ℕ → Bool) (names : List (List ℕ)) (role : ConnRole) (own : Key) (first : L)
+            (asked : List (ℕ × ℕ)) (gave : List (ConnEvent P.H))
+            → GoesOn L.Link P.Protocols P.H.Handler eager names role own first asked gave self.old.link self.old.core
+            self.old.unsent [] → L.has_ended self.old.link
+            → result ≢ Turn.Give (Some (event.Fault fault.Link)) }
+        ensures goes_on { OnGoing result ((self.new.stage ≡ Stage.Going) × (self.new.held.items ≡ [])) }
+        ensures no_wait { OnWait result ⊥ }
+        ensures fails { faults_of result ≡ 0 }
+        ensures not_none { (eager : ℕ → Bool) (names : List (List ℕ)) (role : ConnRole) (own : Key) (first : L)
+            (asked : List (ℕ × ℕ)) (gave : List (ConnEvent P.H))
+            → GoesOn L.Link P.Protocols P.H.Handler eager names role own first asked gave self.old.link self.old.core
+            self.old.unsent [] → L.has_ended self.old.link
+            → result ≢ Turn.Give None }
+        ensures stage { is_live self.new.stage ≡ true → self.new.stage ≡ Stage.Going }
+        ensures link { self.new.link ≡ self.old.link }
+    {
+        match self.core.ended() {
+            Ok(events) => self.tell(events),
+            Err(_) => self.starve(),
+        }
+    }
+}

@@ -1,0 +1,211 @@
+//! A turn of a poll: at most one call of the link.
+
+ghost use Rattle.std.specs.Prelude.{◌≡◌, ◌≢◌, ◌+◌, ◌<◌, ℕ, Bool, true, false, List, [], Some, None, length, IfOk, OnOk};
+ghost use Rattle.futures.specs.Task.{Covers, Keeps};
+ghost use Rattle.conn_future.specs.Stages.{is_live, WaitsAt};
+ghost use Rattle.peer_ids.specs.Key.{Key};
+ghost use Rattle.upgrade.specs.declared.role.ConnRole.{ConnRole};
+ghost use Rattle.conn_log.specs.declared.event.ConnEvent.{ConnEvent};
+ghost use Rattle.conn_log.specs.declared.event.ConnEvent.TheVariants as event;
+ghost use Rattle.conn_log.specs.declared.event.ConnFault.TheVariants as fault;
+ghost use Rattle.conn_future.specs.Follows.{Carries, Follows};
+ghost use Rattle.conn_future.specs.Turning.{HasWaited, OnAgain, OnGoing, OnWait, gave_by, faults_of};
+
+use crate::conn::Conn;
+use crate::stage::Stage;
+use crate::unsent::Unsent;
+use conn_link::Link;
+use conn_log::ConnEvent;
+use futures::task::{Context, Poll};
+use handlers::{Handler, Protocols};
+use std::alloc::{AllocError, Global};
+
+/// Which calls of the link were pending in this poll.
+#[derive(Drop)]
+pub(crate) struct Waits {
+    pub(crate) reading: bool,
+    pub(crate) writing: bool,
+}
+
+/// What a turn leads to.
+#[derive(Drop)]
+pub(crate) enum Turn<H> {
+    /// Another turn.
+    Again,
+    /// The poll gives this.
+    Give(Option<ConnEvent<H>>),
+    /// A call of the link failed: the poll gives that.
+    Failed,
+    /// No call of the link is left in this poll.
+    Wait,
+}
+
+/// How many bytes a read takes at most.
+const READ_SIZE: usize = 8192;
+
+/// A buffer for a read.
+pub(crate) fn buffer(alloc: Global) -> Result<Vec<u8>, AllocError>
+    ensures { IfOk result (λ buffer. 0 < length buffer.items) }
+{
+    vec![in alloc; 0; READ_SIZE]
+}
+
+// Makes a buffer where there is none.
+fn fill(alloc: Global, kept: &mut Vec<u8>) -> Result<(), AllocError>
+    ensures { OnOk result (0 < length kept.new.items) }
+{
+    if kept.is_empty() {
+        *kept = buffer(alloc)?;
+    }
+    Ok(())
+}
+
+impl<L: Link, P: Protocols> Conn<L, P> {
+    // One call that writes.
+    fn write(&mut self, cx: &mut Context<'_>, waits: &mut Waits) -> Turn<P::H>
+        requires live { is_live self.old.stage ≡ true }
+        requires none_held { self.old.held.items ≡ [] }
+        requires can_wait { waits.old.writing ≡ false }
+        ensures follows { Carries L.Link P.Protocols P.H.Handler self.old (gave_by result) self.new }
+        ensures goes_on { OnGoing result ((self.new.stage ≡ self.old.stage) × (self.new.held.items ≡ [])) }
+        ensures failures { L.failed self.new.link ≡ L.failed self.old.link + faults_of result }
+        ensures not_link { (eager : ℕ → Bool) (names : List (List ℕ)) (role : ConnRole) (own : Key) (first : L)
+            (asked : List (ℕ × ℕ)) (gave : List (ConnEvent P.H))
+            → Follows L.Link P.Protocols P.H.Handler eager names role own first asked gave self.old
+            → result ≢ Turn.Give (Some (event.Fault fault.Link)) }
+        ensures shutting { self.old.stage ≡ Stage.Shutting
+            → (took : List ℕ) × L.moves self.old.link [] took self.new.link }
+        ensures no_wait { OnWait result ⊥ }
+        ensures waits { HasWaited waits.old cx.old (L.reads_at self.old.link) (L.writes_at self.old.link)
+            → OnAgain result (HasWaited waits.new cx.new (L.reads_at self.new.link) (L.writes_at self.new.link)) }
+        ensures not_none { result ≢ Turn.Give None }
+        ensures stage { is_live self.new.stage ≡ true → self.new.stage ≡ self.old.stage }
+        ensures kept { Keeps cx.old cx.new }
+    {
+        match self.link.poll_write(cx, self.unsent.as_slice()) {
+            Poll::Ready(Ok(count)) => {
+                self.unsent.advance(count);
+                Turn::Again
+            }
+            Poll::Ready(Err(_fault)) => {
+                self.unsent = Unsent::none(self.alloc);
+                self.stage = Stage::Over;
+                Turn::Failed
+            }
+            Poll::Pending => {
+                waits.writing = true;
+                Turn::Again
+            }
+        }
+    }
+
+    // One call that reads.
+    fn read(&mut self, cx: &mut Context<'_>, waits: &mut Waits) -> Turn<P::H>
+        requires going { self.old.stage ≡ Stage.Going }
+        requires none_held { self.old.held.items ≡ [] }
+        requires can_wait { waits.old.reading ≡ false }
+        ensures follows { Carries L.Link P.Protocols P.H.Handler self.old (gave_by result) self.new }
+        ensures goes_on { OnGoing result ((self.new.stage ≡ self.old.stage) × (self.new.held.items ≡ [])) }
+        ensures failures { L.failed self.new.link ≡ L.failed self.old.link + faults_of result }
+        ensures not_link { (eager : ℕ → Bool) (names : List (List ℕ)) (role : ConnRole) (own : Key) (first : L)
+            (asked : List (ℕ × ℕ)) (gave : List (ConnEvent P.H))
+            → Follows L.Link P.Protocols P.H.Handler eager names role own first asked gave self.old
+            → result ≢ Turn.Give (Some (event.Fault fault.Link)) }
+        ensures no_wait { OnWait result ⊥ }
+        ensures waits { HasWaited waits.old cx.old (L.reads_at self.old.link) (L.writes_at self.old.link)
+            → OnAgain result (HasWaited waits.new cx.new (L.reads_at self.new.link) (L.writes_at self.new.link)) }
+        ensures not_none { (eager : ℕ → Bool) (names : List (List ℕ)) (role : ConnRole) (own : Key) (first : L)
+            (asked : List (ℕ × ℕ)) (gave : List (ConnEvent P.H))
+            → Follows L.Link P.Protocols P.H.Handler eager names role own first asked gave self.old
+            → result ≢ Turn.Give None }
+        ensures stage { is_live self.new.stage ≡ true → self.new.stage ≡ self.old.stage }
+        ensures kept { Keeps cx.old cx.new }
+    {
+        let Ok(()) = fill(self.alloc, &mut self.buffer) else {
+            return self.starve();
+        };
+        match self.link.poll_read(cx, self.buffer.as_mut_slice()) {
+            Poll::Ready(Ok(0)) => self.end(),
+            Poll::Ready(Ok(count)) => self.hear(count),
+            Poll::Ready(Err(_fault)) => {
+                self.unsent = Unsent::none(self.alloc);
+                self.stage = Stage::Over;
+                Turn::Failed
+            }
+            Poll::Pending => {
+                waits.reading = true;
+                Turn::Again
+            }
+        }
+    }
+
+    // One call that shuts the link.
+    fn close(&mut self, cx: &mut Context<'_>) -> Turn<P::H>
+        requires shutting { self.old.stage ≡ Stage.Shutting }
+        requires none_held { self.old.held.items ≡ [] }
+        requires none_left { self.old.unsent ≡ [] }
+        ensures follows { Carries L.Link P.Protocols P.H.Handler self.old (gave_by result) self.new }
+        ensures goes_on { OnGoing result ((self.new.stage ≡ self.old.stage) × (self.new.held.items ≡ [])) }
+        ensures failures { L.failed self.new.link ≡ L.failed self.old.link + faults_of result }
+        ensures not_link { (eager : ℕ → Bool) (names : List (List ℕ)) (role : ConnRole) (own : Key) (first : L)
+            (asked : List (ℕ × ℕ)) (gave : List (ConnEvent P.H))
+            → Follows L.Link P.Protocols P.H.Handler eager names role own first asked gave self.old
+            → result ≢ Turn.Give (Some (event.Fault fault.Link)) }
+        ensures none_moved { L.moves self.old.link [] [] self.new.link }
+        ensures no_turn { OnAgain result ⊥ }
+        ensures covers { OnWait result (Covers cx.new (WaitsAt (L.reads_at self.new.link) (L.writes_at self.new.link)
+            (L.shuts_at self.new.link) self.new.stage self.new.unsent)) }
+        ensures not_none { result ≢ Turn.Give None }
+        ensures stage { is_live self.new.stage ≡ true → self.new.stage ≡ self.old.stage }
+        ensures kept { Keeps cx.old cx.new }
+    {
+        match self.link.poll_shut(cx) {
+            Poll::Ready(Ok(())) => {
+                self.unsent = Unsent::none(self.alloc);
+                self.stage = Stage::Over;
+                Turn::Give(Some(ConnEvent::Shut))
+            }
+            Poll::Ready(Err(_fault)) => {
+                self.unsent = Unsent::none(self.alloc);
+                self.stage = Stage::Over;
+                Turn::Failed
+            }
+            Poll::Pending => Turn::Wait,
+        }
+    }
+
+    // At most one call of the link: it writes what is left first.
+    pub(crate) fn turn(&mut self, cx: &mut Context<'_>, waits: &mut Waits) -> Turn<P::H>
+        requires live { is_live self.old.stage ≡ true }
+        requires none_held { self.old.held.items ≡ [] }
+        ensures follows { Carries L.Link P.Protocols P.H.Handler self.old (gave_by result) self.new }
+        ensures goes_on { OnGoing result ((self.new.stage ≡ self.old.stage) × (self.new.held.items ≡ [])) }
+        ensures failures { L.failed self.new.link ≡ L.failed self.old.link + faults_of result }
+        ensures not_link { (eager : ℕ → Bool) (names : List (List ℕ)) (role : ConnRole) (own : Key) (first : L)
+            (asked : List (ℕ × ℕ)) (gave : List (ConnEvent P.H))
+            → Follows L.Link P.Protocols P.H.Handler eager names role own first asked gave self.old
+            → result ≢ Turn.Give (Some (event.Fault fault.Link)) }
+        ensures shutting { self.old.stage ≡ Stage.Shutting
+            → (took : List ℕ) × L.moves self.old.link [] took self.new.link }
+        ensures waits { HasWaited waits.old cx.old (L.reads_at self.old.link) (L.writes_at self.old.link)
+            → OnAgain result (HasWaited waits.new cx.new (L.reads_at self.new.link) (L.writes_at self.new.link)) }
+        ensures covers { HasWaited waits.old cx.old (L.reads_at self.old.link) (L.writes_at self.old.link)
+            → OnWait result (Covers cx.new (WaitsAt (L.reads_at self.new.link) (L.writes_at self.new.link)
+            (L.shuts_at self.new.link) self.new.stage self.new.unsent)) }
+        ensures not_none { (eager : ℕ → Bool) (names : List (List ℕ)) (role : ConnRole) (own : Key) (first : L)
+            (asked : List (ℕ × ℕ)) (gave : List (ConnEvent P.H))
+            → Follows L.Link P.Protocols P.H.Handler eager names role own first asked gave self.old
+            → result ≢ Turn.Give None }
+        ensures stage { is_live self.new.stage ≡ true → self.new.stage ≡ self.old.stage }
+        ensures kept { Keeps cx.old cx.new }
+    {
+        if !self.unsent.is_empty() && !waits.writing {
+            return self.write(cx, waits);
+        }
+        match self.stage {
+            Stage::Going if !waits.reading => self.read(cx, waits),
+            Stage::Shutting if self.unsent.is_empty() => self.close(cx),
+            Stage::Going | Stage::Shutting | Stage::Starved | Stage::Over => Turn::Wait,
+        }
+    }
+}

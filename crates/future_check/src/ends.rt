@@ -1,0 +1,171 @@
+//! An end of a connection over a pipe, driven to the end of its events.
+
+ghost use Rattle.std.specs.Prelude.{◌<◌, ◌-◌, ◌^◌};
+
+use crate::counted::Counted;
+use conn_core::ConnCore;
+use conn_future::Conn;
+use conn_link::{Link, Pipe};
+use conn_log::{ConnEvent, ConnFault};
+use futures::Stream;
+use futures::task::Poll;
+use futures::test::MockTask;
+use node_protocols::{FixedPayload, NodeHandler, NodeProtocols};
+use peer_ids::PublicKey;
+use std::alloc::Global;
+use upgrade::ConnRole;
+
+/// The message of a key (Secp256k1, of one byte), which both ends have here.
+pub(crate) const KEY: &[u8] = b"\x08\x02\x12\x01\x05";
+
+/// What each end sends until the connection is up.
+pub(crate) const UPGRADE: &[u8] = b"\x13/multistream/1.0.0\n\x11/plaintext/2.0.0\n\
+    \x10\x0a\x07\0\x05\x08\x02\x12\x01\x05\x12\x05\x08\x02\x12\x01\x05\x13/multistream/1.0.0\n\x0d/yamux/1.0.0\n";
+
+/// The bytes of each ping.
+const PAYLOAD: [u8; 32] = [7; 32];
+
+/// The index of ping.
+const PING: usize = 2;
+
+pub(crate) type End<L> = Conn<Counted<L>, NodeProtocols<FixedPayload>>;
+
+/// What is told, by its kind.
+#[derive(Clone, Copy, Debug, PartialEq, Eq, Drop)]
+pub(crate) enum Said {
+    Upgraded,
+    Agreed(u32, usize),
+    Done(u32),
+    Refused(u32),
+    Broken(u32),
+    Fault(ConnFault),
+    Shut,
+}
+
+pub(crate) fn kind_of(event: &ConnEvent<NodeHandler>) -> Said {
+    match event {
+        ConnEvent::Upgraded(_) => Said::Upgraded,
+        ConnEvent::Agreed(number, index) => Said::Agreed(*number, *index),
+        ConnEvent::Refused(number) => Said::Refused(*number),
+        ConnEvent::Done(number, _) => Said::Done(*number),
+        ConnEvent::Broken(number, _) => Said::Broken(*number),
+        ConnEvent::Fault(fault) => Said::Fault(*fault),
+        ConnEvent::Shut => Said::Shut,
+    }
+}
+
+/// The protocols of the node that both ends are.
+pub(crate) fn protocols(alloc: Global) -> Option<NodeProtocols<FixedPayload>> {
+    let own = PublicKey::read(alloc, KEY).ok()?;
+    let payloads = FixedPayload { payload: PAYLOAD };
+    NodeProtocols::new(alloc, own, "node/0.1.0", payloads).ok()
+}
+
+/// A connection over this link, before any byte came.
+pub(crate) fn connect<L: Link>(alloc: Global, role: ConnRole, link: L) -> Option<End<L>> {
+    if link.failures() == u64::MAX {
+        return None;
+    }
+    let key = PublicKey::read(alloc, KEY).ok()?;
+    let core = ConnCore::new(alloc, role, key, protocols(alloc)?).ok()?;
+    Conn::new(alloc, Counted::new(alloc, link), core).ok()
+}
+
+/// What polls gave.
+#[derive(Drop)]
+pub(crate) struct Gave {
+    pub(crate) said: Vec<Said>,
+    /// The stream has ended.
+    pub(crate) has_ended: bool,
+    /// How many calls of the link one poll made at most.
+    pub(crate) most: u32,
+    /// How many calls of the link the least of the pending polls made.
+    pub(crate) least_pending: u32,
+    /// A poll was pending and didn't ask for another.
+    pub(crate) is_idle: bool,
+}
+
+impl Gave {
+    pub(crate) fn new(alloc: Global) -> Gave {
+        Gave {
+            said: Vec::new(alloc),
+            has_ended: false,
+            most: 0,
+            least_pending: u32::MAX,
+            is_idle: false,
+        }
+    }
+
+    /// Exactly these events were given, and then the end of the stream.
+    pub(crate) fn is(&self, said: &[Said]) -> bool {
+        self.has_ended && self.said.as_slice() == said && self.most <= 32
+    }
+}
+
+/// What is done with a connection between polls.
+#[derive(Clone, Copy, Debug, PartialEq, Eq)]
+pub(crate) enum Plan {
+    /// Nothing.
+    Listen,
+    /// A ping is asked for once the connection is up.
+    Ping,
+    /// `shut` is called before the poll of this number.
+    ShutAt(u32),
+}
+
+/// Polls once, and notes what came of it.
+pub(crate) fn poll_once<L: Link>(
+    task: &MockTask,
+    conn: &mut End<L>,
+    gave: &mut Gave,
+) -> Option<Poll<Option<Said>>> {
+    let before = conn.link().calls;
+    let polled = task.enter(|cx| conn.poll_next(cx));
+    let calls = conn.link().calls.saturating_sub(before);
+    gave.most = gave.most.max(calls);
+    match &polled {
+        Poll::Ready(Some(event)) => {
+            let said = kind_of(event);
+            gave.said.push(said).ok()?;
+            Some(Poll::Ready(Some(said)))
+        }
+        Poll::Ready(None) => {
+            gave.has_ended = true;
+            Some(Poll::Ready(None))
+        }
+        Poll::Pending => {
+            gave.least_pending = gave.least_pending.min(calls);
+            gave.is_idle = gave.is_idle || !task.is_woken();
+            Some(Poll::Pending)
+        }
+    }
+}
+
+/// Polls until the stream has ended or waits for the link, at most so many times.
+pub(crate) fn drive<L: Link>(
+    alloc: Global,
+    task: &MockTask,
+    conn: &mut End<L>,
+    plan: Plan,
+    polls: u32,
+) -> Option<Gave> {
+    let mut gave = Gave::new(alloc);
+    for poll in 0..polls {
+        if plan == Plan::ShutAt(poll) {
+            conn.shut();
+        }
+        let polled = poll_once(task, conn, &mut gave)?;
+        if polled == Poll::Ready(Some(Said::Upgraded)) && plan == Plan::Ping {
+            conn.ask(PING).ok()?;
+        }
+        if gave.has_ended || gave.is_idle {
+            break;
+        }
+    }
+    Some(gave)
+}
+
+/// What was written.
+pub(crate) fn written(conn: &End<Pipe>) -> &[u8] {
+    conn.link().link.written()
+}

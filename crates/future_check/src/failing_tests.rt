@@ -1,0 +1,67 @@
+//! A read or a write that fails.
+
+use crate::ends::{Gave, Said, connect, drive, written};
+use crate::row_tests::{TOLD, begins_output, input, plan};
+use crate::scripts::failing_at;
+use conn_link::{Link, Pipe};
+use conn_log::ConnFault;
+use futures::test::MockTask;
+use std::alloc::Global;
+use std::test::*;
+use upgrade::ConnRole;
+
+/// Which calls fail.
+#[derive(Clone, Copy, Debug, PartialEq, Eq)]
+enum Side {
+    Reads,
+    Writes,
+}
+
+/// The events are a front of what is told without the failure, then Fault(Link), and then the end of the stream.
+fn is_cut_off(gave: &Gave) -> bool {
+    let Some(before) = gave.said.len().checked_sub(1) else {
+        return false;
+    };
+    let last = gave.said.get(before) == Some(&Said::Fault(ConnFault::Link));
+    last && gave.has_ended && TOLD.get(..before) == gave.said.get(..before)
+}
+
+/// The call behind so many fails. Behind the fault no call of the link is made.
+fn fails_at(
+    alloc: Global,
+    task: &MockTask,
+    role: ConnRole,
+    side: Side,
+    count: u32,
+) -> Option<bool> {
+    let failing = failing_at(alloc, count, 9)?;
+    let single = failing_at(alloc, 4000, 9)?;
+    let pipe = match side {
+        Side::Reads => Pipe::new(alloc, input(alloc, role)?, failing, single),
+        Side::Writes => Pipe::new(alloc, input(alloc, role)?, single, failing),
+    };
+    let mut conn = connect(alloc, role, pipe)?;
+    let gave = drive(alloc, task, &mut conn, plan(role), 4000)?;
+    let calls = conn.link().calls;
+    let later = drive(alloc, task, &mut conn, plan(role), 3)?;
+    let is_right = match conn.link().failures() {
+        0 => gave.is(&TOLD),
+        1 => is_cut_off(&gave) && conn.waiting() == 0,
+        _ => false,
+    };
+    let is_over = later.is(&[]) && conn.link().calls == calls;
+    Some(is_right && is_over && gave.most <= 32 && begins_output(role, written(&conn)))
+}
+
+#[test]
+fn the_kth_call_fails(rt: HostRuntime) -> Result<(), Fail> {
+    let task = MockTask::new(&rt)?;
+    for count in 0..60u32 {
+        for role in [ConnRole::Dialer, ConnRole::Listener] {
+            let reads = fails_at(rt.alloc(), &task, role, Side::Reads, count) == Some(true);
+            let writes = fails_at(rt.alloc(), &task, role, Side::Writes, count) == Some(true);
+            assert!(rt; reads && writes, "behind {count} calls");
+        }
+    }
+    Ok(())
+}

@@ -1,0 +1,72 @@
+//! A link that waits for ever.
+
+ghost use Rattle.std.specs.Prelude.{◌≡◌, ◌+◌, ◌++◌, ◌^◌, ◌-◌, min, [], refl};
+
+use conn_link::{Link, LinkFault};
+use futures::task::{Context, Poll, Source, Waker};
+
+/// A link whose reads wait for ever at a source. Its writes do too, or take all that they are offered.
+#[derive(Drop)]
+pub(crate) struct Quiet {
+    source: Source,
+    reading: Option<Waker>,
+    writing: Option<Waker>,
+    takes: bool,
+}
+
+impl Quiet {
+    pub(crate) fn new(takes: bool) -> Quiet {
+        Quiet {
+            source: Source::new(),
+            reading: None,
+            writing: None,
+            takes,
+        }
+    }
+}
+
+impl Link for Quiet {
+    ghost moves = { λ _ given _ _. given ≡ [] };
+
+    ghost has_ended = { λ _. ⊥ };
+
+    ghost is_shut = { λ _. ⊤ };
+
+    ghost failed = { λ _. 0 };
+
+    ghost reads_at = { λ link source. source ≡ link.source.id };
+
+    ghost writes_at = { λ link source. source ≡ link.source.id };
+
+    ghost shuts_at = { λ _ _. ⊥ };
+
+    ghost moves_nothing = { λ _. refl };
+
+    ghost moves_on = { λ _ _ _ _ _ _ _ first last. none_twice first last };
+
+    ghost stays_ended = { λ _ _ _ _ _ ended. absurd ended };
+
+    fn poll_read(
+        &mut self,
+        cx: &mut Context<'_>,
+        _buffer: &mut [u8],
+    ) -> Poll<Result<usize, LinkFault>> {
+        cx.register(&self.source, &mut self.reading)
+    }
+
+    fn poll_write(&mut self, cx: &mut Context<'_>, bytes: &[u8]) -> Poll<Result<usize, LinkFault>> {
+        if self.takes {
+            Poll::Ready(Ok(bytes.len()))
+        } else {
+            cx.register(&self.source, &mut self.writing)
+        }
+    }
+
+    fn poll_shut(&mut self, _cx: &mut Context<'_>) -> Poll<Result<(), LinkFault>> {
+        Poll::Ready(Ok(()))
+    }
+
+    fn failures(&self) -> u64 {
+        0
+    }
+}

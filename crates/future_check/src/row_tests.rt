@@ -1,0 +1,207 @@
+//! The upgrade and a ping, of either end, and how many calls of the link a poll makes.
+
+ghost use Rattle.std.specs.Prelude.{};
+ghost use Rattle.std.specs.List.{All};
+ghost use Rattle.conn_link.specs.Piping.{CanGo};
+
+use crate::counted::Counted;
+use crate::ends::{End, Gave, Plan, Said, UPGRADE, connect, drive, poll_once, written};
+use crate::quiet::Quiet;
+use crate::scripts::in_turn;
+use conn_link::{Pipe, PipeStep};
+use futures::task::Poll;
+use futures::test::MockTask;
+use std::alloc::Global;
+use std::test::*;
+use upgrade::ConnRole;
+
+/// What the listener's other end sends behind the upgrade: SYN of stream 1, the header and the name of ping on it, a
+/// ping, and FIN.
+pub(crate) const PINGS: &[u8] = b"\0\x01\0\x01\0\0\0\x01\0\0\0\0\0\0\0\0\0\0\0\x01\0\0\0\x26\
+    \x13/multistream/1.0.0\n\x11/ipfs/ping/1.0.0\n\0\0\0\0\0\0\0\x01\0\0\0\x20\
+    \x07\x07\x07\x07\x07\x07\x07\x07\x07\x07\x07\x07\x07\x07\x07\x07\
+    \x07\x07\x07\x07\x07\x07\x07\x07\x07\x07\x07\x07\x07\x07\x07\x07\
+    \0\x01\0\x04\0\0\0\x01\0\0\0\0";
+
+/// What the dialer's other end sends behind the upgrade: the header and the name of ping on stream 1, the pong, and
+/// FIN.
+pub(crate) const PONGS: &[u8] = b"\0\0\0\0\0\0\0\x01\0\0\0\x26\
+    \x13/multistream/1.0.0\n\x11/ipfs/ping/1.0.0\n\0\0\0\0\0\0\0\x01\0\0\0\x20\
+    \x07\x07\x07\x07\x07\x07\x07\x07\x07\x07\x07\x07\x07\x07\x07\x07\
+    \x07\x07\x07\x07\x07\x07\x07\x07\x07\x07\x07\x07\x07\x07\x07\x07\
+    \0\x01\0\x04\0\0\0\x01\0\0\0\0";
+
+/// What the listener sends behind the upgrade: ACK of stream 1, the header, the name of ping, the pong, and FIN.
+const ECHOES: &[u8] =
+    b"\0\x01\0\x02\0\0\0\x01\0\0\0\0\0\0\0\0\0\0\0\x01\0\0\0\x14\x13/multistream/1.0.0\n\
+    \0\0\0\0\0\0\0\x01\0\0\0\x12\x11/ipfs/ping/1.0.0\n\0\0\0\0\0\0\0\x01\0\0\0\x20\
+    \x07\x07\x07\x07\x07\x07\x07\x07\x07\x07\x07\x07\x07\x07\x07\x07\
+    \x07\x07\x07\x07\x07\x07\x07\x07\x07\x07\x07\x07\x07\x07\x07\x07\
+    \0\x01\0\x04\0\0\0\x01\0\0\0\0";
+
+/// What the dialer sends behind the upgrade: SYN of stream 1, and on it the header, the name of ping, and a ping before
+/// any answer, and FIN.
+const ASKS: &[u8] = b"\0\x01\0\x01\0\0\0\x01\0\0\0\0\0\0\0\0\0\0\0\x01\0\0\0\x46\
+    \x13/multistream/1.0.0\n\x11/ipfs/ping/1.0.0\n\
+    \x07\x07\x07\x07\x07\x07\x07\x07\x07\x07\x07\x07\x07\x07\x07\x07\
+    \x07\x07\x07\x07\x07\x07\x07\x07\x07\x07\x07\x07\x07\x07\x07\x07\
+    \0\x01\0\x04\0\0\0\x01\0\0\0\0";
+
+/// What either end tells.
+pub(crate) const TOLD: [Said; 4] = [
+    Said::Upgraded,
+    Said::Agreed(1, 2),
+    Said::Done(1),
+    Said::Shut,
+];
+
+/// How the calls of a link are cut.
+#[derive(Clone, Copy, Debug, PartialEq, Eq)]
+pub(crate) enum Cut {
+    /// The upgrade comes by one read, and what follows by another.
+    Whole,
+    /// One byte a call, and between them one that is pending.
+    Single,
+    /// One byte a call.
+    Bytes,
+}
+
+fn reads(alloc: Global, cut: Cut) -> Option<Vec<PipeStep>>
+    ensures { IfSome result (λ steps. All CanGo steps.items) }
+{
+    match cut {
+        Cut::Whole => {
+            let mut steps = Vec::new(alloc);
+            steps.push(PipeStep::Upto(UPGRADE.len().max(1))).ok()?;
+            Some(steps)
+        }
+        Cut::Single => in_turn(alloc, PipeStep::Upto(1), PipeStep::Pending, 400),
+        Cut::Bytes => in_turn(alloc, PipeStep::Upto(1), PipeStep::Upto(1), 200),
+    }
+}
+
+fn writes(alloc: Global, cut: Cut) -> Option<Vec<PipeStep>>
+    ensures { IfSome result (λ steps. All CanGo steps.items) }
+{
+    match cut {
+        Cut::Whole => Some(Vec::new(alloc)),
+        Cut::Single => in_turn(alloc, PipeStep::Pending, PipeStep::Upto(1), 400),
+        Cut::Bytes => in_turn(alloc, PipeStep::Upto(1), PipeStep::Upto(1), 200),
+    }
+}
+
+/// All that comes to an end of this role.
+pub(crate) fn input(alloc: Global, role: ConnRole) -> Option<Vec<u8>> {
+    let mut input = UPGRADE.to_vec(alloc).ok()?;
+    let rest = match role {
+        ConnRole::Dialer => PONGS,
+        ConnRole::Listener => PINGS,
+    };
+    input.extend_from_slice(rest).ok()?;
+    Some(input)
+}
+
+/// The dialer asks for a ping once it is up.
+pub(crate) fn plan(role: ConnRole) -> Plan {
+    match role {
+        ConnRole::Dialer => Plan::Ping,
+        ConnRole::Listener => Plan::Listen,
+    }
+}
+
+/// Whether these bytes begin what an end of this role writes.
+pub(crate) fn begins_output(role: ConnRole, bytes: &[u8]) -> bool {
+    let behind = match role {
+        ConnRole::Dialer => ASKS,
+        ConnRole::Listener => ECHOES,
+    };
+    match bytes.get(UPGRADE.len()..) {
+        Some(rest) => bytes.starts_with(UPGRADE) && behind.starts_with(rest),
+        None => UPGRADE.starts_with(bytes),
+    }
+}
+
+fn end(alloc: Global, role: ConnRole, cut: Cut) -> Option<End<Pipe>> {
+    let pipe = Pipe::new(
+        alloc,
+        input(alloc, role)?,
+        reads(alloc, cut)?,
+        writes(alloc, cut)?,
+    );
+    connect(alloc, role, pipe)
+}
+
+fn plays(alloc: Global, task: &MockTask, role: ConnRole, cut: Cut) -> Option<bool> {
+    let mut conn = end(alloc, role, cut)?;
+    let gave = drive(alloc, task, &mut conn, plan(role), 4000)?;
+    Some(gave.is(&TOLD) && !gave.is_idle && begins_output(role, written(&conn)))
+}
+
+#[test]
+fn the_upgrade_and_a_ping(rt: HostRuntime) -> Result<(), Fail> {
+    let task = MockTask::new(&rt)?;
+    let rows = [
+        (ConnRole::Dialer, Cut::Whole),
+        (ConnRole::Dialer, Cut::Single),
+        (ConnRole::Dialer, Cut::Bytes),
+        (ConnRole::Listener, Cut::Whole),
+        (ConnRole::Listener, Cut::Single),
+        (ConnRole::Listener, Cut::Bytes),
+    ];
+    for (row, (role, cut)) in rows.iter().enumerate() {
+        let held = plays(rt.alloc(), &task, *role, *cut) == Some(true);
+        assert!(rt; held, "row {row}");
+    }
+    Ok(())
+}
+
+/// Where each call moves a byte, a poll asks for another exactly behind its 32nd call.
+fn asks_behind_32(alloc: Global, task: &MockTask, role: ConnRole) -> Option<bool> {
+    let mut conn = end(alloc, role, Cut::Bytes)?;
+    let first = conn.waiting();
+    let mut gave = Gave::new(alloc);
+    let polled = poll_once(task, &mut conn, &mut gave)?;
+    let has_waited = polled == Poll::Pending && !gave.is_idle && gave.most == 32;
+    let has_written = role == ConnRole::Listener
+        || (written(&conn).len() == 32 && conn.waiting() == first.saturating_sub(32));
+    let rest = drive(alloc, task, &mut conn, plan(role), 4000)?;
+    Some(has_waited && has_written && rest.is(&TOLD) && rest.least_pending == 32 && rest.most == 32)
+}
+
+#[test]
+fn thirty_two_calls(rt: HostRuntime) -> Result<(), Fail> {
+    let task = MockTask::new(&rt)?;
+    for role in [ConnRole::Dialer, ConnRole::Listener] {
+        let held = asks_behind_32(rt.alloc(), &task, role) == Some(true);
+        assert!(rt; held, "calls of a poll");
+    }
+    Ok(())
+}
+
+/// A link whose reads wait for ever is asked to write what is left and to read, and no more: the poll asks for no other.
+/// Behind `shut`, with the output left that a link which takes none has, it waits for that.
+fn waits_quietly(alloc: Global, task: &MockTask, takes: bool) -> Option<bool> {
+    let mut conn = connect(alloc, ConnRole::Dialer, Quiet::new(takes))?;
+    let first = conn.waiting();
+    let gave = drive(alloc, task, &mut conn, Plan::Listen, 10)?;
+    let left = if takes { 0 } else { first };
+    let is_right = gave.is_idle && gave.said.is_empty() && gave.most == 2 && conn.waiting() == left;
+    conn.shut();
+    let later = drive(alloc, task, &mut conn, Plan::Listen, 10)?;
+    let is_shut = if takes {
+        later.is(&[Said::Shut]) && later.most == 1
+    } else {
+        later.is_idle && later.said.is_empty() && later.most == 1 && conn.waiting() == first
+    };
+    Some(is_right && is_shut)
+}
+
+#[test]
+fn a_link_that_waits(rt: HostRuntime) -> Result<(), Fail> {
+    let task = MockTask::new(&rt)?;
+    for takes in [true, false] {
+        let held = waits_quietly(rt.alloc(), &task, takes) == Some(true);
+        assert!(rt; held, "a link that takes bytes: {takes}");
+    }
+    Ok(())
+}

@@ -1,0 +1,149 @@
+//! A thousand runs, each by steps of its own, against the core fed the same bytes directly.
+
+use crate::ends::{KEY, Plan, Said, UPGRADE, connect, drive, kind_of, protocols, written};
+use crate::row_tests::PINGS;
+use crate::scripts::{Random, random_steps};
+use conn_core::{ConnAct, ConnAnswer, run};
+use conn_link::{Link, Pipe};
+use conn_log::ConnFault;
+use futures::test::MockTask;
+use peer_ids::PublicKey;
+use std::alloc::Global;
+use std::test::*;
+use upgrade::ConnRole;
+
+/// What comes behind the ping: identify is asked for on stream 3, a protocol that is not known on stream 5, ping on
+/// stream 7, which is then reset, and stream 9 is opened with a message that is none.
+const MORE: &[u8] = b"\0\x01\0\x01\0\0\0\x03\0\0\0\0\0\0\0\0\0\0\0\x03\0\0\0\x24\
+    \x13/multistream/1.0.0\n\x0f/ipfs/id/1.0.0\n\
+    \0\x01\0\x01\0\0\0\x05\0\0\0\0\0\0\0\x04\0\0\0\x05\0\0\0\x17\x13/multistream/1.0.0\n\x02x\n\
+    \0\x01\0\x01\0\0\0\x07\0\0\0\0\0\0\0\0\0\0\0\x07\0\0\0\x26\
+    \x13/multistream/1.0.0\n\x11/ipfs/ping/1.0.0\n\0\x01\0\x08\0\0\0\x07\0\0\0\0\
+    \0\x01\0\x01\0\0\0\x09\0\0\0\0\0\0\0\0\0\0\0\x09\0\0\0\x15\x13/multistream/1.0.0\n\0";
+
+/// What comes in a run: all of it, or a front, or one byte of it is another.
+fn input(alloc: Global, random: &mut Random) -> Option<Vec<u8>> {
+    let mut input = UPGRADE.to_vec(alloc).ok()?;
+    input.extend_from_slice(PINGS).ok()?;
+    input.extend_from_slice(MORE).ok()?;
+    let all = input.len() as u32;
+    let at = random.below(all) as usize;
+    match random.below(3) {
+        0 => input.truncate(at),
+        1 => {
+            if let Some(byte) = input.get_mut(at) {
+                *byte ^= 1 << random.below(8);
+            }
+        }
+        _ => {}
+    }
+    Some(input)
+}
+
+/// What the core is fed: what the reads gave, each by a call of its own.
+fn acts(alloc: Global, bytes: &[u8], given: &[usize]) -> Option<Vec<ConnAct>> {
+    let mut acts = Vec::new(alloc);
+    let mut rest = bytes;
+    for count in given {
+        let act = if *count == 0 {
+            ConnAct::Ended
+        } else {
+            ConnAct::Feed(rest.get(..*count)?.to_vec(alloc).ok()?)
+        };
+        rest = rest.get(*count..)?;
+        acts.push(act).ok()?;
+    }
+    Some(acts)
+}
+
+/// What the core tells and writes.
+#[derive(Drop)]
+struct Direct {
+    told: Vec<Said>,
+    output: Vec<u8>,
+}
+
+fn feed_directly(alloc: Global, bytes: &[u8], given: &[usize]) -> Option<Direct> {
+    let key = PublicKey::read(alloc, KEY).ok()?;
+    let acts = acts(alloc, bytes, given)?;
+    let ran = run(alloc, ConnRole::Listener, key, protocols(alloc)?, &acts).ok()?;
+    let mut told = Vec::new(alloc);
+    for answer in &ran.answers {
+        if let ConnAnswer::Events(events) = answer {
+            for event in events {
+                told.push(kind_of(event)).ok()?;
+            }
+        }
+    }
+    Some(Direct {
+        told,
+        output: ran.output,
+    })
+}
+
+/// Whether the events are those of the core, and behind them Fault(Link) where a call failed, and Shut where `shut` was
+/// called in time.
+fn are_told(gave: &[Said], told: &[Said], has_failed: bool, may_shut: bool) -> bool {
+    if gave == told {
+        return !has_failed && told.len() > 0;
+    }
+    let Some(before) = gave.len().checked_sub(1) else {
+        return false;
+    };
+    let last = if has_failed {
+        Said::Fault(ConnFault::Link)
+    } else {
+        Said::Shut
+    };
+    gave.get(before) == Some(&last) && gave.get(..before) == Some(told) && (has_failed || may_shut)
+}
+
+/// What a run is: what comes, and by which calls.
+#[derive(Drop)]
+struct Script {
+    bytes: Vec<u8>,
+    pipe: Pipe,
+    plan: Plan,
+}
+
+/// Most calls move some bytes, some are pending, in every fourth run one fails, and in every fifth `shut` is called.
+fn script_of(alloc: Global, number: u32) -> Option<Script> {
+    let mut random = Random {
+        state: u64::from(number),
+    };
+    let bytes = input(alloc, &mut random)?;
+    let most = random.below(200).saturating_add(1);
+    let has_failing = random.below(4) == 0;
+    let (reading, writing) = (random.below(100), random.below(100));
+    let reads = random_steps(alloc, &mut random, reading, most, has_failing)?;
+    let writes = random_steps(alloc, &mut random, writing, 60, has_failing)?;
+    let plan = if random.below(5) == 0 {
+        Plan::ShutAt(random.below(30))
+    } else {
+        Plan::Listen
+    };
+    let pipe = Pipe::new(alloc, bytes.as_slice().to_vec(alloc).ok()?, reads, writes);
+    Some(Script { bytes, pipe, plan })
+}
+
+fn runs(alloc: Global, task: &MockTask, number: u32) -> Option<bool> {
+    let Script { bytes, pipe, plan } = script_of(alloc, number)?;
+    let mut conn = connect(alloc, ConnRole::Listener, pipe)?;
+    let gave = drive(alloc, task, &mut conn, plan, 10_000)?;
+    let direct = feed_directly(alloc, &bytes, &conn.link().given)?;
+    let has_failed = conn.link().failures() > 0;
+    let may_shut = plan != Plan::Listen;
+    let is_told = are_told(&gave.said, &direct.told, has_failed, may_shut);
+    let is_written = direct.output.starts_with(written(&conn));
+    Some(is_told && is_written && gave.has_ended && gave.most <= 32)
+}
+
+#[test]
+fn a_thousand_runs(rt: HostRuntime) -> Result<(), Fail> {
+    let task = MockTask::new(&rt)?;
+    for number in 0..1000u32 {
+        let held = runs(rt.alloc(), &task, number) == Some(true);
+        assert!(rt; held, "run {number}");
+    }
+    Ok(())
+}
