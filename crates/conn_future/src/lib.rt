@@ -13,3 +13,11 @@ mod unsent;
 
 pub use conn::Conn;
 pub use stage::Stage;
+
+// The names of what a connection is made of and tells.
+pub use conn_core::{ConnAct, ConnAnswer, ConnCore, ConnRan, run};
+pub use conn_link::{Link, LinkFault, Pipe, PipeStep};
+pub use conn_log::{ConnEvent, ConnFault, ConnRefused};
+pub use handlers::{Handler, HandlerFault, Protocols};
+pub use streams::Cause;
+pub use upgrade::ConnRole;
