@@ -6,6 +6,8 @@ mod handler_tests;
 #[cfg(test)]
 mod identify_tests;
 #[cfg(test)]
+mod message_tests;
+#[cfg(test)]
 mod ping_tests;
 #[cfg(test)]
 mod protocol_tests;

@@ -234,6 +234,29 @@ fn another_echo_is_refused(rt: HostRuntime) {
     }
 }
 
+/// Whether an echo that has another byte at this place is refused, and this end's direction stays open.
+fn is_near(alloc: Global, place: usize, size: usize) -> bool {
+    let mut bytes = PING;
+    if let Some(byte) = bytes.get_mut(place) {
+        *byte ^= 0x40;
+    }
+    let mut out = PingOut::new(alloc, PING);
+    let mut given = Vec::new(alloc);
+    let answer = serve(&mut out, &mut given, &bytes, size, 64);
+    let is_open = !out.closed();
+    has_failed(&mut out) && is_open && answer == Some(PingFault::WrongEcho as u8)
+}
+
+#[test]
+fn an_echo_that_differs_in_one_byte(rt: HostRuntime) {
+    for place in 0..32usize {
+        for size in [32, 7] {
+            let held = is_near(rt.alloc(), place, size);
+            assert!(rt; held, "byte {place} in pieces of {size}");
+        }
+    }
+}
+
 // ---- faults
 
 static FAULTS: [(PingFault, u8, &str); 4] = [

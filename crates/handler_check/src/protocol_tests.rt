@@ -5,7 +5,7 @@ ghost use Rattle.std.specs.Prelude.{◌<◌, length};
 use handlers::{Handler, HandlerFault, Protocols};
 use identify_h::{Identify, IdentifyFault};
 use node_protocols::*;
-use peer_ids::{PeerId, PublicKey};
+use peer_ids::{KeyType, PeerId, PublicKey};
 use std::alloc::Global;
 use std::test::*;
 
@@ -226,6 +226,35 @@ fn what_another_peer_says_is_refused(rt: HostRuntime) -> Result<(), Fail> {
     key[31] = 11;
     assert!(rt; is_refused_of(&mut node, PeerId::of_ed25519(&key)));
     Ok(())
+}
+
+/// Whether a node that has a key of this type says so, and that is read of its peer.
+fn says_its_key(alloc: Global, kind: KeyType, len: usize) -> Option<bool> {
+    let key = PublicKey::new(kind, vec![in alloc; 10u8; len].ok()?)?;
+    let peer = PeerId::of_key(&key);
+    let payloads = FixedPayload { payload: PAYLOAD };
+    let mut node = NodeProtocols::new(alloc, key, "x", payloads).ok()?;
+    let mut sender = node.inbound(IDENTIFY, peer).ok()?;
+    let reader = node.outbound(IDENTIFY, peer).ok()?;
+    let message = read(&mut sender, reader)?;
+    match &message.key {
+        Some(told) => Some(told.kind() == kind && PeerId::of_key(told) == peer),
+        None => Some(false),
+    }
+}
+
+#[test]
+fn a_node_says_its_key(rt: HostRuntime) {
+    let keys = [
+        (KeyType::Rsa, 294),
+        (KeyType::Ed25519, 32),
+        (KeyType::Secp256k1, 33),
+        (KeyType::Ecdsa, 91),
+    ];
+    for (row, (kind, len)) in keys.iter().enumerate() {
+        let held = says_its_key(rt.alloc(), *kind, *len) == Some(true);
+        assert!(rt; held, "row {row}");
+    }
 }
 
 /// A stream that is opened and ended at once: of which protocol, by whom, and which number the end is refused by.

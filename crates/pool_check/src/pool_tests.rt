@@ -108,7 +108,7 @@ const WIDEST: Script = Script {
     steps: &[],
 };
 
-static SCRIPTS: [Script; 16] = [
+static SCRIPTS: [Script; 17] = [
     // Each refusal, in the order of their numbers.
     Script {
         limits: [2, 1, 1, 1, 256, 256, 64],
@@ -293,6 +293,26 @@ static SCRIPTS: [Script; 16] = [
             Step::Call(Asked::Done(1, 2), Reply::Done),
             Step::Call(Asked::Ask(1, 1), Reply::Done),
             Step::Call(Asked::Ask(1, 2), Reply::Refused(Refusal::StreamsFull)),
+        ],
+        ..WIDEST
+    },
+    // It may have had any number of streams before.
+    Script {
+        steps: &[
+            Step::Call(Asked::Accept, Reply::Conn(1)),
+            Step::Call(Asked::Settle(1, 0x11), Reply::Done),
+            Step::Turns(
+                300,
+                &[
+                    (Asked::Ask(1, 0), Reply::Done),
+                    (Asked::Done(1, 0), Reply::Done),
+                ],
+            ),
+            Step::Call(Asked::Done(1, 0), Reply::Refused(Refusal::NothingAsked)),
+            // Numbers that differ in one byte are those of other connections.
+            Step::Call(Asked::Ask(257, 0), Reply::Refused(Refusal::NoConn)),
+            Step::Call(Asked::Ask(65537, 0), Reply::Refused(Refusal::NoConn)),
+            Step::Call(Asked::Gone(16777217), Reply::Refused(Refusal::NoConn)),
         ],
         ..WIDEST
     },
