@@ -119,8 +119,8 @@ impl Reader {
     }
 }
 
-/// Whether the output is the row's, and the handlers are its. Where memory was refused to the end, the output begins the
-/// row's; where it was refused to a handler, its stream was reset.
+/// Whether the output is the row's, and the handlers are its. Where memory was refused to the end, the output begins
+/// the row's; where it was refused to a handler, its stream was reset.
 fn are_left(ran: &Ran, row: Row, reader: &Reader) -> bool {
     let whole = row.output().iter().flat_map(|part| part.iter());
     let held = ran.handlers.iter().map(|(number, _)| *number);
