@@ -143,22 +143,26 @@ fn are_answered(first: Reply, second: Reply, one: Reply, other: Reply) -> bool {
     (first == one && second == other) || (first == other && second == one)
 }
 
-/// Whether each pass comes to both calls, which are all, and so many connections stand then.
+/// Whether one call was answered by connection 1 and the other so, each pass comes to both, which are all, and so many
+/// connections stand then.
 fn have_met<G: Gate, J: Identity, L: Ledgers, R: Wait>(
     rt: &R,
     alloc: Global,
     swarm: Swarm<G, J, L>,
-    one: Pass<J, L>,
-    two: Pass<J, L>,
-    conns: usize,
+    one: (Pass<J, L>, Reply),
+    two: (Pass<J, L>, Reply),
+    outcome: (Reply, usize),
 ) -> bool {
-    let (mut one, mut two) = (one, two);
+    let (mut one, first) = one;
+    let (mut two, second) = two;
+    let (other, conns) = outcome;
+    let are_answered = are_answered(first, second, Reply::Conn(1), other);
     swarm.meet(rt, &mut one, &mut two);
     let are_both = one.front() == 2 && two.front() == 2;
     let Some(passes) = in_one(alloc, one, two) else {
         return false;
     };
-    close(rt, swarm, passes) == Some((2, conns)) && are_both
+    close(rt, swarm, passes) == Some((2, conns)) && are_answered && are_both
 }
 
 /// Two callers dial this peer, of which one alone has a connection, or accept, and both have one.
@@ -185,17 +189,18 @@ fn call_at_once<
         return false;
     };
     let shared = &swarm;
-    let ((one, first), (two, second)) = join(
+    let (one, two) = join(
         rt,
         move || call(rt, shared, one, whom),
         move || call(rt, shared, two, whom),
     );
-    let (other, conns) = match whom {
-        Some(_) => (Reply::Refused(Refusal::PeerFull), 1),
-        None => (Reply::Conn(2), 2),
-    };
-    are_answered(first, second, Reply::Conn(1), other)
-        && have_met(rt, alloc, swarm, one, two, conns)
+    match whom {
+        Some(_) => {
+            let full = Reply::Refused(Refusal::PeerFull);
+            have_met(rt, alloc, swarm, one, two, (full, 1))
+        }
+        None => have_met(rt, alloc, swarm, one, two, (Reply::Conn(2), 2)),
+    }
 }
 
 /// Lists often enough for the gate. Gives the front of the last listing.
