@@ -78,6 +78,8 @@ const NONE: u16 = 0;
 
 const FIN: u16 = 4;
 
+const RST: u16 = 8;
+
 // ---- rows
 
 /// Rows that are played whole and cut: a listener that serves a ping, a dialer that pings, and one that is refused.
@@ -137,7 +139,7 @@ static COMES_TO_A_LISTENER: [Piece; 3] = [
     Piece::End(1),
 ];
 
-static STREAMS: [Row; 7] = [
+static STREAMS: [Row; 8] = [
     Row {
         name: "a stream of the listener's parity",
         role: "listener",
@@ -227,6 +229,18 @@ static STREAMS: [Row; 7] = [
             Line::Upgrade,
             Line::Feed(&[Piece::Open(1), Piece::Reset(1), Piece::Reset(1)]),
             Line::Other(1, "end"),
+        ],
+    },
+    Row {
+        name: "a reset in the frame that ends the talk",
+        role: "listener",
+        lines: &[
+            Line::Upgrade,
+            Line::Feed(&[
+                Piece::Open(1),
+                Piece::Data(RST, 1, &[Part::Header, Part::Identify]),
+            ]),
+            Line::Other(1, "out"),
         ],
     },
     Row {
