@@ -1,9 +1,9 @@
 //! A read or a write that fails.
 
 use crate::ends::{Gave, Said, connect, drive, written};
-use crate::row_tests::{TOLD, begins_output, input, plan};
+use crate::row_tests::{TOLD, begins_output, pipe, plan};
 use crate::scripts::failing_at;
-use conn_link::{Link, Pipe};
+use conn_link::Link;
 use conn_log::ConnFault;
 use futures::test::MockTask;
 use std::alloc::Global;
@@ -37,8 +37,8 @@ fn fails_at(
     let failing = failing_at(alloc, count, 9)?;
     let single = failing_at(alloc, 4000, 9)?;
     let pipe = match side {
-        Side::Reads => Pipe::new(alloc, input(alloc, role)?, failing, single),
-        Side::Writes => Pipe::new(alloc, input(alloc, role)?, single, failing),
+        Side::Reads => pipe(alloc, role, &failing, &single)?,
+        Side::Writes => pipe(alloc, role, &single, &failing)?,
     };
     let mut conn = connect(alloc, role, pipe)?;
     let gave = drive(alloc, task, &mut conn, plan(role), 4000)?;

@@ -1,14 +1,10 @@
 //! The upgrade and a ping, of either end, and how many calls of the link a poll makes.
 
-ghost use Rattle.std.specs.Prelude.{};
-ghost use Rattle.std.specs.List.{All};
-ghost use Rattle.conn_link.specs.Piping.{CanGo};
-
 use crate::counted::Counted;
 use crate::ends::{End, Gave, Plan, Said, UPGRADE, connect, drive, poll_once, written};
 use crate::quiet::Quiet;
-use crate::scripts::in_turn;
-use conn_link::{Pipe, PipeStep};
+use crate::scripts::{PENDING, in_turn, steps_of};
+use conn_link::Pipe;
 use futures::task::Poll;
 use futures::test::MockTask;
 use std::alloc::Global;
@@ -47,6 +43,9 @@ const ASKS: &[u8] = b"\0\x01\0\x01\0\0\0\x01\0\0\0\0\0\0\0\0\0\0\0\x01\0\0\0\x46
     \x07\x07\x07\x07\x07\x07\x07\x07\x07\x07\x07\x07\x07\x07\x07\x07\
     \0\x01\0\x04\0\0\0\x01\0\0\0\0";
 
+/// How long the upgrade is.
+const UPGRADE_LEN: u8 = 89;
+
 /// What either end tells.
 pub(crate) const TOLD: [Said; 4] = [
     Said::Upgraded,
@@ -66,32 +65,24 @@ pub(crate) enum Cut {
     Bytes,
 }
 
-fn reads(alloc: Global, cut: Cut) -> Option<Vec<PipeStep>>
-    ensures { IfSome result (λ steps. All CanGo steps.items) }
-{
+fn reads(alloc: Global, cut: Cut) -> Option<Vec<u8>> {
     match cut {
-        Cut::Whole => {
-            let mut steps = Vec::new(alloc);
-            steps.push(PipeStep::Upto(UPGRADE.len().max(1))).ok()?;
-            Some(steps)
-        }
-        Cut::Single => in_turn(alloc, PipeStep::Upto(1), PipeStep::Pending, 400),
-        Cut::Bytes => in_turn(alloc, PipeStep::Upto(1), PipeStep::Upto(1), 200),
+        Cut::Whole => in_turn(alloc, UPGRADE_LEN, 254, 1),
+        Cut::Single => in_turn(alloc, 1, PENDING, 400),
+        Cut::Bytes => in_turn(alloc, 1, 1, 200),
     }
 }
 
-fn writes(alloc: Global, cut: Cut) -> Option<Vec<PipeStep>>
-    ensures { IfSome result (λ steps. All CanGo steps.items) }
-{
+fn writes(alloc: Global, cut: Cut) -> Option<Vec<u8>> {
     match cut {
-        Cut::Whole => Some(Vec::new(alloc)),
-        Cut::Single => in_turn(alloc, PipeStep::Pending, PipeStep::Upto(1), 400),
-        Cut::Bytes => in_turn(alloc, PipeStep::Upto(1), PipeStep::Upto(1), 200),
+        Cut::Whole => in_turn(alloc, 254, 254, 4),
+        Cut::Single => in_turn(alloc, PENDING, 1, 400),
+        Cut::Bytes => in_turn(alloc, 1, 1, 200),
     }
 }
 
 /// All that comes to an end of this role.
-pub(crate) fn input(alloc: Global, role: ConnRole) -> Option<Vec<u8>> {
+fn input(alloc: Global, role: ConnRole) -> Option<Vec<u8>> {
     let mut input = UPGRADE.to_vec(alloc).ok()?;
     let rest = match role {
         ConnRole::Dialer => PONGS,
@@ -99,6 +90,17 @@ pub(crate) fn input(alloc: Global, role: ConnRole) -> Option<Vec<u8>> {
     };
     input.extend_from_slice(rest).ok()?;
     Some(input)
+}
+
+/// A pipe that gives all that comes to an end of this role, by these codes of its reads and these of its writes.
+pub(crate) fn pipe(alloc: Global, role: ConnRole, reads: &[u8], writes: &[u8]) -> Option<Pipe> {
+    let input = input(alloc, role)?;
+    Some(Pipe::new(
+        alloc,
+        input,
+        steps_of(alloc, reads)?,
+        steps_of(alloc, writes)?,
+    ))
 }
 
 /// The dialer asks for a ping once it is up.
@@ -122,12 +124,7 @@ pub(crate) fn begins_output(role: ConnRole, bytes: &[u8]) -> bool {
 }
 
 fn end(alloc: Global, role: ConnRole, cut: Cut) -> Option<End<Pipe>> {
-    let pipe = Pipe::new(
-        alloc,
-        input(alloc, role)?,
-        reads(alloc, cut)?,
-        writes(alloc, cut)?,
-    );
+    let pipe = pipe(alloc, role, &reads(alloc, cut)?, &writes(alloc, cut)?)?;
     connect(alloc, role, pipe)
 }
 

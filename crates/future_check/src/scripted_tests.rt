@@ -2,7 +2,7 @@
 
 use crate::ends::{KEY, Plan, Said, UPGRADE, connect, drive, kind_of, protocols, written};
 use crate::row_tests::PINGS;
-use crate::scripts::{Random, random_steps};
+use crate::scripts::{Random, random_codes, steps_of};
 use conn_core::{ConnAct, ConnAnswer, run};
 use conn_link::{Link, Pipe};
 use conn_log::ConnFault;
@@ -112,17 +112,25 @@ fn script_of(alloc: Global, number: u32) -> Option<Script> {
         state: u64::from(number),
     };
     let bytes = input(alloc, &mut random)?;
-    let most = random.below(200).saturating_add(1);
+    let most = u8::try_from(random.below(200))
+        .unwrap_or(0)
+        .saturating_add(1);
     let has_failing = random.below(4) == 0;
     let (reading, writing) = (random.below(100), random.below(100));
-    let reads = random_steps(alloc, &mut random, reading, most, has_failing)?;
-    let writes = random_steps(alloc, &mut random, writing, 60, has_failing)?;
+    let reads = random_codes(alloc, &mut random, reading, most, has_failing)?;
+    let writes = random_codes(alloc, &mut random, writing, 60, has_failing)?;
     let plan = if random.below(5) == 0 {
         Plan::ShutAt(random.below(30))
     } else {
         Plan::Listen
     };
-    let pipe = Pipe::new(alloc, bytes.as_slice().to_vec(alloc).ok()?, reads, writes);
+    let given = bytes.as_slice().to_vec(alloc).ok()?;
+    let pipe = Pipe::new(
+        alloc,
+        given,
+        steps_of(alloc, &reads)?,
+        steps_of(alloc, &writes)?,
+    );
     Some(Script { bytes, pipe, plan })
 }
 

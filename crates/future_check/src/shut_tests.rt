@@ -1,9 +1,8 @@
 //! `shut`: with output left, with the link pending, twice, and after a fault.
 
 use crate::ends::{Plan, Said, connect, drive, written};
-use crate::row_tests::{TOLD, begins_output, input, plan};
-use crate::scripts::{failing_at, in_turn};
-use conn_link::{Pipe, PipeStep};
+use crate::row_tests::{TOLD, begins_output, pipe, plan};
+use crate::scripts::{FAIL, PENDING, in_turn};
 use conn_log::{ConnFault, ConnRefused};
 use futures::test::MockTask;
 use std::alloc::Global;
@@ -13,9 +12,8 @@ use upgrade::ConnRole;
 /// Behind `shut`, called once or twice before the first poll, it reads no more: all that is left is written, though each
 /// other write is pending, the link is shut, and Shut comes. Asks are refused.
 fn shuts_at_once(alloc: Global, task: &MockTask, times: u32) -> Option<bool> {
-    let writes = in_turn(alloc, PipeStep::Pending, PipeStep::Upto(1), 400)?;
-    let reads = failing_at(alloc, 0, 1)?;
-    let pipe = Pipe::new(alloc, input(alloc, ConnRole::Dialer)?, reads, writes);
+    let writes = in_turn(alloc, PENDING, 1, 400)?;
+    let pipe = pipe(alloc, ConnRole::Dialer, &[FAIL], &writes)?;
     let mut conn = connect(alloc, ConnRole::Dialer, pipe)?;
     let left = conn.waiting();
     for _ in 0..times {
@@ -32,9 +30,9 @@ fn shuts_at_once(alloc: Global, task: &MockTask, times: u32) -> Option<bool> {
 /// `shut` before any poll of a run: what was told before is a front, then comes Shut, and all that the core wrote is
 /// written. Where the run was over already, nothing changes.
 fn shuts_within(alloc: Global, task: &MockTask, poll: u32) -> Option<bool> {
-    let reads = in_turn(alloc, PipeStep::Upto(3), PipeStep::Pending, 400)?;
-    let writes = in_turn(alloc, PipeStep::Pending, PipeStep::Upto(5), 400)?;
-    let pipe = Pipe::new(alloc, input(alloc, ConnRole::Listener)?, reads, writes);
+    let reads = in_turn(alloc, 3, PENDING, 400)?;
+    let writes = in_turn(alloc, PENDING, 5, 400)?;
+    let pipe = pipe(alloc, ConnRole::Listener, &reads, &writes)?;
     let mut conn = connect(alloc, ConnRole::Listener, pipe)?;
     let gave = drive(alloc, task, &mut conn, Plan::ShutAt(poll), 4000)?;
     let before = gave.said.len().checked_sub(1)?;
@@ -46,13 +44,7 @@ fn shuts_within(alloc: Global, task: &MockTask, poll: u32) -> Option<bool> {
 
 /// Behind a fault `shut` changes nothing, and asks are refused.
 fn shuts_behind_a_fault(alloc: Global, task: &MockTask) -> Option<bool> {
-    let reads = failing_at(alloc, 2, 9)?;
-    let pipe = Pipe::new(
-        alloc,
-        input(alloc, ConnRole::Dialer)?,
-        reads,
-        Vec::new(alloc),
-    );
+    let pipe = pipe(alloc, ConnRole::Dialer, &[9, 9, FAIL], &[])?;
     let mut conn = connect(alloc, ConnRole::Dialer, pipe)?;
     let gave = drive(alloc, task, &mut conn, plan(ConnRole::Dialer), 100)?;
     conn.shut();
