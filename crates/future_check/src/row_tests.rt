@@ -175,8 +175,8 @@ fn thirty_two_calls(rt: HostRuntime) -> Result<(), Fail> {
     Ok(())
 }
 
-/// A link whose reads wait for ever is asked to write what is left and to read, and no more: the poll asks for no other.
-/// Behind `shut`, with the output left that a link which takes none has, it waits for that.
+/// A link whose reads wait for ever is asked to write what is left and to read, and no more: the poll asks for no
+/// other. Behind `shut` it is shut, where it takes what it is offered, and else the output that is left waits.
 fn waits_quietly(alloc: Global, task: &MockTask, takes: bool) -> Option<bool> {
     let mut conn = connect(alloc, ConnRole::Dialer, Quiet::new(takes))?;
     let first = conn.waiting();

@@ -9,8 +9,8 @@ use std::alloc::Global;
 use std::test::*;
 use upgrade::ConnRole;
 
-/// Behind `shut`, called once or twice before the first poll, it reads no more: all that is left is written, though each
-/// other write is pending, the link is shut, and Shut comes. Asks are refused.
+/// Behind `shut`, called once or twice before the first poll, it reads no more: all that is left is written, though
+/// each other write is pending, the link is shut, and Shut comes. Asks are refused.
 fn shuts_at_once(alloc: Global, task: &MockTask, times: u32) -> Option<bool> {
     let writes = in_turn(alloc, PENDING, 1, 400)?;
     let pipe = pipe(alloc, ConnRole::Dialer, &[FAIL], &writes)?;
