@@ -128,10 +128,14 @@ fn end(alloc: Global, role: ConnRole, cut: Cut) -> Option<End<Pipe>> {
     connect(alloc, role, pipe)
 }
 
+fn is_told(alloc: Global, task: &MockTask, role: ConnRole, conn: &mut End<Pipe>) -> Option<bool> {
+    let gave = drive(alloc, task, conn, plan(role), 4000)?;
+    Some(gave.is(&TOLD) && !gave.is_idle && begins_output(role, written(conn)))
+}
+
 fn plays(alloc: Global, task: &MockTask, role: ConnRole, cut: Cut) -> Option<bool> {
     let mut conn = end(alloc, role, cut)?;
-    let gave = drive(alloc, task, &mut conn, plan(role), 4000)?;
-    Some(gave.is(&TOLD) && !gave.is_idle && begins_output(role, written(&conn)))
+    is_told(alloc, task, role, &mut conn)
 }
 
 #[test]
@@ -153,16 +157,25 @@ fn the_upgrade_and_a_ping(rt: HostRuntime) -> Result<(), Fail> {
 }
 
 /// Where each call moves a byte, a poll asks for another exactly behind its 32nd call.
-fn asks_behind_32(alloc: Global, task: &MockTask, role: ConnRole) -> Option<bool> {
-    let mut conn = end(alloc, role, Cut::Bytes)?;
+fn waits_behind_32(
+    alloc: Global,
+    task: &MockTask,
+    role: ConnRole,
+    conn: &mut End<Pipe>,
+) -> Option<bool> {
     let first = conn.waiting();
     let mut gave = Gave::new(alloc);
-    let polled = poll_once(task, &mut conn, &mut gave)?;
+    let polled = poll_once(task, conn, &mut gave)?;
     let has_waited = polled == Poll::Pending && !gave.is_idle && gave.most == 32;
     let has_written = role == ConnRole::Listener
-        || (written(&conn).len() == 32 && conn.waiting() == first.saturating_sub(32));
-    let rest = drive(alloc, task, &mut conn, plan(role), 4000)?;
+        || (written(conn).len() == 32 && conn.waiting() == first.saturating_sub(32));
+    let rest = drive(alloc, task, conn, plan(role), 4000)?;
     Some(has_waited && has_written && rest.is(&TOLD) && rest.least_pending == 32 && rest.most == 32)
+}
+
+fn asks_behind_32(alloc: Global, task: &MockTask, role: ConnRole) -> Option<bool> {
+    let mut conn = end(alloc, role, Cut::Bytes)?;
+    waits_behind_32(alloc, task, role, &mut conn)
 }
 
 #[test]
@@ -177,20 +190,29 @@ fn thirty_two_calls(rt: HostRuntime) -> Result<(), Fail> {
 
 /// A link whose reads wait for ever is asked to write what is left and to read, and no more: the poll asks for no
 /// other. Behind `shut` it is shut, where it takes what it is offered, and else the output that is left waits.
-fn waits_quietly(alloc: Global, task: &MockTask, takes: bool) -> Option<bool> {
-    let mut conn = connect(alloc, ConnRole::Dialer, Quiet::new(takes))?;
+fn is_asked_once(
+    alloc: Global,
+    task: &MockTask,
+    conn: &mut End<Quiet>,
+    takes: bool,
+) -> Option<bool> {
     let first = conn.waiting();
-    let gave = drive(alloc, task, &mut conn, Plan::Listen, 10)?;
+    let gave = drive(alloc, task, conn, Plan::Listen, 10)?;
     let left = if takes { 0 } else { first };
     let is_right = gave.is_idle && gave.said.is_empty() && gave.most == 2 && conn.waiting() == left;
     conn.shut();
-    let later = drive(alloc, task, &mut conn, Plan::Listen, 10)?;
+    let later = drive(alloc, task, conn, Plan::Listen, 10)?;
     let is_shut = if takes {
         later.is(&[Said::Shut]) && later.most == 1
     } else {
         later.is_idle && later.said.is_empty() && later.most == 1 && conn.waiting() == first
     };
     Some(is_right && is_shut)
+}
+
+fn waits_quietly(alloc: Global, task: &MockTask, takes: bool) -> Option<bool> {
+    let mut conn = connect(alloc, ConnRole::Dialer, Quiet::new(takes))?;
+    is_asked_once(alloc, task, &mut conn, takes)
 }
 
 #[test]

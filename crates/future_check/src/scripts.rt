@@ -67,11 +67,12 @@ impl Random {
             .state
             .wrapping_mul(6_364_136_223_846_793_005)
             .wrapping_add(1_442_695_040_888_963_407);
-        ((self.state >> 33) as u32).checked_rem(end).unwrap_or(0)
+        let high = u32::try_from(self.state >> 33).unwrap_or(0);
+        high.checked_rem(end).unwrap_or(0)
     }
 
     /// The next byte below `end`, which is at least 1.
-    fn byte_below(&mut self, end: u8) -> u8 {
+    pub(crate) fn byte_below(&mut self, end: u8) -> u8 {
         u8::try_from(self.below(u32::from(end))).unwrap_or(0)
     }
 }
