@@ -1,5 +1,5 @@
 -- Where a connection over a link stands, from one call to the next.
-use Rattle.std.proofs.Common.{◌≡◌, ℕ, Bool, true, false, List, [], ◌∷◌, ◌++◌, take, drop, refl, sym, ap, ◌∙◌, subst, append_assoc}
+use Rattle.std.proofs.Common.{◌≡◌, ℕ, Bool, true, false, List, [], ◌∷◌, ◌++◌, take, drop, refl, sym, ap, ◌∙◌, subst}
 use Rattle.std.proofs.lemmas.List.{append-nil}
 use Rattle.conn_link.specs.declared.link.Link.{Ghosts as LinkGhosts}
 use Rattle.conn_link.specs.Moving.{MovesNothing, MovesOn, StaysEnded}

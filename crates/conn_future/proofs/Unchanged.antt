@@ -1,5 +1,5 @@
 -- A connection whose core is as it was is as it was: each of its facts has one proof.
-use Rattle.std.proofs.Common.{◌≡◌, ◌∙◌, ◌<◌, ◌-◌, ◌^◌, ℕ, List, [], true, false, ap}
+use Rattle.std.proofs.Common.{◌≡◌, ◌∙◌, ◌<◌, ◌-◌, ◌^◌, [], true, false, ap}
 use Rattle.std.proofs.Props.{props}
 use Rattle.conn_link.specs.declared.link.Link.{Ghosts as LinkGhosts}
 use Rattle.handlers.specs.declared.handler.Handler.{Ghosts as HandlerGhosts}

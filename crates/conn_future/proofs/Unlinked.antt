@@ -1,5 +1,5 @@
 -- What a core tells: nothing behind a Fault or Shut, and never that the link failed; one that was just made goes on.
-use Rattle.std.proofs.Common.{◌≡◌, ℕ, Bool, true, false, List, [], ◌∷◌, ◌++◌, ◌||◌, Option, Some, None, refl, sym, ap, ◌∙◌, subst}
+use Rattle.std.proofs.Common.{◌≡◌, ℕ, Bool, true, false, List, [], ◌∷◌, ◌++◌, ◌||◌, Some, refl, sym, ap, ◌∙◌, subst}
 use Rattle.std.proofs.lemmas.List.{append-nil}
 use Rattle.handlers.specs.Calls.{HandlerCall, Asked}
 use Rattle.conn_link.specs.declared.link.Link.{Ghosts as LinkGhosts}

@@ -1,5 +1,5 @@
 -- At which sources a poll has registered.
-use Rattle.std.proofs.Common.{◌≡◌, ◌≢◌, ◌⊎◌, inl, inr, ℕ, true, false, List, [], ◌∷◌, length, refl}
+use Rattle.std.proofs.Common.{◌≡◌, ◌≢◌, inl, inr, ℕ, true, List, [], ◌∷◌, length, refl}
 use Rattle.futures.specs.declared.task.context.Context.{Context}
 use Rattle.futures.specs.Task.{Covers, Hears, Keeps, Lasting}
 use Rattle.conn_link.specs.Moving.{Within}

@@ -1,7 +1,7 @@
 -- Where a connection over a link stands: the core was fed what the link gave, the link took what the core wrote, and
 -- the events of the core were given.
 -- Source: this project's profile of a connection.
-use Rattle.std.specs.Prelude.{◌≡◌, ◌≢◌, ◌⊎◌, ℕ, Bool, true, false, List, [], ◌∷◌, ◌++◌, Option, Some, None}
+use Rattle.std.specs.Prelude.{◌≡◌, ℕ, Bool, true, false, List, [], ◌∷◌, ◌++◌, Option, Some, None}
 use Rattle.futures.specs.declared.task.Poll.{Poll}
 use Rattle.futures.specs.declared.task.Poll.TheVariants.{Ready, Pending}
 use Rattle.conn_link.specs.declared.link.Link.{Ghosts as LinkGhosts}

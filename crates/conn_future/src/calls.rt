@@ -1,7 +1,7 @@
 //! The calls of a connection over a link.
 
 ghost use Rattle.std.specs.Prelude.{◌≡◌, ◌≢◌, ◌-◌, ◌<◌, ◌^◌, ◌+◌, ℕ, Bool, true, false, List, [], ◌∷◌, ◌++◌};
-ghost use Rattle.std.specs.Prelude.{length, Some, None, Ok, Err, IfOk, IfErr, OnErr};
+ghost use Rattle.std.specs.Prelude.{length, Some, None, Ok, Err, IfOk, IfErr, OnOk, OnErr};
 ghost use Rattle.futures.specs.Poll.{OnPending};
 ghost use Rattle.futures.specs.Task.{Covers, Keeps};
 ghost use Rattle.futures.specs.declared.task.Poll.TheVariants.{Ready};
@@ -13,6 +13,7 @@ ghost use Rattle.conn_log.specs.declared.event.ConnFault.TheVariants as fault;
 ghost use Rattle.conn_core.specs.Connects.{Stands, MayOpen, IsRefused};
 ghost use Rattle.conn_future.specs.Stages.{is_live, shut_stage, WaitsAt};
 ghost use Rattle.conn_future.specs.Follows.{Carries, Follows, given_by};
+ghost use Rattle.conn_future.specs.Polls.{Polls};
 
 use crate::conn::Conn;
 use crate::stage::Stage;
@@ -91,6 +92,7 @@ impl<L: Link, P: Protocols> Conn<L, P> {
         ensures memory { result ≡ Err ConnRefused.OutOfMemory → self.new.stage ≡ Stage.Starved }
         ensures link { self.new.link ≡ self.old.link }
         ensures held { self.new.held ≡ self.old.held }
+        ensures stage { OnOk result (self.new.stage ≡ self.old.stage) }
     {
         let Stage::Going = self.stage else {
             return Err(ConnRefused::Failed);
@@ -185,7 +187,13 @@ impl<L: Link, P: Protocols> Stream for Conn<L, P> {
     ghost needs = { λ conn source. WaitsAt (L.reads_at conn.link) (L.writes_at conn.link) (L.shuts_at conn.link)
         conn.stage conn.unsent source };
 
-    fn poll_next(&mut self, cx: &mut Context<'_>) -> Poll<Option<ConnEvent<P::H>>> {
+    fn poll_next(&mut self, cx: &mut Context<'_>) -> Poll<Option<ConnEvent<P::H>>>
+        // What `poll` promises.
+        ensures polls { Polls L.Link P.Protocols P.H.Handler self.old result self.new }
+        ensures registered { OnPending result (Covers cx.new (WaitsAt (L.reads_at self.new.link)
+            (L.writes_at self.new.link) (L.shuts_at self.new.link) self.new.stage self.new.unsent)) }
+        ensures kept { Keeps cx.old cx.new }
+    {
         self.poll(cx)
     }
 }

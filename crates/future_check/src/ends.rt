@@ -61,13 +61,18 @@ pub(crate) fn protocols(alloc: Global) -> Option<NodeProtocols<FixedPayload>> {
     NodeProtocols::new(alloc, own, "node/0.1.0", payloads).ok()
 }
 
+fn core_of(alloc: Global, role: ConnRole) -> Option<ConnCore<NodeProtocols<FixedPayload>>> {
+    let protocols = protocols(alloc)?;
+    let key = PublicKey::read(alloc, KEY).ok()?;
+    ConnCore::new(alloc, role, key, protocols).ok()
+}
+
 /// A connection over this link, before any byte came.
 pub(crate) fn connect<L: Link>(alloc: Global, role: ConnRole, link: L) -> Option<End<L>> {
     if link.failures() == u64::MAX {
         return None;
     }
-    let key = PublicKey::read(alloc, KEY).ok()?;
-    let core = ConnCore::new(alloc, role, key, protocols(alloc)?).ok()?;
+    let core = core_of(alloc, role)?;
     Conn::new(alloc, Counted::new(alloc, link), core).ok()
 }
 

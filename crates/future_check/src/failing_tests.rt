@@ -1,7 +1,7 @@
 //! A read or a write that fails.
 
-use crate::ends::{Gave, Said, connect, drive, written};
-use crate::row_tests::{TOLD, begins_output, input, plan};
+use crate::ends::{End, Gave, Said, connect, drive, written};
+use crate::row_tests::{TOLD, begins_output, pipe, plan};
 use crate::scripts::failing_at;
 use conn_link::{Link, Pipe};
 use conn_log::ConnFault;
@@ -26,7 +26,31 @@ fn is_cut_off(gave: &Gave) -> bool {
     last && gave.has_ended && TOLD.get(..before) == gave.said.get(..before)
 }
 
-/// The call behind so many fails. Behind the fault no call of the link is made.
+/// Where a call has failed the events are cut off, and no call of the link is made behind that.
+fn ends_so(alloc: Global, task: &MockTask, role: ConnRole, conn: &mut End<Pipe>) -> Option<bool> {
+    let gave = drive(alloc, task, conn, plan(role), 4000)?;
+    let calls = conn.link().calls;
+    let later = drive(alloc, task, conn, plan(role), 3)?;
+    let is_right = match conn.link().failures() {
+        0 => gave.is(&TOLD),
+        1 => is_cut_off(&gave) && conn.waiting() == 0,
+        _ => false,
+    };
+    let is_over = later.is(&[]) && conn.link().calls == calls;
+    Some(is_right && is_over && gave.most <= 32 && begins_output(role, written(conn)))
+}
+
+fn end(alloc: Global, role: ConnRole, side: Side, count: u32) -> Option<End<Pipe>> {
+    let failing = failing_at(alloc, count, 9)?;
+    let single = failing_at(alloc, 400, 9)?;
+    let pipe = match side {
+        Side::Reads => pipe(alloc, role, &failing, &single)?,
+        Side::Writes => pipe(alloc, role, &single, &failing)?,
+    };
+    connect(alloc, role, pipe)
+}
+
+/// The call behind so many fails.
 fn fails_at(
     alloc: Global,
     task: &MockTask,
@@ -34,23 +58,8 @@ fn fails_at(
     side: Side,
     count: u32,
 ) -> Option<bool> {
-    let failing = failing_at(alloc, count, 9)?;
-    let single = failing_at(alloc, 4000, 9)?;
-    let pipe = match side {
-        Side::Reads => Pipe::new(alloc, input(alloc, role)?, failing, single),
-        Side::Writes => Pipe::new(alloc, input(alloc, role)?, single, failing),
-    };
-    let mut conn = connect(alloc, role, pipe)?;
-    let gave = drive(alloc, task, &mut conn, plan(role), 4000)?;
-    let calls = conn.link().calls;
-    let later = drive(alloc, task, &mut conn, plan(role), 3)?;
-    let is_right = match conn.link().failures() {
-        0 => gave.is(&TOLD),
-        1 => is_cut_off(&gave) && conn.waiting() == 0,
-        _ => false,
-    };
-    let is_over = later.is(&[]) && conn.link().calls == calls;
-    Some(is_right && is_over && gave.most <= 32 && begins_output(role, written(&conn)))
+    let mut conn = end(alloc, role, side, count)?;
+    ends_so(alloc, task, role, &mut conn)
 }
 
 #[test]

@@ -1,14 +1,10 @@
 //! The upgrade and a ping, of either end, and how many calls of the link a poll makes.
 
-ghost use Rattle.std.specs.Prelude.{};
-ghost use Rattle.std.specs.List.{All};
-ghost use Rattle.conn_link.specs.Piping.{CanGo};
-
 use crate::counted::Counted;
 use crate::ends::{End, Gave, Plan, Said, UPGRADE, connect, drive, poll_once, written};
 use crate::quiet::Quiet;
-use crate::scripts::in_turn;
-use conn_link::{Pipe, PipeStep};
+use crate::scripts::{PENDING, in_turn, steps_of};
+use conn_link::Pipe;
 use futures::task::Poll;
 use futures::test::MockTask;
 use std::alloc::Global;
@@ -47,6 +43,9 @@ const ASKS: &[u8] = b"\0\x01\0\x01\0\0\0\x01\0\0\0\0\0\0\0\0\0\0\0\x01\0\0\0\x46
     \x07\x07\x07\x07\x07\x07\x07\x07\x07\x07\x07\x07\x07\x07\x07\x07\
     \0\x01\0\x04\0\0\0\x01\0\0\0\0";
 
+/// How long the upgrade is.
+const UPGRADE_LEN: u8 = 89;
+
 /// What either end tells.
 pub(crate) const TOLD: [Said; 4] = [
     Said::Upgraded,
@@ -66,32 +65,24 @@ pub(crate) enum Cut {
     Bytes,
 }
 
-fn reads(alloc: Global, cut: Cut) -> Option<Vec<PipeStep>>
-    ensures { IfSome result (λ steps. All CanGo steps.items) }
-{
+fn reads(alloc: Global, cut: Cut) -> Option<Vec<u8>> {
     match cut {
-        Cut::Whole => {
-            let mut steps = Vec::new(alloc);
-            steps.push(PipeStep::Upto(UPGRADE.len().max(1))).ok()?;
-            Some(steps)
-        }
-        Cut::Single => in_turn(alloc, PipeStep::Upto(1), PipeStep::Pending, 400),
-        Cut::Bytes => in_turn(alloc, PipeStep::Upto(1), PipeStep::Upto(1), 200),
+        Cut::Whole => in_turn(alloc, UPGRADE_LEN, 254, 1),
+        Cut::Single => in_turn(alloc, 1, PENDING, 400),
+        Cut::Bytes => in_turn(alloc, 1, 1, 200),
     }
 }
 
-fn writes(alloc: Global, cut: Cut) -> Option<Vec<PipeStep>>
-    ensures { IfSome result (λ steps. All CanGo steps.items) }
-{
+fn writes(alloc: Global, cut: Cut) -> Option<Vec<u8>> {
     match cut {
-        Cut::Whole => Some(Vec::new(alloc)),
-        Cut::Single => in_turn(alloc, PipeStep::Pending, PipeStep::Upto(1), 400),
-        Cut::Bytes => in_turn(alloc, PipeStep::Upto(1), PipeStep::Upto(1), 200),
+        Cut::Whole => in_turn(alloc, 254, 254, 4),
+        Cut::Single => in_turn(alloc, PENDING, 1, 400),
+        Cut::Bytes => in_turn(alloc, 1, 1, 200),
     }
 }
 
 /// All that comes to an end of this role.
-pub(crate) fn input(alloc: Global, role: ConnRole) -> Option<Vec<u8>> {
+fn input(alloc: Global, role: ConnRole) -> Option<Vec<u8>> {
     let mut input = UPGRADE.to_vec(alloc).ok()?;
     let rest = match role {
         ConnRole::Dialer => PONGS,
@@ -99,6 +90,17 @@ pub(crate) fn input(alloc: Global, role: ConnRole) -> Option<Vec<u8>> {
     };
     input.extend_from_slice(rest).ok()?;
     Some(input)
+}
+
+/// A pipe that gives all that comes to an end of this role, by these codes of its reads and these of its writes.
+pub(crate) fn pipe(alloc: Global, role: ConnRole, reads: &[u8], writes: &[u8]) -> Option<Pipe> {
+    let input = input(alloc, role)?;
+    Some(Pipe::new(
+        alloc,
+        input,
+        steps_of(alloc, reads)?,
+        steps_of(alloc, writes)?,
+    ))
 }
 
 /// The dialer asks for a ping once it is up.
@@ -122,19 +124,18 @@ pub(crate) fn begins_output(role: ConnRole, bytes: &[u8]) -> bool {
 }
 
 fn end(alloc: Global, role: ConnRole, cut: Cut) -> Option<End<Pipe>> {
-    let pipe = Pipe::new(
-        alloc,
-        input(alloc, role)?,
-        reads(alloc, cut)?,
-        writes(alloc, cut)?,
-    );
+    let pipe = pipe(alloc, role, &reads(alloc, cut)?, &writes(alloc, cut)?)?;
     connect(alloc, role, pipe)
+}
+
+fn is_told(alloc: Global, task: &MockTask, role: ConnRole, conn: &mut End<Pipe>) -> Option<bool> {
+    let gave = drive(alloc, task, conn, plan(role), 4000)?;
+    Some(gave.is(&TOLD) && !gave.is_idle && begins_output(role, written(conn)))
 }
 
 fn plays(alloc: Global, task: &MockTask, role: ConnRole, cut: Cut) -> Option<bool> {
     let mut conn = end(alloc, role, cut)?;
-    let gave = drive(alloc, task, &mut conn, plan(role), 4000)?;
-    Some(gave.is(&TOLD) && !gave.is_idle && begins_output(role, written(&conn)))
+    is_told(alloc, task, role, &mut conn)
 }
 
 #[test]
@@ -156,16 +157,25 @@ fn the_upgrade_and_a_ping(rt: HostRuntime) -> Result<(), Fail> {
 }
 
 /// Where each call moves a byte, a poll asks for another exactly behind its 32nd call.
-fn asks_behind_32(alloc: Global, task: &MockTask, role: ConnRole) -> Option<bool> {
-    let mut conn = end(alloc, role, Cut::Bytes)?;
+fn waits_behind_32(
+    alloc: Global,
+    task: &MockTask,
+    role: ConnRole,
+    conn: &mut End<Pipe>,
+) -> Option<bool> {
     let first = conn.waiting();
     let mut gave = Gave::new(alloc);
-    let polled = poll_once(task, &mut conn, &mut gave)?;
+    let polled = poll_once(task, conn, &mut gave)?;
     let has_waited = polled == Poll::Pending && !gave.is_idle && gave.most == 32;
     let has_written = role == ConnRole::Listener
-        || (written(&conn).len() == 32 && conn.waiting() == first.saturating_sub(32));
-    let rest = drive(alloc, task, &mut conn, plan(role), 4000)?;
+        || (written(conn).len() == 32 && conn.waiting() == first.saturating_sub(32));
+    let rest = drive(alloc, task, conn, plan(role), 4000)?;
     Some(has_waited && has_written && rest.is(&TOLD) && rest.least_pending == 32 && rest.most == 32)
+}
+
+fn asks_behind_32(alloc: Global, task: &MockTask, role: ConnRole) -> Option<bool> {
+    let mut conn = end(alloc, role, Cut::Bytes)?;
+    waits_behind_32(alloc, task, role, &mut conn)
 }
 
 #[test]
@@ -178,22 +188,31 @@ fn thirty_two_calls(rt: HostRuntime) -> Result<(), Fail> {
     Ok(())
 }
 
-/// A link whose reads wait for ever is asked to write what is left and to read, and no more: the poll asks for no other.
-/// Behind `shut`, with the output left that a link which takes none has, it waits for that.
-fn waits_quietly(alloc: Global, task: &MockTask, takes: bool) -> Option<bool> {
-    let mut conn = connect(alloc, ConnRole::Dialer, Quiet::new(takes))?;
+/// A link whose reads wait for ever is asked to write what is left and to read, and no more: the poll asks for no
+/// other. Behind `shut` it is shut, where it takes what it is offered, and else the output that is left waits.
+fn is_asked_once(
+    alloc: Global,
+    task: &MockTask,
+    conn: &mut End<Quiet>,
+    takes: bool,
+) -> Option<bool> {
     let first = conn.waiting();
-    let gave = drive(alloc, task, &mut conn, Plan::Listen, 10)?;
+    let gave = drive(alloc, task, conn, Plan::Listen, 10)?;
     let left = if takes { 0 } else { first };
     let is_right = gave.is_idle && gave.said.is_empty() && gave.most == 2 && conn.waiting() == left;
     conn.shut();
-    let later = drive(alloc, task, &mut conn, Plan::Listen, 10)?;
+    let later = drive(alloc, task, conn, Plan::Listen, 10)?;
     let is_shut = if takes {
         later.is(&[Said::Shut]) && later.most == 1
     } else {
         later.is_idle && later.said.is_empty() && later.most == 1 && conn.waiting() == first
     };
     Some(is_right && is_shut)
+}
+
+fn waits_quietly(alloc: Global, task: &MockTask, takes: bool) -> Option<bool> {
+    let mut conn = connect(alloc, ConnRole::Dialer, Quiet::new(takes))?;
+    is_asked_once(alloc, task, &mut conn, takes)
 }
 
 #[test]

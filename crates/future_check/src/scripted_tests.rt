@@ -1,12 +1,13 @@
 //! A thousand runs, each by steps of its own, against the core fed the same bytes directly.
 
-use crate::ends::{KEY, Plan, Said, UPGRADE, connect, drive, kind_of, protocols, written};
+use crate::ends::{End, KEY, Plan, Said, UPGRADE, connect, drive, kind_of, protocols, written};
 use crate::row_tests::PINGS;
-use crate::scripts::{Random, random_steps};
-use conn_core::{ConnAct, ConnAnswer, run};
+use crate::scripts::{Random, random_codes, steps_of};
+use conn_core::{ConnAct, ConnAnswer, ConnRan, run};
 use conn_link::{Link, Pipe};
 use conn_log::ConnFault;
 use futures::test::MockTask;
+use node_protocols::NodeHandler;
 use peer_ids::PublicKey;
 use std::alloc::Global;
 use std::test::*;
@@ -26,13 +27,13 @@ fn input(alloc: Global, random: &mut Random) -> Option<Vec<u8>> {
     let mut input = UPGRADE.to_vec(alloc).ok()?;
     input.extend_from_slice(PINGS).ok()?;
     input.extend_from_slice(MORE).ok()?;
-    let all = input.len() as u32;
+    let all = u32::try_from(input.len()).unwrap_or(0);
     let at = random.below(all) as usize;
     match random.below(3) {
         0 => input.truncate(at),
         1 => {
             if let Some(byte) = input.get_mut(at) {
-                *byte ^= 1 << random.below(8);
+                *byte ^= random.byte_below(255).saturating_add(1);
             }
         }
         _ => {}
@@ -63,18 +64,29 @@ struct Direct {
     output: Vec<u8>,
 }
 
-fn feed_directly(alloc: Global, bytes: &[u8], given: &[usize]) -> Option<Direct> {
-    let key = PublicKey::read(alloc, KEY).ok()?;
-    let acts = acts(alloc, bytes, given)?;
-    let ran = run(alloc, ConnRole::Listener, key, protocols(alloc)?, &acts).ok()?;
+/// All that was told, in order.
+fn all_told(alloc: Global, answers: &[ConnAnswer<NodeHandler>]) -> Option<Vec<Said>> {
     let mut told = Vec::new(alloc);
-    for answer in &ran.answers {
+    for answer in answers {
         if let ConnAnswer::Events(events) = answer {
             for event in events {
                 told.push(kind_of(event)).ok()?;
             }
         }
     }
+    Some(told)
+}
+
+fn run_core(alloc: Global, acts: &[ConnAct]) -> Option<ConnRan<NodeHandler>> {
+    let protocols = protocols(alloc)?;
+    let key = PublicKey::read(alloc, KEY).ok()?;
+    run(alloc, ConnRole::Listener, key, protocols, acts).ok()
+}
+
+fn feed_directly(alloc: Global, bytes: &[u8], given: &[usize]) -> Option<Direct> {
+    let acts = acts(alloc, bytes, given)?;
+    let ran = run_core(alloc, &acts)?;
+    let told = all_told(alloc, &ran.answers)?;
     Some(Direct {
         told,
         output: ran.output,
@@ -106,36 +118,62 @@ struct Script {
     plan: Plan,
 }
 
-/// Most calls move some bytes, some are pending, in every fourth run one fails, and in every fifth `shut` is called.
+fn pipe(alloc: Global, bytes: &[u8], reads: &[u8], writes: &[u8]) -> Option<Pipe> {
+    let input = bytes.to_vec(alloc).ok()?;
+    Some(Pipe::new(
+        alloc,
+        input,
+        steps_of(alloc, reads)?,
+        steps_of(alloc, writes)?,
+    ))
+}
+
+/// Most calls move some bytes, some are pending, and in every fourth run one fails.
+fn pipe_at_random(alloc: Global, random: &mut Random, bytes: &[u8]) -> Option<Pipe> {
+    let most = random.byte_below(200).saturating_add(1);
+    let has_failing = random.below(4) == 0;
+    let (reading, writing) = (random.below(100), random.below(100));
+    let reads = random_codes(alloc, random, reading, most, has_failing)?;
+    let writes = random_codes(alloc, random, writing, 60, has_failing)?;
+    pipe(alloc, bytes, &reads, &writes)
+}
+
+/// In every fifth run `shut` is called.
 fn script_of(alloc: Global, number: u32) -> Option<Script> {
     let mut random = Random {
         state: u64::from(number),
     };
     let bytes = input(alloc, &mut random)?;
-    let most = random.below(200).saturating_add(1);
-    let has_failing = random.below(4) == 0;
-    let (reading, writing) = (random.below(100), random.below(100));
-    let reads = random_steps(alloc, &mut random, reading, most, has_failing)?;
-    let writes = random_steps(alloc, &mut random, writing, 60, has_failing)?;
+    let pipe = pipe_at_random(alloc, &mut random, &bytes)?;
     let plan = if random.below(5) == 0 {
         Plan::ShutAt(random.below(30))
     } else {
         Plan::Listen
     };
-    let pipe = Pipe::new(alloc, bytes.as_slice().to_vec(alloc).ok()?, reads, writes);
     Some(Script { bytes, pipe, plan })
+}
+
+/// Whether the events are those of the core that is fed the same pieces directly, and what is written begins its output.
+fn follows_core(
+    alloc: Global,
+    task: &MockTask,
+    conn: &mut End<Pipe>,
+    bytes: &[u8],
+    plan: Plan,
+) -> Option<bool> {
+    let gave = drive(alloc, task, conn, plan, 10_000)?;
+    let direct = feed_directly(alloc, bytes, &conn.link().given)?;
+    let has_failed = conn.link().failures() > 0;
+    let may_shut = plan != Plan::Listen;
+    let is_told = are_told(&gave.said, &direct.told, has_failed, may_shut);
+    let is_written = direct.output.starts_with(written(conn));
+    Some(is_told && is_written && gave.has_ended && gave.most <= 32)
 }
 
 fn runs(alloc: Global, task: &MockTask, number: u32) -> Option<bool> {
     let Script { bytes, pipe, plan } = script_of(alloc, number)?;
     let mut conn = connect(alloc, ConnRole::Listener, pipe)?;
-    let gave = drive(alloc, task, &mut conn, plan, 10_000)?;
-    let direct = feed_directly(alloc, &bytes, &conn.link().given)?;
-    let has_failed = conn.link().failures() > 0;
-    let may_shut = plan != Plan::Listen;
-    let is_told = are_told(&gave.said, &direct.told, has_failed, may_shut);
-    let is_written = direct.output.starts_with(written(&conn));
-    Some(is_told && is_written && gave.has_ended && gave.most <= 32)
+    follows_core(alloc, task, &mut conn, &bytes, plan)
 }
 
 #[test]

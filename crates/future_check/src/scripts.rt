@@ -1,4 +1,4 @@
-//! Lists of steps of a pipe, and pseudo-random numbers.
+//! Lists of steps of a pipe, written as codes, and pseudo-random numbers.
 
 ghost use Rattle.std.specs.Prelude.{IfSome};
 ghost use Rattle.std.specs.List.{All};
@@ -7,35 +7,51 @@ ghost use Rattle.conn_link.specs.Piping.{CanGo};
 use conn_link::PipeStep;
 use std::alloc::Global;
 
-/// So many times these two steps in turn.
-pub(crate) fn in_turn(
-    alloc: Global,
-    first: PipeStep,
-    second: PipeStep,
-    count: u32,
-) -> Option<Vec<PipeStep>>
-    requires first { CanGo first }
-    requires second { CanGo second }
+/// The code of a call that is pending.
+pub(crate) const PENDING: u8 = 0;
+
+/// The code of a call that fails. Any other stands for a call that moves so many bytes at most.
+pub(crate) const FAIL: u8 = 255;
+
+fn step_of(code: u8) -> PipeStep
+    ensures { CanGo result }
+{
+    match code {
+        PENDING => PipeStep::Pending,
+        FAIL => PipeStep::Fail,
+        most => PipeStep::Upto(usize::from(most).max(1)),
+    }
+}
+
+/// The steps that these codes stand for.
+pub(crate) fn steps_of(alloc: Global, codes: &[u8]) -> Option<Vec<PipeStep>>
     ensures { IfSome result (λ steps. All CanGo steps.items) }
 {
     let mut steps = Vec::new(alloc);
-    for _ in 0..count {
-        steps.push(first).ok()?;
-        steps.push(second).ok()?;
+    for code in codes {
+        steps.push(step_of(*code)).ok()?;
     }
     Some(steps)
 }
 
-/// So many calls that move all that they can up to so many bytes, and then one that fails.
-pub(crate) fn failing_at(alloc: Global, count: u32, most: usize) -> Option<Vec<PipeStep>>
-    ensures { IfSome result (λ steps. All CanGo steps.items) }
-{
-    let mut steps = Vec::new(alloc);
+/// So many times these two codes in turn.
+pub(crate) fn in_turn(alloc: Global, first: u8, second: u8, count: u32) -> Option<Vec<u8>> {
+    let mut codes = Vec::new(alloc);
     for _ in 0..count {
-        steps.push(PipeStep::Upto(most.max(1))).ok()?;
+        codes.push(first).ok()?;
+        codes.push(second).ok()?;
     }
-    steps.push(PipeStep::Fail).ok()?;
-    Some(steps)
+    Some(codes)
+}
+
+/// So many calls of this code, and then one that fails.
+pub(crate) fn failing_at(alloc: Global, count: u32, code: u8) -> Option<Vec<u8>> {
+    let mut codes = Vec::new(alloc);
+    for _ in 0..count {
+        codes.push(code).ok()?;
+    }
+    codes.push(FAIL).ok()?;
+    Some(codes)
 }
 
 /// Numbers that look random (the multiplier and the increment of Knuth's MMIX).
@@ -51,31 +67,35 @@ impl Random {
             .state
             .wrapping_mul(6_364_136_223_846_793_005)
             .wrapping_add(1_442_695_040_888_963_407);
-        ((self.state >> 33) as u32).checked_rem(end).unwrap_or(0)
+        let high = u32::try_from(self.state >> 33).unwrap_or(0);
+        high.checked_rem(end).unwrap_or(0)
+    }
+
+    /// The next byte below `end`, which is at least 1.
+    pub(crate) fn byte_below(&mut self, end: u8) -> u8 {
+        u8::try_from(self.below(u32::from(end))).unwrap_or(0)
     }
 }
 
-/// Some steps: most move up to `most` bytes, some are pending, and, where that is wanted, the last one fails.
-pub(crate) fn random_steps(
+/// Some calls: most move up to `most` bytes, some are pending, and, where that is wanted, the last one fails.
+pub(crate) fn random_codes(
     alloc: Global,
     random: &mut Random,
     count: u32,
-    most: u32,
+    most: u8,
     has_failure: bool,
-) -> Option<Vec<PipeStep>>
-    ensures { IfSome result (λ steps. All CanGo steps.items) }
-{
-    let mut steps = Vec::new(alloc);
+) -> Option<Vec<u8>> {
+    let mut codes = Vec::new(alloc);
     for _ in 0..count {
-        let step = if random.below(4) == 0 {
-            PipeStep::Pending
+        let code = if random.below(4) == 0 {
+            PENDING
         } else {
-            PipeStep::Upto((random.below(most) as usize).saturating_add(1))
+            random.byte_below(most).saturating_add(1).min(254)
         };
-        steps.push(step).ok()?;
+        codes.push(code).ok()?;
     }
     if has_failure {
-        steps.push(PipeStep::Fail).ok()?;
+        codes.push(FAIL).ok()?;
     }
-    Some(steps)
+    Some(codes)
 }

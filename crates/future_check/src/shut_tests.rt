@@ -1,65 +1,75 @@
 //! `shut`: with output left, with the link pending, twice, and after a fault.
 
-use crate::ends::{Plan, Said, connect, drive, written};
-use crate::row_tests::{TOLD, begins_output, input, plan};
-use crate::scripts::{failing_at, in_turn};
-use conn_link::{Pipe, PipeStep};
+use crate::ends::{End, Plan, Said, connect, drive, written};
+use crate::row_tests::{TOLD, begins_output, pipe, plan};
+use crate::scripts::{FAIL, PENDING, in_turn};
+use conn_link::Pipe;
 use conn_log::{ConnFault, ConnRefused};
 use futures::test::MockTask;
 use std::alloc::Global;
 use std::test::*;
 use upgrade::ConnRole;
 
-/// Behind `shut`, called once or twice before the first poll, it reads no more: all that is left is written, though each
-/// other write is pending, the link is shut, and Shut comes. Asks are refused.
-fn shuts_at_once(alloc: Global, task: &MockTask, times: u32) -> Option<bool> {
-    let writes = in_turn(alloc, PipeStep::Pending, PipeStep::Upto(1), 400)?;
-    let reads = failing_at(alloc, 0, 1)?;
-    let pipe = Pipe::new(alloc, input(alloc, ConnRole::Dialer)?, reads, writes);
-    let mut conn = connect(alloc, ConnRole::Dialer, pipe)?;
+/// Behind `shut`, called once or twice before the first poll, it reads no more: all that is left is written, though
+/// each other write is pending, the link is shut, and Shut comes. Asks are refused.
+fn is_written_out(
+    alloc: Global,
+    task: &MockTask,
+    conn: &mut End<Pipe>,
+    times: u32,
+) -> Option<bool> {
     let left = conn.waiting();
     for _ in 0..times {
         conn.shut();
     }
     let is_refused = conn.ask(2) == Err(ConnRefused::Failed);
-    let gave = drive(alloc, task, &mut conn, Plan::Listen, 2000)?;
-    let is_written = written(&conn).len() == left && conn.waiting() == 0;
+    let gave = drive(alloc, task, conn, Plan::Listen, 2000)?;
+    let is_written = written(conn).len() == left && conn.waiting() == 0;
     let is_shut = conn.link().link.is_shut() && conn.ask(2) == Err(ConnRefused::Failed);
     let is_right = gave.is(&[Said::Shut]) && left > 0 && is_refused && is_written && is_shut;
-    Some(is_right && begins_output(ConnRole::Dialer, written(&conn)))
+    Some(is_right && begins_output(ConnRole::Dialer, written(conn)))
+}
+
+fn shuts_at_once(alloc: Global, task: &MockTask, times: u32) -> Option<bool> {
+    let writes = in_turn(alloc, PENDING, 1, 400)?;
+    let pipe = pipe(alloc, ConnRole::Dialer, &[FAIL], &writes)?;
+    let mut conn = connect(alloc, ConnRole::Dialer, pipe)?;
+    is_written_out(alloc, task, &mut conn, times)
 }
 
 /// `shut` before any poll of a run: what was told before is a front, then comes Shut, and all that the core wrote is
 /// written. Where the run was over already, nothing changes.
-fn shuts_within(alloc: Global, task: &MockTask, poll: u32) -> Option<bool> {
-    let reads = in_turn(alloc, PipeStep::Upto(3), PipeStep::Pending, 400)?;
-    let writes = in_turn(alloc, PipeStep::Pending, PipeStep::Upto(5), 400)?;
-    let pipe = Pipe::new(alloc, input(alloc, ConnRole::Listener)?, reads, writes);
-    let mut conn = connect(alloc, ConnRole::Listener, pipe)?;
-    let gave = drive(alloc, task, &mut conn, Plan::ShutAt(poll), 4000)?;
+fn is_shut_at(alloc: Global, task: &MockTask, conn: &mut End<Pipe>, poll: u32) -> Option<bool> {
+    let gave = drive(alloc, task, conn, Plan::ShutAt(poll), 4000)?;
     let before = gave.said.len().checked_sub(1)?;
     let is_told = gave.said.get(before) == Some(&Said::Shut)
         && TOLD.get(..before) == gave.said.get(..before);
-    let is_written = begins_output(ConnRole::Listener, written(&conn)) && conn.waiting() == 0;
+    let is_written = begins_output(ConnRole::Listener, written(conn)) && conn.waiting() == 0;
     Some(is_told && gave.has_ended && gave.most <= 32 && is_written)
 }
 
+fn shuts_within(alloc: Global, task: &MockTask, poll: u32) -> Option<bool> {
+    let reads = in_turn(alloc, 3, PENDING, 400)?;
+    let writes = in_turn(alloc, PENDING, 5, 400)?;
+    let pipe = pipe(alloc, ConnRole::Listener, &reads, &writes)?;
+    let mut conn = connect(alloc, ConnRole::Listener, pipe)?;
+    is_shut_at(alloc, task, &mut conn, poll)
+}
+
 /// Behind a fault `shut` changes nothing, and asks are refused.
-fn shuts_behind_a_fault(alloc: Global, task: &MockTask) -> Option<bool> {
-    let reads = failing_at(alloc, 2, 9)?;
-    let pipe = Pipe::new(
-        alloc,
-        input(alloc, ConnRole::Dialer)?,
-        reads,
-        Vec::new(alloc),
-    );
-    let mut conn = connect(alloc, ConnRole::Dialer, pipe)?;
-    let gave = drive(alloc, task, &mut conn, plan(ConnRole::Dialer), 100)?;
+fn stays_over(alloc: Global, task: &MockTask, conn: &mut End<Pipe>) -> Option<bool> {
+    let gave = drive(alloc, task, conn, plan(ConnRole::Dialer), 100)?;
     conn.shut();
-    let later = drive(alloc, task, &mut conn, Plan::Listen, 100)?;
+    let later = drive(alloc, task, conn, Plan::Listen, 100)?;
     let is_over = later.is(&[]) && !conn.link().link.is_shut();
     let is_refused = conn.ask(2) == Err(ConnRefused::Failed);
     Some(gave.is(&[Said::Fault(ConnFault::Link)]) && is_over && is_refused)
+}
+
+fn shuts_behind_a_fault(alloc: Global, task: &MockTask) -> Option<bool> {
+    let pipe = pipe(alloc, ConnRole::Dialer, &[9, 9, FAIL], &[])?;
+    let mut conn = connect(alloc, ConnRole::Dialer, pipe)?;
+    stays_over(alloc, task, &mut conn)
 }
 
 #[test]
@@ -70,7 +80,8 @@ fn shut(rt: HostRuntime) -> Result<(), Fail> {
         assert!(rt; held, "called {times} times");
     }
     assert_eq!(rt; shuts_behind_a_fault(rt.alloc(), &task), Some(true));
-    for poll in 0..200u32 {
+    for turn in 0..60u32 {
+        let poll = turn.saturating_mul(3);
         let held = shuts_within(rt.alloc(), &task, poll) == Some(true);
         assert!(rt; held, "before poll {poll}");
     }

@@ -1,6 +1,4 @@
-use Rattle.std.proofs.Common.{◌≡◌, ◌∙◌, ◌++◌, ◌∷◌, [], List, false, refl, ap, sym, subst}
-use Rattle.conn_core.specs.declared.connection.ConnCore.{ConnCore}
-use Rattle.conn_future.specs.Follows.{Stays}
+use Rattle.std.proofs.Common.{◌∙◌, ◌++◌, ◌∷◌, [], false, refl, ap}
 use Rattle.conn_future.proofs.Standing.{parts_stay, parts_of, goes_of, stays_none, stays_same_core, goes_asked, going_stays}
 use Rattle.conn_future.proofs.Opening.{opened_wants}
 use Rattle.conn_future.proofs.Unchanged.{same_core}

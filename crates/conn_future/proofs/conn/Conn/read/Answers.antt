@@ -1,4 +1,4 @@
-use Rattle.std.proofs.Common.{◌≡◌, ◌∙◌, List, ℕ, [], false, refl, ap, sym, subst}
+use Rattle.std.proofs.Common.{◌∙◌, List, ℕ, [], false, refl, ap, sym, subst}
 use Rattle.conn_future.specs.Stages.{is_live}
 use Rattle.conn_future.proofs.Moved.{of_count, of_fault, of_pending}
 use Rattle.conn_future.proofs.Lists.{written_back}

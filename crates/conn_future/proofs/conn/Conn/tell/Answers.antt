@@ -1,9 +1,9 @@
-use Rattle.std.proofs.Common.{◌≡◌, ◌∙◌, Bool, true, false, List, [], length, deque_len, arith, ap, sym, refl, subst}
+use Rattle.std.proofs.Common.{◌≡◌, ◌∙◌, false, length, deque_len, arith, ap, sym, refl}
 use Rattle.std.proofs.lemmas.Bool.{eq-eqb}
 use Rattle.conn_core.specs.Connects.{is_over}
 use Rattle.conn_future.specs.Stages.{is_live}
-use Rattle.conn_future.proofs.Lists.{not_true, none_of, some_given}
-use Rattle.conn_future.proofs.Standing.{told_stays, parts_of, goes_collected, going_stays, stays_none, told_links_not, tells_some}
+use Rattle.conn_future.proofs.Lists.{not_true, some_given}
+use Rattle.conn_future.proofs.Standing.{told_stays, parts_of, goes_collected, going_stays, stays_none, tells_some}
 use Rattle.conn_future.proofs.conn.Conn.tell.Goals as goal
 
 pub returns-then-is_over-clause-follows : goal.returns-then-is_over-clause-follows

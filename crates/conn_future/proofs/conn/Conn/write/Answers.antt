@@ -1,5 +1,4 @@
-use Rattle.std.proofs.Common.{◌∙◌, ap, subst, ℕ, List, []}
-use Rattle.futures.specs.declared.task.Poll.TheVariants.{Ready}
+use Rattle.std.proofs.Common.{subst, ℕ, List, []}
 use Rattle.conn_future.proofs.Moved.{of_count, of_fault, of_pending}
 use Rattle.conn_future.proofs.Standing.{stays_wrote_to, stays_failed, stays_pending}
 use Rattle.conn_future.proofs.conn.Conn.write.Goals as goal
