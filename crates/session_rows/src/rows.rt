@@ -386,6 +386,16 @@ const LEAVES_WITH_CODES: &[Step] = &[
     Fed(SYN_1, &[], &[0, 1, 0, 8, 0, 0, 0, 1, 0, 0, 0, 0]),
 ];
 
+/// A fault behind this end's GoAway sends one more, whose code says why.
+const FAULT_BEHIND_LEAVING: &[Step] = &[
+    Acts(Act::Leave(0), Ok(0), LEAVING),
+    Fed(
+        &[0, 4, 0, 0, 0, 0, 0, 0, 0, 0, 0, 0],
+        &[Told::Failed(Fault::BadFrame)],
+        PROTOCOL_ERROR,
+    ),
+];
+
 /// The rows of a server.
 pub const SERVER: &[Row] = &[
     Row {
@@ -455,6 +465,10 @@ pub const SERVER: &[Row] = &[
     Row {
         name: "leaves with codes",
         steps: LEAVES_WITH_CODES,
+    },
+    Row {
+        name: "fault behind leaving",
+        steps: FAULT_BEHIND_LEAVING,
     },
 ];
 
