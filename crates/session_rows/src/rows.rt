@@ -396,6 +396,13 @@ const FAULT_BEHIND_LEAVING: &[Step] = &[
     ),
 ];
 
+/// Behind the other end's GoAway its Ping is answered, and its stream accepted.
+const ANSWERED_BEHIND_GOING_AWAY: &[Step] = &[
+    Fed(LEAVING, &[Told::GoAway(0)], &[]),
+    Fed(PING, &[], PING_ANSWERED),
+    Fed(SYN_1, &[Told::Opened(1)], ACK_1),
+];
+
 /// The rows of a server.
 pub const SERVER: &[Row] = &[
     Row {
@@ -469,6 +476,10 @@ pub const SERVER: &[Row] = &[
     Row {
         name: "fault behind leaving",
         steps: FAULT_BEHIND_LEAVING,
+    },
+    Row {
+        name: "answered behind going away",
+        steps: ANSWERED_BEHIND_GOING_AWAY,
     },
 ];
 
