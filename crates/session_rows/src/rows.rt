@@ -403,6 +403,13 @@ const ANSWERED_BEHIND_GOING_AWAY: &[Step] = &[
     Fed(SYN_1, &[Told::Opened(1)], ACK_1),
 ];
 
+/// This end goes away behind the other end too, and then takes no stream of it.
+const LEAVES_BEHIND_GOING_AWAY: &[Step] = &[
+    Fed(LEAVING, &[Told::GoAway(0)], &[]),
+    Acts(Act::Leave(0), Ok(0), LEAVING),
+    Fed(SYN_1, &[], RST_1),
+];
+
 /// The rows of a server.
 pub const SERVER: &[Row] = &[
     Row {
@@ -480,6 +487,10 @@ pub const SERVER: &[Row] = &[
     Row {
         name: "answered behind going away",
         steps: ANSWERED_BEHIND_GOING_AWAY,
+    },
+    Row {
+        name: "leaves behind going away",
+        steps: LEAVES_BEHIND_GOING_AWAY,
     },
 ];
 
