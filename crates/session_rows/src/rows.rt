@@ -403,6 +403,27 @@ const ANSWERED_BEHIND_GOING_AWAY: &[Step] = &[
     Fed(SYN_1, &[Told::Opened(1)], ACK_1),
 ];
 
+/// What is still to come of a payload isn't taken, so it isn't given back.
+const TAKEN_BEFORE_IT_COMES: &[Step] = &[
+    Fed(SYN_1, &[Told::Opened(1)], ACK_1),
+    Fed(&[0, 0, 0, 0, 0, 0, 0, 1, 0, 4, 0, 0], &[], &[]),
+    Acts(Act::Take(1, 262144), Ok(0), &[]),
+    Filled(262144),
+    Acts(Act::Take(1, 131072), Ok(0), HALF_BACK_1),
+];
+
+/// Behind this end's close credit is told, and a reset as a reset.
+const RESET_BEHIND_THE_CLOSE: &[Step] = &[
+    Fed(SYN_1, &[Told::Opened(1)], ACK_1),
+    Acts(Act::Close(1), Ok(0), FIN_1),
+    Fed(
+        &[0, 1, 0, 0, 0, 0, 0, 1, 0, 0, 0, 5],
+        &[Told::Credit(1)],
+        &[],
+    ),
+    Fed(RST_1, &[Told::Reset(1)], &[]),
+];
+
 /// This end goes away behind the other end too, and then takes no stream of it.
 const LEAVES_BEHIND_GOING_AWAY: &[Step] = &[
     Fed(LEAVING, &[Told::GoAway(0)], &[]),
@@ -483,6 +504,14 @@ pub const SERVER: &[Row] = &[
     Row {
         name: "fault behind leaving",
         steps: FAULT_BEHIND_LEAVING,
+    },
+    Row {
+        name: "taken before it comes",
+        steps: TAKEN_BEFORE_IT_COMES,
+    },
+    Row {
+        name: "reset behind the close",
+        steps: RESET_BEHIND_THE_CLOSE,
     },
     Row {
         name: "answered behind going away",
