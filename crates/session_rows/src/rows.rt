@@ -386,6 +386,51 @@ const LEAVES_WITH_CODES: &[Step] = &[
     Fed(SYN_1, &[], &[0, 1, 0, 8, 0, 0, 0, 1, 0, 0, 0, 0]),
 ];
 
+/// A fault behind this end's GoAway sends one more, whose code says why.
+const FAULT_BEHIND_LEAVING: &[Step] = &[
+    Acts(Act::Leave(0), Ok(0), LEAVING),
+    Fed(
+        &[0, 4, 0, 0, 0, 0, 0, 0, 0, 0, 0, 0],
+        &[Told::Failed(Fault::BadFrame)],
+        PROTOCOL_ERROR,
+    ),
+];
+
+/// Behind the other end's GoAway its Ping is answered, and its stream accepted.
+const ANSWERED_BEHIND_GOING_AWAY: &[Step] = &[
+    Fed(LEAVING, &[Told::GoAway(0)], &[]),
+    Fed(PING, &[], PING_ANSWERED),
+    Fed(SYN_1, &[Told::Opened(1)], ACK_1),
+];
+
+/// What is still to come of a payload isn't taken, so it isn't given back.
+const TAKEN_BEFORE_IT_COMES: &[Step] = &[
+    Fed(SYN_1, &[Told::Opened(1)], ACK_1),
+    Fed(&[0, 0, 0, 0, 0, 0, 0, 1, 0, 4, 0, 0], &[], &[]),
+    Acts(Act::Take(1, 262144), Ok(0), &[]),
+    Filled(262144),
+    Acts(Act::Take(1, 131072), Ok(0), HALF_BACK_1),
+];
+
+/// Behind this end's close credit is told, and a reset as a reset.
+const RESET_BEHIND_THE_CLOSE: &[Step] = &[
+    Fed(SYN_1, &[Told::Opened(1)], ACK_1),
+    Acts(Act::Close(1), Ok(0), FIN_1),
+    Fed(
+        &[0, 1, 0, 0, 0, 0, 0, 1, 0, 0, 0, 5],
+        &[Told::Credit(1)],
+        &[],
+    ),
+    Fed(RST_1, &[Told::Reset(1)], &[]),
+];
+
+/// This end goes away behind the other end too, and then takes no stream of it.
+const LEAVES_BEHIND_GOING_AWAY: &[Step] = &[
+    Fed(LEAVING, &[Told::GoAway(0)], &[]),
+    Acts(Act::Leave(0), Ok(0), LEAVING),
+    Fed(SYN_1, &[], RST_1),
+];
+
 /// The rows of a server.
 pub const SERVER: &[Row] = &[
     Row {
@@ -455,6 +500,26 @@ pub const SERVER: &[Row] = &[
     Row {
         name: "leaves with codes",
         steps: LEAVES_WITH_CODES,
+    },
+    Row {
+        name: "fault behind leaving",
+        steps: FAULT_BEHIND_LEAVING,
+    },
+    Row {
+        name: "taken before it comes",
+        steps: TAKEN_BEFORE_IT_COMES,
+    },
+    Row {
+        name: "reset behind the close",
+        steps: RESET_BEHIND_THE_CLOSE,
+    },
+    Row {
+        name: "answered behind going away",
+        steps: ANSWERED_BEHIND_GOING_AWAY,
+    },
+    Row {
+        name: "leaves behind going away",
+        steps: LEAVES_BEHIND_GOING_AWAY,
     },
 ];
 
