@@ -78,8 +78,8 @@ fn run<
         return Err(Fail::from("a swarm"));
     };
     match plan {
-        Plan::Accept => Ok(call_at_once(rt, alloc, swarm, passes, None) as usize),
-        Plan::Dial => Ok(call_at_once(rt, alloc, swarm, passes, Some(peer(0x22))) as usize),
+        Plan::Accept => Ok(call_at_once(rt, alloc, swarm, passes, &None) as usize),
+        Plan::Dial => Ok(call_at_once(rt, alloc, swarm, passes, &Some(peer(0x22))) as usize),
         Plan::Hold => Ok(list_while_held(rt, swarm, passes, watch) as usize),
         Plan::Wait => Ok(call_while_held(rt, swarm, passes, watch) as usize),
         Plan::Count => hold_each_call(rt, alloc, swarm, passes, watch),
@@ -115,10 +115,10 @@ fn call<G: Gate, J: Identity, L: Ledgers, R: Wait>(
     rt: &R,
     swarm: &Swarm<G, J, L>,
     mut pass: Pass<J, L>,
-    whom: Option<PeerId>,
+    whom: &Option<PeerId>,
 ) -> (Pass<J, L>, Reply) {
     let reply = match whom {
-        Some(_) => swarm.dial(rt, &mut pass, whom),
+        Some(peer) => swarm.dial(rt, &mut pass, Some(*peer)),
         None => {
             let reply = swarm.accept(rt, &mut pass);
             swarm.renew(&mut pass);
@@ -143,19 +143,22 @@ fn are_answered(first: Reply, second: Reply, one: Reply, other: Reply) -> bool {
     (first == one && second == other) || (first == other && second == one)
 }
 
-/// Whether one call was answered by connection 1 and the other so, each pass comes to both, which are all, and so many
-/// connections stand then.
+/// Whether one of two dials of a peer has the one connection and the other is refused, or each of two that accept has
+/// one; and each pass comes to both calls, which are all.
 fn have_met<G: Gate, J: Identity, L: Ledgers, R: Wait>(
     rt: &R,
     alloc: Global,
     swarm: Swarm<G, J, L>,
     one: (Pass<J, L>, Reply),
     two: (Pass<J, L>, Reply),
-    outcome: (Reply, usize),
+    whom: &Option<PeerId>,
 ) -> bool {
     let (mut one, first) = one;
     let (mut two, second) = two;
-    let (other, conns) = outcome;
+    let (other, conns) = match whom {
+        Some(_) => (Reply::Refused(Refusal::PeerFull), 1),
+        None => (Reply::Conn(2), 2),
+    };
     let are_answered = are_answered(first, second, Reply::Conn(1), other);
     swarm.meet(rt, &mut one, &mut two);
     let are_both = one.front() == 2 && two.front() == 2;
@@ -183,7 +186,7 @@ fn call_at_once<
     alloc: Global,
     swarm: Swarm<G, J, Eight<L1, L2, L3, L4, L5, L6, L7, L8>>,
     passes: Vec<Pass<J, Eight<L1, L2, L3, L4, L5, L6, L7, L8>>>,
-    whom: Option<PeerId>,
+    whom: &Option<PeerId>,
 ) -> bool {
     let Some((one, two)) = both(passes) else {
         return false;
@@ -194,13 +197,7 @@ fn call_at_once<
         move || call(rt, shared, one, whom),
         move || call(rt, shared, two, whom),
     );
-    match whom {
-        Some(_) => {
-            let full = Reply::Refused(Refusal::PeerFull);
-            have_met(rt, alloc, swarm, one, two, (full, 1))
-        }
-        None => have_met(rt, alloc, swarm, one, two, (Reply::Conn(2), 2)),
-    }
+    have_met(rt, alloc, swarm, one, two, whom)
 }
 
 /// Lists often enough for the gate. Gives the front of the last listing.
@@ -253,7 +250,7 @@ fn list_while_held<
     let shared = &swarm;
     let (_one, mut two) = join(
         rt,
-        move || call(rt, shared, one, Some(first)),
+        move || call(rt, shared, one, &Some(first)),
         move || list_often(shared, two, watch),
     );
     has_listed(&swarm, &mut two, watch)
@@ -295,10 +292,10 @@ fn call_while_held<
     let shared = &swarm;
     let (one, two) = join(
         rt,
-        move || call(rt, shared, one, Some(first)),
+        move || call(rt, shared, one, &Some(first)),
         move || {
             wait_for_the_first(rt, watch);
-            call(rt, shared, two, Some(second))
+            call(rt, shared, two, &Some(second))
         },
     );
     have_called(&one, &two, watch)
