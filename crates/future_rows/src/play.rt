@@ -41,13 +41,20 @@ fn pipe(alloc: Global) -> Option<Pipe> {
     Some(Pipe::new(alloc, input, reads, Vec::new(alloc)))
 }
 
-fn connect(alloc: Global) -> Option<End> {
+fn core(alloc: Global) -> Option<ConnCore<NodeProtocols<FixedPayload>>> {
     let own = PublicKey::read(alloc, KEY).ok()?;
     let payloads = FixedPayload { payload: PAYLOAD };
     let protocols = NodeProtocols::new(alloc, own, "node/0.1.0", payloads).ok()?;
     let key = PublicKey::read(alloc, KEY).ok()?;
-    let core = ConnCore::new(alloc, ConnRole::Dialer, key, protocols).ok()?;
-    Conn::new(alloc, pipe(alloc)?, core).ok()
+    ConnCore::new(alloc, ConnRole::Dialer, key, protocols).ok()
+}
+
+fn connect(alloc: Global) -> Option<End> {
+    let pipe = pipe(alloc)?;
+    if pipe.failures() == u64::MAX {
+        return None;
+    }
+    Conn::new(alloc, pipe, core(alloc)?).ok()
 }
 
 /// What an event says. A handler that meets want of memory says so by its number: that of identify, or of ping.
