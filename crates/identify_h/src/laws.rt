@@ -10,12 +10,12 @@ ghost use Rattle.identify_h.specs.Faults.{number_of};
 ghost use Rattle.identify_h.specs.Messages.{KeyIsThePeers, OneMessage, WrittenIsRead};
 ghost use Rattle.identify_h.specs.Streams.{Reads, OneOutcome, SomeOutcome, FaultsStay, AskingGoesOn, SentIsRead};
 ghost use Rattle.identify_h.specs.Reading.{Reader, Stands, IsFresh, Alike};
-ghost use Rattle.identify_h.specs.Sending.{Sending, sending};
+ghost use Rattle.identify_h.specs.Sending.{Sending, sending, most_bytes};
 ghost use Rattle.identify_h.specs.Rows.{MessageRows, FieldRows, MemoryRows, BadKeyRows, MergeRows, StreamRows};
 ghost use Rattle.identify_h.specs.Rows.{FaultRows, RoomRows, NumberRows, SendRows, ReadRows};
 
 use crate::reader::IdentifyIn;
-use crate::writer::IdentifyOut;
+use crate::writer::{IdentifyOut, MOST_BYTES};
 use handlers::Handler;
 
 /// The definitions say of worked inputs what the specification and the profile say.
@@ -51,6 +51,11 @@ pub fn written_is_read()
 /// What is sent is read: a written message behind its length is one stream that says it.
 pub fn sent_is_read()
     ensures { SentIsRead }
+{}
+
+/// The limit of the bodies of a stream, as callers see it, is that of the definitions.
+pub fn limit_is_public()
+    ensures { MOST_BYTES ≡ most_bytes }
 {}
 
 /// An input has one first fault or none; a whole stream has one message, or one fault at its end.
