@@ -153,7 +153,8 @@ fn script_of(alloc: Global, number: u32) -> Option<Script> {
     Some(Script { bytes, pipe, plan })
 }
 
-/// Whether the events are those of the core that is fed the same pieces directly, and what is written begins its output.
+/// Whether the events are those of the core that is fed the same pieces directly, and what is written begins its
+/// output.
 fn follows_core(
     alloc: Global,
     task: &MockTask,

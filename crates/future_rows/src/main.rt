@@ -1,5 +1,5 @@
-//! Plays the row of a dialer that pings, over a connection and a pipe. Run so that the Nth growth is refused, for each N
-//! in turn, it checks what is said of want of memory: the events before it are those with ample memory, then comes
+//! Plays the row of a dialer that pings, over a connection and a pipe. Run so that the Nth growth is refused, for each
+//! N in turn, it checks what is said of want of memory: the events before it are those with ample memory, then comes
 //! Fault(OutOfMemory), or Fault(Link) where the pipe met it, or where a handler met it its stream alone is broken; and
 //! what was written begins the output of the row. An `ask` that is refused is the last call of the link, with `shut`
 //! behind it and without.

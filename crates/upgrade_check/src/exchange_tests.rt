@@ -37,7 +37,8 @@ const KEY_IN_PARTS: &[u8] =
 /// The same with its key in four fields, the second of which is empty, round the id.
 const KEY_IN_MORE_PARTS: &[u8] =
     b"\x54\x12\x01\x08\x12\x00\x0a\x26\0\x24\x08\x01\x12\x20\0\0\0\0\0\0\0\0\0\0\0\0\0\0\0\0\
-    \0\0\0\0\0\0\0\0\0\0\0\0\0\0\0\0\x12\x22\x01\x12\x20\0\0\0\0\0\0\0\0\0\0\0\0\0\0\0\0\0\0\0\0\0\0\0\0\0\0\0\0\0\0\0\x12\x01\0";
+    \0\0\0\0\0\0\0\0\0\0\0\0\0\0\0\0\
+    \x12\x22\x01\x12\x20\0\0\0\0\0\0\0\0\0\0\0\0\0\0\0\0\0\0\0\0\0\0\0\0\0\0\0\0\0\0\0\x12\x01\0";
 
 /// The id of another key, with that key.
 const OTHER_ID: &[u8] =
