@@ -1,5 +1,5 @@
 -- Where a connection over a link stands, from one call to the next.
-use Rattle.std.proofs.Common.{◌≡◌, ℕ, Bool, true, false, List, [], ◌∷◌, ◌++◌, take, drop, refl, sym, ap, ◌∙◌, subst}
+use Rattle.std.proofs.Common.{◌≡◌, ◌⊎◌, inl, inr, ℕ, Bool, true, false, List, [], ◌∷◌, ◌++◌, take, drop, refl, sym, ap, ◌∙◌, subst}
 use Rattle.std.proofs.lemmas.List.{append-nil}
 use Rattle.conn_link.specs.declared.link.Link.{Ghosts as LinkGhosts}
 use Rattle.conn_link.specs.Moving.{MovesNothing, MovesOn, StaysEnded}
@@ -33,6 +33,7 @@ module _ {L P H : Type 0} (link : LinkGhosts L) (protocols : ProtocolsGhosts P H
     took = joins.took;
     moved = joins.moved;
     reached = joins.reached;
+    found = joins.found;
     stands = subst (λ (told : List (ConnEvent H)). CoreStands link protocols handler eager names role own joins.given ended asked told (joins.took ++ left) core) (one_on gave e held) joins.stands;
   }
 
@@ -111,75 +112,77 @@ module _ {L P H : Type 0} (link : LinkGhosts L) (protocols : ProtocolsGhosts P H
 
   -- it gave and took nothing
   pub joins_still : MovesOn link.moves → StaysEnded link.moves link.has_ended → (first : L) (asked : List (ℕ × ℕ)) (gave : List (ConnEvent H)) (ended : Bool) (now next : L) (core : ConnCore P H) (left : List ℕ) (held : List (ConnEvent H))
-      → Joins link protocols handler eager names role own first asked gave ended now core left held → link.moves now [] [] next
+      → Joins link protocols handler eager names role own first asked gave ended now core left held → link.moves now [] [] next → (link.has_ended next → link.has_ended now)
       → Joins link protocols handler eager names role own first asked gave ended next core left held
-  joins_still on stays first asked gave ended now next core left held joins moved = record {
+  joins_still on stays first asked gave ended now next core left held joins moved not_found = record {
     given = joins.given;
     took = joins.took;
     moved = subst (λ (l : List ℕ). link.moves first l joins.took next) (append-nil joins.given)
         (subst (λ (l : List ℕ). link.moves first (joins.given ++ []) l next) (append-nil joins.took) (on first now next joins.given joins.took [] [] joins.moved moved));
     reached = λ is. (stays now next [] [] moved (joins.reached is)).1;
+    found = λ there. joins.found (not_found there);
     stands = joins.stands;
   }
 
   -- it took a first part of what is left
   pub joins_wrote : MovesOn link.moves → StaysEnded link.moves link.has_ended → (first : L) (asked : List (ℕ × ℕ)) (gave : List (ConnEvent H)) (ended : Bool) (now next : L) (core : ConnCore P H) (left : List ℕ) (held : List (ConnEvent H)) (count : ℕ)
-      → Joins link protocols handler eager names role own first asked gave ended now core left held → link.moves now [] (take count left) next
+      → Joins link protocols handler eager names role own first asked gave ended now core left held → link.moves now [] (take count left) next → (link.has_ended next → link.has_ended now)
       → Joins link protocols handler eager names role own first asked gave ended next core (drop count left) held
-  joins_wrote on stays first asked gave ended now next core left held count joins moved = record {
+  joins_wrote on stays first asked gave ended now next core left held count joins moved not_found = record {
     given = joins.given;
     took = joins.took ++ take count left;
     moved = subst (λ (l : List ℕ). link.moves first l (joins.took ++ take count left) next) (append-nil joins.given) (on first now next joins.given joins.took [] (take count left) joins.moved moved);
     reached = λ is. (stays now next [] (take count left) moved (joins.reached is)).1;
+    found = λ there. joins.found (not_found there);
     stands = subst (λ (l : List ℕ). CoreStands link protocols handler eager names role own joins.given ended asked (gave ++ held) l core) (rest_of joins.took left count) joins.stands;
   }
 
   pub stays_wrote : MovesOn link.moves → StaysEnded link.moves link.has_ended → (first : L) (asked : List (ℕ × ℕ)) (gave : List (ConnEvent H)) (now next : L) (core : ConnCore P H) (left : List ℕ) (held : List (ConnEvent H)) (count : ℕ) (stage : Stage) → is_live stage ≡ true
-      → Stays link protocols handler eager names role own first asked gave now core left held stage → link.moves now [] (take count left) next
+      → Stays link protocols handler eager names role own first asked gave now core left held stage → link.moves now [] (take count left) next → (link.has_ended next → link.has_ended now)
       → Stays link protocols handler eager names role own first asked (gave ++ []) next core (drop count left) held stage
-  stays_wrote on still first asked gave now next core left held count Going live stays moved =
-      stays_none first asked gave next core (drop count left) held held Going refl (record { joins = joins_wrote on still first asked gave false now next core left held count stays.joins moved; goes_on = stays.goes_on; none_waits = stays.none_waits })
-  stays_wrote on still first asked gave now next core left held count Shutting live stays moved =
-      stays_none first asked gave next core (drop count left) held held Shutting refl (record { joins = joins_wrote on still first asked gave false now next core left held count stays.joins moved; goes_on = stays.goes_on; none_waits = stays.none_waits })
-  stays_wrote on still first asked gave now next core left held count Starved live stays moved = absurd (cc live)
-  stays_wrote on still first asked gave now next core left held count Over live stays moved = absurd (cc live)
+  stays_wrote on still first asked gave now next core left held count Going live stays moved not_found =
+      stays_none first asked gave next core (drop count left) held held Going refl (record { joins = joins_wrote on still first asked gave false now next core left held count stays.joins moved not_found; goes_on = stays.goes_on; none_waits = stays.none_waits })
+  stays_wrote on still first asked gave now next core left held count Shutting live stays moved not_found =
+      stays_none first asked gave next core (drop count left) held held Shutting refl (record { joins = joins_wrote on still first asked gave false now next core left held count stays.joins moved not_found; goes_on = stays.goes_on; none_waits = stays.none_waits })
+  stays_wrote on still first asked gave now next core left held count Starved live stays moved not_found = absurd (cc live)
+  stays_wrote on still first asked gave now next core left held count Over live stays moved not_found = absurd (cc live)
 
   pub stays_wrote_to : MovesOn link.moves → StaysEnded link.moves link.has_ended → (first : L) (asked : List (ℕ × ℕ)) (gave : List (ConnEvent H)) (now next : L) (core : ConnCore P H) (left after bytes : List ℕ) (held : List (ConnEvent H)) (count : ℕ) (stage : Stage) → is_live stage ≡ true
       → after ≡ drop count left → bytes ≡ take count left
-      → Stays link protocols handler eager names role own first asked gave now core left held stage → link.moves now [] bytes next
+      → Stays link protocols handler eager names role own first asked gave now core left held stage → link.moves now [] bytes next → (link.has_ended next → link.has_ended now)
       → Stays link protocols handler eager names role own first asked (gave ++ []) next core after held stage
-  stays_wrote_to on still first asked gave now next core left after bytes held count stage live is wrote stays moved =
+  stays_wrote_to on still first asked gave now next core left after bytes held count stage live is wrote stays moved not_found =
       subst (λ (l : List ℕ). Stays link protocols handler eager names role own first asked (gave ++ []) next core l held stage) (sym is)
-      (stays_wrote on still first asked gave now next core left held count stage live stays (subst (λ (l : List ℕ). link.moves now [] l next) wrote moved))
+      (stays_wrote on still first asked gave now next core left held count stage live stays (subst (λ (l : List ℕ). link.moves now [] l next) wrote moved) not_found)
 
   -- a call failed
   pub stays_failed : MovesOn link.moves → StaysEnded link.moves link.has_ended → (first : L) (asked : List (ℕ × ℕ)) (gave : List (ConnEvent H)) (now next : L) (core : ConnCore P H) (left after : List ℕ) (held : List (ConnEvent H)) (stage : Stage) → is_live stage ≡ true → held ≡ []
-      → Stays link protocols handler eager names role own first asked gave now core left held stage → link.moves now [] [] next
+      → Stays link protocols handler eager names role own first asked gave now core left held stage → link.moves now [] [] next → (link.has_ended next → link.has_ended now)
       → Stays link protocols handler eager names role own first asked (gave ++ event.Fault fault.Link ∷ []) next core after held Over
-  stays_failed on still first asked gave now next core left after held Going live none stays moved =
-      Failed gave left none refl (joins_still on still first asked gave false now next core left [] (subst (λ (l : List (ConnEvent H)). Joins link protocols handler eager names role own first asked gave false now core left l) none stays.joins) moved)
-  stays_failed on still first asked gave now next core left after held Shutting live none stays moved =
-      Failed gave left none refl (joins_still on still first asked gave false now next core left [] (subst (λ (l : List (ConnEvent H)). Joins link protocols handler eager names role own first asked gave false now core left l) none stays.joins) moved)
-  stays_failed on still first asked gave now next core left after held Starved live none stays moved = absurd (cc live)
-  stays_failed on still first asked gave now next core left after held Over live none stays moved = absurd (cc live)
+  stays_failed on still first asked gave now next core left after held Going live none stays moved not_found =
+      Failed gave left none refl (joins_still on still first asked gave false now next core left [] (subst (λ (l : List (ConnEvent H)). Joins link protocols handler eager names role own first asked gave false now core left l) none stays.joins) moved not_found)
+  stays_failed on still first asked gave now next core left after held Shutting live none stays moved not_found =
+      Failed gave left none refl (joins_still on still first asked gave false now next core left [] (subst (λ (l : List (ConnEvent H)). Joins link protocols handler eager names role own first asked gave false now core left l) none stays.joins) moved not_found)
+  stays_failed on still first asked gave now next core left after held Starved live none stays moved not_found = absurd (cc live)
+  stays_failed on still first asked gave now next core left after held Over live none stays moved not_found = absurd (cc live)
 
   -- a call was pending
   pub stays_pending : MovesOn link.moves → StaysEnded link.moves link.has_ended → (first : L) (asked : List (ℕ × ℕ)) (gave : List (ConnEvent H)) (now next : L) (core : ConnCore P H) (left : List ℕ) (held : List (ConnEvent H)) (stage : Stage) → is_live stage ≡ true
-      → Stays link protocols handler eager names role own first asked gave now core left held stage → link.moves now [] [] next
+      → Stays link protocols handler eager names role own first asked gave now core left held stage → link.moves now [] [] next → (link.has_ended next → link.has_ended now)
       → Stays link protocols handler eager names role own first asked (gave ++ []) next core left held stage
-  stays_pending on still first asked gave now next core left held Going live stays moved =
-      stays_none first asked gave next core left held held Going refl (record { joins = joins_still on still first asked gave false now next core left held stays.joins moved; goes_on = stays.goes_on; none_waits = stays.none_waits })
-  stays_pending on still first asked gave now next core left held Shutting live stays moved =
-      stays_none first asked gave next core left held held Shutting refl (record { joins = joins_still on still first asked gave false now next core left held stays.joins moved; goes_on = stays.goes_on; none_waits = stays.none_waits })
-  stays_pending on still first asked gave now next core left held Starved live stays moved = absurd (cc live)
-  stays_pending on still first asked gave now next core left held Over live stays moved = absurd (cc live)
+  stays_pending on still first asked gave now next core left held Going live stays moved not_found =
+      stays_none first asked gave next core left held held Going refl (record { joins = joins_still on still first asked gave false now next core left held stays.joins moved not_found; goes_on = stays.goes_on; none_waits = stays.none_waits })
+  stays_pending on still first asked gave now next core left held Shutting live stays moved not_found =
+      stays_none first asked gave next core left held held Shutting refl (record { joins = joins_still on still first asked gave false now next core left held stays.joins moved not_found; goes_on = stays.goes_on; none_waits = stays.none_waits })
+  stays_pending on still first asked gave now next core left held Starved live stays moved not_found = absurd (cc live)
+  stays_pending on still first asked gave now next core left held Over live stays moved not_found = absurd (cc live)
 
   -- the link is shut
   pub goes_shut : MovesOn link.moves → StaysEnded link.moves link.has_ended → (first : L) (asked : List (ℕ × ℕ)) (gave : List (ConnEvent H)) (now next : L) (core : ConnCore P H) (left after : List ℕ) (held : List (ConnEvent H)) → held ≡ [] → left ≡ []
-      → GoesOn link protocols handler eager names role own first asked gave now core left held → link.moves now [] [] next → link.is_shut next
+      → GoesOn link protocols handler eager names role own first asked gave now core left held → link.moves now [] [] next → (link.has_ended next → link.has_ended now) → link.is_shut next
       → Stays link protocols handler eager names role own first asked (gave ++ event.Shut ∷ []) next core after held Over
-  goes_shut on still first asked gave now next core left after held none empty stays moved shut =
-      Shut gave none refl shut (joins_still on still first asked gave false now next core [] [] (subst (λ (l : List (ConnEvent H)). Joins link protocols handler eager names role own first asked gave false now core [] l) none (subst (λ (l : List ℕ). Joins link protocols handler eager names role own first asked gave false now core l held) empty stays.joins)) moved)
+  goes_shut on still first asked gave now next core left after held none empty stays moved not_found shut =
+      Shut gave none refl shut (joins_still on still first asked gave false now next core [] [] (subst (λ (l : List (ConnEvent H)). Joins link protocols handler eager names role own first asked gave false now core [] l) none (subst (λ (l : List ℕ). Joins link protocols handler eager names role own first asked gave false now core l held) empty stays.joins)) moved not_found)
 
   -- ---- at a stage that is known
 
@@ -247,28 +250,31 @@ module _ {L P H : Type 0} (link : LinkGhosts L) (protocols : ProtocolsGhosts P H
   pub joins_fed : MovesOn link.moves → (first : L) (asked : List (ℕ × ℕ)) (gave : List (ConnEvent H)) (before now : L) (core next : ConnCore P H) (left piece : List ℕ) (events : List (ConnEvent H))
       → ((input taken : List ℕ) (told : List (ConnEvent H)) → CoreStands link protocols handler eager names role own input false asked told taken core → is_over core.phase ≡ false
       → CoreStands link protocols handler eager names role own (input ++ piece) false asked (told ++ events) taken next)
-      → GoesOn link protocols handler eager names role own first asked gave before core left [] → link.moves before piece [] now
+      → GoesOn link protocols handler eager names role own first asked gave before core left [] → link.moves before piece [] now → (link.has_ended now → link.has_ended before)
       → Joins link protocols handler eager names role own first asked gave false now next left events
-  joins_fed on first asked gave before now core next left piece events fed goes moved = record {
+  joins_fed on first asked gave before now core next left piece events fed goes moved not_found = record {
     given = goes.joins.given ++ piece;
     took = goes.joins.took;
     moved = subst (λ (l : List ℕ). link.moves first (goes.joins.given ++ piece) l now) (append-nil goes.joins.took) (on first before now goes.joins.given goes.joins.took piece [] goes.joins.moved moved);
     reached = λ is. absurd (cc is);
+    found = λ there. goes.joins.found (not_found there);
     stands = subst (λ (l : List (ConnEvent H)). CoreStands link protocols handler eager names role own (goes.joins.given ++ piece) false asked (l ++ events) (goes.joins.took ++ left) next) (append-nil gave)
         (fed goes.joins.given (goes.joins.took ++ left) (gave ++ []) goes.joins.stands goes.goes_on);
   }
 
   -- it was told that the input has ended
-  pub joins_ended : (first : L) (asked : List (ℕ × ℕ)) (gave : List (ConnEvent H)) (now : L) (core next : ConnCore P H) (left : List ℕ) (events : List (ConnEvent H))
+  pub joins_ended : MovesOn link.moves → (first : L) (asked : List (ℕ × ℕ)) (gave : List (ConnEvent H)) (before now : L) (core next : ConnCore P H) (left : List ℕ) (events : List (ConnEvent H))
       → ((input taken : List ℕ) (told : List (ConnEvent H)) → CoreStands link protocols handler eager names role own input false asked told taken core → is_over core.phase ≡ false
       → CoreStands link protocols handler eager names role own input true asked (told ++ events) taken next)
-      → GoesOn link protocols handler eager names role own first asked gave now core left [] → link.has_ended now
+      → GoesOn link protocols handler eager names role own first asked gave before core left [] → link.moves before [] [] now → link.has_ended now
       → Joins link protocols handler eager names role own first asked gave true now next left events
-  joins_ended first asked gave now core next left events ends goes reached = record {
+  joins_ended on first asked gave before now core next left events ends goes moved reached = record {
     given = goes.joins.given;
     took = goes.joins.took;
-    moved = goes.joins.moved;
+    moved = subst (λ (l : List ℕ). link.moves first l goes.joins.took now) (append-nil goes.joins.given)
+        (subst (λ (l : List ℕ). link.moves first (goes.joins.given ++ []) l now) (append-nil goes.joins.took) (on first before now goes.joins.given goes.joins.took [] [] goes.joins.moved moved));
     reached = λ is. reached;
+    found = λ there. inl refl;
     stands = subst (λ (l : List (ConnEvent H)). CoreStands link protocols handler eager names role own goes.joins.given true asked (l ++ events) (goes.joins.took ++ left) next) (append-nil gave)
         (ends goes.joins.given (goes.joins.took ++ left) (gave ++ []) goes.joins.stands goes.goes_on);
   }
@@ -286,6 +292,7 @@ module _ {L P H : Type 0} (link : LinkGhosts L) (protocols : ProtocolsGhosts P H
       took = joins.took;
       moved = subst (λ (l : L). link.moves first joins.given joins.took l) (sym same) joins.moved;
       reached = λ is. absurd (cc is);
+      found = λ there. subst (λ (b : Bool). (b ≡ true) ⊎ link.has_ended first) unended (joins.found (subst link.has_ended same there));
       stands = subst (λ (l : List (ConnEvent H)). CoreStands link protocols handler eager names role own joins.given false asked (gave ++ l) (joins.took ++ more) next) (sym is)
           (subst (λ (b : Bool). CoreStands link protocols handler eager names role own joins.given b asked (gave ++ held) (joins.took ++ more) next) unended (collected joins.given joins.took ended (gave ++ held) joins.stands));
     };
@@ -315,18 +322,6 @@ module _ {L P H : Type 0} (link : LinkGhosts L) (protocols : ProtocolsGhosts P H
       → Joins link protocols handler eager names role own first asked gave ended now core left (event.Fault fault.Link ∷ held) → ⊥
   told_links_not first asked gave ended now core left held joins = never_links link protocols handler eager names role own _ _ asked gave held _ core joins.stands
 
-  -- a call of the link gave nothing, and took nothing
-  pub goes_still : MovesOn link.moves → StaysEnded link.moves link.has_ended → (first : L) (asked : List (ℕ × ℕ)) (gave : List (ConnEvent H)) (now next : L) (core : ConnCore P H) (left bytes : List ℕ) (held : List (ConnEvent H)) (stage : Stage)
-      → stage ≡ Going → held ≡ [] → bytes ≡ []
-      → Stays link protocols handler eager names role own first asked gave now core left held stage → link.moves now bytes [] next
-      → GoesOn link protocols handler eager names role own first asked gave next core left []
-  goes_still on still first asked gave now next core left bytes held stage is none empty stays moved =
-      let goes = subst (λ (l : List (ConnEvent H)). GoesOn link protocols handler eager names role own first asked gave now core left l) none (goes_of first asked gave now core left held stage is stays) in record {
-        joins = joins_still on still first asked gave false now next core left [] goes.joins (subst (λ (l : List ℕ). link.moves now l [] next) empty moved);
-        goes_on = goes.goes_on;
-        none_waits = goes.none_waits;
-      }
-
   -- with nothing held
   pub goes_none : (first : L) (asked : List (ℕ × ℕ)) (gave : List (ConnEvent H)) (now : L) (core : ConnCore P H) (left : List ℕ) (held : List (ConnEvent H)) (stage : Stage)
       → stage ≡ Going → held ≡ []
@@ -347,6 +342,7 @@ module _ {L P H : Type 0} (link : LinkGhosts L) (protocols : ProtocolsGhosts P H
       took = [];
       moved = nothing first;
       reached = λ is. absurd (cc is);
+      found = λ there. inr there;
       stands = subst (λ (l : List (ConnEvent H)). CoreStands link protocols handler eager names role own [] false [] l unsent next) (sym none)
           (subst (λ (l : List ℕ). CoreStands link protocols handler eager names role own [] false [] [] l next) (sym is) (taken stands));
     };
@@ -370,6 +366,7 @@ module _ {L P H : Type 0} (link : LinkGhosts L) (protocols : ProtocolsGhosts P H
         took = goes.joins.took;
         moved = goes.joins.moved;
         reached = goes.joins.reached;
+        found = goes.joins.found;
         stands = there;
       } in goes_collected first opened gave false now after mid next left more held kept collected same is refl
       (over ∙ (same_over link protocols handler eager names role own goes.joins.given goes.joins.given false false opened asked (gave ++ held) _ _ mid core there goes.joins.stands ∙ goes.goes_on)) none joins

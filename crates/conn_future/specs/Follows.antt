@@ -1,7 +1,7 @@
 -- Where a connection over a link stands: the core was fed what the link gave, the link took what the core wrote, and
 -- the events of the core were given.
 -- Source: this project's profile of a connection.
-use Rattle.std.specs.Prelude.{◌≡◌, ℕ, Bool, true, false, List, [], ◌∷◌, ◌++◌, Option, Some, None}
+use Rattle.std.specs.Prelude.{◌≡◌, ◌⊎◌, ℕ, Bool, true, false, List, [], ◌∷◌, ◌++◌, Option, Some, None}
 use Rattle.futures.specs.declared.task.Poll.{Poll}
 use Rattle.futures.specs.declared.task.Poll.TheVariants.{Ready, Pending}
 use Rattle.conn_link.specs.declared.link.Link.{Ghosts as LinkGhosts}
@@ -33,14 +33,16 @@ module _ {L P H : Type 0} (link : LinkGhosts L) (protocols : ProtocolsGhosts P H
   CoreStands = Stands handler.steps handler.fails handler.is_closed handler.is_finished protocols.makes_inbound
       protocols.makes_outbound protocols.listed protocols.is_eager eager names role own
 
-  -- Since the first state of the link the core was fed exactly what the link gave, and told the events that were given
-  -- and then those that are held. Of what was taken from it the link took a first part, and the rest is left.
+  -- Since the first state of the link the core was fed exactly what the link gave, also the end exactly where a read has
+  -- found it, and told the events that were given and then those that are held. Of what was taken from it the link took
+  -- a first part, and the rest is left.
   pub record Joins (first : L) (asked : List (ℕ × ℕ)) (gave : List (ConnEvent H)) (ended : Bool) (now : L)
       (core : ConnCore P H) (left : List ℕ) (held : List (ConnEvent H)) : Type 0 where
     pub given : List ℕ
     pub took : List ℕ
     pub moved : link.moves first given took now
     pub reached : ended ≡ true → link.has_ended now
+    pub found : link.has_ended now → (ended ≡ true) ⊎ link.has_ended first
     pub stands : CoreStands given ended asked (gave ++ held) (took ++ left) core
 
   -- It goes on: the core isn't over, its input hasn't ended, and nothing waits in it.

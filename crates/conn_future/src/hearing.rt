@@ -114,6 +114,7 @@ impl<L: Link, P: Protocols> Conn<L, P> {
             → GoesOn L.Link P.Protocols P.H.Handler eager names role own first asked gave before self.old.core
             self.old.unsent []
             → L.moves before (take count self.old.buffer.items) [] self.old.link
+            → (L.has_ended self.old.link → L.has_ended before)
             → Follows L.Link P.Protocols P.H.Handler eager names role own first asked (gave ++ gave_by result)
             self.new }
         ensures not_link { (eager : ℕ → Bool) (names : List (List ℕ)) (role : ConnRole) (own : Key) (first : L)
@@ -121,6 +122,7 @@ impl<L: Link, P: Protocols> Conn<L, P> {
             → GoesOn L.Link P.Protocols P.H.Handler eager names role own first asked gave before self.old.core
             self.old.unsent []
             → L.moves before (take count self.old.buffer.items) [] self.old.link
+            → (L.has_ended self.old.link → L.has_ended before)
             → result ≢ Turn.Give (Some (event.Fault fault.Link)) }
         ensures goes_on { OnGoing result ((self.new.stage ≡ Stage.Going) × (self.new.held.items ≡ [])) }
         ensures no_wait { OnWait result ⊥ }
@@ -130,6 +132,7 @@ impl<L: Link, P: Protocols> Conn<L, P> {
             → GoesOn L.Link P.Protocols P.H.Handler eager names role own first asked gave before self.old.core
             self.old.unsent []
             → L.moves before (take count self.old.buffer.items) [] self.old.link
+            → (L.has_ended self.old.link → L.has_ended before)
             → result ≢ Turn.Give None }
         ensures stage { is_live self.new.stage ≡ true → self.new.stage ≡ Stage.Going }
         ensures link { self.new.link ≡ self.old.link }
@@ -150,23 +153,23 @@ impl<L: Link, P: Protocols> Conn<L, P> {
         requires going { self.old.stage ≡ Stage.Going }
         requires none_held { self.old.held.items ≡ [] }
         ensures follows { (eager : ℕ → Bool) (names : List (List ℕ)) (role : ConnRole) (own : Key) (first : L)
-            (asked : List (ℕ × ℕ)) (gave : List (ConnEvent P.H))
-            → GoesOn L.Link P.Protocols P.H.Handler eager names role own first asked gave self.old.link self.old.core
-            self.old.unsent [] → L.has_ended self.old.link
+            (asked : List (ℕ × ℕ)) (gave : List (ConnEvent P.H)) (before : L)
+            → GoesOn L.Link P.Protocols P.H.Handler eager names role own first asked gave before self.old.core
+            self.old.unsent [] → L.moves before [] [] self.old.link → L.has_ended self.old.link
             → Follows L.Link P.Protocols P.H.Handler eager names role own first asked (gave ++ gave_by result)
             self.new }
         ensures not_link { (eager : ℕ → Bool) (names : List (List ℕ)) (role : ConnRole) (own : Key) (first : L)
-            (asked : List (ℕ × ℕ)) (gave : List (ConnEvent P.H))
-            → GoesOn L.Link P.Protocols P.H.Handler eager names role own first asked gave self.old.link self.old.core
-            self.old.unsent [] → L.has_ended self.old.link
+            (asked : List (ℕ × ℕ)) (gave : List (ConnEvent P.H)) (before : L)
+            → GoesOn L.Link P.Protocols P.H.Handler eager names role own first asked gave before self.old.core
+            self.old.unsent [] → L.moves before [] [] self.old.link → L.has_ended self.old.link
             → result ≢ Turn.Give (Some (event.Fault fault.Link)) }
         ensures goes_on { OnGoing result ((self.new.stage ≡ Stage.Going) × (self.new.held.items ≡ [])) }
         ensures no_wait { OnWait result ⊥ }
         ensures fails { faults_of result ≡ 0 }
         ensures not_none { (eager : ℕ → Bool) (names : List (List ℕ)) (role : ConnRole) (own : Key) (first : L)
-            (asked : List (ℕ × ℕ)) (gave : List (ConnEvent P.H))
-            → GoesOn L.Link P.Protocols P.H.Handler eager names role own first asked gave self.old.link self.old.core
-            self.old.unsent [] → L.has_ended self.old.link
+            (asked : List (ℕ × ℕ)) (gave : List (ConnEvent P.H)) (before : L)
+            → GoesOn L.Link P.Protocols P.H.Handler eager names role own first asked gave before self.old.core
+            self.old.unsent [] → L.moves before [] [] self.old.link → L.has_ended self.old.link
             → result ≢ Turn.Give None }
         ensures stage { is_live self.new.stage ≡ true → self.new.stage ≡ Stage.Going }
         ensures link { self.new.link ≡ self.old.link }

@@ -1,5 +1,5 @@
 -- A pipe as its callers see it, and what its lists of steps make of a call: this project's profile.
-use Rattle.std.specs.Prelude.{◌≡◌, ℕ, ◌≤◌, min, Bool, List, [], ◌∷◌, ◌++◌, Result, Ok, Err}
+use Rattle.std.specs.Prelude.{◌≡◌, ℕ, zero, suc, ◌≤◌, min, Bool, true, false, List, [], ◌∷◌, ◌++◌, Result, Ok, Err}
 use Rattle.futures.specs.declared.task.Poll.{Poll}
 use Rattle.futures.specs.declared.task.Poll.TheVariants as polls
 use Rattle.conn_link.specs.declared.link.LinkFault.{LinkFault}
@@ -18,6 +18,8 @@ pub record Piped : Type 0 where
   pub writes : List PipeStep
   -- how many calls have failed
   pub failures : ℕ
+  -- a read found the end of the input
+  pub has_ended : Bool
   -- it was not shut yet
   pub is_open : Bool
 
@@ -38,6 +40,20 @@ answer_by (Upto most ∷ steps) able = polls.Ready (Ok (min most able))
 answer_by (Pending ∷ steps) able = polls.Pending
 answer_by (Fail ∷ steps) able = failure
 
--- from the first state to the second the front of the input was given, and what was taken was written behind the rest
+-- A read finds the end where it moves none, and its buffer has room.
+abbrev pub found_end : (room : ℕ) → Poll (Result ℕ LinkFault) → Bool
+found_end zero polled = false
+found_end (suc room) (polls.Ready (Ok zero)) = true
+found_end (suc room) (polls.Ready (Ok (suc count))) = false
+found_end (suc room) (polls.Ready (Err fault)) = false
+found_end (suc room) polls.Pending = false
+
+-- From the first state to the second the front of the input was given, and what was taken was written behind the rest.
+-- An end that was found stays found.
 abbrev pub PipeMoves : Piped → List ℕ → List ℕ → Piped → Type 0
 PipeMoves first given taken last = (first.unread ≡ given ++ last.unread) × (last.written ≡ first.written ++ taken)
+    × (first.has_ended ≡ true → last.has_ended ≡ true)
+
+-- a read found the end, and nothing is left behind it
+abbrev pub HasEnded : Piped → Type 0
+HasEnded pipe = (pipe.has_ended ≡ true) × (pipe.unread ≡ [])

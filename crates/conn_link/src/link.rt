@@ -1,6 +1,6 @@
 //! What a connection stands on.
 
-ghost use Rattle.std.specs.Prelude.{◌≡◌, ◌<◌, ◌≤◌, ℕ, List, [], length, Ok};
+ghost use Rattle.std.specs.Prelude.{◌≡◌, ◌<◌, ◌≤◌, ◌⊎◌, ℕ, List, [], length, Ok};
 ghost use Rattle.futures.specs.Poll.{OnPending};
 ghost use Rattle.futures.specs.Task.{Covers, Keeps};
 ghost use Rattle.conn_link.specs.Moving.{count_moved, bytes_moved, counted, OnSuccess, Within};
@@ -23,7 +23,7 @@ pub trait Link: Drop {
     /// From the first state to the second the link gave the first bytes, and took the second.
     ghost moves: { Self → List ℕ → List ℕ → Self → Type 0 };
 
-    /// The end of the input was read.
+    /// A read found the end of the input.
     ghost has_ended: { Self → Type 0 };
 
     /// The other end is told that no more bytes come.
@@ -50,6 +50,9 @@ pub trait Link: Drop {
         ensures bound { count_moved result ≤ length buffer.new }
         ensures moved { moves self.old (bytes_moved result buffer.new) [] self.new }
         ensures end { result ≡ Poll.Ready (Ok 0) → 0 < length buffer.old → has_ended self.new }
+        // Nothing else is the end.
+        ensures found { has_ended self.new
+            → has_ended self.old ⊎ ((result ≡ Poll.Ready (Ok 0)) × (0 < length buffer.old)) }
         ensures failures { failed self.new ≡ counted (failed self.old) result }
         ensures registered { OnPending result (Covers cx.new (reads_at self.new)) }
         ensures elsewhere { Within (writes_at self.new) (writes_at self.old) }
@@ -59,6 +62,7 @@ pub trait Link: Drop {
     fn poll_write(&mut self, cx: &mut Context<'_>, bytes: &[u8]) -> Poll<Result<usize, LinkFault>>
         ensures bound { count_moved result ≤ length bytes.now }
         ensures moved { moves self.old [] (bytes_moved result bytes.now) self.new }
+        ensures not_found { has_ended self.new → has_ended self.old }
         ensures failures { failed self.new ≡ counted (failed self.old) result }
         ensures registered { OnPending result (Covers cx.new (writes_at self.new)) }
         ensures elsewhere { Within (reads_at self.new) (reads_at self.old) }
@@ -68,6 +72,7 @@ pub trait Link: Drop {
     fn poll_shut(&mut self, cx: &mut Context<'_>) -> Poll<Result<(), LinkFault>>
         ensures moved { moves self.old [] [] self.new }
         ensures shut { OnSuccess result (is_shut self.new) }
+        ensures not_found { has_ended self.new → has_ended self.old }
         ensures failures { failed self.new ≡ counted (failed self.old) result }
         ensures registered { OnPending result (Covers cx.new (shuts_at self.new)) }
         ensures kept { Keeps cx.old cx.new };

@@ -1,13 +1,13 @@
 //! A link in memory.
 
-ghost use Rattle.std.specs.Prelude.{◌≡◌, ◌≢◌, ◌+◌, ◌-◌, ◌<◌, ◌≤◌, ◌^◌, ◌++◌, [], true, false, not};
+ghost use Rattle.std.specs.Prelude.{◌≡◌, ◌≢◌, ◌+◌, ◌-◌, ◌<◌, ◌≤◌, ◌^◌, ◌++◌, ◌⊎◌, [], true, false, not, ◌||◌};
 ghost use Rattle.std.specs.Prelude.{length, drop, take, min, Ok};
 ghost use Rattle.std.specs.List.{All};
 ghost use Rattle.std.specs.Vec.{vec_capacity, vec_len};
 ghost use Rattle.futures.specs.Poll.{OnPending};
 ghost use Rattle.futures.specs.Task.{IsArmed, Keeps};
 ghost use Rattle.conn_link.specs.Moving.{count_moved, bytes_moved, counted};
-ghost use Rattle.conn_link.specs.Piping.{Piped, PipeMoves, CanGo, answer_by, failure};
+ghost use Rattle.conn_link.specs.Piping.{Piped, PipeMoves, HasEnded, CanGo, answer_by, failure, found_end};
 ghost use Rattle.conn_link.specs.PipeLaws.{none_moved, moved_on, ended_stays};
 
 use crate::link::{Link, LinkFault};
@@ -29,6 +29,7 @@ pub struct Pipe {
     reads: Script,
     writes: Script,
     failures: u64,
+    has_ended: bool,
     is_open: bool,
 }
 
@@ -42,10 +43,11 @@ impl Model for Pipe {
       reads = a.reads;
       writes = a.writes;
       failures = a.failures;
+      has_ended = a.has_ended;
       is_open = a.is_open;
     } };
 
-    ghost invariant = { λ a. All CanGo a.reads × All CanGo a.writes };
+    ghost invariant = { λ a. All CanGo a.reads × All CanGo a.writes × (a.has_ended ≡ true → a.unread ≡ []) };
 }
 
 impl Pipe {
@@ -56,7 +58,7 @@ impl Pipe {
         ensures input { result.unread ≡ input.items }
         ensures written { (result.written ≡ []) × (result.room ≡ 0) }
         ensures steps { (result.reads ≡ reads.items) × (result.writes ≡ writes.items) }
-        ensures fresh { (result.failures ≡ 0) × (result.is_open ≡ true) }
+        ensures fresh { (result.failures ≡ 0) × (result.has_ended ≡ false) × (result.is_open ≡ true) }
     {
         Pipe {
             unread: Unread::new(input),
@@ -64,6 +66,7 @@ impl Pipe {
             reads: Script::new(reads),
             writes: Script::new(writes),
             failures: 0,
+            has_ended: false,
             is_open: true,
         }
     }
@@ -86,7 +89,7 @@ impl Pipe {
 impl Link for Pipe {
     ghost moves = { PipeMoves };
 
-    ghost has_ended = { λ pipe. pipe.unread ≡ [] };
+    ghost has_ended = { HasEnded };
 
     ghost is_shut = { λ pipe. pipe.is_open ≡ false };
 
@@ -116,8 +119,11 @@ impl Link for Pipe {
           unread = drop (count_moved result) self.old.unread;
           reads = drop 1 self.old.reads;
           failures = counted self.old.failures result;
+          has_ended = self.old.has_ended || found_end (length buffer.old) result;
         } }
-        ensures end { result ≡ Poll.Ready (Ok 0) → 0 < length buffer.old → self.new.unread ≡ [] }
+        ensures end { result ≡ Poll.Ready (Ok 0) → 0 < length buffer.old → HasEnded self.new }
+        ensures found { HasEnded self.new
+            → HasEnded self.old ⊎ ((result ≡ Poll.Ready (Ok 0)) × (0 < length buffer.old)) }
         ensures again { OnPending result ((cx.new.is_woken ≡ true) × IsArmed cx.new) }
         ensures calm { result ≢ Poll.Pending → cx.new ≡ cx.old }
         ensures kept { Keeps cx.old cx.new }
@@ -125,7 +131,10 @@ impl Link for Pipe {
         let able = buffer.len().min(self.unread.len());
         let polled = self.reads.poll(cx, able);
         match &polled {
-            Poll::Ready(Ok(count)) => self.unread.fill(&mut buffer[..*count]),
+            Poll::Ready(Ok(count)) => {
+                self.has_ended = self.has_ended || finds_end(buffer.len(), *count);
+                self.unread.fill(&mut buffer[..*count]);
+            }
             Poll::Ready(Err(_fault)) => count_failure(&mut self.failures),
             Poll::Pending => {}
         }
@@ -176,6 +185,13 @@ impl Link for Pipe {
     {
         self.failures
     }
+}
+
+// A read into so much room that moves so many bytes.
+fn finds_end(room: usize, count: usize) -> bool
+    ensures { result ≡ found_end room (Poll.Ready (Ok count)) }
+{
+    room != 0 && count == 0
 }
 
 // A count that is full stays.
