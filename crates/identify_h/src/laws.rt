@@ -1,12 +1,16 @@
 //! What the message and its handlers do, over whole inputs and whole lists of calls.
 
 ghost use Rattle.std.specs.Prelude.{◌≡◌, ◌↔◌, ◌<◌, ℕ, Bool, List, [], ◌∷◌, ◌++◌, length, true, false, IsSome, IfSome};
+ghost use Rattle.std.specs.Prelude.{is_some};
 ghost use mathlib.Core.List.{IsPrefix};
 ghost use Rattle.handlers.specs.Calls.{HandlerCall, Take, Give, End, Asked, ToTake};
 ghost use Rattle.handlers.specs.Calls.{ToGive, ToEnd, Arises, EndsAs, taken, given};
 ghost use Rattle.handlers.specs.Calls.{HasFailed, HasEnded};
 ghost use Rattle.identify_h.specs.declared.fault.IdentifyFault.TheVariants.{Failed, OutOfMemory};
 ghost use Rattle.identify_h.specs.Faults.{number_of};
+ghost use Rattle.identify_h.specs.contracts.identify.Identify.{the_view};
+ghost use Rattle.identify_h.specs.declared.identify.Identify.TheInside.{Inside as Fields};
+ghost use Rattle.identify_h.specs.Parts.{texts, text};
 ghost use Rattle.identify_h.specs.Messages.{KeyIsThePeers, OneMessage, WrittenIsRead};
 ghost use Rattle.identify_h.specs.Streams.{Reads, OneOutcome, SomeOutcome, FaultsStay, AskingGoesOn, SentIsRead};
 ghost use Rattle.identify_h.specs.Reading.{Reader, Stands, IsFresh, Alike};
@@ -31,6 +35,18 @@ pub fn worked_rows()
     ensures numbers { NumberRows }
     ensures sending { SendRows }
     ensures reading { ReadRows }
+{}
+
+/// What contracts see of an identify message is what its fields hold.
+pub fn fields_are_public()
+    ensures { (identify : Fields) → the_view identify ≡ record {
+      key = identify.key;
+      listen = texts identify.listen.items;
+      protocols = texts identify.protocols.items;
+      observed = text identify.observed;
+      version = text identify.version;
+      agent = text identify.agent;
+    } }
 {}
 
 /// Bytes spell one message.
@@ -150,7 +166,7 @@ pub fn sending_refuses()
 {}
 
 /// A reader that has not failed gives nothing whenever it is asked. After a fault it answers nothing, and once it has
-/// read its message it takes nothing. A fault doesn't finish it.
+/// read its message it takes nothing. It is finished exactly where it has read its message, so no fault finishes it.
 pub fn reading_stops()
     ensures give { (reader : Reader) (room : ℕ) → reader.failed ≡ false
         → ⟦<IdentifyIn as Handler>⟧.steps reader (Give room []) reader }
@@ -158,8 +174,7 @@ pub fn reading_stops()
         → HasFailed ⟦<IdentifyIn as Handler>⟧.steps ⟦<IdentifyIn as Handler>⟧.fails (number_of Failed) reader }
     ensures ended { (reader : Reader) → IsSome reader.message
         → HasEnded ⟦<IdentifyIn as Handler>⟧.steps ⟦<IdentifyIn as Handler>⟧.fails (number_of Failed) reader }
-    ensures finished { (reader : Reader) → ⟦<IdentifyIn as Handler>⟧.is_finished (record reader { failed = true })
-        ≡ ⟦<IdentifyIn as Handler>⟧.is_finished reader }
+    ensures finished { (reader : Reader) → ⟦<IdentifyIn as Handler>⟧.is_finished reader ≡ is_some reader.message }
 {}
 
 /// A sender that goes on answers each call, but for want of memory: whatever comes, what it is asked for, and the end.
