@@ -6,8 +6,14 @@ ghost use mathlib.Core.List.{IsPrefix};
 ghost use Rattle.handlers.specs.Calls.{HandlerCall, Take, Give, End, Asked, ToTake};
 ghost use Rattle.handlers.specs.Calls.{ToGive, ToEnd, Arises, EndsAs, taken, given};
 ghost use Rattle.handlers.specs.Calls.{HasFailed, HasEnded};
-ghost use Rattle.identify_h.specs.declared.fault.IdentifyFault.TheVariants.{Failed, OutOfMemory};
-ghost use Rattle.identify_h.specs.Faults.{number_of};
+ghost use Rattle.identify_h.specs.declared.fault.IdentifyFault.TheVariants.{Failed, Wire, OutOfMemory};
+ghost use Rattle.identify_h.specs.declared.fault.IdentifyFault.{IdentifyFault};
+ghost use Rattle.varint_proto.specs.declared.fault.WireFault.{WireFault};
+ghost use Rattle.varint_proto.specs.declared.fault.IncomingRefused.{IncomingRefused};
+ghost use Rattle.peer_ids.specs.declared.fault.KeyFault.{KeyFault};
+ghost use Rattle.std.specs.declared.alloc.AllocError.{AllocError};
+ghost use Rattle.std.specs.declared.alloc.AllocFailed.{AllocFailed};
+ghost use Rattle.identify_h.specs.Faults.{number_of, of_key_fault, of_incoming};
 ghost use Rattle.identify_h.specs.contracts.identify.Identify.{the_view};
 ghost use Rattle.identify_h.specs.declared.identify.Identify.TheInside.{Inside as Fields};
 ghost use Rattle.identify_h.specs.Parts.{texts, text};
@@ -18,9 +24,13 @@ ghost use Rattle.identify_h.specs.Sending.{Sending, sending, most_bytes};
 ghost use Rattle.identify_h.specs.Rows.{MessageRows, FieldRows, MemoryRows, BadKeyRows, MergeRows, StreamRows};
 ghost use Rattle.identify_h.specs.Rows.{FaultRows, RoomRows, NumberRows, SendRows, ReadRows};
 
+use crate::fault::IdentifyFault;
 use crate::reader::IdentifyIn;
 use crate::writer::{IdentifyOut, MOST_BYTES};
 use handlers::Handler;
+use peer_ids::KeyFault;
+use std::alloc::{AllocError, AllocFailed};
+use varint_proto::{IncomingRefused, WireFault};
 
 /// The definitions say of worked inputs what the specification and the profile say.
 pub fn worked_rows()
@@ -47,6 +57,20 @@ pub fn fields_are_public()
       version = text identify.version;
       agent = text identify.agent;
     } }
+{}
+
+/// A fault of what is read, and want of memory, become one fault of identify each.
+pub fn faults_become<T: Drop>()
+    ensures wire { (fault : WireFault) (told : IdentifyFault)
+        → ⟦<IdentifyFault as From<WireFault>>⟧.from_gives fault told ↔ (told ≡ Wire) }
+    ensures key { (fault : KeyFault) (told : IdentifyFault)
+        → ⟦<IdentifyFault as From<KeyFault>>⟧.from_gives fault told ↔ (told ≡ of_key_fault fault) }
+    ensures incoming { (fault : IncomingRefused) (told : IdentifyFault)
+        → ⟦<IdentifyFault as From<IncomingRefused>>⟧.from_gives fault told ↔ (told ≡ of_incoming fault) }
+    ensures memory { (refused : AllocError) (told : IdentifyFault)
+        → ⟦<IdentifyFault as From<AllocError>>⟧.from_gives refused told ↔ (told ≡ OutOfMemory) }
+    ensures growth { (refused : AllocFailed T) (told : IdentifyFault)
+        → ⟦<IdentifyFault as From<AllocFailed<T>>>⟧.from_gives refused told ↔ (told ≡ OutOfMemory) }
 {}
 
 /// Bytes spell one message.
