@@ -4,7 +4,7 @@ pub mod Messages
 pub mod Sending
 pub mod Streams
 pub mod Reading
-pub mod Rows
--- inside: no public clause cites them
 pub mod Parts
+pub mod Rows
+-- inside: no public clause cites it
 pub mod Room

@@ -1,12 +1,22 @@
 //! What the message and its handlers do, over whole inputs and whole lists of calls.
 
 ghost use Rattle.std.specs.Prelude.{◌≡◌, ◌↔◌, ◌<◌, ℕ, Bool, List, [], ◌∷◌, ◌++◌, length, true, false, IsSome, IfSome};
+ghost use Rattle.std.specs.Prelude.{is_some};
 ghost use mathlib.Core.List.{IsPrefix};
 ghost use Rattle.handlers.specs.Calls.{HandlerCall, Take, Give, End, Asked, ToTake};
 ghost use Rattle.handlers.specs.Calls.{ToGive, ToEnd, Arises, EndsAs, taken, given};
 ghost use Rattle.handlers.specs.Calls.{HasFailed, HasEnded};
-ghost use Rattle.identify_h.specs.declared.fault.IdentifyFault.TheVariants.{Failed, OutOfMemory};
-ghost use Rattle.identify_h.specs.Faults.{number_of};
+ghost use Rattle.identify_h.specs.declared.fault.IdentifyFault.TheVariants.{Failed, Wire, OutOfMemory};
+ghost use Rattle.identify_h.specs.declared.fault.IdentifyFault.{IdentifyFault};
+ghost use Rattle.varint_proto.specs.declared.fault.WireFault.{WireFault};
+ghost use Rattle.varint_proto.specs.declared.fault.IncomingRefused.{IncomingRefused};
+ghost use Rattle.peer_ids.specs.declared.fault.KeyFault.{KeyFault};
+ghost use Rattle.std.specs.declared.alloc.AllocError.{AllocError};
+ghost use Rattle.std.specs.declared.alloc.AllocFailed.{AllocFailed};
+ghost use Rattle.identify_h.specs.Faults.{number_of, of_key_fault, of_incoming};
+ghost use Rattle.identify_h.specs.contracts.identify.Identify.{the_view};
+ghost use Rattle.identify_h.specs.declared.identify.Identify.TheInside.{Inside as Fields};
+ghost use Rattle.identify_h.specs.Parts.{texts, text};
 ghost use Rattle.identify_h.specs.Messages.{KeyIsThePeers, OneMessage, WrittenIsRead};
 ghost use Rattle.identify_h.specs.Streams.{Reads, OneOutcome, SomeOutcome, FaultsStay, AskingGoesOn, SentIsRead};
 ghost use Rattle.identify_h.specs.Reading.{Reader, Stands, IsFresh, Alike};
@@ -14,9 +24,13 @@ ghost use Rattle.identify_h.specs.Sending.{Sending, sending, most_bytes};
 ghost use Rattle.identify_h.specs.Rows.{MessageRows, FieldRows, MemoryRows, BadKeyRows, MergeRows, StreamRows};
 ghost use Rattle.identify_h.specs.Rows.{FaultRows, RoomRows, NumberRows, SendRows, ReadRows};
 
+use crate::fault::IdentifyFault;
 use crate::reader::IdentifyIn;
 use crate::writer::{IdentifyOut, MOST_BYTES};
 use handlers::Handler;
+use peer_ids::KeyFault;
+use std::alloc::{AllocError, AllocFailed};
+use varint_proto::{IncomingRefused, WireFault};
 
 /// The definitions say of worked inputs what the specification and the profile say.
 pub fn worked_rows()
@@ -31,6 +45,32 @@ pub fn worked_rows()
     ensures numbers { NumberRows }
     ensures sending { SendRows }
     ensures reading { ReadRows }
+{}
+
+/// What contracts see of an identify message is what its fields hold.
+pub fn fields_are_public()
+    ensures { (identify : Fields) → the_view identify ≡ record {
+      key = identify.key;
+      listen = texts identify.listen.items;
+      protocols = texts identify.protocols.items;
+      observed = text identify.observed;
+      version = text identify.version;
+      agent = text identify.agent;
+    } }
+{}
+
+/// A fault of what is read, and want of memory, become one fault of identify each.
+pub fn faults_become<T: Drop>()
+    ensures wire { (fault : WireFault) (told : IdentifyFault)
+        → ⟦<IdentifyFault as From<WireFault>>⟧.from_gives fault told ↔ (told ≡ Wire) }
+    ensures key { (fault : KeyFault) (told : IdentifyFault)
+        → ⟦<IdentifyFault as From<KeyFault>>⟧.from_gives fault told ↔ (told ≡ of_key_fault fault) }
+    ensures incoming { (fault : IncomingRefused) (told : IdentifyFault)
+        → ⟦<IdentifyFault as From<IncomingRefused>>⟧.from_gives fault told ↔ (told ≡ of_incoming fault) }
+    ensures memory { (refused : AllocError) (told : IdentifyFault)
+        → ⟦<IdentifyFault as From<AllocError>>⟧.from_gives refused told ↔ (told ≡ OutOfMemory) }
+    ensures growth { (refused : AllocFailed T) (told : IdentifyFault)
+        → ⟦<IdentifyFault as From<AllocFailed<T>>>⟧.from_gives refused told ↔ (told ≡ OutOfMemory) }
 {}
 
 /// Bytes spell one message.
@@ -150,7 +190,7 @@ pub fn sending_refuses()
 {}
 
 /// A reader that has not failed gives nothing whenever it is asked. After a fault it answers nothing, and once it has
-/// read its message it takes nothing. A fault doesn't finish it.
+/// read its message it takes nothing. It is finished exactly where it has read its message, so no fault finishes it.
 pub fn reading_stops()
     ensures give { (reader : Reader) (room : ℕ) → reader.failed ≡ false
         → ⟦<IdentifyIn as Handler>⟧.steps reader (Give room []) reader }
@@ -158,8 +198,7 @@ pub fn reading_stops()
         → HasFailed ⟦<IdentifyIn as Handler>⟧.steps ⟦<IdentifyIn as Handler>⟧.fails (number_of Failed) reader }
     ensures ended { (reader : Reader) → IsSome reader.message
         → HasEnded ⟦<IdentifyIn as Handler>⟧.steps ⟦<IdentifyIn as Handler>⟧.fails (number_of Failed) reader }
-    ensures finished { (reader : Reader) → ⟦<IdentifyIn as Handler>⟧.is_finished (record reader { failed = true })
-        ≡ ⟦<IdentifyIn as Handler>⟧.is_finished reader }
+    ensures finished { (reader : Reader) → ⟦<IdentifyIn as Handler>⟧.is_finished reader ≡ is_some reader.message }
 {}
 
 /// A sender that goes on answers each call, but for want of memory: whatever comes, what it is asked for, and the end.
