@@ -1,11 +1,9 @@
 -- What routing leaves of whose streams they are, and what is still to be routed.
-use Rattle.std.proofs.Common.{◌≡◌, ◌≢◌, ◌⊎◌, inl, inr, ℕ, zero, suc, Bool, List, [], ◌∷◌, ◌++◌, drop, map, Option, refl, sym, ap, ◌∙◌, subst}
+use Rattle.std.proofs.Common.{◌≡◌, ◌≢◌, inl, inr, ℕ, zero, suc, Bool, List, [], ◌∷◌, ◌++◌, drop, map, Option, refl, sym, ◌∙◌, subst}
 use Rattle.std.proofs.Math.Seq.{drop-nil}
 use Rattle.std.specs.List.{AllByRecursion}
 use Rattle.handlers.specs.Calls.{HandlerCall, Asked}
 use Rattle.yamux_session.specs.declared.event.Role.{Role}
-use Rattle.yamux_session.specs.declared.event.Event.{Event}
-use Rattle.yamux_session.specs.Arrives.{telling, tellings}
 use Rattle.yamux_session.specs.Events.{Told}
 use Rattle.yamux_session.specs.Seen.{Seen}
 use Rattle.yamux_session.specs.State.{State}
@@ -13,7 +11,7 @@ use Rattle.streams.specs.State.{Streaming}
 use Rattle.conn_log.specs.declared.earlier.Earlier.{Earlier}
 use Rattle.conn_log.specs.declared.event.ConnEvent.{ConnEvent}
 use Rattle.conn_log.specs.Entries.{Entry}
-use Rattle.conn_log.specs.Routes.{IsStill, Routes, Routed, Awaits, Opening}
+use Rattle.conn_log.specs.Routes.{IsStill, Routes, Routed, Awaits}
 use Rattle.conn_log.proofs.Rested.{passed_over}
 use Rattle.board.specs.declared.board.Board.{Board}
 use Rattle.board.specs.Boards.{Keeps}

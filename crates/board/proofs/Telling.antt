@@ -1,6 +1,6 @@
 -- What was routed, where something was told of it.
 use Rattle.std.proofs.Common.{◌≡◌, ℕ, Bool, true, false, not, ◌&&◌, List, [], ◌∷◌, ◌++◌, map, Option, Some, None, Result, Ok, Err, refl, sym, ap, ◌∙◌, subst}
-use Rattle.std.specs.Prelude.{OnOk, IfSome}
+use Rattle.std.specs.Prelude.{OnOk, IfSome, IsSome}
 use Rattle.std.proofs.lemmas.List.{append_assoc, append-nil}
 use Rattle.handlers.specs.Calls.{HandlerCall, Asked}
 use Rattle.yamux_session.specs.declared.event.Role.{Role}
@@ -10,13 +10,13 @@ use Rattle.yamux_session.specs.State.{State}
 use Rattle.streams.specs.State.{Streaming}
 use Rattle.conn_log.specs.declared.earlier.Earlier.{Earlier}
 use Rattle.conn_log.specs.declared.event.ConnEvent.{ConnEvent}
-use Rattle.conn_log.specs.Entries.{Entry, items, said}
+use Rattle.conn_log.specs.Entries.{Entry, items, is_over}
 use Rattle.conn_log.specs.Entries.Entry.{Says}
 use Rattle.conn_log.specs.Held.{IsHeld}
 use Rattle.conn_log.specs.Routes.{IsMoving, Around, Routes, Routed}
 use Rattle.conn_log.proofs.Settling.{said_append, none_asked}
 use Rattle.conn_log.proofs.Ending.{ended_view, end_came}
-use Rattle.conn_log.proofs.Data.{with_bytes, data_came}
+use Rattle.conn_log.proofs.Data.{with_bytes, data_came, bytes_reset}
 
 pub on_ok : {A E P Q : Type 0} (r : Result A E) → (P → Q) → OnOk r P → OnOk r Q
 on_ok (Ok x) f p = f p
@@ -60,6 +60,8 @@ module _ {P H : Type 0} (step : H → HandlerCall → H → Type 0) (fails : H �
     others = r.around.others;
     others_held = r.around.others_held;
     others_kept = r.around.others_kept;
+    resets_told = r.around.resets_told;
+    reset_came = r.around.reset_came;
     heard = r.around.heard;
     opens_none = r.around.opens_none.1;
     ends_last = r.around.ends_last;
@@ -82,6 +84,7 @@ module _ {P H : Type 0} (step : H → HandlerCall → H → Type 0) (fails : H �
     own = subst (λ (t : Option (Streaming H)). IfSome t (λ it. IsMoving step fails is_closed is_finished inbound_makes outbound_makes eager names peer role log n (ended_view view) rest it)) (sym none) tt;
     own_held = λ live. r.own_held (was_live view.live (not view.closed) live);
     own_kept = r.own_kept;
+    own_to_reset = r.own_to_reset;
   }) where
     was_live : (b c : Bool) → b && c ≡ true → b ≡ true
     was_live true c e = refl
@@ -96,4 +99,5 @@ module _ {P H : Type 0} (step : H → HandlerCall → H → Type 0) (fails : H �
     own = subst (λ (t : Option (Streaming H)). IfSome t (λ it. IsMoving step fails is_closed is_finished inbound_makes outbound_makes eager names peer role log n (with_bytes bytes view) rest it)) (sym none) tt;
     own_held = r.own_held;
     own_kept = r.own_kept;
+    own_to_reset = subst (λ b. b ≡ true → is_over role log n ≡ false → IsSome (streams n)) (bytes_reset n n bytes rest) r.own_to_reset;
   })

@@ -9,7 +9,7 @@ ghost use Rattle.yamux_session.specs.Events.{Told};
 ghost use Rattle.yamux_session.specs.Seen.{Seen, just_opened};
 ghost use Rattle.yamux_session.specs.State.{State, Stands as SessionStands};
 ghost use Rattle.conn_log.specs.Entries.{Entry, items, agreement, since, made_of, is_over};
-ghost use Rattle.conn_log.specs.Due.{direction_of, IsGivenUp, WasReset};
+ghost use Rattle.conn_log.specs.Due.{direction_of, IsGivenUp, told_reset};
 ghost use Rattle.conn_log.specs.Held.{IsHeld};
 ghost use Rattle.conn_log.specs.Routes.{Around, Routes, Routed, Comes, Resets, set_aside};
 ghost use Rattle.conn_log.specs.Asked.{told_of};
@@ -200,6 +200,8 @@ impl<P: Protocols> Board<P> {
             → (view.live ≡ true → IsSome (tree.get nat_cmp self.old.streams number))
             → (made_of self.old.role log number ≢ None → is_over self.old.role log number ≡ false
             → IsSome (tree.get nat_cmp self.old.streams number))
+            → (told_reset number rest ≡ true → is_over self.old.role log number ≡ false
+            → IsSome (tree.get nat_cmp self.old.streams number))
             → OnOk result (Routed P.H.steps P.H.fails P.H.is_closed P.H.is_finished P.makes_inbound P.makes_outbound
             (P.is_eager self.old.protocols) (P.listed self.old.protocols) self.old.peer self.old.role log
             told.old.items told.new.items fed sent session.new (tree.get nat_cmp self.new.streams)
@@ -308,8 +310,7 @@ impl<P: Protocols> Board<P> {
             (P.is_eager self.old.protocols) (P.listed self.old.protocols) self.old.peer self.old.role log fed sent
             session (tree.get nat_cmp self.old.streams) self.old.past.items number view
             (Told.Reset number ∷ rest)
-            → WasReset self.old.role (items log) number → OnOk result
-            (Routed P.H.steps P.H.fails P.H.is_closed P.H.is_finished P.makes_inbound P.makes_outbound
+            → OnOk result (Routed P.H.steps P.H.fails P.H.is_closed P.H.is_finished P.makes_inbound P.makes_outbound
             (P.is_eager self.old.protocols) (P.listed self.old.protocols) self.old.peer self.old.role log
             told.old.items told.new.items fed sent session (tree.get nat_cmp self.new.streams)
             self.new.past.items number rest) }

@@ -6,7 +6,7 @@ ghost use Rattle.std.specs.Ordering.{nat_cmp};
 ghost use Rattle.std.specs.BTreeMap as tree;
 ghost use Rattle.yamux_session.specs.Arrives.{telling, tellings};
 ghost use Rattle.yamux_session.specs.Events.{Told};
-ghost use Rattle.conn_log.specs.Entries.{Entry, items};
+ghost use Rattle.conn_log.specs.Entries.{Entry};
 ghost use Rattle.conn_log.specs.Routes.{IsFor, Awaits, Routed};
 ghost use Rattle.conn_log.specs.Rests.{Grows};
 ghost use Rattle.board.specs.Boards.{Keeps};
@@ -28,7 +28,7 @@ impl<P: Protocols> Board<P> {
     ) -> Result<(), AllocError>
         ensures keeps { Keeps P.listed P.is_eager self.old self.new }
         ensures routes { (log : List (Entry P.H)) (fed sent : List ℕ) (n : ℕ) (rest : List Told)
-            → IsFor self.old.role (items log) n event.now
+            → IsFor n event.now
             → Awaits P.H.steps P.H.fails P.H.is_closed P.H.is_finished P.makes_inbound P.makes_outbound
             (P.is_eager self.old.protocols) (P.listed self.old.protocols) self.old.peer self.old.role log fed sent
             session.old (tree.get nat_cmp self.old.streams) self.old.past.items n (telling event.now ++ rest)
@@ -61,7 +61,7 @@ impl<P: Protocols> Board<P> {
     ) -> Result<(), AllocError>
         ensures keeps { Keeps P.listed P.is_eager self.old self.new }
         ensures routes { (log : List (Entry P.H)) (fed sent : List ℕ) (n : ℕ)
-            → AllByRecursion (IsFor self.old.role (items log) n) events.now
+            → AllByRecursion (IsFor n) events.now
             → Awaits P.H.steps P.H.fails P.H.is_closed P.H.is_finished P.makes_inbound P.makes_outbound
             (P.is_eager self.old.protocols) (P.listed self.old.protocols) self.old.peer self.old.role log fed sent
             session.old (tree.get nat_cmp self.old.streams) self.old.past.items n (tellings events.now)

@@ -1,24 +1,20 @@
 -- The protocol that was told to be agreed on is the one on which the talk agrees by the data so far.
-use Rattle.std.proofs.Common.{◌≡◌, ◌≢◌, ℕ, ◌==◌, Bool, true, false, if◌then◌else◌, ◌||◌, ◌⊎◌, inl, inr, List, [], ◌∷◌, ◌++◌, Option, Some, None, Result, Ok, refl, sym, ap, ◌∙◌, subst}
+use Rattle.std.proofs.Common.{◌≡◌, ◌≢◌, ℕ, ◌==◌, Bool, true, false, if◌then◌else◌, ◌||◌, ◌⊎◌, inl, inr, List, [], ◌∷◌, ◌++◌, Option, Some, None, Ok, refl, sym, ap, ◌∙◌, subst}
 use Rattle.std.proofs.lemmas.Bool.{eqb-true}
 use Rattle.std.specs.Prelude.{slice_get}
 use Rattle.std.proofs.lemmas.List.{append_assoc, append-nil}
 use Rattle.handlers.specs.Calls.{HandlerCall, Asked}
-use Rattle.ms_select.specs.declared.answer.Answer.{Answer}
 use Rattle.ms_select.specs.declared.answer.Answer.TheVariants as answers
-use Rattle.ms_select.specs.declared.fault.SelectFault.{SelectFault}
 use Rattle.talks.specs.Talks.{Side, Asks as AsksFor, Answers, Agrees}
 use Rattle.talks.proofs.Outcomes.{one_outcome}
 use Rattle.yamux_session.specs.declared.event.Role.{Role}
-use Rattle.yamux_session.specs.History.{is_own}
-use Rattle.yamux_session.specs.History.Item.{Did}
-use Rattle.yamux_session.specs.History.Act.{Start}
 use Rattle.yamux_session.specs.Openings.{opens}
 use Rattle.yamux_session.specs.Data.{inbound, byte_at}
 use Rattle.conn_log.specs.declared.event.ConnEvent.TheVariants as event
 use Rattle.conn_log.specs.Entries.{Entry, items, since, agreed, agreed_in, asked}
 use Rattle.conn_log.specs.Entries.Entry.{Of, Says, Made, Asks}
-use Rattle.conn_log.specs.Due.{AllDue, ComesTo, IsSide}
+use Rattle.conn_log.specs.Due.{AllDue, ComesTo}
+use Rattle.conn_log.specs.Held.{IsSide}
 
 unless : {H : Type 0} (n index : ℕ) (b : Bool) (entries : List (Entry H)) → agreed_in n (if b then [] else entries) ≡ Some index → (b ≡ false) × (agreed_in n entries ≡ Some index)
 unless n index true entries is = absurd (cc is)

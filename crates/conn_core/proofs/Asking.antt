@@ -62,6 +62,7 @@ module _ {P H : Type 0} (step : H → HandlerCall → H → Type 0) (fails : H �
             each = a.at_rest.each;
             live_held = a.at_rest.live_held;
             made_held = a.at_rest.made_held;
+            resets_told = a.at_rest.resets_told;
             earlier = a.at_rest.earlier;
           };
           asks_are = asks_append a.later opened ∙ ap (λ t. (asks up.log ++ (number, index) ∷ []) ++ t) a.alone ∙ append-nil (asks up.log ++ (number, index) ∷ []) ∙ ap (λ t. t ++ (number, index) ∷ []) up.asks_are;

@@ -59,6 +59,7 @@ module _ {P H : Type 0} (step : H → HandlerCall → H → Type 0) (fails : H �
             each = g.at_rest.each;
             live_held = g.at_rest.live_held;
             made_held = g.at_rest.made_held;
+            resets_told = g.at_rest.resets_told;
             earlier = g.at_rest.earlier;
           };
           asks_are = asks_append g.newer up.log ∙ ap (λ t. asks up.log ++ t) g.unasked ∙ append-nil (asks up.log) ∙ up.asks_are;

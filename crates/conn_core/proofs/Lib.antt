@@ -9,3 +9,4 @@ pub mod Agreeing
 pub mod WhileUp
 pub mod Counting
 pub mod Listed
+pub mod Waiting

@@ -17,8 +17,7 @@ use Rattle.streams.specs.Streams.{IsServed, IsTalking, IsGoing, IsAsking}
 use Rattle.streams.specs.Handled.{Handled}
 use Rattle.streams.specs.State.{Streaming, StandsAt, is_open, has_finished, is_talking}
 use Rattle.conn_log.specs.Entries.{Entry, items, agreed}
-use Rattle.conn_log.specs.Due.{IsSide}
-use Rattle.conn_log.specs.Held.{IsAtRest}
+use Rattle.conn_log.specs.Held.{IsSide, IsAtRest}
 use Rattle.conn_core.proofs.Agreeing.{told_agreement}
 use Rattle.conn_core.specs.Connects.{session_role}
 use Rattle.conn_core.specs.Promises.{IsServing, IsEarly, AreServing, AreEarly, LiveAreHeld, UpIsSplit}

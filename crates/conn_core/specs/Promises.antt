@@ -27,7 +27,7 @@ use Rattle.conn_log.specs.declared.earlier.Earlier.{Earlier}
 use Rattle.conn_log.specs.declared.event.ConnEvent.{ConnEvent}
 use Rattle.conn_log.specs.declared.event.ConnEvent.TheVariants as event
 use Rattle.conn_log.specs.Entries.{Entry, items, said, agreed, is_over, made_of}
-use Rattle.conn_log.specs.Due.{IsSide}
+use Rattle.conn_log.specs.Held.{IsSide}
 use Rattle.conn_core.specs.declared.calls.ConnAct.{ConnAct}
 use Rattle.conn_core.specs.declared.calls.ConnAct.TheVariants.{Feed, Ask}
 use Rattle.conn_core.specs.declared.calls.ConnAnswer.{ConnAnswer}

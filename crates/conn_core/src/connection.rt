@@ -7,6 +7,7 @@ ghost use Rattle.conn_log.specs.declared.event.ConnEvent.{ConnEvent};
 ghost use Rattle.conn_log.specs.declared.event.ConnEvent.TheVariants as event;
 ghost use Rattle.conn_log.specs.declared.event.ConnFault.{ConnFault};
 ghost use Rattle.upgrade.specs.declared.role.ConnRole.{ConnRole};
+ghost use Rattle.upgrade.specs.Upgrades.{Grows};
 ghost use Rattle.yamux_session.specs.History.{Item};
 ghost use Rattle.yamux_session.specs.Acts.{start_refusal};
 ghost use Rattle.yamux_session.specs.State.{Stands as SessionStands, Whenever};
@@ -57,6 +58,7 @@ fn collect(output: &mut Vec<u8>, session: &mut Session) -> Result<(), ConnRefuse
     ensures stands { (role : Role) (past : List Item) (fed sent : List ℕ) → SessionStands role past fed sent session.old
         → SessionStands role past fed (sent ++ session.old.pending) session.new }
     ensures memory { OnErr result (result ≡ Err ConnRefused.OutOfMemory) }
+    ensures kept { OnErr result (output.new.items ≡ output.old.items) }
 {
     let bytes = session.take_output();
     if output.is_empty() {
@@ -85,6 +87,7 @@ fn go_on<P: Protocols>(
         P.makes_inbound P.makes_outbound P.listed P.is_eager eager names role own (input ++ piece.now) false asked
         (before ++ told.new.items) taken phase [] output.new.items) }
     ensures memory { OnErr result (result ≡ Err ConnRefused.OutOfMemory) }
+    ensures waits { OnErr result (Grows output.old.items output.new.items) }
 {
     let mut mux = mux;
     let Ok(()) = mux.feed(piece, told) else {
@@ -116,6 +119,7 @@ fn come_up<P: Protocols>(
         P.makes_outbound P.listed P.is_eager eager names role own (input ++ piece.now) false [] told.new.items taken
         phase [] output.new.items) }
     ensures memory { OnErr result (result ≡ Err ConnRefused.OutOfMemory) }
+    ensures waits { OnErr result (Grows output.old.items output.new.items) }
 {
     tell(told, ConnEvent::Upgraded(proven))?;
     let Ok(rest) = piece.slice(used..) else {
@@ -150,6 +154,7 @@ fn open<P: Protocols>(
         Whenever mux.old.session (λ role past. IsRefusedAs (start_refusal role past) refused)) }
     ensures kept { IfErr result (λ refused. refused ≢ ConnRefused.OutOfMemory
         → (mux.new ≡ mux.old) × (owed.new ≡ owed.old) × (output.new ≡ output.old)) }
+    ensures waits { OnErr result (output.new.items ≡ output.old.items) }
 {
     let number = match mux.ask(index, owed) {
         Ok(number) => number,
@@ -179,6 +184,7 @@ fn bring_up<P: Protocols>(
         P.makes_outbound P.listed P.is_eager eager names role own (input ++ piece.now) false [] told.new.items taken
         phase [] output.new.items) }
     ensures memory { OnErr result (result ≡ Err ConnRefused.OutOfMemory) }
+    ensures waits { OnErr result (Grows upgrade.pending output.new.items) }
 {
     let mut upgrade = upgrade;
     match upgrade.feed(piece) {
@@ -215,6 +221,7 @@ fn take_on<P: Protocols>(
         P.makes_outbound P.listed P.is_eager eager names role own (input ++ piece.now) false asked
         (before ++ told.new.items) taken now [] output.new.items) }
     ensures memory { OnErr result (result ≡ Err ConnRefused.OutOfMemory) }
+    ensures waits { OnErr result (Grows (waiting_in phase output.old.items) output.new.items) }
 {
     match phase {
         Phase::Upgrading(upgrade, protocols) => {
@@ -278,6 +285,9 @@ impl<P: Protocols> ConnCore<P> {
         ensures none_owed { OnOk result (self.new.owed.items ≡ []) }
         ensures refused { is_over self.old.phase ≡ false
             → OnErr result ((result ≡ Err ConnRefused.OutOfMemory) × (is_over self.new.phase ≡ true)) }
+        // What was written before can still be taken.
+        ensures waits { OnErr result (Grows (waiting_in self.old.phase self.old.output.items)
+            (waiting_in self.new.phase self.new.output.items)) }
         ensures failed { is_over self.old.phase ≡ true → (result ≡ Err ConnRefused.Failed) × (self.new ≡ self.old) }
     {
         if self.is_over() {
@@ -308,6 +318,9 @@ impl<P: Protocols> ConnCore<P> {
         ensures none_owed { OnOk result (self.new.owed.items ≡ []) }
         ensures refused { is_over self.old.phase ≡ false
             → OnErr result ((result ≡ Err ConnRefused.OutOfMemory) × (is_over self.new.phase ≡ true)) }
+        // What was written before can still be taken.
+        ensures waits { OnErr result (Grows (waiting_in self.old.phase self.old.output.items)
+            (waiting_in self.new.phase self.new.output.items)) }
         ensures failed { is_over self.old.phase ≡ true → (result ≡ Err ConnRefused.Failed) × (self.new ≡ self.old) }
     {
         if self.is_over() {
@@ -344,6 +357,9 @@ impl<P: Protocols> ConnCore<P> {
         ensures refused { IfErr result (λ refused. IsRefused P.listed self.old.phase index refused) }
         ensures kept { IfErr result (λ refused. refused ≢ ConnRefused.OutOfMemory → self.new ≡ self.old) }
         ensures memory { result ≡ Err ConnRefused.OutOfMemory → is_over self.new.phase ≡ true }
+        // What was written before can still be taken.
+        ensures waits { OnErr result (waiting_in self.new.phase self.new.output.items
+            ≡ waiting_in self.old.phase self.old.output.items) }
     {
         let asked = match &mut self.phase {
             Phase::Upgrading(..) => Err(ConnRefused::NotUp),
@@ -368,6 +384,9 @@ impl<P: Protocols> ConnCore<P> {
             taken self.new) }
         ensures over { is_over self.new.phase ≡ true }
         ensures refused { is_over self.old.phase ≡ false → OnErr result (result ≡ Err ConnRefused.OutOfMemory) }
+        // What was written can still be taken.
+        ensures waits { waiting_in self.new.phase self.new.output.items
+            ≡ waiting_in self.old.phase self.old.output.items }
         ensures failed { is_over self.old.phase ≡ true → (result ≡ Err ConnRefused.Failed) × (self.new ≡ self.old) }
     {
         if self.is_over() {

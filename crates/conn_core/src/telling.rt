@@ -6,7 +6,7 @@ ghost use Rattle.conn_log.specs.declared.event.ConnEvent.{ConnEvent};
 ghost use Rattle.conn_log.specs.declared.event.ConnEvent.TheVariants as event;
 ghost use Rattle.conn_log.specs.declared.event.ConnFault.{ConnFault};
 ghost use Rattle.upgrade.specs.declared.role.ConnRole.{ConnRole};
-ghost use Rattle.conn_core.specs.Connects.{Connects, Ends, is_over, told_of, session_role};
+ghost use Rattle.conn_core.specs.Connects.{Connects, Ends, is_over, told_of, session_role, waiting_in};
 
 use crate::connection::Phase;
 use conn_log::{ConnEvent, ConnFault, ConnRefused};
@@ -82,6 +82,7 @@ pub(crate) fn last_event<P: Protocols>(phase: Phase<P>, output: &mut Vec<u8>) ->
         before taken phase owed output.old.items → is_over phase ≡ false
         → Ends P.H.steps P.H.fails P.H.is_closed P.H.is_finished P.makes_inbound P.makes_outbound P.listed P.is_eager
         eager names role own input true asked ((before ++ owed) ++ result ∷ []) (taken ++ output.new.items) }
+    ensures waits { output.new.items ≡ waiting_in phase output.old.items }
 {
     match phase {
         Phase::Upgrading(upgrade, _) => {

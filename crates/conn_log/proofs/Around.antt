@@ -1,5 +1,5 @@
 -- The list has grown by entries about one stream: all others are at rest as before.
-use Rattle.std.proofs.Common.{◌≡◌, ℕ, ◌==◌, Bool, false, List, [], ◌++◌, Option, Some, None, refl, sym, ap, ◌∙◌, subst}
+use Rattle.std.proofs.Common.{◌≡◌, ◌⊎◌, inl, inr, ℕ, ◌==◌, Bool, true, false, List, [], ◌++◌, Option, Some, None, refl, sym, ap, ◌∙◌, subst}
 use Rattle.std.specs.Prelude.{IfSome, IsSome}
 use Rattle.handlers.specs.Calls.{HandlerCall, Asked}
 use Rattle.yamux_session.specs.declared.event.Role.{Role}
@@ -8,8 +8,8 @@ use Rattle.yamux_session.specs.Seen.{Seen, seen, all_heard, AgreesOn}
 use Rattle.yamux_session.specs.State.{State, Stands as SessionStands}
 use Rattle.streams.specs.State.{Streaming}
 use Rattle.conn_log.specs.declared.earlier.Earlier.{Earlier}
-use Rattle.conn_log.specs.Entries.{Entry, items, left_behind}
-use Rattle.conn_log.specs.Due.{AllDue}
+use Rattle.conn_log.specs.Entries.{Entry, items, is_over, left_behind}
+use Rattle.conn_log.specs.Due.{AllDue, told_reset, was_reset}
 use Rattle.conn_log.specs.Held.{IsAtRest, earlier_of}
 use Rattle.conn_log.specs.Routes.{EndsLast, Around}
 use Rattle.conn_log.proofs.Same.{Same, same_refl, at_rest_same, left_same}
@@ -29,8 +29,9 @@ module _ {P H : Type 0} (step : H → HandlerCall → H → Type 0) (fails : H �
       → ((m : ℕ) → (n == m) ≡ false → now m ≡ streams m)
       → AgreesOn (seen role (items (newer ++ log)) n) (all_heard n later rest) → later.ended ≡ view.ended
       → ((m : ℕ) → left_behind role (newer ++ log) m ≡ left_behind role log m)
+      → ((m : ℕ) → was_reset role (items (newer ++ log)) m ≡ was_reset role (items log) m) → ((m : ℕ) → is_over role log m ≡ true → is_over role (newer ++ log) m ≡ true)
       → Around step fails is_closed is_finished inbound_makes outbound_makes eager names peer role (newer ++ log) fed sent after now past n later rest
-  grown log newer fed sent before after streams now past n view later rest a due others there elsewhere heard ended behind = record {
+  grown log newer fed sent before after streams now past n view later rest a due others there elsewhere heard ended behind resets over = record {
     session_stands = there;
     due = due;
     others = λ m apart. subst (λ (t : Option (Streaming H)). IfSome t (λ it. IsAtRest step is_closed is_finished names role (newer ++ log) m it)) (sym (elsewhere m apart))
@@ -39,11 +40,16 @@ module _ {P H : Type 0} (step : H → HandlerCall → H → Type 0) (fails : H �
         (a.others_held m apart (sym (ap (λ (x : Seen). x.live) (others m apart).seen_is) ∙ live));
     others_kept = λ m apart made going. subst (λ (t : Option (Streaming H)). IsSome t) (sym (elsewhere m apart))
         (let s = others m apart in a.others_kept m apart (λ none. made (s.made_is ∙ none)) (sym s.over_is ∙ going));
+    resets_told = λ m was. by_over m (a.resets_told m (sym (resets m) ∙ was));
+    reset_came = λ told. resets n ∙ a.reset_came told;
     heard = heard;
     opens_none = a.opens_none;
     ends_last = subst (λ b. EndsLast b rest) (sym ended) a.ends_last;
     earlier = λ m. left_same step is_closed is_finished names role log newer m 0 (earlier_of m past) (behind m) (a.earlier m);
-  }
+  } where
+    by_over : (m : ℕ) → (is_over role log m ≡ true) ⊎ (told_reset m rest ≡ true) → (is_over role (newer ++ log) m ≡ true) ⊎ (told_reset m rest ≡ true)
+    by_over m (inl was) = inl (over m was)
+    by_over m (inr told) = inr told
 
   -- nothing was done: at most this stream is another, or is there no more
   pub still : (log : List (Entry H)) (fed sent : List ℕ) (before after : State) (streams now : ℕ → Option (Streaming H)) (past : List (Earlier H)) (n : ℕ) (view : Seen) (rest : List Told)
@@ -52,4 +58,4 @@ module _ {P H : Type 0} (step : H → HandlerCall → H → Type 0) (fails : H �
       → Around step fails is_closed is_finished inbound_makes outbound_makes eager names peer role log fed sent after now past n view rest
   still log fed sent before after streams now past n view rest same_session elsewhere a =
       grown log [] fed sent before after streams now past n view view rest a a.due (λ m apart. same_refl role log m)
-      (subst (λ (t : State). SessionStands role (items log) fed sent t) (sym same_session) a.session_stands) elsewhere a.heard refl (λ m. refl)
+      (subst (λ (t : State). SessionStands role (items log) fed sent t) (sym same_session) a.session_stands) elsewhere a.heard refl (λ m. refl) (λ m. refl) (λ m was. was)

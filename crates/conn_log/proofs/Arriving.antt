@@ -1,8 +1,7 @@
 -- What arrives changes: the list grows by it, and of the streams only the one that is named moves.
-use Rattle.std.proofs.Common.{◌≡◌, ℕ, suc, ◌==◌, ◌||◌, ◌&&◌, not, Bool, true, false, cond, List, [], ◌∷◌, ◌++◌, map, refl, sym, ap, ◌∙◌, subst}
+use Rattle.std.proofs.Common.{◌≡◌, ℕ, suc, ◌==◌, ◌||◌, ◌&&◌, not, Bool, true, false, cond, List, [], ◌∷◌, ◌++◌, map, refl, ap, ◌∙◌}
 use Rattle.std.specs.Prelude.{is_some}
 use Rattle.std.specs.List.{AllByRecursion}
-use Rattle.handlers.specs.Calls.{HandlerCall, Asked}
 use Rattle.yamux_frames.specs.Frames.{Arrival}
 use Rattle.yamux_session.specs.declared.event.Role.{Role}
 use Rattle.yamux_session.specs.declared.event.Event.{Event}
@@ -14,12 +13,10 @@ use Rattle.yamux_session.specs.Arrives.{tellings}
 use Rattle.yamux_session.specs.Naming.{IsAbout, IsNoOpening as OpensNone}
 use Rattle.yamux_session.specs.Events.{Told}
 use Rattle.yamux_session.specs.Seen.{Seen, hears, all_heard, just_opened, IsQuiet}
-use Rattle.yamux_session.specs.Endings.{opened_in, told_opened, EndsOnce}
+use Rattle.yamux_session.specs.Endings.{opened_in, told_opened}
 use Rattle.conn_log.specs.Entries.{Entry, items, since, made_in, over_in, is_kept, left_behind, asked}
 use Rattle.conn_log.specs.Entries.Entry.{Of}
-use Rattle.conn_log.specs.Due.{AllDue}
-use Rattle.conn_log.specs.Routes.{IsStill, IsNoOpening, EndsLast}
-use Rattle.conn_log.proofs.Views.{its_own}
+use Rattle.conn_log.specs.Routes.{IsStill, IsNoOpening}
 
 -- entries for what arrived
 abbrev pub arrived : {H : Type 0} → List Arrival → List (Entry H)
@@ -77,15 +74,6 @@ left_arrived {H = H} role (x ∷ came) log n =
           (kept_behind [] (since_arrived role came log n ∙ ap (λ b. cond b [] (since role log n)) is))
       by_opening true false is = ap (λ b. cond b (suc (left_behind role log n)) (left_behind role log n))
           (kept_behind (since role log n) (since_arrived role came log n ∙ ap (λ b. cond b [] (since role log n)) is))
-
-pub due_arrived : {P H : Type 0} (step : H → HandlerCall → H → Type 0) (fails : H → Asked → ℕ → Type 0)
-    (is_closed is_finished : H → Bool) (inbound_makes outbound_makes : P → ℕ → List ℕ → H → Type 0)
-    (eager : ℕ → Bool) (names : List (List ℕ)) (peer : List ℕ) (role : Role) (came : List Arrival) (log : List (Entry H))
-    → AllDue step fails is_closed is_finished inbound_makes outbound_makes eager names peer role log
-    → AllDue step fails is_closed is_finished inbound_makes outbound_makes eager names peer role (arrived came ++ log)
-due_arrived step fails is_closed is_finished inbound_makes outbound_makes eager names peer role [] log due = due
-due_arrived step fails is_closed is_finished inbound_makes outbound_makes eager names peer role (x ∷ came) log due =
-    (tt, due_arrived step fails is_closed is_finished inbound_makes outbound_makes eager names peer role came log due)
 
 -- ---- what names one stream
 
@@ -209,19 +197,3 @@ still_heard n s (Told.Ended k ∷ told) all = absurd all.0
 still_heard n s (Told.Reset k ∷ told) all = absurd all.0
 still_heard n s (Told.Credit k ∷ told) all = absurd all.0
 still_heard n s (Told.Fault fault ∷ told) all = still_heard n s told all.1
-
-opens_it : (m n : ℕ) → m ≡ n → (m == n) ≡ false → ⊥
-opens_it m n is off = absurd (let e : true ≡ false = sym (its_own m n is) ∙ off in cc e)
-
--- the end is the last that is told of it
-pub ends_last : (n : ℕ) (ended : Bool) (told : List Told) → AllByRecursion (IsNamed n) told → AllByRecursion (IsNoOpening n) told → EndsOnce n ended told → EndsLast ended told
-ends_last n ended [] all none once = tt
-ends_last n ended (Told.Opened m ∷ told) all none once = absurd (opens_it m n all.0 none.0)
-ends_last n ended (Told.Payload m b ∷ told) all none once = (once.0 all.0, ends_last n ended told all.1 none.1 once.1)
-ends_last n ended (Told.Ended m ∷ told) all none once =
-    (once.0 all.0, ends_last n true told all.1 none.1 (subst (λ (b : Bool). EndsOnce n (cond b true ended) told) (its_own m n all.0) once.1))
-ends_last n ended (Told.Reset m ∷ told) all none once = ends_last n ended told all.1 none.1 once
-ends_last n ended (Told.Accepted m ∷ told) all none once = ends_last n ended told all.1 none.1 once
-ends_last n ended (Told.Credit m ∷ told) all none once = ends_last n ended told all.1 none.1 once
-ends_last n ended (Told.GoAway code ∷ told) all none once = ends_last n ended told all.1 none.1 once
-ends_last n ended (Told.Fault fault ∷ told) all none once = ends_last n ended told all.1 none.1 once

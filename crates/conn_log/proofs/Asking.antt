@@ -1,5 +1,5 @@
 -- Where the streams stand once this end has opened one.
-use Rattle.std.proofs.Common.{◌≡◌, ◌≢◌, ◌⊎◌, inl, inr, ℕ, ◌<◌, ◌+◌, ◌==◌, Bool, true, false, cond, List, [], ◌∷◌, ◌++◌, length, Option, Some, None, refl, sym, ap, ◌∙◌, subst, arith}
+use Rattle.std.proofs.Common.{◌≡◌, ◌≢◌, ◌⊎◌, inl, inr, ℕ, ◌<◌, ◌+◌, ◌==◌, Bool, true, false, ◌||◌, cond, List, [], ◌∷◌, ◌++◌, length, Option, Some, None, refl, sym, ap, ◌∙◌, subst, arith}
 use Rattle.std.specs.Prelude.{IfSome, IsSome, slice_get}
 use Rattle.std.specs.List.{AllByRecursion}
 use Rattle.std.proofs.lemmas.List.{append_assoc, append_cancel_left}
@@ -29,10 +29,10 @@ use Rattle.routing.specs.declared.delivered.Outcome.TheVariants as outcomes
 use Rattle.routing.specs.Routing.{Came as CameTo}
 use Rattle.conn_log.specs.declared.earlier.Earlier.{Earlier}
 use Rattle.conn_log.specs.declared.event.ConnEvent.{ConnEvent}
-use Rattle.conn_log.specs.Entries.{Entry, items, said, asks, since, agreed_in, over_in, made_in, left_behind, asked}
+use Rattle.conn_log.specs.Entries.{Entry, items, said, asks, since, agreed_in, over_in, is_over, made_in, left_behind, asked}
 use Rattle.conn_log.specs.Entries.Entry.{Of, Says, Made, Asks}
-use Rattle.conn_log.specs.Due.{AllDue, IsSide, direction_of}
-use Rattle.conn_log.specs.Held.{IsHeld, IsAtRest, AreLeft, earlier_of}
+use Rattle.conn_log.specs.Due.{AllDue, direction_of, was_reset}
+use Rattle.conn_log.specs.Held.{IsSide, IsHeld, IsAtRest, AreLeft, earlier_of}
 use Rattle.conn_log.specs.Rests.{AreAtRest}
 use Rattle.conn_log.specs.Asked as ask
 use Rattle.conn_log.specs.Asked.{IsEarly, told_of, IsBrokenOf}
@@ -173,13 +173,21 @@ module _ {P H : Type 0} (step : H → HandlerCall → H → Type 0) (fails : H �
           (let s = same_by_first acts_do acts_move role log n index m handler apart in r.live_held m (sym (ap (λ (x : Seen). x.live) s.seen_is) ∙ live));
       others_kept = λ m apart made going. subst (λ (t : Option (Streaming H)). IsSome t) (sym (elsewhere m apart))
           (let s = same_by_first acts_do acts_move role log n index m handler apart in r.made_held m (λ none. made (s.made_is ∙ none)) (sym s.over_is ∙ going));
+      resets_told = λ m was. inl (over_at m (eqb_tells n m) (sym (ap (λ (t : List Item). was_reset role t m) (items_first handler)) ∙ was));
+      reset_came = λ told. absurd (cc told);
       heard = subst (λ (t : List Item). AgreesOn (seen role t n) just_opened) (sym (items_first handler)) (subst (λ (x : Seen). AgreesOn x just_opened) (sym seen_is)
           (record { live = refl; closed = refl; came = refl; sent = refl; ended = λ on. on; live_ended = λ on. refl }));
       opens_none = tt;
       ends_last = tt;
       earlier = λ m. subst (λ (t : List (Entry H)). AreLeft step is_closed is_finished names role t m 0 (earlier_of m past)) (append_assoc (at_first n handler) (Asks n index ∷ []) log)
           (left_same step is_closed is_finished names role log (at_first n handler ++ Asks n index ∷ []) m 0 (earlier_of m past) (left_first handler m) (r.earlier m));
-    }
+    } where
+      over_at : (m : ℕ) → (((n == m) ≡ true) × (n ≡ m)) ⊎ (((n == m) ≡ false) × (n ≢ m)) → cond (n == m || false) false (false || was_reset role (items log) m) ≡ true
+          → is_over role (at_first n handler ++ Asks n index ∷ log) m ≡ true
+      over_at m (inl here) was = absurd (let e : false ≡ true = sym (ap (λ b. cond (b || false) false (false || was_reset role (items log) m)) here.0) ∙ was in cc e)
+      over_at m (inr apart) was =
+          let s = same_by_first acts_do acts_move role log n index m handler apart.0 in
+          s.over_is ∙ r.resets_told m (sym (ap (λ b. cond (b || false) false (false || was_reset role (items log) m)) apart.0) ∙ was)
 
     since_first : (handler : Option H) → since role (at_first n handler ++ Asks n index ∷ log) n ≡ at_first n handler
     since_first None = ap (λ b. cond b [] (since role log n)) (same n)

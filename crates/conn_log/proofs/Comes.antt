@@ -25,9 +25,9 @@ use Rattle.routing.specs.Routing.{Came}
 use Rattle.conn_log.specs.declared.earlier.Earlier.{Earlier}
 use Rattle.conn_log.specs.declared.event.ConnEvent.{ConnEvent}
 use Rattle.conn_log.specs.declared.event.ConnEvent.TheVariants as event
-use Rattle.conn_log.specs.Entries.{Entry, items, said, asks, is_over}
+use Rattle.conn_log.specs.Entries.{Entry, items, said, asks, is_last, is_over}
 use Rattle.conn_log.specs.Entries.Entry.{Says}
-use Rattle.conn_log.specs.Due.{IsSide, HasCome, IsThere, IsDone, IsDue, AllDue, HandlerFails}
+use Rattle.conn_log.specs.Due.{HasCome, IsThere, IsDone, IsDue, AllDue, HandlerFails}
 use Rattle.conn_log.specs.Held.{IsHeld}
 use Rattle.conn_log.specs.Routes.{IsMoving, Around, Routes, Comes}
 use Rattle.conn_log.proofs.Same.{same_by_event, IsOf, side_same}
@@ -35,6 +35,10 @@ use Rattle.conn_log.proofs.Around.{grown, still}
 use Rattle.conn_log.proofs.Views.{same}
 use Rattle.conn_log.proofs.StageKinds.{same_talking, same_awaiting, same_handed, served_talking, served_handed}
 use Rattle.conn_log.proofs.Served.{did, items_did, said_did, did_untold, did_unasked, view_by, AllOn, Own, did_own, all_on, come_of, come_on, view_came, view_ended, view_over, around_acts}
+
+pub or_on : (b : Bool) → b || true ≡ true
+or_on true = refl
+or_on false = refl
 
 module _ {P H : Type 0} (step : H → HandlerCall → H → Type 0) (fails : H → Asked → ℕ → Type 0)
     (is_closed is_finished : H → Bool) (inbound_makes outbound_makes : P → ℕ → List ℕ → H → Type 0)
@@ -47,7 +51,8 @@ module _ {P H : Type 0} (step : H → HandlerCall → H → Type 0) (fails : H �
       → Around step fails is_closed is_finished inbound_makes outbound_makes eager names peer role (Says told ∷ log) fed sent session streams past n view rest
   around_event log fed sent session streams past n view rest told of is_due a =
       grown step fails is_closed is_finished inbound_makes outbound_makes eager names peer role log (Says told ∷ []) fed sent session session streams streams past n view view rest a
-      (is_due, a.due) (λ m apart. same_by_event role log n m told of apart) a.session_stands (λ m apart. refl) a.heard refl (λ m. refl)
+      (is_due, a.due) (λ m apart. same_by_event role log n m told of apart) a.session_stands (λ m apart. refl) a.heard refl (λ m. refl) (λ m. refl)
+      (λ m over. ap (λ b. is_last m told || b) over ∙ or_on (is_last m told))
 
   -- ---- a stream that was served
 
@@ -115,6 +120,7 @@ module _ {P H : Type 0} (step : H → HandlerCall → H → Type 0) (fails : H �
           own = subst (λ (t : Option (Streaming H)). IfSome t (λ it. IsMoving step fails is_closed is_finished inbound_makes outbound_makes eager names peer role log_now n seen_now rest it)) (sym here) moving;
           own_held = λ live. subst (λ (t : Option (Streaming H)). IsSome t) (sym here) refl;
           own_kept = λ made going. subst (λ (t : Option (Streaming H)). IsSome t) (sym here) refl;
+          own_to_reset = λ reset going. subst (λ (t : Option (Streaming H)). IsSome t) (sym here) refl;
         }
 
     -- its handler is handed out
@@ -168,6 +174,7 @@ module _ {P H : Type 0} (step : H → HandlerCall → H → Type 0) (fails : H �
               (Says (event.Done n handler) ∷ log_now) n seen_now rest it)) (sym here) moving;
           own_held = λ live. subst (λ (t : Option (Streaming H)). IsSome t) (sym here) refl;
           own_kept = λ made going. subst (λ (t : Option (Streaming H)). IsSome t) (sym here) refl;
+          own_to_reset = λ reset going. subst (λ (t : Option (Streaming H)). IsSome t) (sym here) refl;
         }
 
     -- its handler gives up

@@ -27,9 +27,9 @@ use Rattle.conn_log.specs.Due.{HasCome, IsDue}
 use Rattle.conn_log.specs.Held.{IsHeld}
 use Rattle.conn_log.specs.Routes.{Around, Comes}
 use Rattle.conn_log.proofs.Around.{still}
-use Rattle.conn_log.proofs.Views.{same}
+use Rattle.conn_log.proofs.Views.{same, none_behind}
 use Rattle.conn_log.proofs.StageKinds.{same_talking, same_awaiting, same_handed}
-use Rattle.conn_log.proofs.Served.{none_behind, ended_stays}
+use Rattle.conn_log.proofs.Served.{ended_stays}
 use Rattle.conn_log.proofs.Comes.{went, around_event}
 
 -- what is seen of a stream that has ended
@@ -69,6 +69,8 @@ module _ {P H : Type 0} (step : H → HandlerCall → H → Type 0) (fails : H �
     others = a.others;
     others_held = a.others_held;
     others_kept = a.others_kept;
+    resets_told = a.resets_told;
+    reset_came = a.reset_came;
     heard = subst (λ (x : Seen). AgreesOn (seen role (items log) n) (all_heard n x rest)) (heard_end n view) a.heard;
     opens_none = a.opens_none.1;
     ends_last = a.ends_last.1;
@@ -82,7 +84,7 @@ module _ {P H : Type 0} (step : H → HandlerCall → H → Type 0) (fails : H �
       (elsewhere : (m : ℕ) → (n == m) ≡ false → now m ≡ streams m) (here : now n ≡ Some new) where
     -- all has come
     all_came : inbound role (items log) n ≡ h.so_far.got
-    all_came = a.heard.came ∙ none_behind step fails is_closed is_finished inbound_makes outbound_makes eager names peer role acts_do acts_move n (ended_view view) rest a.opens_none a.ends_last ∙ sym h.got_is
+    all_came = a.heard.came ∙ none_behind n (ended_view view) rest a.opens_none a.ends_last ∙ sym h.got_is
 
     is_finished_then : finished role (items log) n ≡ true
     is_finished_then = a.heard.ended (ended_stays step fails is_closed is_finished inbound_makes outbound_makes eager names peer role acts_do acts_move n (ended_view view) rest a.opens_none refl)

@@ -1,8 +1,7 @@
 -- A frame arrived at streams that are at rest: what it told is to be routed.
 use Rattle.std.proofs.Common.{◌≡◌, ◌≢◌, ◌⊎◌, inl, inr, ℕ, suc, ◌==◌, ◌||◌, ◌&&◌, Bool, true, false, cond, List, [], ◌∷◌, ◌++◌, map, Option, refl, sym, ap, ◌∙◌, subst}
-use Rattle.std.specs.Prelude.{IfSome, drop}
+use Rattle.std.specs.Prelude.{IfSome, IsSome, drop}
 use Rattle.std.specs.List.{AllByRecursion}
-use Rattle.std.proofs.lemmas.List.{append_assoc}
 use Rattle.std.proofs.lemmas.Bool.Decides.{eqb_tells}
 use Rattle.handlers.specs.Calls.{HandlerCall, Asked}
 use Rattle.yamux_frames.specs.Frames.{Arrival}
@@ -15,23 +14,24 @@ use Rattle.yamux_session.specs.Openings.{is_live, finished}
 use Rattle.yamux_session.specs.Arrives.{tellings, HasData}
 use Rattle.yamux_session.specs.Naming.{IsAbout, IsNoOpening as OpensNone, NamesOne}
 use Rattle.yamux_session.specs.Events.{Told, events}
-use Rattle.yamux_session.specs.Seen.{Seen, seen, all_heard, just_opened, AgreesOn, TellsFrom, EventsTell, Windows, windows, CreditIsTold}
-use Rattle.yamux_session.specs.Received.{AreSinceOpening, SomeSince}
+use Rattle.yamux_session.specs.Seen.{Seen, seen, hears, all_heard, just_opened, AgreesOn, TellsFrom, EventsTell, Windows, windows, CreditIsTold}
 use Rattle.yamux_session.specs.Endings.{opened_in, told_opened, OpeningsAreTold, OpenedByTheOther, OpenedAnew, EndsAreLast}
 use Rattle.yamux_session.specs.State.{State, Stands as SessionStands}
 use Rattle.streams.specs.State.{Streaming}
 use Rattle.conn_log.specs.declared.earlier.Earlier.{Earlier}
-use Rattle.conn_log.specs.Entries.{Entry, items, since, agreed_in, over_in, made_in, is_kept, left_behind}
+use Rattle.conn_log.specs.Entries.{Entry, items, since, agreed_in, over_in, made_in, is_over, is_kept, left_behind}
+use Rattle.conn_log.specs.Due.{told_reset, was_reset}
 use Rattle.conn_log.specs.Held.{IsAtRest, AreLeft, earlier_of}
 use Rattle.conn_log.specs.Rests.{AreAtRest}
 use Rattle.conn_log.specs.Routes.{IsStill, IsFor, IsNoOpening, IsMoving, Around, Opening, Routes, Awaits, set_aside}
 use Rattle.conn_log.proofs.Same.{Same, side_same, settled_same, at_rest_same, left_same}
 use Rattle.conn_log.proofs.Around.{if_some}
-use Rattle.conn_log.proofs.Views.{same, its_own}
+use Rattle.conn_log.proofs.Views.{same}
 use Rattle.conn_log.proofs.Opening.{sent_stays}
 use Rattle.conn_log.proofs.Leaving.{earlier_other, are_left}
 use Rattle.conn_log.proofs.Rested.{end_agrees}
-use Rattle.conn_log.proofs.Arriving.{arrived, items_arrived, asked_arrived, since_arrived, left_arrived, due_arrived, IsNamed, named, opens_none, not_heard, not_opened, quiet, unopened, still_quiet, still_heard, ends_last, all_join}
+use Rattle.conn_log.proofs.Arriving.{arrived, items_arrived, asked_arrived, since_arrived, left_arrived, IsNamed, named, opens_none, not_heard, not_opened, quiet, unopened, still_quiet, still_heard}
+use Rattle.conn_log.proofs.Resets.{either_true, reset_after, reset_unopened, reset_other, reset_told, AreAlive, alive_told, none_reset, ends_last, told_is_by, FirstOpens, first_opens, due_arrived}
 
 -- what holds of every session
 pub record SessionLaws : Type 0 where
@@ -41,55 +41,18 @@ pub record SessionLaws : Type 0 where
   pub opened_by_the_other : OpenedByTheOther
   pub opened_anew : OpenedAnew
   pub ends_are_last : EndsAreLast
-  pub some_since : SomeSince
 
--- ---- each event is for the stream, and a reset was told since its opening
-
-all_for : (role : Role) (now : List Item) (n : ℕ) (since front : List Told) (told : List Event) → AreSinceOpening n (events role now) since → since ≡ front ++ tellings told
-    → AllByRecursion (IsAbout n) told → AllByRecursion HasData told → AllByRecursion (IsFor role now n) told
-all_for role now n since front [] are is about filled = tt
-all_for role now n since front (event.Opened m ∷ told) are is about filled =
-    (about.0, all_for role now n since (front ++ Told.Opened m ∷ []) told are (is ∙ sym (append_assoc front (Told.Opened m ∷ []) (tellings told))) about.1 filled.1)
-all_for role now n since front (event.Accepted m ∷ told) are is about filled =
-    (about.0, all_for role now n since (front ++ Told.Accepted m ∷ []) told are (is ∙ sym (append_assoc front (Told.Accepted m ∷ []) (tellings told))) about.1 filled.1)
-all_for role now n since front (event.Payload m bytes ∷ told) are is about filled =
-    ((about.0, filled.0), all_for role now n since (front ++ map (Told.Payload m) bytes) told are (is ∙ sym (append_assoc front (map (Told.Payload m) bytes) (tellings told))) about.1 filled.1)
-all_for role now n since front (event.Ended m ∷ told) are is about filled =
-    (about.0, all_for role now n since (front ++ Told.Ended m ∷ []) told are (is ∙ sym (append_assoc front (Told.Ended m ∷ []) (tellings told))) about.1 filled.1)
-all_for role now n since front (event.Reset m ∷ told) are is about filled = (
-  (about.0, record { told = since; since_opening = are; before = front; after = tellings told; told_is = is ∙ ap (λ k. front ++ Told.Reset k ∷ tellings told) about.0 }),
-  all_for role now n since (front ++ Told.Reset m ∷ []) told are (is ∙ sym (append_assoc front (Told.Reset m ∷ []) (tellings told))) about.1 filled.1,
-)
-all_for role now n since front (event.Credit m ∷ told) are is about filled =
-    (about.0, all_for role now n since (front ++ Told.Credit m ∷ []) told are (is ∙ sym (append_assoc front (Told.Credit m ∷ []) (tellings told))) about.1 filled.1)
-all_for role now n since front (event.GoAway code ∷ told) are is about filled =
-    (tt, all_for role now n since (front ++ Told.GoAway code ∷ []) told are (is ∙ sym (append_assoc front (Told.GoAway code ∷ []) (tellings told))) about.1 filled.1)
-all_for role now n since front (event.Fault fault ∷ told) are is about filled =
-    (tt, all_for role now n since (front ++ Told.Fault fault ∷ []) told are (is ∙ sym (append_assoc front (Told.Fault fault ∷ []) (tellings told))) about.1 filled.1)
-
--- the events since the opening of a stream that isn't opened meanwhile are those since, and what was told
-none_since : (n : ℕ) (told : List Told) → AllByRecursion (IsNoOpening n) told → AllByRecursion (λ t. t ≢ Told.Opened n) told
-none_since n [] none = tt
-none_since n (t ∷ told) none = (not_it t none.0, none_since n told none.1) where
-  not_it : (t : Told) → IsNoOpening n t → t ≢ Told.Opened n
-  not_it (Told.Opened m) off = λ e. absurd (let own : (m == n) ≡ true = its_own m n (cc e) in let both : true ≡ false = sym own ∙ off in cc both)
-  not_it (Told.Payload m b) off = λ e. absurd (cc e)
-  not_it (Told.Ended m) off = λ e. absurd (cc e)
-  not_it (Told.Reset m) off = λ e. absurd (cc e)
-  not_it (Told.Accepted m) off = λ e. absurd (cc e)
-  not_it (Told.Credit m) off = λ e. absurd (cc e)
-  not_it (Told.GoAway code) off = λ e. absurd (cc e)
-  not_it (Told.Fault fault) off = λ e. absurd (cc e)
-
-since_more : (n : ℕ) (before told since all : List Told) → AreSinceOpening n before since → AllByRecursion (IsNoOpening n) told → all ≡ before ++ told → AreSinceOpening n all (since ++ told)
-since_more n before told since all are none is = record {
-  before = are.before;
-  parts = by_parts are.parts;
-  opens_none = all_join (λ t. t ≢ Told.Opened n) since told are.opens_none (none_since n told none);
-} where
-  by_parts : (before ≡ are.before ++ Told.Opened n ∷ since) ⊎ (before ≡ since) → (all ≡ are.before ++ Told.Opened n ∷ (since ++ told)) ⊎ (all ≡ since ++ told)
-  by_parts (inl e) = inl (is ∙ ap (λ t. t ++ told) e ∙ append_assoc are.before (Told.Opened n ∷ since) told)
-  by_parts (inr e) = inr (is ∙ ap (λ t. t ++ told) e)
+-- each event is for the stream
+all_for : (n : ℕ) (told : List Event) → AllByRecursion (IsAbout n) told → AllByRecursion HasData told → AllByRecursion (IsFor n) told
+all_for n [] about filled = tt
+all_for n (event.Opened m ∷ told) about filled = (about.0, all_for n told about.1 filled.1)
+all_for n (event.Accepted m ∷ told) about filled = (about.0, all_for n told about.1 filled.1)
+all_for n (event.Payload m bytes ∷ told) about filled = ((about.0, filled.0), all_for n told about.1 filled.1)
+all_for n (event.Ended m ∷ told) about filled = (about.0, all_for n told about.1 filled.1)
+all_for n (event.Reset m ∷ told) about filled = (about.0, all_for n told about.1 filled.1)
+all_for n (event.Credit m ∷ told) about filled = (about.0, all_for n told about.1 filled.1)
+all_for n (event.GoAway code ∷ told) about filled = (tt, all_for n told about.1 filled.1)
+all_for n (event.Fault fault ∷ told) about filled = (tt, all_for n told about.1 filled.1)
 
 -- ---- the streams
 
@@ -157,22 +120,43 @@ module _ {P H : Type 0} (step : H → HandlerCall → H → Type 0) (fails : H �
   others_left : (m : ℕ) → (n == m) ≡ false → AreLeft step is_closed is_finished names role then m 0 (earlier_of m past)
   others_left m apart = left_same step is_closed is_finished names role log (arrived came) m 0 (earlier_of m past) (none_left m (not_opened n m apart (tellings told) about)) (rests.earlier m)
 
-  around : (aside : List (Earlier H)) (view : Seen) (rest : List Told) → AgreesOn (seen role (items then) n) (all_heard n view rest) → AllByRecursion (IsNoOpening n) rest
+  -- whether another stream was reset stays
+  other_reset : (m : ℕ) → (n == m) ≡ false → was_reset role (items then) m ≡ was_reset role (items log) m
+  other_reset m apart = ap (λ (t : List Item). was_reset role t m) items_are ∙ reset_told role (items log) came (tellings told) m tells
+      ∙ reset_other n m (was_reset role (items log) m) (tellings told) apart about
+
+  -- where of the one that is named its last event was told before, or a reset is to be routed
+  around : (aside : List (Earlier H)) (view : Seen) (rest : List Told) (before : Bool) → was_reset role (items then) n ≡ told_reset n rest || before
+      → (before ≡ true → is_over role then n ≡ true) → AgreesOn (seen role (items then) n) (all_heard n view rest) → AllByRecursion (IsNoOpening n) rest
       → Rattle.conn_log.specs.Routes.EndsLast view.ended rest → ((m : ℕ) → AreLeft step is_closed is_finished names role then m 0 (earlier_of m aside))
       → Around step fails is_closed is_finished inbound_makes outbound_makes eager names peer role then later sent now streams aside n view rest
-  around aside view rest heard none last left = record {
+  around aside view rest before reset_is told_before heard none last left = record {
     session_stands = subst (λ (t : List Item). SessionStands role t later sent now) (sym items_are) there;
-    due = due_arrived step fails is_closed is_finished inbound_makes outbound_makes eager names peer role came log rests.due;
+    due = due_arrived step fails is_closed is_finished inbound_makes outbound_makes eager names peer role laws.openings_are_told log rests.resets_told came tells.no_fault
+        (subst FirstOpens (sym (told_is_by role (items log) came (tellings told) tells)) (first_opens told one.opened_first)) rests.due;
     others = others;
     others_held = λ m apart live. rests.live_held m (sym (other_agrees m apart).live ∙ live);
     others_kept = λ m apart made going.
         let off = not_opened n m apart (tellings told) about in
         rests.made_held m (λ none_made. made (ap (made_in m) (since_same m off) ∙ none_made)) (sym (ap (over_in m) (since_same m off)) ∙ going);
+    resets_told = λ m was. over_at m (eqb_tells n m) was;
+    reset_came = λ reset. reset_is ∙ ap (λ b. b || before) reset;
     heard = heard;
     opens_none = none;
     ends_last = last;
     earlier = left;
-  }
+  } where
+    here : told_reset n rest || before ≡ true → (is_over role then n ≡ true) ⊎ (told_reset n rest ≡ true)
+    here was = by_either (either_true (told_reset n rest) before was) where
+      by_either : (told_reset n rest ≡ true) ⊎ (before ≡ true) → (is_over role then n ≡ true) ⊎ (told_reset n rest ≡ true)
+      by_either (inl reset) = inr reset
+      by_either (inr was) = inl (told_before was)
+
+    over_at : (m : ℕ) → (((n == m) ≡ true) × (n ≡ m)) ⊎ (((n == m) ≡ false) × (n ≢ m)) → was_reset role (items then) m ≡ true → (is_over role then m ≡ true) ⊎ (told_reset m rest ≡ true)
+    over_at m (inl same_one) was = subst (λ (k : ℕ). (is_over role then k ≡ true) ⊎ (told_reset k rest ≡ true)) same_one.1
+        (here (sym reset_is ∙ ap (was_reset role (items then)) same_one.1 ∙ was))
+    over_at m (inr apart) was =
+        inl (ap (over_in m) (since_same m (not_opened n m apart.0 (tellings told) about)) ∙ rests.resets_told m (sym (other_reset m apart.0) ∙ was))
 
   -- ---- of the one that is named
 
@@ -209,7 +193,7 @@ module _ {P H : Type 0} (step : H → HandlerCall → H → Type 0) (fails : H �
   -- What is to be routed, and of which stream.
   pub record Faced : Type 0 where
     pub stream : ℕ
-    pub all_for : AllByRecursion (IsFor role (items then) stream) told
+    pub all_for : AllByRecursion (IsFor stream) told
     pub awaits : Awaits step fails is_closed is_finished inbound_makes outbound_makes eager names peer role then later sent now streams past stream (tellings told)
 
   events_are : events role (items then) ≡ events role (items log) ++ tellings told
@@ -219,24 +203,34 @@ module _ {P H : Type 0} (step : H → HandlerCall → H → Type 0) (fails : H �
   unopened_faced none_opened =
       let none = opens_none n told none_opened in
       let view = seen role (items log) n in
-      let before = laws.some_since n (events role (items log)) in
+      let off = unopened n (tellings told) none in
+      let alive = alive_told laws.events_tell role (items log) came (tellings told) n tells in
+      let was = was_reset role (items log) n in
       record {
         stream = n;
-        all_for = all_for role (items then) n (before.0 ++ tellings told) before.0 told
-            (since_more n (events role (items log)) (tellings told) before.0 (events role (items then)) before.1 none events_are) refl one.named filled;
+        all_for = all_for n told one.named filled;
         awaits = inr (
           view,
           record {
-            around = around past view (tellings told) (agrees n) none (ends_last n view.ended (tellings told) about none (laws.ends_are_last role (items log) came (tellings told) n tells))
+            around = around past view (tellings told) was
+                (ap (λ (t : List Item). was_reset role t n) items_are ∙ reset_told role (items log) came (tellings told) n tells ∙ reset_unopened n was (tellings told) none)
+                (λ is. ap (over_in n) (since_same n off) ∙ rests.resets_told n is)
+                (agrees n) none (ends_last n view.ended view (tellings told) about none (laws.ends_are_last role (items log) came (tellings told) n tells) alive)
                 (λ m. left_by m none (eqb_tells n m));
             own = if_some (streams n) (λ it r. moving it none r) (rests.each n);
             own_held = rests.live_held n;
+            own_to_reset = λ reset going. by_live none alive reset view.live refl;
             own_kept = λ made going.
-                let off = unopened n (tellings told) none in
                 rests.made_held n (λ none_made. made (ap (made_in n) (since_same n off) ∙ none_made)) (sym (ap (over_in n) (since_same n off)) ∙ going);
           },
         );
       } where
+        by_live : AllByRecursion (IsNoOpening n) (tellings told) → AreAlive n (seen role (items log) n) (tellings told) → told_reset n (tellings told) ≡ true
+            → (b : Bool) → is_live role (items log) n ≡ b → IsSome (streams n)
+        by_live none alive reset true live = rests.live_held n live
+        by_live none alive reset false dead =
+            absurd (let e : true ≡ false = sym reset ∙ none_reset n (seen role (items log) n) (tellings told) dead about none alive in cc e)
+
         left_by : (m : ℕ) → AllByRecursion (IsNoOpening n) (tellings told) → (((n == m) ≡ true) × (n ≡ m)) ⊎ (((n == m) ≡ false) × (n ≢ m))
             → AreLeft step is_closed is_finished names role then m 0 (earlier_of m past)
         left_by m none (inl it) = subst (λ (k : ℕ). AreLeft step is_closed is_finished names role then k 0 (earlier_of k past)) it.1
@@ -254,23 +248,22 @@ module _ {P H : Type 0} (step : H → HandlerCall → H → Type 0) (fails : H �
       laws.openings_are_told role (items log) came (Told.Opened n ∷ tellings rest) n tells_it ∙ ap (λ b. b || told_opened n (tellings rest)) (same n) in
       let once = subst (λ (b : Bool). Rattle.yamux_session.specs.Endings.EndsOnce n (cond b false view.ended) (tellings rest)) (same n)
       (laws.ends_are_last role (items log) came (Told.Opened n ∷ tellings rest) n tells_it) in
-      let since_are : AreSinceOpening n (events role (items then)) (tellings rest) = record {
-        before = events role (items log);
-        parts = inl (events_are ∙ ap (λ t. events role (items log) ++ t) told_is);
-        opens_none = none_since n (tellings rest) none;
-      } in
+      let alive = alive_told laws.events_tell role (items log) came (Told.Opened n ∷ tellings rest) n tells_it in
+      let was = was_reset role (items log) n in
       record {
         stream = n;
-        all_for = subst (λ (t : List Event). AllByRecursion (IsFor role (items then) n) t) (sym is)
-            (refl, all_for role (items then) n (tellings rest) [] rest since_are refl rest_about rest_filled);
+        all_for = subst (λ (t : List Event). AllByRecursion (IsFor n) t) (sym is) (refl, all_for n rest rest_about rest_filled);
         awaits = inl (
           tellings rest,
           told_is,
           record {
-            around = around (past ++ set_aside n (streams n)) just_opened (tellings rest)
+            around = around (past ++ set_aside n (streams n)) just_opened (tellings rest) false
+                (ap (λ (t : List Item). was_reset role t n) items_are ∙ reset_told role (items log) came (Told.Opened n ∷ tellings rest) n tells_it
+                ∙ ap (λ b. reset_after n (cond b false was) (tellings rest)) (same n) ∙ reset_unopened n false (tellings rest) none)
+                (λ is. absurd (cc is))
                 (subst (λ (b : Bool). AgreesOn (seen role (items then) n) (all_heard n (cond b just_opened view) (tellings rest))) (same n)
                 (subst (λ (t : List Told). AgreesOn (seen role (items then) n) (all_heard n view t)) told_is (agrees n)))
-                none (ends_last n false (tellings rest) (named n rest rest_about) none once) (λ m. left_by m opened tells_it (eqb_tells n m));
+                none (ends_last n false (hears n view (Told.Opened n)) (tellings rest) (named n rest rest_about) none once alive.1) (λ m. left_by m opened tells_it (eqb_tells n m));
             fresh = since_arrived role came log n ∙ ap (λ b. cond b [] (since role log n)) opened;
             theirs = laws.opened_by_the_other role (items log) came n opened;
           },

@@ -11,6 +11,7 @@ pub mod Resetting
 pub mod Opening
 pub mod Rested
 pub mod Arriving
+pub mod Resets
 pub mod Facing
 pub mod Asking
 pub mod Leaving

@@ -49,6 +49,8 @@ module _ {P H : Type 0} (step : H → HandlerCall → H → Type 0) (fails : H �
     others = λ m apart. subst (λ (t : Option (Streaming H)). IfSome t (λ it. IsAtRest step is_closed is_finished names role log m it)) (sym (elsewhere m apart)) (a.others m apart);
     others_held = λ m apart live. subst (λ (t : Option (Streaming H)). IsSome t) (sym (elsewhere m apart)) (a.others_held m apart live);
     others_kept = λ m apart made going. subst (λ (t : Option (Streaming H)). IsSome t) (sym (elsewhere m apart)) (a.others_kept m apart made going);
+    resets_told = a.resets_told;
+    reset_came = a.reset_came;
     heard = a.heard;
     opens_none = a.opens_none;
     ends_last = a.ends_last;

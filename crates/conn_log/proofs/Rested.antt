@@ -1,53 +1,23 @@
 -- What a frame told was routed: all streams are at rest again.
 use Rattle.std.proofs.Common.{◌≡◌, ◌≢◌, ◌⊎◌, inl, inr, ℕ, ◌==◌, Bool, true, false, List, [], ◌∷◌, ◌++◌, Option, Some, None, refl, sym, ap, ◌∙◌, subst}
 use Rattle.std.specs.Prelude.{IfSome, IsSome}
-use Rattle.std.specs.List.{AllByRecursion}
 use Rattle.std.proofs.lemmas.List.{append-nil}
 use Rattle.std.proofs.lemmas.Bool.Decides.{eqb_tells}
 use Rattle.handlers.specs.Calls.{HandlerCall, Asked}
 use Rattle.yamux_session.specs.declared.event.Role.{Role}
-use Rattle.yamux_session.specs.declared.event.Event.{Event}
-use Rattle.yamux_session.specs.declared.event.Event.TheVariants as heard
-use Rattle.yamux_session.specs.History.{Item}
 use Rattle.yamux_session.specs.Openings.{is_live, finished}
-use Rattle.yamux_session.specs.Events.{Told, events}
+use Rattle.yamux_session.specs.Events.{Told}
 use Rattle.yamux_session.specs.Seen.{Seen, seen, hears, all_heard, AgreesOn}
 use Rattle.yamux_session.specs.State.{State}
-use Rattle.yamux_session.specs.Received.{AreSinceOpening}
 use Rattle.streams.specs.State.{Streaming}
 use Rattle.conn_log.specs.declared.earlier.Earlier.{Earlier}
 use Rattle.conn_log.specs.declared.event.ConnEvent.{ConnEvent}
 use Rattle.conn_log.specs.Entries.{Entry, items, said, is_over, made_of}
-use Rattle.conn_log.specs.Due.{WasReset}
+use Rattle.conn_log.specs.Due.{told_reset, was_reset}
 use Rattle.conn_log.specs.Held.{IsAtRest}
 use Rattle.conn_log.specs.Rests.{AreAtRest, Grows}
-use Rattle.conn_log.specs.Routes.{IsStill, IsFor, EndsLast, IsMoving, Routes, Routed, Awaits, IsUnderWay}
+use Rattle.conn_log.specs.Routes.{IsStill, EndsLast, IsMoving, Routes, Routed, Awaits, IsUnderWay}
 use Rattle.conn_log.proofs.Settling.{routed_behind}
-
--- a reset that was told was told, whatever this end did since
-pub reset_stays : (role : Role) (past now : List Item) (n : ℕ) → events role now ≡ events role past → WasReset role past n → WasReset role now n
-reset_stays role past now n same_told r = record {
-  told = r.told;
-  since_opening = subst (λ (t : List Told). AreSinceOpening n t r.told) (sym same_told) r.since_opening;
-  before = r.before;
-  after = r.after;
-  told_is = r.told_is;
-}
-
-pub is_for_still : (role : Role) (past now : List Item) (n : ℕ) (e : Event) → events role now ≡ events role past → IsFor role past n e → IsFor role now n e
-is_for_still role past now n (heard.Opened m) same_told f = f
-is_for_still role past now n (heard.Accepted m) same_told f = f
-is_for_still role past now n (heard.Payload m bytes) same_told f = f
-is_for_still role past now n (heard.Ended m) same_told f = f
-is_for_still role past now n (heard.Reset m) same_told f = (f.0, reset_stays role past now n same_told f.1)
-is_for_still role past now n (heard.Credit m) same_told f = f
-is_for_still role past now n (heard.GoAway code) same_told f = f
-is_for_still role past now n (heard.Fault fault) same_told f = f
-
-pub all_for_still : (role : Role) (past now : List Item) (n : ℕ) (told : List Event) → events role now ≡ events role past
-    → AllByRecursion (IsFor role past n) told → AllByRecursion (IsFor role now n) told
-all_for_still role past now n [] same_told all = tt
-all_for_still role past now n (e ∷ told) same_told all = (is_for_still role past now n e same_told all.0, all_for_still role past now n told same_told all.1)
 
 -- whether the end came: of a live stream it was told, and one that is live no more had ended
 pub end_agrees : (is heard : Seen) → AgreesOn is heard → (heard.live ≡ false → heard.ended ≡ true) → is.ended ≡ heard.ended
@@ -65,6 +35,16 @@ still_hears n s (Told.Payload m b) is = absurd is
 still_hears n s (Told.Ended m) is = absurd is
 still_hears n s (Told.Reset m) is = absurd is
 still_hears n s (Told.Credit m) is = absurd is
+
+still_reset : (m : ℕ) (t : Told) (rest : List Told) → IsStill t → told_reset m (t ∷ rest) ≡ told_reset m rest
+still_reset m (Told.Accepted k) rest is = refl
+still_reset m (Told.GoAway code) rest is = refl
+still_reset m (Told.Fault fault) rest is = refl
+still_reset m (Told.Opened k) rest is = absurd is
+still_reset m (Told.Payload k b) rest is = absurd is
+still_reset m (Told.Ended k) rest is = absurd is
+still_reset m (Told.Reset k) rest is = absurd is
+still_reset m (Told.Credit k) rest is = absurd is
 
 still_ends : (ended : Bool) (t : Told) (rest : List Told) → IsStill t → EndsLast ended (t ∷ rest) → EndsLast ended rest
 still_ends ended (Told.Accepted m) rest is last = last
@@ -91,6 +71,8 @@ module _ {P H : Type 0} (step : H → HandlerCall → H → Type 0) (fails : H �
       others = r.around.others;
       others_held = r.around.others_held;
       others_kept = r.around.others_kept;
+      resets_told = λ m. subst (λ b. was_reset role (items log) m ≡ true → (is_over role log m ≡ true) ⊎ (b ≡ true)) (still_reset m t rest is) (r.around.resets_told m);
+      reset_came = subst (λ b. b ≡ true → was_reset role (items log) n ≡ true) (still_reset n t rest is) r.around.reset_came;
       heard = subst (λ (x : Seen). AgreesOn (seen role (items log) n) (all_heard n x rest)) (still_hears n view t is) r.around.heard;
       opens_none = r.around.opens_none.1;
       ends_last = still_ends view.ended t rest is r.around.ends_last;
@@ -99,6 +81,7 @@ module _ {P H : Type 0} (step : H → HandlerCall → H → Type 0) (fails : H �
     own = goes_on (streams n) r.own;
     own_held = r.own_held;
     own_kept = r.own_kept;
+    own_to_reset = subst (λ b. b ≡ true → is_over role log n ≡ false → IsSome (streams n)) (still_reset n t rest is) r.own_to_reset;
   } where
     goes_on : (s : Option (Streaming H)) → IfSome s (λ it. IsMoving step fails is_closed is_finished inbound_makes outbound_makes eager names peer role log n view (t ∷ rest) it)
         → IfSome s (λ it. IsMoving step fails is_closed is_finished inbound_makes outbound_makes eager names peer role log n view rest it)
@@ -162,8 +145,13 @@ module _ {P H : Type 0} (step : H → HandlerCall → H → Type 0) (fails : H �
       each = λ m. each_at m (eqb_tells n m);
       live_held = λ m live. live_at m (eqb_tells n m) live;
       made_held = λ m made going. made_at m (eqb_tells n m) made going;
+      resets_told = λ m was. over_at m (r.around.resets_told m was);
       earlier = r.around.earlier;
     } where
+      over_at : (m : ℕ) → (is_over role log m ≡ true) ⊎ (false ≡ true) → is_over role log m ≡ true
+      over_at m (inl over) = over
+      over_at m (inr none) = absurd (cc none)
+
       each_at : (m : ℕ) → (((n == m) ≡ true) × (n ≡ m)) ⊎ (((n == m) ≡ false) × (n ≢ m)) → IfSome (streams m) (λ it. IsAtRest step is_closed is_finished names role log m it)
       each_at m (inl same) = subst (λ (k : ℕ). IfSome (streams k) (λ it. IsAtRest step is_closed is_finished names role log k it)) same.1 (own_at_rest view (streams n) r.around.heard r.own)
       each_at m (inr apart) = r.around.others m apart.0

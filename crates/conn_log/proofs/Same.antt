@@ -19,8 +19,7 @@ use Rattle.conn_log.specs.declared.event.ConnEvent.{ConnEvent}
 use Rattle.conn_log.specs.declared.event.ConnEvent.TheVariants as event
 use Rattle.conn_log.specs.Entries.{Entry, items, agreed, is_over, made_of, asked, is_kept, left_behind}
 use Rattle.conn_log.specs.Entries.Entry.{Of, Says, Made}
-use Rattle.conn_log.specs.Due.{IsSide}
-use Rattle.conn_log.specs.Held.{IsHeld, IsAtRest, IsPast, AreLeft}
+use Rattle.conn_log.specs.Held.{IsSide, IsHeld, IsAtRest, IsPast, AreLeft}
 
 -- these are of the stream what they were
 pub record Same {H : Type 0} (role : Role) (log now : List (Entry H)) (m : ℕ) : Type 0 where

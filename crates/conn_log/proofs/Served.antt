@@ -19,11 +19,12 @@ use Rattle.serving.specs.Served.{IsDue as ActIsDue, AreDue, with_sent}
 use Rattle.conn_log.specs.declared.earlier.Earlier.{Earlier}
 use Rattle.conn_log.specs.Entries.{Entry, items, said, asks, agreed, is_over, made_of, asked, left_behind}
 use Rattle.conn_log.specs.Entries.Entry.{Of}
-use Rattle.conn_log.specs.Due.{IsSide, HasCome, IsThere, HasGiven, IsDue, AllDue}
+use Rattle.conn_log.specs.Due.{HasCome, IsThere, HasGiven, IsDue, AllDue, was_reset}
+use Rattle.conn_log.specs.Held.{IsSide}
 use Rattle.conn_log.specs.Routes.{IsNoOpening, EndsLast, Around}
 use Rattle.conn_log.proofs.Same.{Same, same_refl, same_trans, same_by_act, IsOn, side_same}
 use Rattle.conn_log.proofs.Around.{grown}
-use Rattle.conn_log.proofs.Views.{done_by, does_is, moves_on, came_front}
+use Rattle.conn_log.proofs.Views.{done_by, does_is, moves_on, came_front, none_behind}
 
 -- entries for these acts
 abbrev pub did : {H : Type 0} → List Act → List (Entry H)
@@ -126,6 +127,28 @@ module _ {P H : Type 0} (step : H → HandlerCall → H → Type 0) (fails : H �
   did_left log n [] on m = refl
   did_left log n (act ∷ acts) on m = by_act act on.0 ∙ did_left log n acts on.1 m where
     by_act : (act : Act) → IsOn n act → left_behind role (did (act ∷ acts) ++ log) m ≡ left_behind role (did acts ++ log) m
+    by_act (Write k pieces) on = refl
+    by_act (Taken k count) on = refl
+    by_act (Close k) on = refl
+    by_act (Reset k) on = refl
+    by_act (Start k) on = absurd on
+    by_act (Act.GoAway code) on = absurd on
+
+  did_resets : (log : List (Entry H)) (n : ℕ) (acts : List Act) → AllOn n acts → (m : ℕ) → was_reset role (items (did acts ++ log)) m ≡ was_reset role (items log) m
+  did_resets log n [] on m = refl
+  did_resets log n (act ∷ acts) on m = by_act act on.0 ∙ did_resets log n acts on.1 m where
+    by_act : (act : Act) → IsOn n act → was_reset role (items (did (act ∷ acts) ++ log)) m ≡ was_reset role (items (did acts ++ log)) m
+    by_act (Write k pieces) on = refl
+    by_act (Taken k count) on = refl
+    by_act (Close k) on = refl
+    by_act (Reset k) on = refl
+    by_act (Start k) on = absurd on
+    by_act (Act.GoAway code) on = absurd on
+
+  did_over : (log : List (Entry H)) (n : ℕ) (acts : List Act) → AllOn n acts → (m : ℕ) → is_over role (did acts ++ log) m ≡ is_over role log m
+  did_over log n [] on m = refl
+  did_over log n (act ∷ acts) on m = by_act act on.0 ∙ did_over log n acts on.1 m where
+    by_act : (act : Act) → IsOn n act → is_over role (did (act ∷ acts) ++ log) m ≡ is_over role (did acts ++ log) m
     by_act (Write k pieces) on = refl
     by_act (Taken k count) on = refl
     by_act (Close k) on = refl
@@ -253,24 +276,6 @@ module _ {P H : Type 0} (step : H → HandlerCall → H → Type 0) (fails : H �
     kept (Told.GoAway code) e = is
     kept (Told.Fault fault) e = is
 
-  pub none_behind : (n : ℕ) (view : Seen) (rest : List Told) → AllByRecursion (IsNoOpening n) rest → EndsLast true rest → (all_heard n view rest).came ≡ view.came
-  none_behind n view [] none last = refl
-  none_behind n view (Told.Opened m ∷ rest) none last =
-      none_behind n (hears n view (Told.Opened m)) rest none.1 last ∙ ap (λ b. (cond b just_opened view).came) none.0
-  none_behind n view (Told.Payload m b ∷ rest) none last = absurd (let e = last.0 in cc e)
-  none_behind n view (Told.Ended m ∷ rest) none last = none_behind n (hears n view (Told.Ended m)) rest none.1 last.1 ∙ by_test (m == n) where
-    by_test : (b : Bool) → (cond b (record view { ended = true; live = view.live && not view.closed }) view).came ≡ view.came
-    by_test true = refl
-    by_test false = refl
-  none_behind n view (Told.Reset m ∷ rest) none last = none_behind n (hears n view (Told.Reset m)) rest none.1 last ∙ by_test (m == n) where
-    by_test : (b : Bool) → (cond b (record view { live = false }) view).came ≡ view.came
-    by_test true = refl
-    by_test false = refl
-  none_behind n view (Told.Accepted m ∷ rest) none last = none_behind n view rest none.1 last
-  none_behind n view (Told.Credit m ∷ rest) none last = none_behind n view rest none.1 last
-  none_behind n view (Told.GoAway code ∷ rest) none last = none_behind n view rest none.1 last
-  none_behind n view (Told.Fault fault ∷ rest) none last = none_behind n view rest none.1 last
-
   pub not_yet : {b : Bool} → b ≡ false → b ≡ true → ⊥
   not_yet off on = absurd (let e : true ≡ false = sym on ∙ off in cc e)
 
@@ -315,3 +320,4 @@ module _ {P H : Type 0} (step : H → HandlerCall → H → Type 0) (fails : H �
       (did_due log n so_far acts c due a.due) (λ m apart. did_same log n m acts apart on)
       (subst (λ (t : List Item). SessionStands role t fed sent after) (sym (items_did acts log)) there) elsewhere
       (did_heard log n view rest acts on a.opens_none a.heard) (view_ended n acts view on) (did_left log n acts on)
+      (did_resets log n acts on) (λ m over. did_over log n acts on m ∙ over)

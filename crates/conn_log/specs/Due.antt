@@ -1,48 +1,46 @@
 -- Why each entry of a connection's list stands where it does: what came to a stream, and what was told and done then.
 -- Source: multistream-select 1.0, "Protocol Negotiation"; libp2p connections, "Opening new streams over a connection";
 -- hashicorp yamux, "Flow Control" and "Flag Field"; what a connection tells is this project's profile.
-use Rattle.std.specs.Prelude.{◌≡◌, ◌≢◌, ◌⊎◌, ℕ, ◌<◌, ◌-◌, Bool, true, false, if◌then◌else◌, Some, None}
-use Rattle.std.specs.Prelude.{List, [], ◌∷◌, ◌++◌, length, slice_get}
+use Rattle.std.specs.Prelude.{◌≡◌, ◌≢◌, ◌⊎◌, ℕ, ◌<◌, ◌-◌, ◌==◌, ◌||◌, Bool, true, false, if◌then◌else◌, None}
+use Rattle.std.specs.Prelude.{Some, List, [], ◌∷◌, ◌++◌, length}
 use Rattle.handlers.specs.Calls.{HandlerCall, Asked, ToTake, ToGive, ToEnd}
 use Rattle.ms_select.specs.declared.fault.SelectFault.TheVariants as select_faults
-use Rattle.talks.specs.Talks.{Side, Asks as AsksFor, Answers, IsOpen, Agrees, IsTurnedDown, Faults}
+use Rattle.talks.specs.Talks.{Side, IsOpen, Agrees, IsTurnedDown, Faults}
 use Rattle.yamux_session.specs.declared.event.Role.{Role}
 use Rattle.yamux_session.specs.History.{Item, Act, is_own}
 use Rattle.yamux_session.specs.History.Item.{Came, Did}
 use Rattle.yamux_session.specs.History.Act.{Start, Write, Taken, Close, Reset}
-use Rattle.yamux_session.specs.Openings.{closed, finished}
+use Rattle.yamux_session.specs.Openings.{opens, closed, finished}
 use Rattle.yamux_session.specs.Windows.{credit, untaken}
-use Rattle.yamux_session.specs.Events.{Told, events}
-use Rattle.yamux_session.specs.Received.{AreSinceOpening}
+use Rattle.yamux_session.specs.Events.{Told, events_at}
 use Rattle.yamux_session.specs.Data.{inbound, written}
 use Rattle.streams.specs.declared.stop.Cause.{Cause}
 use Rattle.streams.specs.declared.stop.Cause.TheVariants as causes
 use Rattle.streams.specs.Streams.{Past, IsServed}
-use Rattle.streams.specs.State.{Streaming, Stands, handler_of, has_closed}
+use Rattle.streams.specs.State.{Streaming, Stands, handler_of, has_closed, has_finished}
 use Rattle.dispatch.specs.declared.direction.Direction.{Direction}
 use Rattle.dispatch.specs.declared.direction.Direction.TheVariants.{Inbound, Outbound}
 use Rattle.dispatch.specs.Dispatch.{made_by}
 use Rattle.conn_log.specs.declared.event.ConnEvent.TheVariants as event
-use Rattle.conn_log.specs.Entries.{Entry, items, agreed, is_over, made_of, asked}
+use Rattle.conn_log.specs.Entries.{Entry, items, agreed, is_over, made_of}
 use Rattle.conn_log.specs.Entries.Entry.{Of, Says, Made, Asks}
+use Rattle.conn_log.specs.Held.{IsSide, IsHeld}
 
 -- this end opened the streams that have its numbers
 abbrev pub direction_of : Role → ℕ → Direction
 direction_of role n = if is_own role n then Outbound else Inbound
 
--- who opens a stream asks for the one name that was asked for; the other end answers with all of its names
-abbrev pub IsSide : {H : Type 0} → Role → List (List ℕ) → List (Entry H) → ℕ → Side → Type 0
-IsSide role names log n (AsksFor name index) =
-    (is_own role n ≡ true) × (asked log n ≡ Some index) × (slice_get names index ≡ Some name)
-IsSide role names log n (Answers known) = (is_own role n ≡ false) × (known ≡ names)
+-- whether one of these events tells that the other end has reset the stream
+abbrev pub told_reset : ℕ → List Told → Bool
+told_reset n [] = false
+told_reset n (Told.Reset m ∷ told) = m == n || told_reset n told
+told_reset n (other ∷ told) = told_reset n told
 
--- The other end's reset of the stream was told since the opening.
-pub record WasReset (role : Role) (past : List Item) (n : ℕ) : Type 0 where
-  pub told : List Told
-  pub since_opening : AreSinceOpening n (events role past) told
-  pub before : List Told
-  pub after : List Told
-  pub told_is : told ≡ before ++ Told.Reset n ∷ after
+-- the other end has reset the stream since its opening
+abbrev pub was_reset : Role → List Item → ℕ → Bool
+was_reset role [] n = false
+was_reset role (x ∷ past) n =
+    if opens role past x n then false else told_reset n (events_at role past x) || was_reset role past n
 
 -- the newest entry gives the stream up, and the other end didn't reset it
 abbrev pub IsGivenUp : {H : Type 0} → ℕ → List (Entry H) → Type 0
@@ -104,12 +102,19 @@ module _ {P H : Type 0} (step : H → HandlerCall → H → Type 0) (fails : H �
     pub asked_for : IsAskedFor log n there.so_far there.stream.waiting request
     pub fails_by : fails handler request number
 
-  -- why a stream is given up
+  -- A stream stands by all of its data: its talk and its handler were handed what came, and what they led to was told.
+  pub record HasHeard (log : List (Entry H)) (n : ℕ) : Type 0 where
+    pub ended : Bool
+    pub stream : Streaming H
+    pub held : IsHeld step is_closed is_finished names role log n (inbound role (items log) n) ended stream
+    pub unfinished : has_finished is_finished stream.stage ≡ false
+
+  -- why a stream is given up; one that was reset stood by all that came before
   abbrev pub IsBroken : List (Entry H) → ℕ → Cause → Type 0
   IsBroken log n (causes.Select fault) = (fault ≢ select_faults.OutOfMemory) × (agreed role log n ≡ None)
       × ComesTo log n (λ side first output. Faults side first fault output)
   IsBroken log n (causes.Handler fault) = HandlerFails log n fault.number
-  IsBroken log n causes.Reset = WasReset role (items log) n
+  IsBroken log n causes.Reset = (was_reset role (items log) n ≡ true) × HasHeard log n
   IsBroken log n causes.Ended = (finished role (items log) n ≡ true) × (agreed role log n ≡ None)
       × ComesTo log n (λ side first output. (first ≡ inbound role (items log) n) × IsOpen side first output)
 
@@ -137,7 +142,9 @@ module _ {P H : Type 0} (step : H → HandlerCall → H → Type 0) (fails : H �
   MayBeMade log n handler = ⊥
 
   abbrev pub IsDue : List (Entry H) → Entry H → Type 0
-  IsDue log (Of (Came arrival)) = Unit {0}
+  -- a number is opened anew only where its stream's reset, if there was one, was told
+  IsDue log (Of (Came arrival)) = (n : ℕ) → opens role (items log) (Came arrival) n ≡ true
+      → was_reset role (items log) n ≡ true → is_over role log n ≡ true
   -- a stream is opened only where one was asked for
   IsDue log (Of (Did (Start n))) = ⊥
   -- what is written is what the stream gave

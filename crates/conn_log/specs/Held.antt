@@ -1,17 +1,25 @@
 -- What holds of a stream that a connection holds.
 -- Source: libp2p connections, "Opening new streams over a connection"; what a connection tells is this project's
 -- profile.
-use Rattle.std.specs.Prelude.{◌≡◌, ◌≢◌, ℕ, suc, ◌==◌, Bool, true, false, if◌then◌else◌, List, [], ◌∷◌, ◌++◌, None}
+use Rattle.std.specs.Prelude.{◌≡◌, ◌≢◌, ℕ, suc, ◌==◌, Bool, true, false, if◌then◌else◌, List, [], ◌∷◌, ◌++◌, Some, None}
+use Rattle.std.specs.Prelude.{slice_get}
 use Rattle.handlers.specs.Calls.{HandlerCall}
+use Rattle.talks.specs.Talks.{Side, Asks, Answers}
 use Rattle.yamux_session.specs.declared.event.Role.{Role}
+use Rattle.yamux_session.specs.History.{is_own}
 use Rattle.yamux_session.specs.Openings.{is_live, finished}
 use Rattle.yamux_session.specs.Data.{inbound, written}
 use Rattle.streams.specs.Streams.{Past}
 use Rattle.streams.specs.State.{Streaming, Stands, is_talking, awaits_handler, has_finished, was_handed_out}
 use Rattle.serving.specs.Served.{IsSettled}
-use Rattle.conn_log.specs.Entries.{Entry, items, agreed, is_over, made_of, is_kept, left_behind}
+use Rattle.conn_log.specs.Entries.{Entry, items, agreed, is_over, made_of, asked, is_kept, left_behind}
 use Rattle.conn_log.specs.declared.earlier.Earlier.{Earlier}
-use Rattle.conn_log.specs.Due.{IsSide}
+
+-- who opens a stream asks for the one name that was asked for; the other end answers with all of its names
+abbrev pub IsSide : {H : Type 0} → Role → List (List ℕ) → List (Entry H) → ℕ → Side → Type 0
+IsSide role names log n (Asks name index) =
+    (is_own role n ≡ true) × (asked log n ≡ Some index) × (slice_get names index ≡ Some name)
+IsSide role names log n (Answers known) = (is_own role n ≡ false) × (known ≡ names)
 
 -- those of a number, among streams of earlier openings
 abbrev pub earlier_of : {H : Type 0} → ℕ → List (Earlier H) → List (Streaming H)

@@ -10,7 +10,7 @@ use Rattle.streams.specs.State.{Streaming}
 use Rattle.conn_log.specs.declared.earlier.Earlier.{Earlier}
 use Rattle.conn_log.specs.declared.event.ConnEvent.{ConnEvent}
 use Rattle.conn_log.specs.Entries.{Entry, items, said, asks, is_over, made_of}
-use Rattle.conn_log.specs.Due.{AllDue}
+use Rattle.conn_log.specs.Due.{AllDue, was_reset}
 use Rattle.conn_log.specs.Held.{IsAtRest, AreLeft, earlier_of}
 
 module _ {P H : Type 0} (step : H → HandlerCall → H → Type 0) (fails : H → Asked → ℕ → Type 0)
@@ -27,7 +27,9 @@ module _ {P H : Type 0} (step : H → HandlerCall → H → Type 0) (fails : H �
     pub live_held : (n : ℕ) → is_live role (items log) n ≡ true → IsSome (streams n)
     -- and each handler that was made, until the last event of its stream
     pub made_held : (n : ℕ) → made_of role log n ≢ None → is_over role log n ≡ false → IsSome (streams n)
-    -- and those of earlier openings whose handlers were never finished: they are where their ends left them
+    -- of each stream that the other end has reset the last event was told
+    pub resets_told : (n : ℕ) → was_reset role (items log) n ≡ true → is_over role log n ≡ true
+    -- those of earlier openings whose handlers were never finished are where their ends left them
     pub earlier : (n : ℕ) → AreLeft step is_closed is_finished names role log n 0 (earlier_of n past)
 
   -- The list has grown by entries that say what was told, these bytes came, and all is at rest again.

@@ -24,7 +24,7 @@ use Rattle.routing.specs.declared.delivered.Outcome.TheVariants.{Going, Done, Re
 use Rattle.conn_log.specs.declared.event.ConnEvent.TheVariants as event
 use Rattle.conn_log.specs.Entries.{Entry, items, said, asks, since, is_over, made_of}
 use Rattle.conn_log.specs.Entries.Entry.{Says}
-use Rattle.conn_log.specs.Due.{AllDue, WasReset}
+use Rattle.conn_log.specs.Due.{AllDue, told_reset, was_reset}
 use Rattle.conn_log.specs.Held.{IsHeld, IsAtRest, AreLeft, earlier_of}
 
 -- it asks nothing of the stream
@@ -39,11 +39,12 @@ abbrev pub IsNoOpening : ℕ → Told → Type 0
 IsNoOpening n (Told.Opened m) = (m == n) ≡ false
 IsNoOpening n other = Unit {0}
 
--- the end is told once, and no data behind it
+-- the end is told once, and neither data nor the end behind it or behind a reset
 abbrev pub EndsLast : Bool → List Told → Type 0
 EndsLast ended [] = Unit {0}
 EndsLast ended (Told.Payload m b ∷ rest) = (ended ≡ false) × EndsLast ended rest
 EndsLast ended (Told.Ended m ∷ rest) = (ended ≡ false) × EndsLast true rest
+EndsLast ended (Told.Reset m ∷ rest) = EndsLast true rest
 EndsLast ended (other ∷ rest) = EndsLast ended rest
 
 -- what is put aside of a stream whose number is opened anew: it is kept, unless its handler was handed out
@@ -56,16 +57,16 @@ abbrev pub Resets : Role → List Item → List ℕ → List ℕ → ℕ → Sta
 Resets role past fed sent n old session = SessionStands role (Did (Reset n) ∷ past) fed sent session
     ⊎ ((session ≡ old) × (is_live role past n ≡ false))
 
--- an event of the session's that is about this stream, or about none; a reset was told since its opening
-abbrev pub IsFor : Role → List Item → ℕ → Event → Type 0
-IsFor role past n (heard.Opened m) = m ≡ n
-IsFor role past n (heard.Accepted m) = m ≡ n
-IsFor role past n (heard.Payload m bytes) = (m ≡ n) × (bytes ≢ [])
-IsFor role past n (heard.Ended m) = m ≡ n
-IsFor role past n (heard.Reset m) = (m ≡ n) × WasReset role past n
-IsFor role past n (heard.Credit m) = m ≡ n
-IsFor role past n (heard.GoAway code) = Unit {0}
-IsFor role past n (heard.Fault fault) = Unit {0}
+-- an event of the session's that is about this stream, or about none, and isn't empty
+abbrev pub IsFor : ℕ → Event → Type 0
+IsFor n (heard.Opened m) = m ≡ n
+IsFor n (heard.Accepted m) = m ≡ n
+IsFor n (heard.Payload m bytes) = (m ≡ n) × (bytes ≢ [])
+IsFor n (heard.Ended m) = m ≡ n
+IsFor n (heard.Reset m) = m ≡ n
+IsFor n (heard.Credit m) = m ≡ n
+IsFor n (heard.GoAway code) = Unit {0}
+IsFor n (heard.Fault fault) = Unit {0}
 
 module _ {P H : Type 0} (step : H → HandlerCall → H → Type 0) (fails : H → Asked → ℕ → Type 0)
     (is_closed is_finished : H → Bool) (inbound_makes outbound_makes : P → ℕ → List ℕ → H → Type 0)
@@ -90,6 +91,10 @@ module _ {P H : Type 0} (step : H → HandlerCall → H → Type 0) (fails : H �
     -- a handler that was made is held until the last event of its stream
     pub others_kept : (m : ℕ) → (n == m) ≡ false → made_of role log m ≢ None → is_over role log m ≡ false
         → IsSome (streams m)
+    -- of each stream that was reset the last event was told, or its reset is still to be routed
+    pub resets_told : (m : ℕ) → was_reset role (items log) m ≡ true
+        → (is_over role log m ≡ true) ⊎ (told_reset m rest ≡ true)
+    pub reset_came : told_reset n rest ≡ true → was_reset role (items log) n ≡ true
     pub heard : AgreesOn (seen role (items log) n) (all_heard n view rest)
     pub opens_none : AllByRecursion (IsNoOpening n) rest
     pub ends_last : EndsLast view.ended rest
@@ -102,6 +107,7 @@ module _ {P H : Type 0} (step : H → HandlerCall → H → Type 0) (fails : H �
     pub own : IfSome (streams n) (λ it. IsMoving log n view rest it)
     pub own_held : view.live ≡ true → IsSome (streams n)
     pub own_kept : made_of role log n ≢ None → is_over role log n ≡ false → IsSome (streams n)
+    pub own_to_reset : told_reset n rest ≡ true → is_over role log n ≡ false → IsSome (streams n)
 
   -- Where the streams stand once the one that is named was served, and it came to this.
   abbrev pub Comes : List (Entry H) → List ℕ → List ℕ → State → (ℕ → Option (Streaming H)) → List (Earlier H) → ℕ → Seen

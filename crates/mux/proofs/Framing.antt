@@ -1,5 +1,5 @@
 -- What one frame comes to.
-use Rattle.std.proofs.Common.{◌≡◌, ℕ, Bool, true, false, List, [], ◌∷◌, ◌++◌, map, length, take, ◌≤◌, Option, refl, sym, ap, ◌∙◌, subst, arith}
+use Rattle.std.proofs.Common.{◌≡◌, ℕ, Bool, true, false, List, [], ◌∷◌, ◌++◌, map, take, Option, refl, sym, ap, ◌∙◌, subst, arith}
 use Rattle.std.specs.List.{AllByRecursion}
 use Rattle.std.proofs.lemmas.List.{append_assoc, append-nil, length-append, take-append-le}
 use Rattle.handlers.specs.Calls.{HandlerCall, Asked}
@@ -21,7 +21,7 @@ use Rattle.conn_log.specs.declared.event.ConnEvent.{ConnEvent}
 use Rattle.conn_log.specs.Entries.{Entry, items, said}
 use Rattle.conn_log.specs.Rests.{AreAtRest, Grows}
 use Rattle.conn_log.specs.Routes.{IsFor, Awaits}
-use Rattle.conn_log.proofs.Arriving.{arrived, items_arrived, said_arrived, asks_arrived}
+use Rattle.conn_log.proofs.Arriving.{arrived, said_arrived, asks_arrived}
 use Rattle.conn_log.proofs.Settling.{said_append, none_asked}
 use Rattle.conn_log.proofs.Facing.{SessionLaws, faced}
 use Rattle.mux.specs.Faults.{Faults}
@@ -33,7 +33,7 @@ module _ {P H : Type 0} (step : H → HandlerCall → H → Type 0) (fails : H �
   pub record Framed (log : List (Entry H)) (fed bytes sent : List ℕ) (session : State) (streams : ℕ → Option (Streaming H)) (past : List (Earlier H)) (told : List Event) : Type 0 where
     pub came : List Arrival
     pub stream : ℕ
-    pub all_for : AllByRecursion (IsFor role (items (arrived came ++ log)) stream) told
+    pub all_for : AllByRecursion (IsFor stream) told
     pub awaits : Awaits step fails is_closed is_finished inbound_makes outbound_makes eager names peer role (arrived came ++ log) (fed ++ bytes) sent session streams past stream (tellings told)
 
   module _ (log : List (Entry H)) (fed bytes sent : List ℕ) (before session : State) (streams : ℕ → Option (Streaming H)) (past : List (Earlier H))

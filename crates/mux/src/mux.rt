@@ -20,9 +20,7 @@ use handlers::Protocols;
 use peer_ids::PeerId;
 use std::alloc::{AllocError, Global};
 use std::collections::BTreeMap;
-use yamux_session::laws::{
-    credit_is_told, ends_are_last, events_tell, openings_are_told, received_data,
-};
+use yamux_session::laws::{credit_is_told, ends_are_last, events_tell, openings_are_told};
 use yamux_session::{Role, Session};
 
 /// The session of a connection that is up, with its streams.
@@ -94,7 +92,6 @@ impl<P: Protocols> Mux<P> {
         credit_is_told();
         openings_are_told();
         ends_are_last();
-        received_data();
         let mut events = Vec::new(self.alloc);
         let Ok(used) = self.session.feed_frame(piece, at, &mut events) else {
             return Err(AllocError);

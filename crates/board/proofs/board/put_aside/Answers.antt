@@ -1,4 +1,4 @@
-use Rattle.std.proofs.Common.{None, inl, inr, refl, sym}
+use Rattle.std.proofs.Common.{None}
 use Rattle.std.specs.Ordering.{nat_cmp}
 use Rattle.std.specs.BTreeMap as tree
 use Rattle.board.proofs.Tables.{elsewhere}

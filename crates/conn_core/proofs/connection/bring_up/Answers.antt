@@ -9,6 +9,7 @@ use Rattle.conn_log.specs.declared.event.ConnEvent.{ConnEvent}
 use Rattle.conn_log.specs.declared.event.ConnEvent.TheVariants as event
 use Rattle.conn_core.specs.Connects.{told_of}
 use Rattle.conn_core.proofs.Coming.{just_up, upgrade_failed}
+use Rattle.conn_core.proofs.Waiting.{on_err, grows_on}
 use Rattle.conn_core.proofs.connection.bring_up.Goals as goal
 
 pub returns-in-Ok-Up-clause-goes : goal.returns-in-Ok-Up-clause-goes
@@ -53,3 +54,8 @@ returns-in-Ok-clause-goes g c = λ own eager names input taken coming none_waits
           why it.0 (input ++ piece) (taken ++ c.last_output-in-Err.result.items) c.fail.new.told.items it.1
           (subst (λ (t : List ℕ). Upgrades role own (input ++ piece) (Err why) t) written upgraded) told_is,
     )
+
+pub returns-in-Ok-Up-clause-waits : goal.returns-in-Ok-Up-clause-waits
+returns-in-Ok-Up-clause-waits g c = on_err c.come_up.result
+    (λ later. grows_on c.args.upgrade.pending c.feed.new.self.pending c.last_output.result.items c.come_up.new.output.items c.feed.ensures.grows c.last_output.ensures.output later)
+    c.come_up.ensures.waits

@@ -4,6 +4,7 @@ use Rattle.std.proofs.lemmas.List.{append_assoc, take-append-drop, take_all, len
 use Rattle.conn_log.specs.declared.event.ConnEvent.{ConnEvent}
 use Rattle.conn_log.specs.declared.event.ConnEvent.TheVariants as event
 use Rattle.conn_core.specs.Connects.{Connects, IsUpWith}
+use Rattle.conn_core.proofs.Waiting.{if_err, all_waits}
 use Rattle.conn_core.proofs.connection.come_up.Goals as goal
 
 pub returns-clause-goes : goal.returns-clause-goes
@@ -24,3 +25,6 @@ returns-clause-goes g c = λ role own eager names input taken upw none.
     subst (λ (t : List ℕ). IfOk c.go_on.result (λ phase. Connects H.steps H.fails H.is_closed H.is_finished makes.makes_inbound makes.makes_outbound makes.listed makes.is_eager eager names role own
     t false [] c.go_on.new.told.items taken phase [] c.go_on.new.output.items)) all
     (c.go_on.ensures.goes role own eager names first taken [] [] up)
+
+pub returns-in_err-tell-clause-waits : goal.returns-in_err-tell-clause-waits
+returns-in_err-tell-clause-waits g c = if_err c.from_residual.result (all_waits c.args.output.now.items)

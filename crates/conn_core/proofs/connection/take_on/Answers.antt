@@ -1,8 +1,9 @@
 use Rattle.std.proofs.Common.{◌≡◌, ℕ, false, List, [], ◌++◌, sym, subst}
-use Rattle.std.specs.Prelude.{IfOk}
+use Rattle.std.specs.Prelude.{IfOk, OnErr}
+use Rattle.upgrade.specs.Upgrades.{Grows}
 use Rattle.conn_log.specs.declared.event.ConnEvent.{ConnEvent}
 use Rattle.conn_core.specs.declared.connection.Phase.{Phase}
-use Rattle.conn_core.specs.Connects.{Connects, IsComing}
+use Rattle.conn_core.specs.Connects.{Connects, IsComing, waiting_in}
 use Rattle.conn_core.proofs.connection.take_on.Goals as goal
 
 pub returns-in-Upgrading-clause-goes : goal.returns-in-Upgrading-clause-goes
@@ -30,3 +31,6 @@ returns-in-Up-clause-goes g c = λ own eager names input taken asked before conn
     let it = subst (λ (x : Phase _ _). Connects H.steps H.fails H.is_closed H.is_finished makes.makes_inbound makes.makes_outbound makes.listed makes.is_eager eager names role own
     input false asked before taken x c.args.told.now.items c.args.output.now.items) c.in-Up.is connects in
     c.go_on.ensures.goes role own eager names input taken asked before it.1
+
+pub returns-in-Up-clause-waits : goal.returns-in-Up-clause-waits
+returns-in-Up-clause-waits g c = subst (λ (x : Phase _ _). OnErr c.go_on.result (Grows (waiting_in x c.args.output.now.items) c.go_on.new.output.items)) (sym c.in-Up.is) c.go_on.ensures.waits

@@ -1,4 +1,4 @@
-use Rattle.std.proofs.Common.{◌∷◌, Option}
+use Rattle.std.proofs.Common.{◌∷◌}
 use Rattle.std.specs.Ordering.{nat_cmp}
 use Rattle.std.specs.BTreeMap as tree
 use Rattle.yamux_session.specs.Events.{Told}
@@ -16,4 +16,4 @@ returns-clause-routes g c = λ log fed sent view rest r.
     c.args.told.now.items c.args.told.now.items fed sent c.args.session.now old board.past.items n rest view r in
     let it = held_of H.steps H.fails H.is_closed H.is_finished makes.makes_inbound makes.makes_outbound (makes.is_eager board.protocols) (makes.listed board.protocols) board.peer board.role log
     c.args.told.now.items c.args.told.now.items fed sent c.args.session.now old board.past.items n rest view (Told.Credit n ∷ rest) (old n) r.own in
-    c.serve.ensures.serves log fed sent view rest around it r.own_held r.own_kept
+    c.serve.ensures.serves log fed sent view rest around it r.own_held r.own_kept r.own_to_reset

@@ -1,4 +1,4 @@
-use Rattle.std.proofs.Common.{◌≡◌, ℕ, List, [], ◌∷◌, ◌++◌, Option, Some, None, IsSome, refl, sym, ap, ◌∙◌, subst}
+use Rattle.std.proofs.Common.{◌≡◌, ℕ, ◌∷◌, ◌++◌, Option, Some, IsSome, refl, sym, ap, ◌∙◌, subst}
 use Rattle.std.specs.Prelude.{IfSome}
 use Rattle.std.specs.Ordering.{nat_cmp}
 use Rattle.std.specs.BTreeMap as tree
@@ -6,7 +6,7 @@ use Rattle.yamux_session.specs.Events.{Told}
 use Rattle.streams.specs.State.{Streaming}
 use Rattle.conn_log.specs.Entries.{items}
 use Rattle.conn_log.specs.Routes.{IsMoving, Routed}
-use Rattle.conn_log.proofs.Ending.{ended_view, end_came, has_ended}
+use Rattle.conn_log.proofs.Ending.{end_came, has_ended}
 use Rattle.conn_log.proofs.Settling.{routed_on}
 use Rattle.board.proofs.Tables.{elsewhere, here}
 use Rattle.board.proofs.Telling.{on_ok, end_dropped}

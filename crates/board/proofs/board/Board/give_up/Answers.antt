@@ -1,7 +1,6 @@
 use Rattle.std.proofs.Common.{refl, None}
 use Rattle.std.specs.Ordering.{nat_cmp}
 use Rattle.std.specs.BTreeMap as tree
-use Rattle.yamux_session.specs.State.{Stands as SessionStands}
 use Rattle.conn_log.specs.Entries.{items}
 use Rattle.conn_log.proofs.Settling.{is_given_up}
 use Rattle.board.proofs.Tables.{elsewhere, here}

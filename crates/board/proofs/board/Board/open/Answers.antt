@@ -1,11 +1,9 @@
-use Rattle.std.proofs.Common.{◌≡◌, ◌⊎◌, inl, inr, ℕ, true, false, List, [], ◌∷◌, ◌++◌, map, Option, Some, None, IsSome, refl, sym, ap, ◌∙◌, subst}
+use Rattle.std.proofs.Common.{◌≡◌, true, false, Option, Some, IsSome, refl, sym, ◌∙◌, subst}
 use Rattle.std.specs.Prelude.{IfSome}
-use Rattle.std.specs.List.{AllByRecursion}
 use Rattle.std.specs.Ordering.{nat_cmp}
 use Rattle.std.specs.BTreeMap as tree
 use Rattle.yamux_session.specs.Seen.{just_opened}
 use Rattle.streams.specs.State.{Streaming}
-use Rattle.conn_log.specs.declared.earlier.Earlier.{Earlier}
 use Rattle.conn_log.specs.Held.{IsHeld}
 use Rattle.conn_log.proofs.Opening.{put_aside, is_fresh}
 use Rattle.board.proofs.Tables.{elsewhere, here}
@@ -33,3 +31,4 @@ returns-clause-routes g c = λ log fed sent rest a none theirs.
     × (just_opened.live ≡ false → just_opened.ended ≡ true))) (sym placed) (fresh_one, λ off. absurd (cc off)))
     (λ live. subst (λ (t : Option (Streaming _)). IsSome t) (sym placed) refl)
     (λ made going. subst (λ (t : Option (Streaming _)). IsSome t) (sym placed) refl)
+    (λ reset going. subst (λ (t : Option (Streaming _)). IsSome t) (sym placed) refl)

@@ -1,4 +1,4 @@
-use Rattle.std.proofs.Common.{◌≡◌, ℕ, List, [], ◌∷◌, Option, Some, None, refl, sym, ◌∙◌, subst}
+use Rattle.std.proofs.Common.{◌≡◌, Bool, true, false, ◌||◌, ◌∷◌, Option, None, refl, sym, ap, ◌∙◌, subst}
 use Rattle.std.specs.Prelude.{IfSome}
 use Rattle.std.specs.Ordering.{nat_cmp}
 use Rattle.std.specs.BTreeMap as tree
@@ -6,15 +6,20 @@ use Rattle.yamux_session.specs.Events.{Told}
 use Rattle.streams.specs.declared.stop.Cause.TheVariants as causes
 use Rattle.streams.specs.State.{Streaming}
 use Rattle.conn_log.specs.declared.event.ConnEvent.TheVariants as event
+use Rattle.conn_log.specs.Due.{told_reset}
 use Rattle.conn_log.specs.Routes.{IsMoving}
-use Rattle.conn_log.proofs.Views.{gone}
+use Rattle.conn_log.proofs.Views.{same, gone}
 use Rattle.conn_log.proofs.Resetting.{forgotten, was_broken}
-use Rattle.board.proofs.Tables.{elsewhere, here, not_some, not_both}
+use Rattle.board.proofs.Tables.{elsewhere, here, not_some}
 use Rattle.board.proofs.Telling.{on_ok, told_none, told_at}
 use Rattle.board.proofs.board.Board.reset.Goals as goal
 
+over_by : (b : Bool) → (b ≡ false → ⊥) → b ≡ true
+over_by true f = refl
+over_by false f = absurd (f refl)
+
 pub returns-in_default-clause-routes : goal.returns-in_default-clause-routes
-returns-in_default-clause-routes g c = λ log fed sent session view rest r reset.
+returns-in_default-clause-routes g c = λ log fed sent session view rest r.
     let H = g.P.H.Handler in
     let makes = g.P.Protocols in
     let board = c.args.self.now in
@@ -23,11 +28,12 @@ returns-in_default-clause-routes g c = λ log fed sent session view rest r reset
     told_none H.steps H.fails H.is_closed H.is_finished makes.makes_inbound makes.makes_outbound (makes.is_eager board.protocols) (makes.listed board.protocols) board.peer board.role log
     c.args.told.now.items c.args.told.now.items fed sent session _ board.past.items n rest (gone view) refl
     (forgotten H.steps H.fails H.is_closed H.is_finished makes.makes_inbound makes.makes_outbound (makes.is_eager board.protocols) (makes.listed board.protocols) board.peer board.role log
-    fed sent session old _ board.past.items n view rest r.around (elsewhere old _ n None c.remove.ensures.updates.0) (here old _ n None c.remove.ensures.updates.0)
-    (λ made going. not_some (old n) (r.own_kept made going) (sym c.in_default.ensures.value)))
+    fed sent session old _ board.past.items n view rest r.around
+    (over_by _ (λ going. not_some (old n) (r.own_to_reset (ap (λ b. b || told_reset n rest) (same n)) going) (sym c.in_default.ensures.value)))
+    (elsewhere old _ n None c.remove.ensures.updates.0) (here old _ n None c.remove.ensures.updates.0))
 
 pub returns-then-was_handed_out-clause-routes : goal.returns-then-was_handed_out-clause-routes
-returns-then-was_handed_out-clause-routes g c = λ log fed sent session view rest r reset.
+returns-then-was_handed_out-clause-routes g c = λ log fed sent session view rest r.
     let H = g.P.H.Handler in
     let makes = g.P.Protocols in
     let board = c.args.self.now in
@@ -38,11 +44,11 @@ returns-then-was_handed_out-clause-routes g c = λ log fed sent session view res
     told_none H.steps H.fails H.is_closed H.is_finished makes.makes_inbound makes.makes_outbound (makes.is_eager board.protocols) (makes.listed board.protocols) board.peer board.role log
     c.args.told.now.items c.args.told.now.items fed sent session _ board.past.items n rest (gone view) refl
     (forgotten H.steps H.fails H.is_closed H.is_finished makes.makes_inbound makes.makes_outbound (makes.is_eager board.protocols) (makes.listed board.protocols) board.peer board.role log
-    fed sent session old _ board.past.items n view rest r.around (elsewhere old _ n None c.remove.ensures.updates.0) (here old _ n None c.remove.ensures.updates.0)
-    (λ made going. not_both (sym c.was_handed_out.ensures ∙ c.if-was_handed_out.true) (sym moving.held.over ∙ going)))
+    fed sent session old _ board.past.items n view rest r.around (moving.held.over ∙ sym c.was_handed_out.ensures ∙ c.if-was_handed_out.true)
+    (elsewhere old _ n None c.remove.ensures.updates.0) (here old _ n None c.remove.ensures.updates.0))
 
 pub returns-clause-routes : goal.returns-clause-routes
-returns-clause-routes g c = λ log fed sent session view rest r reset.
+returns-clause-routes g c = λ log fed sent session view rest r.
     let H = g.P.H.Handler in
     let makes = g.P.Protocols in
     let board = c.args.self.now in
@@ -55,5 +61,5 @@ returns-clause-routes g c = λ log fed sent session view rest r reset.
     c.args.told.now.items c.tell.new.told.items fed sent session _ board.past.items n rest (gone view) (event.Broken n causes.Reset) is
     (was_broken H.steps H.fails H.is_closed H.is_finished makes.makes_inbound makes.makes_outbound (makes.is_eager board.protocols) (makes.listed board.protocols) board.peer board.role log
     fed sent session old _ board.past.items n view rest r.around (elsewhere old _ n None c.remove.ensures.updates.0) (here old _ n None c.remove.ensures.updates.0)
-    c.in-Some.stream moving (sym c.was_handed_out.ensures ∙ c.if-was_handed_out.false) reset))
+    c.in-Some.stream moving (sym c.was_handed_out.ensures ∙ c.if-was_handed_out.false)))
     c.tell.ensures

@@ -1,17 +1,12 @@
-use Rattle.std.proofs.Common.{◌≡◌, ℕ, suc, ◌+◌, List, [], ◌∷◌, ◌++◌, drop, refl, sym, ap, ◌∙◌, subst, arith, add-one}
+use Rattle.std.proofs.Common.{◌≡◌, suc, ◌+◌, List, [], ◌∷◌, ◌++◌, drop, refl, sym, ap, ◌∙◌, subst, arith, add-one}
 use Rattle.std.proofs.Math.Seq.{drop-cons}
 use Rattle.std.proofs.lemmas.List.{drop_all}
 use Rattle.yamux_session.specs.declared.event.Event.{Event}
-use Rattle.std.specs.List.{AllByRecursion}
 use Rattle.std.specs.Ordering.{nat_cmp}
 use Rattle.std.specs.BTreeMap as tree
 use Rattle.yamux_session.specs.Arrives.{telling, tellings}
-use Rattle.yamux_session.specs.Events.{Told}
-use Rattle.conn_log.specs.Entries.{Entry, items}
 use Rattle.conn_log.specs.Routes.{IsFor, Awaits, Routed, IsUnderWay}
-use Rattle.conn_log.specs.Rests.{Grows}
-use Rattle.conn_log.proofs.Rested.{begun, went_on, all_routed, all_for_still}
-use Rattle.board.specs.Boards.{Keeps}
+use Rattle.conn_log.proofs.Rested.{begun, went_on, all_routed}
 use Rattle.board.proofs.Stepping.{keeps_all, keeps_on, kept_on, all_head}
 use Rattle.board.proofs.board.Board.route.Goals as goal
 
@@ -46,12 +41,11 @@ loop-event-preserved g c =
       under_way = λ log fed sent n all awaits.
           let u = c.loop-event.invariant.under_way log fed sent n all awaits in
           let so_far = u.newer ++ log in
-          let for_it : IsFor board.role (items so_far) n event =
-          all_head (IsFor board.role (items so_far) n) events i event (drop (i + 1) events) left (all_for_still board.role (items log) (items so_far) n events u.untold all) in
+          let for_it : IsFor n event = all_head (IsFor n) events i event (drop (i + 1) events) left all in
           let waits = subst (λ (t : List Event). Awaits H.steps H.fails H.is_closed H.is_finished makes.makes_inbound makes.makes_outbound (makes.is_eager board.protocols)
           (makes.listed board.protocols) board.peer board.role so_far fed sent c.loop-event.session (tree.get nat_cmp c.loop-event.self.streams) c.loop-event.self.past.items n (tellings t)) left u.awaits in
           let routes = kept_on makes.listed makes.is_eager board c.loop-event.self c.loop-event.invariant.keeps
-          (λ eager names peer role. IsFor role (items so_far) n event
+          (λ eager names peer role. IsFor n event
           → Awaits H.steps H.fails H.is_closed H.is_finished makes.makes_inbound makes.makes_outbound eager names peer role so_far fed sent
           c.loop-event.session (tree.get nat_cmp c.loop-event.self.streams) c.loop-event.self.past.items n (telling event ++ tellings (drop (i + 1) events))
           → Routed H.steps H.fails H.is_closed H.is_finished makes.makes_inbound makes.makes_outbound eager names peer role so_far c.loop-event.told.items c.route_event.new.told.items fed sent

@@ -3,7 +3,7 @@ use Rattle.std.specs.List.{AllByRecursion}
 use Rattle.std.specs.Ordering.{nat_cmp}
 use Rattle.std.specs.BTreeMap as tree
 use Rattle.yamux_session.specs.Arrives.{tellings}
-use Rattle.conn_log.specs.Entries.{Entry, items}
+use Rattle.conn_log.specs.Entries.{Entry}
 use Rattle.conn_log.specs.Routes.{IsFor, Awaits, IsUnderWay}
 use Rattle.board.specs.Boards.{Keeps}
 use Rattle.board.proofs.board.Board.route.Given as goal
@@ -15,7 +15,7 @@ invariant-loop-event g l =
     let board = l.fn.self in
     record {
       keeps : Keeps makes.listed makes.is_eager board l.self;
-      under_way : (log : List (Entry _)) (fed sent : List ℕ) (n : ℕ) → AllByRecursion (IsFor board.role (items log) n) l.fn.events
+      under_way : (log : List (Entry _)) (fed sent : List ℕ) (n : ℕ) → AllByRecursion (IsFor n) l.fn.events
           → Awaits H.steps H.fails H.is_closed H.is_finished makes.makes_inbound makes.makes_outbound (makes.is_eager board.protocols) (makes.listed board.protocols) board.peer board.role
           log fed sent l.fn.session (tree.get nat_cmp board.streams) board.past.items n (tellings l.fn.events)
           → IsUnderWay H.steps H.fails H.is_closed H.is_finished makes.makes_inbound makes.makes_outbound (makes.is_eager board.protocols) (makes.listed board.protocols) board.peer board.role

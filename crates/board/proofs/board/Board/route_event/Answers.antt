@@ -1,12 +1,10 @@
-use Rattle.std.proofs.Common.{◌≡◌, ◌≢◌, ℕ, List, [], ◌∷◌, ◌++◌, map, Option, refl, sym, ◌∙◌, subst}
+use Rattle.std.proofs.Common.{◌≡◌, ℕ, List, ◌++◌, map, sym, ◌∙◌, subst}
 use Rattle.std.specs.Prelude.{OnOk}
 use Rattle.std.specs.Ordering.{nat_cmp}
 use Rattle.std.specs.BTreeMap as tree
 use Rattle.yamux_session.specs.declared.event.Event.{Event}
-use Rattle.yamux_session.specs.declared.event.Event.TheVariants as heard
 use Rattle.yamux_session.specs.Arrives.{telling}
 use Rattle.yamux_session.specs.Events.{Told}
-use Rattle.conn_log.specs.Entries.{items}
 use Rattle.conn_log.specs.Routes.{IsFor, Awaits, Routes, Routed}
 use Rattle.board.proofs.Stepping.{data_came_to, routed_over}
 use Rattle.board.proofs.board.Board.route_event.Goals as goal
@@ -16,7 +14,7 @@ returns-in-Payload-clause-routes g c = λ log fed sent n rest is_for awaits.
     let H = g.P.H.Handler in
     let makes = g.P.Protocols in
     let board = c.args.self.now in
-    let known = subst (λ (e : Event). IsFor board.role (items log) n e) c.in-Payload.is is_for in
+    let known = subst (λ (e : Event). IsFor n e) c.in-Payload.is is_for in
     let waits = subst (λ (e : Event). Awaits H.steps H.fails H.is_closed H.is_finished makes.makes_inbound makes.makes_outbound (makes.is_eager board.protocols) (makes.listed board.protocols)
     board.peer board.role log fed sent c.args.session.now (tree.get nat_cmp board.streams) board.past.items n (telling e ++ rest)) c.in-Payload.is awaits in
     let number = c.in-Payload.number in

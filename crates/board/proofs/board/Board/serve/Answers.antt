@@ -1,8 +1,7 @@
-use Rattle.std.proofs.Common.{◌≡◌, ℕ, true, false, List, [], ◌∷◌, ◌++◌, Option, Some, None, IsSome, refl, sym, ap, ◌∙◌, subst}
+use Rattle.std.proofs.Common.{◌≡◌, ℕ, true, false, ◌++◌, Option, Some, None, IsSome, refl, sym, ap, subst}
 use Rattle.std.specs.Prelude.{IfSome}
 use Rattle.std.specs.Ordering.{nat_cmp}
 use Rattle.std.specs.BTreeMap as tree
-use Rattle.yamux_session.specs.Events.{Told}
 use Rattle.streams.specs.State.{Streaming}
 use Rattle.conn_log.specs.Entries.{items}
 use Rattle.conn_log.specs.Held.{IsHeld}
@@ -14,7 +13,7 @@ use Rattle.board.proofs.Telling.{on_ok, told_none}
 use Rattle.board.proofs.board.Board.serve.Goals as goal
 
 pub returns-in_default-clause-serves : goal.returns-in_default-clause-serves
-returns-in_default-clause-serves g c = λ log fed sent view rest a held own kept.
+returns-in_default-clause-serves g c = λ log fed sent view rest a held own kept to_reset.
     let H = g.P.H.Handler in
     let makes = g.P.Protocols in
     let board = c.args.self.now in
@@ -29,10 +28,11 @@ returns-in_default-clause-serves g c = λ log fed sent view rest a held own kept
           (makes.listed board.protocols) board.peer board.role log c.args.number view rest it)) (sym none) tt;
       own_held = own;
       own_kept = kept;
+      own_to_reset = to_reset;
     }))
 
 pub returns-clause-serves : goal.returns-clause-serves
-returns-clause-serves g c = λ log fed sent view rest a is_held own kept.
+returns-clause-serves g c = λ log fed sent view rest a is_held own kept to_reset.
     let H = g.P.H.Handler in
     let makes = g.P.Protocols in
     let board = c.args.self.now in

@@ -1,11 +1,9 @@
-use Rattle.std.proofs.Common.{◌≡◌, ℕ, true, false, List, [], ◌∷◌, ◌++◌, length, take, drop, Option, refl, sym, ap, ◌∙◌, subst}
+use Rattle.std.proofs.Common.{◌≡◌, ℕ, true, false, List, ◌++◌, take, drop, sym, ap, ◌∙◌, subst}
 use Rattle.std.specs.List.{AllByRecursion}
 use Rattle.std.specs.Ordering.{nat_cmp}
 use Rattle.std.specs.BTreeMap as tree
 use Rattle.yamux_session.specs.declared.event.Event.{Event}
-use Rattle.yamux_session.specs.Arrives.{added, tellings, HasData}
-use Rattle.yamux_session.specs.Naming.{NamesOne}
-use Rattle.yamux_session.specs.State.{Led}
+use Rattle.yamux_session.specs.Arrives.{added, tellings}
 use Rattle.conn_log.specs.Entries.{Entry, items}
 use Rattle.conn_log.specs.Routes.{IsFor, Awaits}
 use Rattle.conn_log.specs.Rests.{AreAtRest, Grows}
@@ -50,7 +48,6 @@ went g c log fed sent rests =
       opened_by_the_other = c.openings_are_told.ensures.theirs;
       opened_anew = c.openings_are_told.ensures.anew;
       ends_are_last = c.ends_are_last.ensures.once;
-      some_since = c.received_data.ensures.since;
     } in
     let led = c.in-Ok.ensures.fed board.role (items log) fed sent rests.session_stands in
     let still : c.feed_frame.new.self.failed ≡ false = sym c.has_failed.ensures ∙ c.if-has_failed.false in
@@ -61,7 +58,7 @@ went g c log fed sent rests =
     grows_behind H.steps H.fails H.is_closed H.is_finished makes.makes_inbound makes.makes_outbound (makes.is_eager board.protocols) (makes.listed board.protocols) board.peer board.role
     log it.came c.args.told.now.items c.route.new.told.items (fed ++ bytes) sent c.route.new.session (tree.get nat_cmp c.route.new.self.streams) c.route.new.self.past.items
     (c.in_ok-route.ensures.routes then (fed ++ bytes) sent it.stream
-    (subst (λ (t : List Event). AllByRecursion (IsFor board.role (items then) it.stream) t) told_is it.all_for)
+    (subst (λ (t : List Event). AllByRecursion (IsFor it.stream) t) told_is it.all_for)
     (subst (λ (t : List Event). Awaits H.steps H.fails H.is_closed H.is_finished makes.makes_inbound makes.makes_outbound (makes.is_eager board.protocols) (makes.listed board.protocols)
     board.peer board.role then (fed ++ bytes) sent c.feed_frame.new.self (tree.get nat_cmp board.streams) board.past.items it.stream (tellings t)) told_is it.awaits))
 
