@@ -1,4 +1,4 @@
--- Bytes as they lie in memory: what contracts see of vectors and slices.
+-- Bytes as they lie in memory: what contracts see of vectors and slices. Source: this project's profile.
 use Rattle.std.specs.Prelude.{◌≡◌, ℕ, List, map, Option}
 use Rattle.std.specs.Global.{Vec}
 use Rattle.std.specs.Option.{option_copied, option_map}
