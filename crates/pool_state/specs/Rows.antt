@@ -472,6 +472,11 @@ pub record AddedRows : Type 0 where
   pub listed_already : with_peer (crowd 2) (4 ∷ []) ≡ crowd 2
   pub last_front : more last_count ≡ last_count
   pub most_streams : more_at (5 ∷ last_count ∷ 7 ∷ []) 1 ≡ 5 ∷ last_count ∷ 7 ∷ []
+  -- the largest number of one, of two and of four bytes is no last one
+  pub past_one_byte : more_at (255 ∷ 6 ∷ 7 ∷ []) 0 ≡ 256 ∷ 6 ∷ 7 ∷ []
+  pub past_two_bytes : more_at (5 ∷ 6 ∷ 65535 ∷ []) 2 ≡ 5 ∷ 6 ∷ 65536 ∷ []
+  pub past_four_bytes : more_at (5 ∷ 4294967295 ∷ 7 ∷ []) 1 ≡ 5 ∷ 4294967296 ∷ 7 ∷ []
+  pub front_past_four_bytes : more 4294967295 ≡ 4294967296
   pub no_such_protocol : more_at (5 ∷ 6 ∷ 7 ∷ []) 3 ≡ 5 ∷ 6 ∷ 7 ∷ []
   pub stays_closing : row_after (Settle 1 second) reply.Done (row 1 Listener phase.Closing (Some first))
       ≡ row 1 Listener phase.Closing (Some second)
