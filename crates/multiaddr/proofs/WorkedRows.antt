@@ -491,6 +491,7 @@ given_rows = record {
   two_ports = no_end local port_4001 (port_4001 ∷ []) [] (λ e. absurd (cc e)) (λ id e. another id e);
   part_behind_the_peer = no_end local port_4001 (part P2p peer ∷ port_4001 ∷ []) [] (λ e. absurd (cc e)) (λ id e. absurd (cc e));
   opaque_behind_the_port = λ ip port h. absurd (cc h.opaque);
+  opaque_behind_the_peer = λ ip port h. absurd (cc h.opaque);
   no_parts = refl;
   last_is_a_peer = refl;
   last_of_two = refl;

@@ -200,6 +200,7 @@ pub record GivenRows : Type 0 where
   pub two_ports : GivesSocket (address (local ∷ port_4001 ∷ port_4001 ∷ []) []) None
   pub part_behind_the_peer : GivesSocket (address (local ∷ port_4001 ∷ part P2p peer ∷ port_4001 ∷ []) []) None
   pub opaque_behind_the_port : GivesSocket (address (local ∷ port_4001 ∷ []) udp) None
+  pub opaque_behind_the_peer : GivesSocket (address (local ∷ port_4001 ∷ part P2p peer ∷ []) udp) None
   pub no_parts : last_peer [] ≡ None
   pub last_is_a_peer : last_peer (local ∷ part P2p peer ∷ []) ≡ Some peer
   pub last_of_two : last_peer (part P2p (0 ∷ 1 ∷ 7 ∷ []) ∷ part P2p peer ∷ []) ≡ Some peer

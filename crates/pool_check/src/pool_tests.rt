@@ -529,16 +529,25 @@ fn peer_but_for(place: usize, byte: u8) -> PeerId {
     PeerId::of_ed25519(&key)
 }
 
-/// Whether a node and two peers whose keys differ in the byte at this place are three peers to a pool.
-fn are_three(place: usize) -> Option<bool> {
+/// The id of a multihash of this code and size whose digest is 0x11 but for this byte.
+fn digest_but_for(code: u8, size: u8, place: usize, byte: u8) -> Option<PeerId> {
+    let mut multihash = [0x11; 44];
+    multihash[0] = code;
+    multihash[1] = size;
+    let changed = multihash.get_mut(place.saturating_add(2))?;
+    *changed = byte;
+    PeerId::from_bytes(multihash.get(..usize::from(size).saturating_add(2))?).ok()
+}
+
+/// Whether a node and two peers are three peers to a pool.
+fn are_three(own: PeerId, one: PeerId, other: PeerId) -> Option<bool> {
     let config = Config {
-        own: peer_but_for(place, 0x22),
+        own,
         limits: limits(WIDEST.limits)?,
         first_conn: 1,
         first_front: 0,
         allow_only: true,
     };
-    let (one, other) = (peer_but_for(place, 0x11), peer_but_for(place, 0x33));
     let mut pool = Pool::new(config);
     let mut held = pool.apply(Call::Allow(one)) == Reply::Count(1);
     held = pool.apply(Call::Dial(Some(other))) == Reply::Refused(Refusal::NotAllowed) && held;
@@ -556,8 +565,39 @@ fn are_three(place: usize) -> Option<bool> {
 #[test]
 fn peers_that_differ_in_one_byte(rt: HostRuntime) {
     for place in 0..32usize {
-        assert!(rt; are_three(place) == Some(true), "byte {place}");
+        let (own, one) = (peer_but_for(place, 0x22), peer_but_for(place, 0x11));
+        let held = are_three(own, one, peer_but_for(place, 0x33)) == Some(true);
+        assert!(rt; held, "byte {place}");
     }
+}
+
+/// Whether three ids of this code and size that differ in this byte of their digests are three peers to a pool.
+fn are_three_digests(code: u8, size: u8, place: usize) -> Option<bool> {
+    let own = digest_but_for(code, size, place, 0x22)?;
+    let one = digest_but_for(code, size, place, 0x11)?;
+    are_three(own, one, digest_but_for(code, size, place, 0x33)?)
+}
+
+/// Whether ids of one digest, of which the one is that of a hash and the other the digest itself, are two peers.
+fn are_two_hashes() -> Option<bool> {
+    let (hashed, itself) = (
+        digest_but_for(18, 32, 0, 0x11)?,
+        digest_but_for(0, 32, 0, 0x11)?,
+    );
+    let third = digest_but_for(0, 31, 0, 0x11)?;
+    let held = are_three(hashed, itself, third)? && are_three(third, hashed, itself)?;
+    Some(held && are_three(itself, third, hashed)?)
+}
+
+#[test]
+fn peers_of_other_hashes_and_lengths(rt: HostRuntime) {
+    for (code, size) in [(18u8, 32u8), (0, 1), (0, 42)] {
+        for place in 0..usize::from(size) {
+            let held = are_three_digests(code, size, place) == Some(true);
+            assert!(rt; held, "hash {code}, byte {place} of {size}");
+        }
+    }
+    assert!(rt; are_two_hashes() == Some(true));
 }
 
 // ---- parts

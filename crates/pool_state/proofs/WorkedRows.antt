@@ -10,6 +10,7 @@ pub connection_rows : ConnectionRows
 connection_rows = record {
   admitted = record { replies = refl; listing_is = refl };
   no_number_twice = record { replies = refl; listing_is = refl };
+  another_number = record { replies = refl; listing_is = refl };
   first_numbers = record { replies = refl; listing_is = refl };
   last_number = record { replies = refl; listing_is = refl };
   last_front = refl;
@@ -139,8 +140,14 @@ added_rows = record {
   listed_already = refl;
   last_front = refl;
   most_streams = refl;
+  past_one_byte = refl;
+  past_two_bytes = refl;
+  past_four_bytes = refl;
+  front_past_four_bytes = refl;
   no_such_protocol = refl;
   stays_closing = refl;
+  of_another_number = refl;
+  of_the_same_low_byte = refl;
   refused_ask = refl;
   closes_none = refl;
   hangs_up_all = refl;

@@ -191,6 +191,11 @@ pub record ConnectionRows : Type 0 where
       ((Accept, reply.Conn 1) ∷ (Accept, reply.Conn 2) ∷ (Gone 2, reply.Done) ∷ (Gone 2, refused NoConn)
       ∷ (Accept, reply.Conn 3) ∷ [])
       (listing 5 (row 1 Listener phase.Pending None ∷ row 3 Listener phase.Pending None ∷ []) [] [])
+  -- a number that differs in one bit is another
+  pub another_number : Play wide
+      ((Accept, reply.Conn 1) ∷ (Gone 257, refused NoConn) ∷ (Gone 65537, refused NoConn)
+      ∷ (Gone 16777217, refused NoConn) ∷ (Gone 2147483649, refused NoConn) ∷ [])
+      (listing 5 (row 1 Listener phase.Pending None ∷ []) [] [])
   pub first_numbers : Play (record wide { first_conn = 7; first_front = 20 })
       ((Accept, reply.Conn 7) ∷ (Accept, reply.Conn 8) ∷ [])
       (listing 22 (row 7 Listener phase.Pending None ∷ row 8 Listener phase.Pending None ∷ []) [] [])
@@ -472,9 +477,16 @@ pub record AddedRows : Type 0 where
   pub listed_already : with_peer (crowd 2) (4 ∷ []) ≡ crowd 2
   pub last_front : more last_count ≡ last_count
   pub most_streams : more_at (5 ∷ last_count ∷ 7 ∷ []) 1 ≡ 5 ∷ last_count ∷ 7 ∷ []
+  -- the largest number of one, of two and of four bytes is no last one
+  pub past_one_byte : more_at (255 ∷ 6 ∷ 7 ∷ []) 0 ≡ 256 ∷ 6 ∷ 7 ∷ []
+  pub past_two_bytes : more_at (5 ∷ 6 ∷ 65535 ∷ []) 2 ≡ 5 ∷ 6 ∷ 65536 ∷ []
+  pub past_four_bytes : more_at (5 ∷ 4294967295 ∷ 7 ∷ []) 1 ≡ 5 ∷ 4294967296 ∷ 7 ∷ []
+  pub front_past_four_bytes : more 4294967295 ≡ 4294967296
   pub no_such_protocol : more_at (5 ∷ 6 ∷ 7 ∷ []) 3 ≡ 5 ∷ 6 ∷ 7 ∷ []
   pub stays_closing : row_after (Settle 1 second) reply.Done (row 1 Listener phase.Closing (Some first))
       ≡ row 1 Listener phase.Closing (Some second)
+  pub of_another_number : row_after (Ask 65538 0) reply.Done living ≡ living
+  pub of_the_same_low_byte : row_after (Ask 258 0) reply.Done living ≡ living
   pub refused_ask : row_after (Ask 1 0) (refused Full) (row 1 Listener phase.Live None)
       ≡ row 1 Listener phase.Live None
   pub closes_none : row_after (Disallow first) (reply.Count 0) (row 1 Listener phase.Live (Some first))
