@@ -311,3 +311,12 @@ fn a_node_says_16384_bytes_at_most(rt: HostRuntime) {
     assert_eq!(rt; fault(rt.alloc(), 16276), None);
     assert_eq!(rt; fault(rt.alloc(), 16277), Some(IdentifyFault::TooLong));
 }
+
+#[test]
+fn what_differs_is_told_apart(rt: HostRuntime) {
+    let fault = HandlerFault { number: 1 };
+    assert!(rt; fault == HandlerFault { number: 1 } && fault != HandlerFault { number: 2 });
+    let payloads = FixedPayload { payload: [1; 32] };
+    assert!(rt; payloads == FixedPayload { payload: [1; 32] });
+    assert!(rt; payloads != FixedPayload { payload: [2; 32] });
+}
