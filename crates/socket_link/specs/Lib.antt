@@ -1,0 +1,2 @@
+-- cited by public clauses
+pub mod Sockets
