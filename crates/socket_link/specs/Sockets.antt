@@ -1,5 +1,6 @@
 -- What is known of the bytes of a socket, between two of its states.
--- Source: POSIX.1-2017, `read` on a socket: behind the end nothing is given. Which bytes come no contract can know.
+-- Source: POSIX.1-2017, `read` on a socket: behind the end nothing is given. That no more is known is this project's
+-- profile.
 use Rattle.std.specs.Prelude.{◌≡◌, refl, ℕ, true, List, [], ◌++◌}
 use Rattle.std.proofs.Common.{ap, ◌∙◌}
 use Rattle.conn_link.specs.Moving.{MovesNothing, MovesOn, StaysEnded}
