@@ -553,6 +553,16 @@ const ACCEPTED_ONCE: &[Step] = &[
     Writes(1, 1, 1, 13),
 ];
 
+/// Data accepts too.
+const ACCEPTED_BY_DATA: &[Step] = &[
+    Acts(Act::Start, Ok(1), SYN_1),
+    Fed(
+        &[0, 0, 0, 2, 0, 0, 0, 1, 0, 0, 0, 1, 97],
+        &[Told::Accepted(1), Told::Data(1, 97)],
+        &[],
+    ),
+];
+
 /// A peer may send ACK late or never: before it this end gives back, closes, and hears the end.
 const GOES_ON_BEFORE_ITS_ACK: &[Step] = &[
     Acts(Act::Start, Ok(1), SYN_1),
@@ -579,6 +589,10 @@ pub const CLIENT: &[Row] = &[
     Row {
         name: "accepted once",
         steps: ACCEPTED_ONCE,
+    },
+    Row {
+        name: "accepted by data",
+        steps: ACCEPTED_BY_DATA,
     },
     Row {
         name: "goes on before its ACK",

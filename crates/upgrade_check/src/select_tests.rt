@@ -205,7 +205,7 @@ static LISTENERS: [Row; 22] = [
     },
 ];
 
-static DIALERS: [Row; 30] = [
+static DIALERS: [Row; 31] = [
     // The third of three names, and none of them.
     Row {
         names: &["/x", "/y", "/z"],
@@ -242,6 +242,13 @@ static DIALERS: [Row; 30] = [
     Row {
         input: M,
         used: 20,
+        ..X_Y
+    },
+    // A second header answers no proposal, the second one neither.
+    Row {
+        input: b"\x13/multistream/1.0.0\n\x03na\n\x13/multistream/1.0.0\n",
+        answer: Err(SelectFault::NotProposed),
+        output: M_X_Y,
         ..X_Y
     },
     Row {
