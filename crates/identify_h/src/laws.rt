@@ -19,7 +19,7 @@ ghost use Rattle.identify_h.specs.declared.identify.Identify.TheInside.{Inside a
 ghost use Rattle.identify_h.specs.Parts.{texts, text};
 ghost use Rattle.identify_h.specs.Messages.{KeyIsThePeers, OneMessage, WrittenIsRead};
 ghost use Rattle.identify_h.specs.Streams.{Reads, OneOutcome, SomeOutcome, FaultsStay, AskingGoesOn, SentIsRead};
-ghost use Rattle.identify_h.specs.Reading.{Reader, Stands, IsFresh, Alike};
+ghost use Rattle.identify_h.specs.Reading.{Reader, Stands, IsFresh, Alike, ReadFails};
 ghost use Rattle.identify_h.specs.Sending.{Sending, sending, most_bytes};
 ghost use Rattle.identify_h.specs.Rows.{MessageRows, FieldRows, MemoryRows, BadKeyRows, MergeRows, StreamRows};
 ghost use Rattle.identify_h.specs.Rows.{FaultRows, RoomRows, NumberRows, SendRows, ReadRows};
@@ -160,6 +160,12 @@ pub fn reading_refuses()
     ensures give { (old new : Reader) (room : ℕ) (bytes : List ℕ) (n : ℕ)
         → ⟦<IdentifyIn as Handler>⟧.steps old (Give room bytes) new
         → ¬ ⟦<IdentifyIn as Handler>⟧.fails old (ToGive room) n }
+{}
+
+/// A reader refuses a call for what is wrong with its stream, by that fault's number, and for nothing else.
+pub fn reading_fails()
+    ensures { (reader : Reader) (asked : Asked) (n : ℕ)
+        → ⟦<IdentifyIn as Handler>⟧.fails reader asked n ↔ ReadFails reader asked n }
 {}
 
 /// What a call of a reader leads to is determined: behind the same bytes two readers are alike, the end reads one

@@ -1,4 +1,5 @@
 -- cited by public clauses and laws
+pub mod Fixed
 pub mod Handlers
 pub mod Own
 pub mod Makes

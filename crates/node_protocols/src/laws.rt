@@ -9,6 +9,8 @@ ghost use Rattle.ping_h.specs.Rounds.{Round};
 ghost use Rattle.ping_h.specs.Echoes.{Echo};
 ghost use Rattle.node_protocols.specs.declared.handler.NodeHandler.{NodeHandler};
 ghost use Rattle.node_protocols.specs.declared.handler.NodeHandler.TheVariants.{Reads, Sends, Pings, Echoes};
+ghost use Rattle.node_protocols.specs.contracts.payloads.FixedPayload.{the_view};
+ghost use Rattle.node_protocols.specs.declared.payloads.FixedPayload.TheInside.{Inside as Fields};
 ghost use Rattle.node_protocols.specs.Handlers.{message_of};
 ghost use Rattle.node_protocols.specs.Makes.{Node, Hears, MakesInbound, MakesOutbound};
 ghost use Rattle.node_protocols.specs.Own.{protocol_names};
@@ -123,6 +125,11 @@ pub fn protocols_of_a_node<R: Payloads>()
     ensures outbound { (node : Node R) (index : ℕ) (peer : List ℕ) (handler : NodeHandler)
         → ⟦<NodeProtocols<R> as Protocols>⟧.makes_outbound node index peer handler
         ↔ MakesOutbound node.own (R.gives node.payloads) index peer handler }
+{}
+
+/// What contracts see of a fixed payload is what its field holds.
+pub fn payload_is_public()
+    ensures { (fixed : Fields) → the_view fixed ≡ record { payload = fixed.payload } }
 {}
 
 /// A fixed payload is given at each call, and no other bytes are.

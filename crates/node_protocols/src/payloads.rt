@@ -2,6 +2,8 @@
 
 ghost use Rattle.std.specs.Prelude.{◌≡◌, ℕ, List};
 
+use std::marker::Model;
+
 /// What gives pings their 32 bytes (libp2p ping 1.0.0: they are random; a program that is to say the same at every run
 /// gives the same ones).
 pub trait Payloads: Drop {
@@ -23,6 +25,16 @@ pub trait Payloads: Drop {
 pub struct FixedPayload {
     /// What each ping sends.
     pub payload: [u8; 32],
+}
+
+impl Model for FixedPayload {
+    ghost use Rattle.node_protocols.specs.Fixed.{Fixed};
+
+    ghost Value = { Fixed };
+
+    ghost view = { λ f. record { payload = f.payload } };
+
+    ghost inverse = { λ v. record { payload = v.payload } };
 }
 
 impl Payloads for FixedPayload {
