@@ -1,6 +1,6 @@
 -- What a poll of a connection over a link gives, and what it leaves.
 -- Source: this project's profile of a connection.
-use Rattle.std.specs.Prelude.{◌≡◌, ◌+◌, ◌<◌, ℕ, Bool, true, false, List, [], ◌∷◌, Option, Some, None}
+use Rattle.std.specs.Prelude.{◌≡◌, ◌⊎◌, ◌+◌, ◌<◌, ℕ, Bool, true, false, List, [], ◌∷◌, Option, Some, None}
 use Rattle.futures.specs.Poll.{OnPending}
 use Rattle.futures.specs.declared.task.Poll.{Poll}
 use Rattle.futures.specs.declared.task.Poll.TheVariants.{Ready}
@@ -12,7 +12,8 @@ use Rattle.upgrade.specs.declared.role.ConnRole.{ConnRole}
 use Rattle.conn_log.specs.declared.event.ConnEvent.{ConnEvent}
 use Rattle.conn_log.specs.declared.event.ConnEvent.TheVariants as events
 use Rattle.conn_log.specs.declared.event.ConnFault.TheVariants as faults
-use Rattle.conn_future.specs.declared.stage.Stage.TheVariants.{Shutting, Starved, Over}
+use Rattle.conn_core.specs.Connects.{is_over}
+use Rattle.conn_future.specs.declared.stage.Stage.TheVariants.{Going, Shutting, Starved, Over}
 use Rattle.conn_future.specs.declared.conn.Conn.{Conn}
 use Rattle.conn_future.specs.Stages.{is_live}
 use Rattle.conn_future.specs.Follows.{Carries, Follows, given_by}
@@ -40,6 +41,9 @@ pub record Polls {L P H : Type 0} (link : LinkGhosts L) (protocols : ProtocolsGh
       → Follows link protocols handler eager names role own first asked gave old
       → result ≡ Ready None → (old.held.items ≡ []) × (old.stage ≡ Over)
   pub stage : is_live new.stage ≡ true → new.stage ≡ old.stage
+  -- it comes to its end by itself only where the core does, a call of the link fails, or memory is refused
+  pub why : old.stage ≡ Going → new.stage ≡ Over → (is_over new.core.phase ≡ true)
+      ⊎ ((result ≡ Ready (Some (events.Fault faults.Link))) ⊎ (result ≡ Ready (Some (events.Fault faults.OutOfMemory))))
   pub no_call : is_live old.stage ≡ false → new.link ≡ old.link
   pub shutting : old.stage ≡ Shutting → (took : List ℕ) × link.moves old.link [] took new.link
   pub none_held : OnPending result ((new.held.items ≡ []) × (new.stage ≡ old.stage))

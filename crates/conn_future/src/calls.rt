@@ -1,6 +1,6 @@
 //! The calls of a connection over a link.
 
-ghost use Rattle.std.specs.Prelude.{◌≡◌, ◌≢◌, ◌-◌, ◌<◌, ◌^◌, ◌+◌, ℕ, Bool, true, false, List, [], ◌∷◌, ◌++◌};
+ghost use Rattle.std.specs.Prelude.{◌≡◌, ◌≢◌, ◌-◌, ◌<◌, ◌^◌, ◌+◌, ◌⊎◌, ℕ, Bool, true, false, List, [], ◌∷◌, ◌++◌};
 ghost use Rattle.std.specs.Prelude.{length, Some, None, Ok, Err, IfOk, IfErr, OnOk, OnErr};
 ghost use Rattle.futures.specs.Poll.{OnPending};
 ghost use Rattle.futures.specs.Task.{Covers, Keeps};
@@ -10,7 +10,7 @@ ghost use Rattle.upgrade.specs.declared.role.ConnRole.{ConnRole};
 ghost use Rattle.conn_log.specs.declared.event.ConnEvent.{ConnEvent};
 ghost use Rattle.conn_log.specs.declared.event.ConnEvent.TheVariants as event;
 ghost use Rattle.conn_log.specs.declared.event.ConnFault.TheVariants as fault;
-ghost use Rattle.conn_core.specs.Connects.{Stands, MayOpen, IsRefused};
+ghost use Rattle.conn_core.specs.Connects.{Stands, MayOpen, IsRefused, is_over};
 ghost use Rattle.conn_future.specs.Stages.{is_live, shut_stage, WaitsAt};
 ghost use Rattle.conn_future.specs.Follows.{Carries, Follows, given_by};
 ghost use Rattle.conn_future.specs.Polls.{Polls};
@@ -154,6 +154,10 @@ impl<L: Link, P: Protocols> Conn<L, P> {
             → Follows L.Link P.Protocols P.H.Handler eager names role own first asked gave self.old
             → result ≡ Ready None → (self.old.held.items ≡ []) × (self.old.stage ≡ Stage.Over) }
         ensures stage { is_live self.new.stage ≡ true → self.new.stage ≡ self.old.stage }
+        // It comes to its end by itself only where the core does, a call of the link fails, or memory is refused.
+        ensures why { self.old.stage ≡ Stage.Going → self.new.stage ≡ Stage.Over
+            → (is_over self.new.core.phase ≡ true) ⊎ ((result ≡ Ready (Some (event.Fault fault.Link)))
+            ⊎ (result ≡ Ready (Some (event.Fault fault.OutOfMemory)))) }
         ensures no_call { is_live self.old.stage ≡ false → self.new.link ≡ self.old.link }
         ensures shutting { self.old.stage ≡ Stage.Shutting
             → (took : List ℕ) × L.moves self.old.link [] took self.new.link }

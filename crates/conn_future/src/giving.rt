@@ -31,6 +31,9 @@ impl<L: Link, P: Protocols> Conn<L, P> {
         ensures live { is_live self.new.stage ≡ is_live self.old.stage }
         ensures kept { is_live self.old.stage ≡ true → self.new.stage ≡ self.old.stage }
         ensures empty { result ≡ None → (self.old.held.items ≡ []) × (self.old.stage ≢ Stage.Starved) }
+        ensures over { self.new.stage ≡ Stage.Over → self.old.stage ≢ Stage.Over
+            → result ≡ Some (event.Fault fault.OutOfMemory) }
+        ensures core { self.new.core ≡ self.old.core }
         ensures link { self.new.link ≡ self.old.link }
         ensures not_link { (eager : ℕ → Bool) (names : List (List ℕ)) (role : ConnRole) (own : Key) (first : L)
             (asked : List (ℕ × ℕ)) (gave : List (ConnEvent P.H))

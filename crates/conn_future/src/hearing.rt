@@ -1,6 +1,6 @@
 //! What a read leads to.
 
-ghost use Rattle.std.specs.Prelude.{◌≡◌, ◌≢◌, ◌<◌, ◌≤◌, ℕ, Bool, true, false, List, [], ◌++◌};
+ghost use Rattle.std.specs.Prelude.{◌≡◌, ◌≢◌, ◌<◌, ◌≤◌, ◌⊎◌, ℕ, Bool, true, false, List, [], ◌++◌};
 ghost use Rattle.std.specs.Prelude.{Some, None, OnOk, take, vec_len};
 ghost use Rattle.peer_ids.specs.Key.{Key};
 ghost use Rattle.upgrade.specs.declared.role.ConnRole.{ConnRole};
@@ -59,6 +59,7 @@ impl<L: Link, P: Protocols> Conn<L, P> {
         ensures fails { faults_of result ≡ 0 }
         ensures not_none { result ≢ Turn.Give None }
         ensures stage { is_live self.new.stage ≡ false }
+        ensures why { self.new.stage ≡ Stage.Over → result ≡ Turn.Give (Some (event.Fault fault.OutOfMemory)) }
         ensures link { self.new.link ≡ self.old.link }
     {
         self.stop(Stage::Starved);
@@ -89,6 +90,8 @@ impl<L: Link, P: Protocols> Conn<L, P> {
             self.old.link self.old.core self.old.unsent events.items → has_ended gave ≡ false
             → result ≢ Turn.Give None }
         ensures stage { is_live self.new.stage ≡ true → self.new.stage ≡ Stage.Going }
+        ensures why { self.new.stage ≡ Stage.Over → (is_over self.new.core.phase ≡ true)
+            ⊎ (result ≡ Turn.Give (Some (event.Fault fault.OutOfMemory))) }
         ensures link { self.new.link ≡ self.old.link }
     {
         self.held = VecDeque::from(events);
@@ -135,6 +138,8 @@ impl<L: Link, P: Protocols> Conn<L, P> {
             → (L.has_ended self.old.link → L.has_ended before)
             → result ≢ Turn.Give None }
         ensures stage { is_live self.new.stage ≡ true → self.new.stage ≡ Stage.Going }
+        ensures why { self.new.stage ≡ Stage.Over → (is_over self.new.core.phase ≡ true)
+            ⊎ (result ≡ Turn.Give (Some (event.Fault fault.OutOfMemory))) }
         ensures link { self.new.link ≡ self.old.link }
     {
         let mut piece = mem::replace(&mut self.buffer, Vec::new(self.alloc));
@@ -172,6 +177,8 @@ impl<L: Link, P: Protocols> Conn<L, P> {
             self.old.unsent [] → L.moves before [] [] self.old.link → L.has_ended self.old.link
             → result ≢ Turn.Give None }
         ensures stage { is_live self.new.stage ≡ true → self.new.stage ≡ Stage.Going }
+        ensures why { self.new.stage ≡ Stage.Over → (is_over self.new.core.phase ≡ true)
+            ⊎ (result ≡ Turn.Give (Some (event.Fault fault.OutOfMemory))) }
         ensures link { self.new.link ≡ self.old.link }
     {
         match self.core.ended() {

@@ -1,6 +1,6 @@
 //! A turn of a poll: at most one call of the link.
 
-ghost use Rattle.std.specs.Prelude.{◌≡◌, ◌≢◌, ◌+◌, ◌<◌, ℕ, Bool, true, false, List, [], Some, None, length, IfOk, OnOk};
+ghost use Rattle.std.specs.Prelude.{◌≡◌, ◌≢◌, ◌+◌, ◌<◌, ◌⊎◌, ℕ, Bool, true, false, List, [], Some, None, length, IfOk, OnOk};
 ghost use Rattle.futures.specs.Task.{Covers, Keeps};
 ghost use Rattle.conn_future.specs.Stages.{is_live, WaitsAt};
 ghost use Rattle.peer_ids.specs.Key.{Key};
@@ -8,6 +8,7 @@ ghost use Rattle.upgrade.specs.declared.role.ConnRole.{ConnRole};
 ghost use Rattle.conn_log.specs.declared.event.ConnEvent.{ConnEvent};
 ghost use Rattle.conn_log.specs.declared.event.ConnEvent.TheVariants as event;
 ghost use Rattle.conn_log.specs.declared.event.ConnFault.TheVariants as fault;
+ghost use Rattle.conn_core.specs.Connects.{is_over};
 ghost use Rattle.conn_future.specs.Follows.{Carries, Follows};
 ghost use Rattle.conn_future.specs.Turning.{HasWaited, OnAgain, OnGoing, OnWait, gave_by, faults_of};
 
@@ -80,6 +81,9 @@ impl<L: Link, P: Protocols> Conn<L, P> {
             → OnAgain result (HasWaited waits.new cx.new (L.reads_at self.new.link) (L.writes_at self.new.link)) }
         ensures not_none { result ≢ Turn.Give None }
         ensures stage { is_live self.new.stage ≡ true → self.new.stage ≡ self.old.stage }
+        ensures why { self.old.stage ≡ Stage.Going → self.new.stage ≡ Stage.Over
+            → (is_over self.new.core.phase ≡ true) ⊎ ((result ≡ Turn.Failed)
+            ⊎ (result ≡ Turn.Give (Some (event.Fault fault.OutOfMemory)))) }
         ensures kept { Keeps cx.old cx.new }
     {
         match self.link.poll_write(cx, self.unsent.as_slice()) {
@@ -119,6 +123,9 @@ impl<L: Link, P: Protocols> Conn<L, P> {
             → Follows L.Link P.Protocols P.H.Handler eager names role own first asked gave self.old
             → result ≢ Turn.Give None }
         ensures stage { is_live self.new.stage ≡ true → self.new.stage ≡ self.old.stage }
+        ensures why { self.old.stage ≡ Stage.Going → self.new.stage ≡ Stage.Over
+            → (is_over self.new.core.phase ≡ true) ⊎ ((result ≡ Turn.Failed)
+            ⊎ (result ≡ Turn.Give (Some (event.Fault fault.OutOfMemory)))) }
         ensures kept { Keeps cx.old cx.new }
     {
         let Ok(()) = fill(self.alloc, &mut self.buffer) else {
@@ -197,6 +204,9 @@ impl<L: Link, P: Protocols> Conn<L, P> {
             → Follows L.Link P.Protocols P.H.Handler eager names role own first asked gave self.old
             → result ≢ Turn.Give None }
         ensures stage { is_live self.new.stage ≡ true → self.new.stage ≡ self.old.stage }
+        ensures why { self.old.stage ≡ Stage.Going → self.new.stage ≡ Stage.Over
+            → (is_over self.new.core.phase ≡ true) ⊎ ((result ≡ Turn.Failed)
+            ⊎ (result ≡ Turn.Give (Some (event.Fault fault.OutOfMemory)))) }
         ensures kept { Keeps cx.old cx.new }
     {
         if !self.unsent.is_empty() && !waits.writing {

@@ -10,6 +10,7 @@ returns-clause-polls g c = record {
   over = c.poll.ensures.over;
   ends = c.poll.ensures.ends;
   stage = c.poll.ensures.stage;
+  why = c.poll.ensures.why;
   no_call = c.poll.ensures.no_call;
   shutting = c.poll.ensures.shutting;
   none_held = c.poll.ensures.none_held;
