@@ -44,6 +44,9 @@ pub record Polls {L P H : Type 0} (link : LinkGhosts L) (protocols : ProtocolsGh
   -- it comes to its end by itself only where the core does, a call of the link fails, or memory is refused
   pub why : old.stage ≡ Going → new.stage ≡ Over → (is_over new.core.phase ≡ true)
       ⊎ ((result ≡ Ready (Some (events.Fault faults.Link))) ⊎ (result ≡ Ready (Some (events.Fault faults.OutOfMemory))))
+  -- behind shut it ends by Shut, or where a call of the link fails
+  pub closes : old.held.items ≡ [] → old.stage ≡ Shutting → (new.stage ≡ Shutting) ⊎ ((new.stage ≡ Over)
+      × ((result ≡ Ready (Some (events.Fault faults.Link))) ⊎ (result ≡ Ready (Some events.Shut))))
   pub no_call : is_live old.stage ≡ false → new.link ≡ old.link
   pub shutting : old.stage ≡ Shutting → (took : List ℕ) × link.moves old.link [] took new.link
   pub none_held : OnPending result ((new.held.items ≡ []) × (new.stage ≡ old.stage))

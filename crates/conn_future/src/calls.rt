@@ -158,6 +158,10 @@ impl<L: Link, P: Protocols> Conn<L, P> {
         ensures why { self.old.stage ≡ Stage.Going → self.new.stage ≡ Stage.Over
             → (is_over self.new.core.phase ≡ true) ⊎ ((result ≡ Ready (Some (event.Fault fault.Link)))
             ⊎ (result ≡ Ready (Some (event.Fault fault.OutOfMemory)))) }
+        // Behind shut it takes no memory: it ends by Shut, or where a call of the link fails.
+        ensures closes { self.old.held.items ≡ [] → self.old.stage ≡ Stage.Shutting
+            → (self.new.stage ≡ Stage.Shutting) ⊎ ((self.new.stage ≡ Stage.Over)
+            × ((result ≡ Ready (Some (event.Fault fault.Link))) ⊎ (result ≡ Ready (Some event.Shut)))) }
         ensures no_call { is_live self.old.stage ≡ false → self.new.link ≡ self.old.link }
         ensures shutting { self.old.stage ≡ Stage.Shutting
             → (took : List ℕ) × L.moves self.old.link [] took self.new.link }

@@ -81,6 +81,8 @@ impl<L: Link, P: Protocols> Conn<L, P> {
             → OnAgain result (HasWaited waits.new cx.new (L.reads_at self.new.link) (L.writes_at self.new.link)) }
         ensures not_none { result ≢ Turn.Give None }
         ensures stage { is_live self.new.stage ≡ true → self.new.stage ≡ self.old.stage }
+        ensures closes { self.old.stage ≡ Stage.Shutting → (self.new.stage ≡ Stage.Shutting)
+            ⊎ ((self.new.stage ≡ Stage.Over) × ((result ≡ Turn.Failed) ⊎ (result ≡ Turn.Give (Some event.Shut)))) }
         ensures why { self.old.stage ≡ Stage.Going → self.new.stage ≡ Stage.Over
             → (is_over self.new.core.phase ≡ true) ⊎ ((result ≡ Turn.Failed)
             ⊎ (result ≡ Turn.Give (Some (event.Fault fault.OutOfMemory)))) }
@@ -164,6 +166,8 @@ impl<L: Link, P: Protocols> Conn<L, P> {
             (L.shuts_at self.new.link) self.new.stage self.new.unsent)) }
         ensures not_none { result ≢ Turn.Give None }
         ensures stage { is_live self.new.stage ≡ true → self.new.stage ≡ self.old.stage }
+        ensures closes { self.old.stage ≡ Stage.Shutting → (self.new.stage ≡ Stage.Shutting)
+            ⊎ ((self.new.stage ≡ Stage.Over) × ((result ≡ Turn.Failed) ⊎ (result ≡ Turn.Give (Some event.Shut)))) }
         ensures kept { Keeps cx.old cx.new }
     {
         match self.link.poll_shut(cx) {
@@ -204,6 +208,8 @@ impl<L: Link, P: Protocols> Conn<L, P> {
             → Follows L.Link P.Protocols P.H.Handler eager names role own first asked gave self.old
             → result ≢ Turn.Give None }
         ensures stage { is_live self.new.stage ≡ true → self.new.stage ≡ self.old.stage }
+        ensures closes { self.old.stage ≡ Stage.Shutting → (self.new.stage ≡ Stage.Shutting)
+            ⊎ ((self.new.stage ≡ Stage.Over) × ((result ≡ Turn.Failed) ⊎ (result ≡ Turn.Give (Some event.Shut)))) }
         ensures why { self.old.stage ≡ Stage.Going → self.new.stage ≡ Stage.Over
             → (is_over self.new.core.phase ≡ true) ⊎ ((result ≡ Turn.Failed)
             ⊎ (result ≡ Turn.Give (Some (event.Fault fault.OutOfMemory)))) }

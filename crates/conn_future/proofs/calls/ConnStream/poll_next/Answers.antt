@@ -11,6 +11,7 @@ returns-clause-polls g c = record {
   ends = c.poll.ensures.ends;
   stage = c.poll.ensures.stage;
   why = c.poll.ensures.why;
+  closes = c.poll.ensures.closes;
   no_call = c.poll.ensures.no_call;
   shutting = c.poll.ensures.shutting;
   none_held = c.poll.ensures.none_held;
