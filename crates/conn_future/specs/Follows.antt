@@ -33,9 +33,9 @@ module _ {L P H : Type 0} (link : LinkGhosts L) (protocols : ProtocolsGhosts P H
   CoreStands = Stands handler.steps handler.fails handler.is_closed handler.is_finished protocols.makes_inbound
       protocols.makes_outbound protocols.listed protocols.is_eager eager names role own
 
-  -- Since the first state of the link the core was fed exactly what the link gave, also the end exactly where a read has
-  -- found it, and told the events that were given and then those that are held. Of what was taken from it the link took
-  -- a first part, and the rest is left.
+  -- Since the first state of the link the core was fed exactly what the link gave, also the end exactly where a read
+  -- has found it, and told the events that were given and then those that are held. Of what was taken from it the link
+  -- took a first part, and the rest is left.
   pub record Joins (first : L) (asked : List (ℕ × ℕ)) (gave : List (ConnEvent H)) (ended : Bool) (now : L)
       (core : ConnCore P H) (left : List ℕ) (held : List (ConnEvent H)) : Type 0 where
     pub given : List ℕ
