@@ -6,7 +6,6 @@ ghost use Rattle.std.specs.Prelude.{◌≤◌};
 mod command;
 mod ending;
 mod input;
-mod line;
 mod options;
 mod replay;
 mod trace;
