@@ -16,9 +16,9 @@ impl RandomPayloads {
 }
 
 impl Payloads for RandomPayloads {
-    ghost gives = { λ _ _. ⊤ };
+    ghost gives = { λ _ _. Unit {0} };
 
-    ghost steps = { λ _ _ _. ⊤ };
+    ghost steps = { λ _ _ _. Unit {0} };
 
     fn next(&mut self) -> [u8; 32] {
         let mut payload = [0; 32];

@@ -1,6 +1,6 @@
 //! One connection of a node.
 
-ghost use Rattle.std.specs.Prelude.{◌≡◌};
+ghost use Rattle.std.specs.Prelude.{◌≡◌, ◌<◌};
 ghost use Rattle.futures.specs.Task.{Keeps};
 
 use crate::caller::Caller;
