@@ -1,4 +1,4 @@
-//! A dialer that knows no protocol, from its first call to its last.
+//! A dialer that knows no protocol, from its first call to its last, and a listener whose handlers are never finished.
 
 ghost use Rattle.std.specs.Prelude.{[], ◌∷◌, ⊤, true, false, codes, if◌then◌else◌};
 
@@ -137,5 +137,41 @@ fn is_told(alloc: Global) -> Option<bool> {
 fn a_run_without_protocols(rt: HostRuntime) -> Result<(), Fail> {
     let held = is_told(rt.alloc()) == Some(true);
     assert!(rt; held, "the run");
+    Ok(())
+}
+
+/// The other end opens the stream 1 for `/mute`, and ends it at once.
+const OPENS_1: &[u8] = b"\0\0\0\x05\0\0\0\x01\0\0\0\x1b\x13/multistream/1.0.0\n\x06/mute\n";
+
+const OPENS_3: &[u8] = b"\0\0\0\x05\0\0\0\x03\0\0\0\x1b\x13/multistream/1.0.0\n\x06/mute\n";
+
+/// The streams 3 and 1, each of which both ends end while its handler is not finished, and then both anew.
+fn openings(alloc: Global) -> Result<Vec<ConnAct>, AllocError> {
+    let mut acts = Vec::new(alloc);
+    for piece in [OTHER, OPENS_3, OPENS_1, OPENS_3, OPENS_1] {
+        acts.push(ConnAct::Feed(Vec::from_slice(alloc, piece)?))?;
+    }
+    Ok(acts)
+}
+
+/// Those of the earlier openings in the order in which the numbers were opened anew, then the others by their numbers.
+const HELD: [u32; 4] = [3, 1, 1, 3];
+
+fn is_held(alloc: Global) -> Option<bool> {
+    let key = PublicKey::read(alloc, KEY).ok()?;
+    let acts = openings(alloc).ok()?;
+    let protocols = Mutes {
+        alloc,
+        is_known: true,
+    };
+    let ran = run(alloc, ConnRole::Listener, key, protocols, &acts).ok()?;
+    let numbers = ran.handlers.iter().map(|(number, _)| *number);
+    Some(numbers.eq(HELD.iter().copied()))
+}
+
+#[test]
+fn handlers_of_earlier_openings_come_first(rt: HostRuntime) -> Result<(), Fail> {
+    let held = is_held(rt.alloc()) == Some(true);
+    assert!(rt; held, "the handlers");
     Ok(())
 }
