@@ -16,7 +16,7 @@ pub enum Row {
     Pings,
     /// The other end asks what this node is.
     IsAsked,
-    /// Each end pings the other, and neither ends.
+    /// The other end pings, then this one, and neither ends.
     Holds,
 }
 
@@ -164,8 +164,8 @@ impl Row {
             ],
             Row::Holds => &[
                 Said::Upgraded,
-                Said::Stream(1),
                 Said::Agreed(2, 2),
+                Said::Stream(1),
                 Said::Agreed(1, 2),
             ],
         }
@@ -178,11 +178,11 @@ impl Row {
             Row::IsRefused => &[UPGRADE, PINGS, RESETS],
             Row::Pings => &[UPGRADE, PINGS, ENDS],
             Row::IsAsked => &[UPGRADE, ACKNOWLEDGES, GREETS, SAYS_WHO, ENDS],
-            Row::Holds => &[UPGRADE, PINGS, AGREES_ON_ANOTHER],
+            Row::Holds => &[UPGRADE, AGREES_ON_ANOTHER, PINGS],
         }
     }
 
-    /// The streams whose handlers are held at the end, in the order in which these were made.
+    /// The streams whose handlers are held at the end, by their numbers, whatever came first.
     pub fn held(self) -> &'static [u32] {
         match self {
             Row::Holds => &[1, 2],
@@ -251,7 +251,7 @@ fn be_asked(acts: &mut Vec<ConnAct>, alloc: Global) -> Result<(), AllocError> {
 }
 
 fn hold(acts: &mut Vec<ConnAct>, alloc: Global) -> Result<(), AllocError> {
-    push(acts, ConnAct::Ask(2))?;
     feed(acts, alloc, OPENS_ANOTHER)?;
+    push(acts, ConnAct::Ask(2))?;
     feed(acts, alloc, AGREES)
 }

@@ -36,6 +36,7 @@ list_rows = record {
   blocked_again = record { replies = refl; listing_is = refl };
   allowed_in_order = record { replies = refl; listing_is = refl };
   allowed_again = record { replies = refl; listing_is = refl };
+  peers_alike = record { replies = refl; listing_is = refl };
   two_lists = record { replies = refl; listing_is = refl };
 }
 

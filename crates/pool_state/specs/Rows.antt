@@ -278,6 +278,13 @@ pub record ListRows : Type 0 where
       ((Allow second, reply.Count 1) ∷ (Allow first, reply.Count 1) ∷ (Disallow second, reply.Count 0)
       ∷ (Disallow second, reply.Count 0) ∷ (Allow third, reply.Count 1) ∷ (Allow second, reply.Count 1) ∷ [])
       (listing 6 [] [] (first ∷ third ∷ second ∷ []))
+  -- a peer is told by each of its bytes: those of its hash, its length and its digest
+  pub peers_alike : Play guarded
+      ((Allow (0 ∷ 2 ∷ 7 ∷ 8 ∷ []), reply.Count 1) ∷ (Dial (Some (18 ∷ 2 ∷ 7 ∷ 8 ∷ [])), refused NotAllowed)
+      ∷ (Dial (Some (0 ∷ 3 ∷ 7 ∷ 8 ∷ [])), refused NotAllowed) ∷ (Dial (Some (0 ∷ 2 ∷ 6 ∷ 8 ∷ [])), refused NotAllowed)
+      ∷ (Dial (Some (0 ∷ 2 ∷ 7 ∷ 9 ∷ [])), refused NotAllowed) ∷ (Dial (Some (0 ∷ 2 ∷ 7 ∷ 8 ∷ 0 ∷ [])), refused NotAllowed)
+      ∷ (Dial (Some (0 ∷ 2 ∷ 7 ∷ [])), refused NotAllowed) ∷ (Dial (Some (0 ∷ 2 ∷ 7 ∷ 8 ∷ [])), reply.Conn 1) ∷ [])
+      (listing 8 (row 1 Dialer phase.Pending (Some (0 ∷ 2 ∷ 7 ∷ 8 ∷ [])) ∷ []) [] ((0 ∷ 2 ∷ 7 ∷ 8 ∷ []) ∷ []))
   pub two_lists : Play wide
       ((Block first, reply.Count 0) ∷ (Allow first, reply.Count 1) ∷ (Allow second, reply.Count 1)
       ∷ (Disallow second, reply.Count 0) ∷ (Block second, reply.Count 0)

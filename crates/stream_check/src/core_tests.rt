@@ -1,6 +1,7 @@
-//! A dialer that knows no protocol, from its first call to its last.
+//! A dialer that knows no protocol, from its first call to its last; a listener whose handlers are never finished; and
+//! a dialer whose handlers give up.
 
-ghost use Rattle.std.specs.Prelude.{[], ◌∷◌, ⊤, true, false, codes, if◌then◌else◌};
+ghost use Rattle.std.specs.Prelude.{[], ◌∷◌, ⊤, false, not, codes, if◌then◌else◌};
 
 use conn_core::*;
 use conn_log::ConnEvent;
@@ -10,10 +11,11 @@ use std::alloc::{AllocError, Global};
 use std::test::*;
 use upgrade::ConnRole;
 
-/// A handler that gives nothing.
+/// A handler that gives nothing, or gives up where it is asked for bytes.
 #[derive(Drop)]
 struct Mute {
     alloc: Global,
+    gives_up: bool,
 }
 
 impl Handler for Mute {
@@ -21,7 +23,7 @@ impl Handler for Mute {
 
     ghost fails = { λ _ _ _. ⊤ };
 
-    ghost is_closed = { λ _. true };
+    ghost is_closed = { λ handler. not handler.gives_up };
 
     ghost is_finished = { λ _. false };
 
@@ -34,11 +36,14 @@ impl Handler for Mute {
     }
 
     fn give(&mut self, _room: usize) -> Result<Vec<u8>, HandlerFault> {
+        if self.gives_up {
+            return Err(HandlerFault { number: 1 });
+        }
         Ok(Vec::new(self.alloc))
     }
 
     fn closed(&self) -> bool {
-        true
+        !self.gives_up
     }
 
     fn finished(&self) -> bool {
@@ -46,11 +51,12 @@ impl Handler for Mute {
     }
 }
 
-/// The protocol `/mute`, where it is known, and no other.
+/// The protocol `/mute`, where it is known, and no other. It is eager where its handlers give up.
 #[derive(Drop)]
 struct Mutes {
     alloc: Global,
     is_known: bool,
+    gives_up: bool,
 }
 
 static NAMES: [&str; 1] = ["/mute"];
@@ -62,7 +68,7 @@ impl Protocols for Mutes {
 
     ghost listed = { λ p. if p.is_known then codes "/mute" ∷ [] else [] };
 
-    ghost is_eager = { λ _ _. false };
+    ghost is_eager = { λ p _. p.gives_up };
 
     ghost makes_inbound = { λ _ _ _ _. ⊤ };
 
@@ -73,15 +79,21 @@ impl Protocols for Mutes {
     }
 
     fn eager(&self, _index: usize) -> bool {
-        false
+        self.gives_up
     }
 
     fn inbound(&mut self, _index: usize, _peer: PeerId) -> Result<Mute, AllocError> {
-        Ok(Mute { alloc: self.alloc })
+        Ok(Mute {
+            alloc: self.alloc,
+            gives_up: self.gives_up,
+        })
     }
 
     fn outbound(&mut self, _index: usize, _peer: PeerId) -> Result<Mute, AllocError> {
-        Ok(Mute { alloc: self.alloc })
+        Ok(Mute {
+            alloc: self.alloc,
+            gives_up: self.gives_up,
+        })
     }
 }
 
@@ -127,6 +139,7 @@ fn is_told(alloc: Global) -> Option<bool> {
     let protocols = Mutes {
         alloc,
         is_known: false,
+        gives_up: false,
     };
     let ran = run(alloc, ConnRole::Dialer, key, protocols, &acts).ok()?;
     let told = ran.answers.iter().map(said).eq(SAID.iter().copied());
@@ -136,6 +149,125 @@ fn is_told(alloc: Global) -> Option<bool> {
 #[test]
 fn a_run_without_protocols(rt: HostRuntime) -> Result<(), Fail> {
     let held = is_told(rt.alloc()) == Some(true);
+    assert!(rt; held, "the run");
+    Ok(())
+}
+
+/// The other end opens the stream 1 for `/mute`, and ends it at once.
+const OPENS_1: &[u8] = b"\0\0\0\x05\0\0\0\x01\0\0\0\x1b\x13/multistream/1.0.0\n\x06/mute\n";
+
+const OPENS_3: &[u8] = b"\0\0\0\x05\0\0\0\x03\0\0\0\x1b\x13/multistream/1.0.0\n\x06/mute\n";
+
+/// The streams 3 and 1, each of which both ends end while its handler is not finished, and then both anew.
+fn openings(alloc: Global) -> Result<Vec<ConnAct>, AllocError> {
+    let mut acts = Vec::new(alloc);
+    for piece in [OTHER, OPENS_3, OPENS_1, OPENS_3, OPENS_1] {
+        acts.push(ConnAct::Feed(Vec::from_slice(alloc, piece)?))?;
+    }
+    Ok(acts)
+}
+
+/// Those of the earlier openings in the order in which the numbers were opened anew, then the others by their numbers.
+const HELD: [u32; 4] = [3, 1, 1, 3];
+
+fn is_held(alloc: Global) -> Option<bool> {
+    let key = PublicKey::read(alloc, KEY).ok()?;
+    let acts = openings(alloc).ok()?;
+    let protocols = Mutes {
+        alloc,
+        is_known: true,
+        gives_up: false,
+    };
+    let ran = run(alloc, ConnRole::Listener, key, protocols, &acts).ok()?;
+    let numbers = ran.handlers.iter().map(|(number, _)| *number);
+    Some(numbers.eq(HELD.iter().copied()))
+}
+
+#[test]
+fn handlers_of_earlier_openings_come_first(rt: HostRuntime) -> Result<(), Fail> {
+    let held = is_held(rt.alloc()) == Some(true);
+    assert!(rt; held, "the handlers");
+    Ok(())
+}
+
+/// The same of the stream 2, which the other end doesn't end.
+const OPENS_2: &[u8] = b"\0\0\0\x01\0\0\0\x02\0\0\0\x1b\x13/multistream/1.0.0\n\x06/mute\n";
+
+fn asks(alloc: Global) -> Result<Vec<ConnAct>, AllocError> {
+    let mut acts = Vec::new(alloc);
+    acts.push(ConnAct::Feed(Vec::from_slice(alloc, OTHER)?))?;
+    acts.push(ConnAct::Ask(0))?;
+    acts.push(ConnAct::Feed(Vec::from_slice(alloc, OPENS_2)?))?;
+    acts.push(ConnAct::Ask(0))?;
+    acts.push(ConnAct::Ended)?;
+    Ok(acts)
+}
+
+/// What is told and answered, in order: an event by its kind and its stream, a stream that is opened, a refusal.
+#[derive(Clone, Copy, Debug, PartialEq, Eq)]
+enum Heard {
+    Upgraded,
+    Opened(u32),
+    Agreed(u32),
+    Broken(u32),
+    Shut,
+    Other,
+}
+
+fn kind_of(event: &ConnEvent<Mute>) -> Heard {
+    match event {
+        ConnEvent::Upgraded(_) => Heard::Upgraded,
+        ConnEvent::Agreed(number, _) => Heard::Agreed(*number),
+        ConnEvent::Broken(number, _) => Heard::Broken(*number),
+        ConnEvent::Shut => Heard::Shut,
+        _ => Heard::Other,
+    }
+}
+
+fn all_heard(alloc: Global, answers: &[ConnAnswer<Mute>]) -> Result<Vec<Heard>, AllocError> {
+    let mut heard = Vec::new(alloc);
+    for answer in answers {
+        match answer {
+            ConnAnswer::Events(events) => {
+                for event in events {
+                    heard.push(kind_of(event))?;
+                }
+            }
+            ConnAnswer::Stream(number) => heard.push(Heard::Opened(*number))?,
+            ConnAnswer::Refused(_) => heard.push(Heard::Other)?,
+        }
+    }
+    Ok(heard)
+}
+
+/// What is met within an ask is told by the next call, before all else.
+const HEARD: [Heard; 8] = [
+    Heard::Upgraded,
+    Heard::Opened(1),
+    Heard::Broken(1),
+    Heard::Agreed(2),
+    Heard::Broken(2),
+    Heard::Opened(3),
+    Heard::Broken(3),
+    Heard::Shut,
+];
+
+fn is_owed(alloc: Global) -> Option<bool> {
+    let key = PublicKey::read(alloc, KEY).ok()?;
+    let acts = asks(alloc).ok()?;
+    let protocols = Mutes {
+        alloc,
+        is_known: true,
+        gives_up: true,
+    };
+    let ran = run(alloc, ConnRole::Dialer, key, protocols, &acts).ok()?;
+    let heard = all_heard(alloc, &ran.answers).ok()?;
+    Some(heard.as_slice() == HEARD.as_slice() && ran.handlers.is_empty())
+}
+
+#[test]
+fn what_an_ask_met_is_told_first(rt: HostRuntime) -> Result<(), Fail> {
+    let held = is_owed(rt.alloc()) == Some(true);
     assert!(rt; held, "the run");
     Ok(())
 }

@@ -139,7 +139,7 @@ static COMES_TO_A_LISTENER: [Piece; 3] = [
     Piece::End(1),
 ];
 
-static STREAMS: [Row; 8] = [
+static STREAMS: [Row; 10] = [
     Row {
         name: "a stream of the listener's parity",
         role: "listener",
@@ -239,6 +239,34 @@ static STREAMS: [Row; 8] = [
             Line::Feed(&[
                 Piece::Open(1),
                 Piece::Data(RST, 1, &[Part::Header, Part::Identify]),
+            ]),
+            Line::Other(1, "out"),
+        ],
+    },
+    Row {
+        name: "an end, and behind it a reset in one piece",
+        role: "listener",
+        lines: &[
+            Line::Upgrade,
+            Line::Other(1, "out"),
+            Line::Feed(&[
+                Piece::Open(1),
+                Piece::Data(NONE, 1, &[Part::Header, Part::Ping, Part::Round]),
+                Piece::End(1),
+                Piece::Reset(1),
+            ]),
+            Line::Other(1, "out"),
+        ],
+    },
+    Row {
+        name: "an end and a reset in one frame",
+        role: "listener",
+        lines: &[
+            Line::Upgrade,
+            Line::Other(1, "out"),
+            Line::Feed(&[
+                Piece::Open(1),
+                Piece::Data(FIN | RST, 1, &[Part::Header, Part::Ping, Part::Round]),
             ]),
             Line::Other(1, "out"),
         ],
@@ -375,7 +403,7 @@ static MESSAGES: [Row; 7] = [
     },
 ];
 
-static ASKS: [Row; 6] = [
+static ASKS: [Row; 8] = [
     Row {
         name: "an echo with one bit wrong",
         role: "dialer",
@@ -383,6 +411,17 @@ static ASKS: [Row; 6] = [
             Line::Upgrade,
             Line::Other(1, "ask 2"),
             Line::Feed(&[Piece::Data(NONE, 1, &[Part::Header, Part::Ping, Part::WrongEcho])]),
+            Line::Other(1, "out"),
+        ],
+    },
+    Row {
+        name: "an end in the talk of this end's stream",
+        role: "dialer",
+        lines: &[
+            Line::Upgrade,
+            Line::Other(1, "out"),
+            Line::Other(1, "ask 2"),
+            Line::Feed(&[Piece::Data(FIN, 1, &[Part::Header])]),
             Line::Other(1, "out"),
         ],
     },
@@ -406,6 +445,17 @@ static ASKS: [Row; 6] = [
             Line::Other(1, "ask 2"),
             Line::Other(1, "ask 3"),
             Line::Other(1, "end"),
+        ],
+    },
+    Row {
+        name: "asks for no protocol, before it is up and behind the end",
+        role: "dialer",
+        lines: &[
+            Line::Other(1, "ask 3"),
+            Line::Upgrade,
+            Line::Other(1, "ask 3"),
+            Line::Other(1, "end"),
+            Line::Other(1, "ask 3"),
         ],
     },
     Row {

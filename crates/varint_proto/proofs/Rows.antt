@@ -83,7 +83,8 @@ field_rows = record {
   none = refl;
   number_written = refl;
   largest_writable = ((omega arith, omega arith), omega arith);
-  bytes_writable = ((omega arith, omega arith), omega (arith, length-replicate {A = ℕ} 300 7));
+  bytes_writable = λ body len. ((omega arith, omega arith), omega (arith, len));
+  more_bytes_unwritable = λ body len w. let wrong : length body < 2 ^ 64 = w.1 in omega (arith, wrong, len);
   eight_writable = ((omega arith, omega arith), refl);
   four_writable = ((omega arith, omega arith), refl);
   seven_unwritable = λ w. let wrong : 7 ≡ 8 = w.1 in omega (arith, wrong);
@@ -161,6 +162,8 @@ framed_rows = record {
   one_too_long = (3, [], short_length 3 _ (omega arith), omega arith);
   not_shortest = (NotShortest, (2, omega arith, record { ends = (omega arith, omega arith); within = omega arith; several = omega arith; zero = refl }));
   nine_unended = (TooLong, (nine_unended 255 (omega arith), omega arith));
+  badly_spelt_and_too_long = (NotShortest, (2, omega arith, record { ends = (omega arith, omega arith); within = omega arith; several = omega arith; zero = refl }));
+  too_long_so_far = inl ((omega arith, tt), omega arith);
   nothing = inl (tt, omega arith);
   cut_in_the_length = inl ((omega arith, tt), omega arith);
   cut_in_the_body = inr (300, replicate 299 7, record { begins = three_hundred _; allowed = omega arith }, omega (arith, length-replicate {A = ℕ} 299 7));

@@ -1,5 +1,5 @@
 -- Worked rows of the definitions (multiformats unsigned-varint; Protocol Buffers, "Encoding").
-use Rattle.std.specs.Prelude.{◌≡◌, ℕ, ◌-◌, ◌^◌, true, false, List, [], ◌∷◌, ◌++◌, replicate}
+use Rattle.std.specs.Prelude.{◌≡◌, ℕ, ◌-◌, ◌^◌, true, false, List, [], ◌∷◌, ◌++◌, replicate, length}
 use Rattle.std.specs.Prelude.{Option, Some, None, Ok, Err}
 use Rattle.varint_proto.specs.declared.fault.WireFault.TheVariants.{TooLong, NotShortest, Cut, BadNumber, BadWire}
 use Rattle.varint_proto.specs.declared.fault.IncomingRefused.TheVariants as incoming
@@ -52,7 +52,8 @@ pub record FieldRows : Type 0 where
   pub number_written : shortest_field (entry 1 (Varint 300)) ≡ 8 ∷ 172 ∷ 2 ∷ []
   -- the largest number and the largest field that are written
   pub largest_writable : IsWritable (entry 536870911 (Varint (2 ^ 64 - 1)))
-  pub bytes_writable : IsWritable (entry 1 (Bytes (replicate 300 7)))
+  pub bytes_writable : (body : List ℕ) → length body ≡ 2 ^ 64 - 1 → IsWritable (entry 1 (Bytes body))
+  pub more_bytes_unwritable : (body : List ℕ) → length body ≡ 2 ^ 64 → ¬ IsWritable (entry 1 (Bytes body))
   pub eight_writable : IsWritable (entry 2 (Fixed64 (replicate 8 7)))
   pub four_writable : IsWritable (entry 2 (Fixed32 (replicate 4 7)))
   pub seven_unwritable : ¬ IsWritable (entry 2 (Fixed64 (replicate 7 7)))
@@ -107,6 +108,9 @@ pub record FramedRows : Type 0 where
   pub one_too_long : ReadsFramed 2 (3 ∷ []) (Err incoming.TooLong)
   pub not_shortest : ReadsFramed 2 (128 ∷ 0 ∷ []) (Err incoming.BadLength)
   pub nine_unended : ReadsFramed 2 (replicate 9 255) (Err incoming.BadLength)
+  -- how a length is spelt comes before how long it is, and both are known at its last byte alone
+  pub badly_spelt_and_too_long : ReadsFramed 2 (131 ∷ 0 ∷ []) (Err incoming.BadLength)
+  pub too_long_so_far : ReadsFramed 2 (131 ∷ []) (Ok None)
   pub nothing : ReadsFramed 2 [] (Ok None)
   pub cut_in_the_length : ReadsFramed 300 (172 ∷ []) (Ok None)
   pub cut_in_the_body : ReadsFramed 300 (172 ∷ 2 ∷ replicate 299 7) (Ok None)

@@ -70,6 +70,9 @@ frame_rows = record {
     frames_are = (tt, (BadVersion, (refl, λ e. absurd (cc e))), (tt, refl, (tt, fits_ping, tt)));
     rest_is = tt;
   };
+  left_of_the_last = refl;
+  stream_of_the_last = refl;
+  stream_of_one_before = refl;
 }
 
 -- bytes that are read so don't end within a frame, where their reading doesn't

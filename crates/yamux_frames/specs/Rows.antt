@@ -6,7 +6,7 @@ use Rattle.yamux_frames.specs.declared.header.FrameKind.TheVariants.{Payload, Wi
 use Rattle.yamux_frames.specs.declared.header.FrameFault.TheVariants.{BadVersion, BadType}
 use Rattle.yamux_frames.specs.Spelling.{header_bytes, payload_length, IsHeader, HasFault}
 use Rattle.yamux_frames.specs.Place.{Place, is_within}
-use Rattle.yamux_frames.specs.Frames.{Reads, EndsWithin}
+use Rattle.yamux_frames.specs.Frames.{Reads, EndsWithin, bytes_left, last_stream}
 use Rattle.yamux_frames.specs.Frames.Arrival.{Head, Byte, Tail, Garbled}
 
 abbrev pub header : FrameKind → ℕ → ℕ → ℕ → Header
@@ -64,6 +64,10 @@ pub record FrameRows : Type 0 where
   -- nothing is read behind what is no header
   pub garbled : Reads (behind 0 4 ++ 9 ∷ []) (Garbled (behind 0 4) ∷ []) (9 ∷ [])
   pub garbled_behind_a_frame : Reads (header_bytes ping ++ behind 1 2) (Garbled (behind 1 2) ∷ Tail ∷ Head ping ∷ []) []
+  -- a payload is of the last header, whatever came before it
+  pub left_of_the_last : bytes_left (Byte 7 ∷ Head two ∷ Tail ∷ Head ping ∷ []) ≡ 1
+  pub stream_of_the_last : last_stream (Byte 7 ∷ Head two ∷ Tail ∷ Head (header Payload 0 3 0) ∷ []) ≡ 1
+  pub stream_of_one_before : last_stream (Tail ∷ Byte 7 ∷ Byte 7 ∷ Head two ∷ []) ≡ 1
 
 -- Which bytes end within a frame
 pub record EndRows : Type 0 where

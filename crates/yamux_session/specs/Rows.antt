@@ -348,6 +348,8 @@ pub record WindowRows : Type 0 where
   pub empty_piece : IsPiece [] → ⊥
   pub credit_shown : open_credit Server (bare Window 1 1 5) 1 ≡ Some 262149
   pub credit_of_the_closed : open_credit Server (Did (Close 1) ∷ bare Window 1 1 5) 1 ≡ None
+  pub credit_of_the_finished : open_credit Server (in_order (bare Window 1 1 0 ∷ bare Window 4 1 0 ∷ [])) 1
+      ≡ Some 262144
   pub no_credit_shown : open_credit Client all_written 1 ≡ Some 0
   pub credit_of_the_unknown : open_credit Server [] 1 ≡ None
   pub data_beside_the_most_credit : events Server (in_order (bare Window 1 1 4294705151 ∷
@@ -358,6 +360,11 @@ pub record WindowRows : Type 0 where
       ≡ Told.Fault WindowTooLarge ∷ []
   pub credit_behind_the_end : events Server (in_order (bare Window 1 1 0 ∷ bare Window 4 1 0 ∷ bare Window 0 1 5 ∷
       [])) ≡ Told.Opened 1 ∷ Told.Ended 1 ∷ Told.Credit 1 ∷ []
+  pub credit_behind_the_close : events Server (in_order (bare Window 1 1 0 ∷ (Did (Close 1) ∷ []) ∷
+      bare Window 0 1 5 ∷ [])) ≡ Told.Opened 1 ∷ Told.Credit 1 ∷ []
+  -- what was written leaves room for more credit
+  pub most_credit_behind_a_write : events Server (in_order (bare Window 1 1 0 ∷
+      (Did (Write 1 ((7 ∷ 8 ∷ []) ∷ [])) ∷ []) ∷ bare Window 0 1 4294705153 ∷ [])) ≡ Told.Opened 1 ∷ Told.Credit 1 ∷ []
   pub much_data_of_the_unknown : events Server (Came (header Payload 0 9 262145) ∷ []) ≡ []
   pub much_credit_of_the_unknown : events Server (Came (header Window 0 9 4294967295) ∷ []) ≡ []
   pub much_data_behind_the_end : events Server (in_order (bare Window 1 1 0 ∷ bare Window 4 1 0 ∷
@@ -415,6 +422,9 @@ pub record AnswerRows : Type 0 where
       [])) ≡ Told.Accepted 1 ∷ []
   pub its_own_not_accepted : events Server (in_order (bare Window 1 1 0 ∷ bare Window 2 1 0 ∷ []))
       ≡ Told.Opened 1 ∷ []
+  -- of a stream of this end that it hasn't opened nothing is told, and it is no fault
+  pub accepted_of_the_unknown : events Client (bare Window 2 1 0) ≡ []
+  pub data_of_its_own_unknown : events Client (Came (header Payload 0 1 5) ∷ []) ≡ []
   pub no_header : events Server (Came (Garbled (1 ∷ [])) ∷ []) ≡ Told.Fault BadFrame ∷ []
   pub accepted_with_credit : events Client (in_order ((Did (Start 1) ∷ []) ∷ bare Window 2 1 5 ∷ []))
       ≡ Told.Accepted 1 ∷ Told.Credit 1 ∷ []
