@@ -179,8 +179,8 @@ fn bring_up<P: Protocols>(
 ) -> Result<Phase<P>, ConnRefused>
     ensures goes { (own : Key) (start : P) (input taken : List ℕ)
         → IsComing P.H.steps P.H.fails P.H.is_closed P.H.is_finished P.makes_inbound P.makes_outbound P.listed
-        P.is_eager P.leads_inbound P.leads_outbound start role own input [] taken upgrade protocols → output.old.items ≡
-        [] → told.old.items ≡ []
+        P.is_eager P.leads_inbound P.leads_outbound start role own input [] taken upgrade protocols
+        → output.old.items ≡ [] → told.old.items ≡ []
         → IfOk result (λ phase. Connects P.H.steps P.H.fails P.H.is_closed P.H.is_finished P.makes_inbound
         P.makes_outbound P.listed P.is_eager P.leads_inbound P.leads_outbound start role own (input ++ piece.now) false
         [] told.new.items taken phase [] output.new.items) }
