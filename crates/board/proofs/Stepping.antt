@@ -64,10 +64,10 @@ module _ {P H : Type 0} (step : H → HandlerCall → H → Type 0) (fails : H �
   data_came_to (b ∷ bytes) rest some a = came_to (map (Told.Payload n) (b ∷ bytes) ++ rest) (λ left e. absurd (cc e)) a
 
   -- what asks nothing of it
-  pub routed_over : (told : List (ConnEvent H)) (t : Told) (rest : List Told) → IsStill t → ((left : List Told) → t ∷ rest ≡ Told.Opened n ∷ left → ⊥)
+  pub routed_over : (making : List (Entry H) → List (Entry H) → Type 0) → making log log → (told : List (ConnEvent H)) (t : Told) (rest : List Told) → IsStill t → ((left : List Told) → t ∷ rest ≡ Told.Opened n ∷ left → ⊥)
       → Awaits step fails is_closed is_finished inbound_makes outbound_makes eager names peer role log fed sent session streams past n (t ∷ rest)
-      → Routed step fails is_closed is_finished inbound_makes outbound_makes eager names peer role log told told fed sent session streams past n rest
-  routed_over told t rest is unopened a =
+      → Routed step fails is_closed is_finished inbound_makes outbound_makes eager names peer role making log told told fed sent session streams past n rest
+  routed_over making kept told t rest is unopened a =
       let r = came_to (t ∷ rest) unopened a in
-      told_none step fails is_closed is_finished inbound_makes outbound_makes eager names peer role log told told fed sent session streams past n rest r.0 refl
+      told_none step fails is_closed is_finished inbound_makes outbound_makes eager names peer role log told told fed sent session streams past n rest making kept r.0 refl
       (passed_over step fails is_closed is_finished inbound_makes outbound_makes eager names peer role log fed sent session streams past n r.0 t rest is r.1)

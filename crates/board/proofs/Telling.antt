@@ -27,26 +27,27 @@ module _ {P H : Type 0} (step : H → HandlerCall → H → Type 0) (fails : H �
     (eager : ℕ → Bool) (names : List (List ℕ)) (peer : List ℕ) (role : Role) (log : List (Entry H)) (before after : List (ConnEvent H)) (fed sent : List ℕ) (session : State)
     (streams : ℕ → Option (Streaming H)) (past : List (Earlier H)) (n : ℕ) (rest : List Told) where
   -- nothing was told
-  pub told_none : (view : Seen) → after ≡ before
+  pub told_none : (making : List (Entry H) → List (Entry H) → Type 0) → making log log → (view : Seen) → after ≡ before
       → Routes step fails is_closed is_finished inbound_makes outbound_makes eager names peer role log fed sent session streams past n view rest
-      → Routed step fails is_closed is_finished inbound_makes outbound_makes eager names peer role log before after fed sent session streams past n rest
-  told_none view same r = record { newer = []; view = view; told_is = same ∙ sym (append-nil before); untold = refl; unasked = refl; routes = r }
+      → Routed step fails is_closed is_finished inbound_makes outbound_makes eager names peer role making log before after fed sent session streams past n rest
+  told_none making kept view same r = record { newer = []; view = view; told_is = same ∙ sym (append-nil before); untold = refl; unasked = refl; makes = kept; routes = r }
 
-  pub told_at : (view : Seen) (told : ConnEvent H) → after ≡ before ++ told ∷ []
+  pub told_at : (making : List (Entry H) → List (Entry H) → Type 0) (view : Seen) (told : ConnEvent H) → making log (Says told ∷ log) → after ≡ before ++ told ∷ []
       → Routes step fails is_closed is_finished inbound_makes outbound_makes eager names peer role (Says told ∷ log) fed sent session streams past n view rest
-      → Routed step fails is_closed is_finished inbound_makes outbound_makes eager names peer role log before after fed sent session streams past n rest
-  told_at view told is r = record { newer = Says told ∷ []; view = view; told_is = is; untold = refl; unasked = refl; routes = r }
+      → Routed step fails is_closed is_finished inbound_makes outbound_makes eager names peer role making log before after fed sent session streams past n rest
+  told_at making view told kept is r = record { newer = Says told ∷ []; view = view; told_is = is; untold = refl; unasked = refl; makes = kept; routes = r }
 
   -- the event was told before it was routed
-  pub told_then : (told : ConnEvent H) → after ≡ before ++ told ∷ []
-      → Routed step fails is_closed is_finished inbound_makes outbound_makes eager names peer role (Says told ∷ log) [] [] fed sent session streams past n rest
-      → Routed step fails is_closed is_finished inbound_makes outbound_makes eager names peer role log before after fed sent session streams past n rest
-  told_then told is r = record {
+  pub told_then : (making later : List (Entry H) → List (Entry H) → Type 0) (told : ConnEvent H) → ((longer : List (Entry H)) → later (Says told ∷ log) longer → making log longer) → after ≡ before ++ told ∷ []
+      → Routed step fails is_closed is_finished inbound_makes outbound_makes eager names peer role later (Says told ∷ log) [] [] fed sent session streams past n rest
+      → Routed step fails is_closed is_finished inbound_makes outbound_makes eager names peer role making log before after fed sent session streams past n rest
+  told_then making later told joins is r = record {
     newer = r.newer ++ Says told ∷ [];
     view = r.view;
     told_is = is ∙ ap (λ t. before ++ t) (sym (said_append r.newer (Says told ∷ []) ∙ ap (λ t. (told ∷ []) ++ t) (sym r.told_is)));
     untold = ap (λ t. events role (items t)) (append_assoc r.newer (Says told ∷ []) log) ∙ r.untold;
     unasked = none_asked r.newer (Says told ∷ []) r.unasked refl;
+    makes = subst (λ t. making log t) (sym (append_assoc r.newer (Says told ∷ []) log)) (joins (r.newer ++ (Says told ∷ log)) r.makes);
     routes = subst (λ t. Routes step fails is_closed is_finished inbound_makes outbound_makes eager names peer role t fed sent session streams past n r.view rest)
         (sym (append_assoc r.newer (Says told ∷ []) log)) r.routes;
   }
@@ -76,10 +77,10 @@ module _ {P H : Type 0} (step : H → HandlerCall → H → Type 0) (fails : H �
   held_of view left (Some it) moving = (moving.held, moving.over_by_end)
 
   -- the end of a stream that isn't held
-  pub end_dropped : (view : Seen) → after ≡ before → streams n ≡ None
+  pub end_dropped : (making : List (Entry H) → List (Entry H) → Type 0) → making log log → (view : Seen) → after ≡ before → streams n ≡ None
       → Routes step fails is_closed is_finished inbound_makes outbound_makes eager names peer role log fed sent session streams past n view (Told.Ended n ∷ rest)
-      → Routed step fails is_closed is_finished inbound_makes outbound_makes eager names peer role log before after fed sent session streams past n rest
-  end_dropped view same none r = told_none (ended_view view) same (record {
+      → Routed step fails is_closed is_finished inbound_makes outbound_makes eager names peer role making log before after fed sent session streams past n rest
+  end_dropped making kept view same none r = told_none making kept (ended_view view) same (record {
     around = end_came step fails is_closed is_finished inbound_makes outbound_makes eager names peer role log fed sent session streams past n view rest r.around;
     own = subst (λ (t : Option (Streaming H)). IfSome t (λ it. IsMoving step fails is_closed is_finished inbound_makes outbound_makes eager names peer role log n (ended_view view) rest it)) (sym none) tt;
     own_held = λ live. r.own_held (was_live view.live (not view.closed) live);
@@ -91,10 +92,10 @@ module _ {P H : Type 0} (step : H → HandlerCall → H → Type 0) (fails : H �
     was_live false c e = e
 
   -- data of a stream that isn't held
-  pub data_dropped : (view : Seen) (bytes : List ℕ) → after ≡ before → streams n ≡ None
+  pub data_dropped : (making : List (Entry H) → List (Entry H) → Type 0) → making log log → (view : Seen) (bytes : List ℕ) → after ≡ before → streams n ≡ None
       → Routes step fails is_closed is_finished inbound_makes outbound_makes eager names peer role log fed sent session streams past n view (map (Told.Payload n) bytes ++ rest)
-      → Routed step fails is_closed is_finished inbound_makes outbound_makes eager names peer role log before after fed sent session streams past n rest
-  data_dropped view bytes same none r = told_none (with_bytes bytes view) same (record {
+      → Routed step fails is_closed is_finished inbound_makes outbound_makes eager names peer role making log before after fed sent session streams past n rest
+  data_dropped making kept view bytes same none r = told_none making kept (with_bytes bytes view) same (record {
     around = data_came step fails is_closed is_finished inbound_makes outbound_makes eager names peer role log fed sent session streams past n view bytes rest r.around;
     own = subst (λ (t : Option (Streaming H)). IfSome t (λ it. IsMoving step fails is_closed is_finished inbound_makes outbound_makes eager names peer role log n (with_bytes bytes view) rest it)) (sym none) tt;
     own_held = r.own_held;

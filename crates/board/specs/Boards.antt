@@ -1,5 +1,7 @@
 -- What routing leaves of a board. Inside: no public clause of a connection cites it.
 use Rattle.std.specs.Prelude.{◌≡◌, ℕ, Bool, List}
+use Rattle.conn_log.specs.Entries.{Entry}
+use Rattle.conn_log.specs.Making.{MakesOn}
 use Rattle.board.specs.declared.board.Board.{Board}
 
 -- Whose streams they are stays, and what makes their handlers lists the same protocols.
@@ -9,3 +11,9 @@ pub record Keeps {P H : Type 0} (listed : P → List (List ℕ)) (is_eager : P �
     pub peer_is : new.peer ≡ old.peer
     pub names_are : listed new.protocols ≡ listed old.protocols
     pub eager_are : is_eager new.protocols ≡ is_eager old.protocols
+
+-- what was made in turn until there is made so until here, by the protocols of the board
+abbrev pub MakesOnBoard : {P H : Type 0} → (P → ℕ → List ℕ → H → P → Type 0) → (P → ℕ → List ℕ → H → P → Type 0)
+    → Board P H → Board P H → List (Entry H) → List (Entry H) → Type 0
+MakesOnBoard inbound_leads outbound_leads old new =
+    MakesOn inbound_leads outbound_leads old.peer old.role old.protocols new.protocols

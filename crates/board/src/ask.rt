@@ -13,13 +13,15 @@ ghost use Rattle.yamux_session.specs.Acts.{start_refusal, IsRefusedFor};
 ghost use Rattle.yamux_session.specs.State.{State, Stands as SessionStands, Whenever};
 ghost use Rattle.streams.specs.Streams.{fresh};
 ghost use Rattle.streams.specs.State.{Stands, is_talking};
+ghost use Rattle.dispatch.specs.Dispatch.{makes_once};
 ghost use Rattle.conn_log.specs.Entries.{Entry, items};
 ghost use Rattle.conn_log.specs.Rests.{AreAtRest};
 ghost use Rattle.conn_log.specs.Asked.{Asked, IsEarly, IsRefusedAs};
-ghost use Rattle.board.specs.Boards.{Keeps};
+ghost use Rattle.board.specs.Boards.{Keeps, MakesOnBoard};
 
 use crate::board::{Board, insert};
 use conn_log::{ConnEvent, ConnRefused};
+use dispatch::Direction;
 use handlers::Protocols;
 use peer_ids::PeerId;
 use routing::deliver_credit;
@@ -53,7 +55,9 @@ fn early<P: Protocols>(
     requires { index < length (P.listed protocols.old) }
     ensures names { P.listed protocols.new ≡ P.listed protocols.old }
     ensures eager { P.is_eager protocols.new ≡ P.is_eager protocols.old }
-    ensures early { IfOk result (IsEarly (P.is_eager protocols.old index) (P.makes_outbound protocols.old index peer)) }
+    ensures early { IfOk result (IsEarly (P.is_eager protocols.old index) (makes_once P.makes_inbound P.makes_outbound
+        P.leads_inbound P.leads_outbound Direction.Outbound peer protocols.old protocols.new index)
+        (protocols.new ≡ protocols.old)) }
 {
     if !protocols.eager(index) {
         return Ok(None);
@@ -101,9 +105,9 @@ impl<P: Protocols> Board<P> {
             before (tree.get nat_cmp self.old.streams) self.old.past.items
             → SessionStands self.old.role (Did (Start number) ∷ items log) fed sent session.old
             → OnOk result (Asked P.H.steps P.H.fails P.H.is_closed P.H.is_finished P.makes_inbound P.makes_outbound
-            (P.is_eager self.old.protocols) (P.listed self.old.protocols) self.old.peer self.old.role number index log
-            owed.old.items owed.new.items fed sent session.new (tree.get nat_cmp self.new.streams)
-            self.new.past.items) }
+            (P.is_eager self.old.protocols) (P.listed self.old.protocols) self.old.peer self.old.role
+            (MakesOnBoard P.leads_inbound P.leads_outbound self.old self.new) number index log owed.old.items
+            owed.new.items fed sent session.new (tree.get nat_cmp self.new.streams) self.new.past.items) }
     {
         acts_tell();
         let handler = early(&mut self.protocols, index, self.peer)?;
@@ -139,8 +143,8 @@ impl<P: Protocols> Board<P> {
             session.old (tree.get nat_cmp self.old.streams) self.old.past.items
             → IfOk result (λ number. Asked P.H.steps P.H.fails P.H.is_closed P.H.is_finished P.makes_inbound
             P.makes_outbound (P.is_eager self.old.protocols) (P.listed self.old.protocols) self.old.peer self.old.role
-            number index log owed.old.items owed.new.items fed sent session.new (tree.get nat_cmp self.new.streams)
-            self.new.past.items) }
+            (MakesOnBoard P.leads_inbound P.leads_outbound self.old self.new) number index log owed.old.items
+            owed.new.items fed sent session.new (tree.get nat_cmp self.new.streams) self.new.past.items) }
         ensures bad_index { length (P.listed self.old.protocols) ≤ index → result ≡ Err ConnRefused.BadIndex }
         ensures within { IfOk result (λ number. index < length (P.listed self.old.protocols)) }
         ensures opened { IfOk result (λ number.

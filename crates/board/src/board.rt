@@ -13,7 +13,7 @@ ghost use Rattle.conn_log.specs.Due.{direction_of, IsGivenUp, told_reset};
 ghost use Rattle.conn_log.specs.Held.{IsHeld};
 ghost use Rattle.conn_log.specs.Routes.{Around, Routes, Routed, Comes, Resets, set_aside};
 ghost use Rattle.conn_log.specs.Asked.{told_of};
-ghost use Rattle.board.specs.Boards.{Keeps};
+ghost use Rattle.board.specs.Boards.{Keeps, MakesOnBoard};
 ghost use Rattle.board.specs.Resets.{told_of_reset};
 
 use conn_log::{ConnEvent, Earlier};
@@ -138,9 +138,9 @@ impl<P: Protocols> Board<P> {
             (P.is_eager self.old.protocols) (P.listed self.old.protocols) self.old.peer self.old.role log fed sent
             session.old (tree.get nat_cmp self.old.streams) self.old.past.items number view rest
             → IsGivenUp number log → OnOk result (Routed P.H.steps P.H.fails P.H.is_closed P.H.is_finished
-            P.makes_inbound P.makes_outbound (P.is_eager self.old.protocols) (P.listed self.old.protocols)
-            self.old.peer self.old.role log told told fed sent session.new (tree.get nat_cmp self.new.streams)
-            self.new.past.items number rest) }
+            P.makes_inbound P.makes_outbound (P.is_eager self.old.protocols) (P.listed self.old.protocols) self.old.peer
+            self.old.role (MakesOnBoard P.leads_inbound P.leads_outbound self.old self.new) log told told fed sent
+            session.new (tree.get nat_cmp self.new.streams) self.new.past.items number rest) }
     {
         acts_tell();
         self.streams.remove(&number);
@@ -163,9 +163,9 @@ impl<P: Protocols> Board<P> {
             (P.is_eager self.old.protocols) (P.listed self.old.protocols) self.old.peer self.old.role log fed sent
             session.old (tree.get nat_cmp self.old.streams) self.old.past.items number view rest outcome
             → OnOk result (Routed P.H.steps P.H.fails P.H.is_closed P.H.is_finished P.makes_inbound P.makes_outbound
-            (P.is_eager self.old.protocols) (P.listed self.old.protocols) self.old.peer self.old.role log
-            told.old.items told.new.items fed sent session.new (tree.get nat_cmp self.new.streams)
-            self.new.past.items number rest) }
+            (P.is_eager self.old.protocols) (P.listed self.old.protocols) self.old.peer self.old.role
+            (MakesOnBoard P.leads_inbound P.leads_outbound self.old self.new) log told.old.items told.new.items fed sent
+            session.new (tree.get nat_cmp self.new.streams) self.new.past.items number rest) }
     {
         match outcome {
             Outcome::Going => Ok(()),
@@ -203,9 +203,9 @@ impl<P: Protocols> Board<P> {
             → (told_reset number rest ≡ true → is_over self.old.role log number ≡ false
             → IsSome (tree.get nat_cmp self.old.streams number))
             → OnOk result (Routed P.H.steps P.H.fails P.H.is_closed P.H.is_finished P.makes_inbound P.makes_outbound
-            (P.is_eager self.old.protocols) (P.listed self.old.protocols) self.old.peer self.old.role log
-            told.old.items told.new.items fed sent session.new (tree.get nat_cmp self.new.streams)
-            self.new.past.items number rest) }
+            (P.is_eager self.old.protocols) (P.listed self.old.protocols) self.old.peer self.old.role
+            (MakesOnBoard P.leads_inbound P.leads_outbound self.old self.new) log told.old.items told.new.items fed sent
+            session.new (tree.get nat_cmp self.new.streams) self.new.past.items number rest) }
     {
         acts_tell();
         let Some(stream) = self.streams.get_mut(&number) else {
@@ -235,9 +235,9 @@ impl<P: Protocols> Board<P> {
             (self.old.past.items ++ set_aside number (tree.get nat_cmp self.old.streams number)) number just_opened rest
             → since self.old.role log number ≡ [] → is_own self.old.role number ≡ false
             → OnOk result (Routed P.H.steps P.H.fails P.H.is_closed P.H.is_finished P.makes_inbound P.makes_outbound
-            (P.is_eager self.old.protocols) (P.listed self.old.protocols) self.old.peer self.old.role log
-            told.old.items told.new.items fed sent session.new (tree.get nat_cmp self.new.streams)
-            self.new.past.items number rest) }
+            (P.is_eager self.old.protocols) (P.listed self.old.protocols) self.old.peer self.old.role
+            (MakesOnBoard P.leads_inbound P.leads_outbound self.old self.new) log told.old.items told.new.items fed sent
+            session.new (tree.get nat_cmp self.new.streams) self.new.past.items number rest) }
     {
         let Ok(stream) = Stream::answer(alloc, self.protocols.names()) else {
             return Err(AllocError);
@@ -262,9 +262,9 @@ impl<P: Protocols> Board<P> {
             session.old (tree.get nat_cmp self.old.streams) self.old.past.items number view
             (Told.Credit number ∷ rest)
             → OnOk result (Routed P.H.steps P.H.fails P.H.is_closed P.H.is_finished P.makes_inbound P.makes_outbound
-            (P.is_eager self.old.protocols) (P.listed self.old.protocols) self.old.peer self.old.role log
-            told.old.items told.new.items fed sent session.new (tree.get nat_cmp self.new.streams)
-            self.new.past.items number rest) }
+            (P.is_eager self.old.protocols) (P.listed self.old.protocols) self.old.peer self.old.role
+            (MakesOnBoard P.leads_inbound P.leads_outbound self.old self.new) log told.old.items told.new.items fed sent
+            session.new (tree.get nat_cmp self.new.streams) self.new.past.items number rest) }
     {
         self.serve(session, number, told)
     }
@@ -285,9 +285,9 @@ impl<P: Protocols> Board<P> {
             session.old (tree.get nat_cmp self.old.streams) self.old.past.items number view
             (Told.Ended number ∷ rest)
             → OnOk result (Routed P.H.steps P.H.fails P.H.is_closed P.H.is_finished P.makes_inbound P.makes_outbound
-            (P.is_eager self.old.protocols) (P.listed self.old.protocols) self.old.peer self.old.role log
-            told.old.items told.new.items fed sent session.new (tree.get nat_cmp self.new.streams)
-            self.new.past.items number rest) }
+            (P.is_eager self.old.protocols) (P.listed self.old.protocols) self.old.peer self.old.role
+            (MakesOnBoard P.leads_inbound P.leads_outbound self.old self.new) log told.old.items told.new.items fed sent
+            session.new (tree.get nat_cmp self.new.streams) self.new.past.items number rest) }
     {
         acts_tell();
         let Some(stream) = self.streams.get_mut(&number) else {
@@ -311,9 +311,9 @@ impl<P: Protocols> Board<P> {
             session (tree.get nat_cmp self.old.streams) self.old.past.items number view
             (Told.Reset number ∷ rest)
             → OnOk result (Routed P.H.steps P.H.fails P.H.is_closed P.H.is_finished P.makes_inbound P.makes_outbound
-            (P.is_eager self.old.protocols) (P.listed self.old.protocols) self.old.peer self.old.role log
-            told.old.items told.new.items fed sent session (tree.get nat_cmp self.new.streams)
-            self.new.past.items number rest) }
+            (P.is_eager self.old.protocols) (P.listed self.old.protocols) self.old.peer self.old.role
+            (MakesOnBoard P.leads_inbound P.leads_outbound self.old self.new) log told.old.items told.new.items fed sent
+            session (tree.get nat_cmp self.new.streams) self.new.past.items number rest) }
     {
         let Some(stream) = self.streams.remove(&number) else {
             return Ok(());
@@ -340,11 +340,10 @@ impl<P: Protocols> Board<P> {
             (P.is_eager self.old.protocols) (P.listed self.old.protocols) self.old.peer self.old.role log fed sent
             session.old (tree.get nat_cmp self.old.streams) self.old.past.items number view
             (map (Told.Payload number) bytes.now ++ rest)
-            → bytes.now ≢ [] → OnOk result
-            (Routed P.H.steps P.H.fails P.H.is_closed P.H.is_finished P.makes_inbound P.makes_outbound
-            (P.is_eager self.old.protocols) (P.listed self.old.protocols) self.old.peer self.old.role log
-            told.old.items told.new.items fed sent session.new (tree.get nat_cmp self.new.streams)
-            self.new.past.items number rest) }
+            → bytes.now ≢ [] → OnOk result (Routed P.H.steps P.H.fails P.H.is_closed P.H.is_finished P.makes_inbound
+            P.makes_outbound (P.is_eager self.old.protocols) (P.listed self.old.protocols) self.old.peer self.old.role
+            (MakesOnBoard P.leads_inbound P.leads_outbound self.old self.new) log told.old.items told.new.items fed sent
+            session.new (tree.get nat_cmp self.new.streams) self.new.past.items number rest) }
     {
         acts_tell();
         let direction = direction_of(self.role, number);

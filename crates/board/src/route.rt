@@ -9,7 +9,7 @@ ghost use Rattle.yamux_session.specs.Events.{Told};
 ghost use Rattle.conn_log.specs.Entries.{Entry};
 ghost use Rattle.conn_log.specs.Routes.{IsFor, Awaits, Routed};
 ghost use Rattle.conn_log.specs.Rests.{Grows};
-ghost use Rattle.board.specs.Boards.{Keeps};
+ghost use Rattle.board.specs.Boards.{Keeps, MakesOnBoard};
 
 use crate::board::Board;
 use conn_log::ConnEvent;
@@ -33,9 +33,9 @@ impl<P: Protocols> Board<P> {
             (P.is_eager self.old.protocols) (P.listed self.old.protocols) self.old.peer self.old.role log fed sent
             session.old (tree.get nat_cmp self.old.streams) self.old.past.items n (telling event.now ++ rest)
             → OnOk result (Routed P.H.steps P.H.fails P.H.is_closed P.H.is_finished P.makes_inbound P.makes_outbound
-            (P.is_eager self.old.protocols) (P.listed self.old.protocols) self.old.peer self.old.role log
-            told.old.items told.new.items fed sent session.new (tree.get nat_cmp self.new.streams)
-            self.new.past.items n rest) }
+            (P.is_eager self.old.protocols) (P.listed self.old.protocols) self.old.peer self.old.role
+            (MakesOnBoard P.leads_inbound P.leads_outbound self.old self.new) log told.old.items told.new.items fed sent
+            session.new (tree.get nat_cmp self.new.streams) self.new.past.items n rest) }
     {
         match event {
             Event::Opened(number) => self.open(alloc, session, *number, told),
@@ -66,9 +66,9 @@ impl<P: Protocols> Board<P> {
             (P.is_eager self.old.protocols) (P.listed self.old.protocols) self.old.peer self.old.role log fed sent
             session.old (tree.get nat_cmp self.old.streams) self.old.past.items n (tellings events.now)
             → OnOk result (Grows P.H.steps P.H.fails P.H.is_closed P.H.is_finished P.makes_inbound P.makes_outbound
-            (P.is_eager self.old.protocols) (P.listed self.old.protocols) self.old.peer self.old.role log
-            told.old.items told.new.items fed sent session.new (tree.get nat_cmp self.new.streams)
-            self.new.past.items) }
+            (P.is_eager self.old.protocols) (P.listed self.old.protocols) self.old.peer self.old.role
+            (MakesOnBoard P.leads_inbound P.leads_outbound self.old self.new) log told.old.items told.new.items fed sent
+            session.new (tree.get nat_cmp self.new.streams) self.new.past.items) }
     {
         for event in events {
             self.route_event(alloc, session, event, told)?;

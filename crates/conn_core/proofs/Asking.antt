@@ -12,6 +12,7 @@ use Rattle.streams.specs.State.{Streaming}
 use Rattle.conn_log.specs.declared.earlier.Earlier.{Earlier}
 use Rattle.conn_log.specs.declared.event.ConnEvent.{ConnEvent}
 use Rattle.conn_log.specs.declared.event.ConnEvent.TheVariants as event
+use Rattle.conn_log.specs.Making.{MakesOn}
 use Rattle.conn_log.specs.Entries.{items, said, asks}
 use Rattle.conn_log.specs.Entries.Entry.{Asks}
 use Rattle.conn_log.specs.Asked.{Asked}
@@ -32,18 +33,20 @@ ok_on {A = A} {E = E} Q R now then is f r = subst (λ (t : Result A E). IfOk t Q
 
 module _ {P H : Type 0} (step : H → HandlerCall → H → Type 0) (fails : H → AskedFor → ℕ → Type 0)
     (is_closed is_finished : H → Bool) (inbound_makes outbound_makes : P → ℕ → List ℕ → H → Type 0)
-    (listed : P → List (List ℕ)) (is_eager : P → ℕ → Bool) (eager : ℕ → Bool) (names : List (List ℕ))
-    (role : ConnRole) (own : Key) where
+    (listed : P → List (List ℕ)) (is_eager : P → ℕ → Bool)
+    (inbound_leads outbound_leads : P → ℕ → List ℕ → H → P → Type 0) (start : P) (role : ConnRole) (own : Key) where
   -- the list has grown by the opening and what followed it, and what the session wrote was moved
   pub up_asked : (input : List ℕ) (asked : List (ℕ × ℕ)) (number index : ℕ) (before old new : List (ConnEvent H)) (written : List ℕ) (session between after : State)
       (streams later : ℕ → Option (Streaming H)) (past last : List (Earlier H))
-      (up : IsUp step fails is_closed is_finished inbound_makes outbound_makes listed is_eager eager names role own input asked (before ++ old) written session streams past)
-      (a : Asked step fails is_closed is_finished inbound_makes outbound_makes eager names (id_of up.key) (session_role role) number index up.log old new up.rest
+      (up : IsUp step fails is_closed is_finished inbound_makes outbound_makes listed is_eager inbound_leads outbound_leads start role own input asked (before ++ old) written session streams past)
+      (behind : P)
+      (a : Asked step fails is_closed is_finished inbound_makes outbound_makes (is_eager start) (listed start) (id_of up.key) (session_role role)
+      (MakesOn inbound_leads outbound_leads (id_of up.key) (session_role role) up.now behind) number index up.log old new up.rest
       (output (session_role role) (items up.log)) between later last)
       → SessionStands (session_role role) (items (a.later ++ Asks number index ∷ up.log)) up.rest (output (session_role role) (items up.log) ++ between.pending) after
-      → (x : IsUp step fails is_closed is_finished inbound_makes outbound_makes listed is_eager eager names role own input (asked ++ (number, index) ∷ []) (before ++ new) (written ++ between.pending)
-      after later last) × (x.key ≡ up.key)
-  up_asked input asked number index before old new written session between after streams later past last up a there =
+      → (x : IsUp step fails is_closed is_finished inbound_makes outbound_makes listed is_eager inbound_leads outbound_leads start role own input (asked ++ (number, index) ∷ []) (before ++ new) (written ++ between.pending)
+      after later last) × (x.key ≡ up.key) × (x.now ≡ behind)
+  up_asked input asked number index before old new written session between after streams later past last up behind a there =
       let opened = Asks number index ∷ up.log in
       let now = a.later ++ opened in
       let sent = output (session_role role) (items up.log) in
@@ -66,9 +69,12 @@ module _ {P H : Type 0} (step : H → HandlerCall → H → Type 0) (fails : H �
             earlier = a.at_rest.earlier;
           };
           asks_are = asks_append a.later opened ∙ ap (λ t. (asks up.log ++ (number, index) ∷ []) ++ t) a.alone ∙ append-nil (asks up.log ++ (number, index) ∷ []) ∙ ap (λ t. t ++ (number, index) ∷ []) up.asks_are;
-          early = early_asked eager a.later up.log number index a.alone a.at_once up.early;
+          early = early_asked (is_eager start) a.later up.log number index a.alone a.at_once up.early;
+          now = behind;
+          makes = a.makes start up.makes;
           told_is = ap (λ t. before ++ t) a.told_is ∙ sym (append_assoc before old (said a.later)) ∙ ap (λ t. t ++ said a.later) up.told_is ∙ ap (λ t. event.Upgraded up.key ∷ t) (sym (said_append a.later opened));
           written_is = ap (λ t. t ++ between.pending) up.written_is ∙ append_assoc up.greeting sent between.pending ∙ ap (λ t. up.greeting ++ t) all_sent;
         },
+        refl,
         refl,
       )

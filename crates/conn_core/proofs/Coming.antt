@@ -21,17 +21,17 @@ use Rattle.conn_core.proofs.Going.{as_known}
 
 module _ {P H : Type 0} (step : H → HandlerCall → H → Type 0) (fails : H → Asked → ℕ → Type 0)
     (is_closed is_finished : H → Bool) (inbound_makes outbound_makes : P → ℕ → List ℕ → H → Type 0)
-    (listed : P → List (List ℕ)) (is_eager : P → ℕ → Bool) (eager : ℕ → Bool) (names : List (List ℕ))
-    (role : ConnRole) (own : Key) where
+    (listed : P → List (List ℕ)) (is_eager : P → ℕ → Bool)
+    (inbound_leads outbound_leads : P → ℕ → List ℕ → H → P → Type 0) (start : P) (role : ConnRole) (own : Key) where
   pub just_up : (protocols : P) (mux : Mux P H) (key : Key) (first written : List ℕ) (peer : List ℕ) (side : Role)
-      → listed protocols ≡ names → is_eager protocols ≡ eager → side ≡ session_role role → peer ≡ id_of key
+      → protocols ≡ start → side ≡ session_role role → peer ≡ id_of key
       → mux.board.protocols ≡ protocols → mux.board.role ≡ side → mux.board.peer ≡ peer
       → AreAtRest step fails is_closed is_finished inbound_makes outbound_makes (is_eager protocols) (listed protocols) peer side [] [] [] mux.session (tree.get nat_cmp mux.board.streams) mux.board.past.items
       → Upgrades role own first (Ok (Some key)) written
-      → IsUpWith step fails is_closed is_finished inbound_makes outbound_makes listed is_eager eager names role own first [] (event.Upgraded key ∷ []) written mux
-  just_up protocols mux key first written peer side names_are eager_are side_is peer_is protocols_are role_is board_peer fresh upgraded = (
-    ap listed protocols_are ∙ names_are,
-    ap is_eager protocols_are ∙ eager_are,
+      → IsUpWith step fails is_closed is_finished inbound_makes outbound_makes listed is_eager inbound_leads outbound_leads start role own first [] (event.Upgraded key ∷ []) written mux
+  just_up protocols mux key first written peer side started side_is peer_is protocols_are role_is board_peer fresh upgraded = (
+    ap listed (protocols_are ∙ started),
+    ap is_eager (protocols_are ∙ started),
     role_is ∙ side_is,
     (
       record {
@@ -42,18 +42,21 @@ module _ {P H : Type 0} (step : H → HandlerCall → H → Type 0) (fails : H �
         log = [];
         input_is = sym (append-nil first);
         upgraded = upgraded;
-        at_rest = as_known (is_eager protocols) eager (listed protocols) names peer (id_of key) side (session_role role) eager_are names_are peer_is side_is
+        at_rest = as_known (is_eager protocols) (is_eager start) (listed protocols) (listed start) peer (id_of key) side (session_role role) (ap is_eager started) (ap listed started) peer_is side_is
             (λ e n p r. AreAtRest step fails is_closed is_finished inbound_makes outbound_makes e n p r [] [] [] mux.session (tree.get nat_cmp mux.board.streams) mux.board.past.items) fresh;
         asks_are = refl;
+        now = start;
+        makes = refl;
         early = λ n index is. absurd (cc is);
         told_is = refl;
         written_is = sym (append-nil written);
       },
       board_peer ∙ peer_is,
+      protocols_are ∙ started,
     ),
   )
 
   pub upgrade_failed : (why : UpgradeFault) (named : ConnFault) (input written : List ℕ) (told : List (ConnEvent H)) → told_of why ≡ Some named → Upgrades role own input (Err why) written
-      → told ≡ event.Fault named ∷ [] → Ends step fails is_closed is_finished inbound_makes outbound_makes listed is_eager eager names role own input false [] told written
+      → told ≡ event.Fault named ∷ [] → Ends step fails is_closed is_finished inbound_makes outbound_makes listed is_eager inbound_leads outbound_leads start role own input false [] told written
   upgrade_failed why named input written told told_is upgrades is =
       Upgrade why named input told_is (record { rest = []; input_is = sym (append-nil input); upgrades = upgrades; all = λ up. refl }) refl is

@@ -58,9 +58,9 @@ stays why here next (inr spent) = inr spent.1
 
 module _ {P H : Type 0} (step : H → HandlerCall → H → Type 0) (fails : H → Asked → ℕ → Type 0)
     (is_closed is_finished : H → Bool) (inbound_makes outbound_makes : P → ℕ → List ℕ → H → Type 0)
-    (listed : P → List (List ℕ)) (is_eager : P → ℕ → Bool) (eager : ℕ → Bool) (names : List (List ℕ))
-    (role : ConnRole) (own : Key) where
-  counted : (calls : List ConnAct) (answers : List (ConnAnswer H)) (first last : Point H) → AnswersAll step fails is_closed is_finished inbound_makes outbound_makes listed is_eager eager names role own first calls answers last → IsBehind first calls answers last
+    (listed : P → List (List ℕ)) (is_eager : P → ℕ → Bool)
+    (inbound_leads outbound_leads : P → ℕ → List ℕ → H → P → Type 0) (start : P) (role : ConnRole) (own : Key) where
+  counted : (calls : List ConnAct) (answers : List (ConnAnswer H)) (first last : Point H) → AnswersAll step fails is_closed is_finished inbound_makes outbound_makes listed is_eager inbound_leads outbound_leads start role own first calls answers last → IsBehind first calls answers last
   counted [] [] first last all = subst (λ (p : Point H). IsBehind first [] [] p) (sym all) (at_once first)
   counted [] (answer ∷ answers) first last all = absurd all
   counted (call ∷ calls) [] first last all = absurd all
@@ -91,10 +91,10 @@ module _ {P H : Type 0} (step : H → HandlerCall → H → Type 0) (fails : H �
   counted (call ∷ calls) (answer ∷ answers) Spent last all =
       from_spent Spent (call ∷ calls) calls (answer ∷ answers) answers last (subst (λ (p : Point H). IsBehind p calls answers last) all.1.1 (counted calls answers all.0 last all.2))
 
-  pub all_is_counted : AllIsCounted step fails is_closed is_finished inbound_makes outbound_makes listed is_eager eager names role own
+  pub all_is_counted : AllIsCounted step fails is_closed is_finished inbound_makes outbound_makes listed is_eager inbound_leads outbound_leads start role own
   all_is_counted calls answers input ended asked told owed all = counted calls answers (At [] false [] [] []) (At input ended asked told owed) all
 
-  pub each_is_answered : EachIsAnswered step fails is_closed is_finished inbound_makes outbound_makes listed is_eager eager names role own
+  pub each_is_answered : EachIsAnswered step fails is_closed is_finished inbound_makes outbound_makes listed is_eager inbound_leads outbound_leads start role own
   each_is_answered [] [] first last all = refl
   each_is_answered [] (answer ∷ answers) first last all = absurd all
   each_is_answered (call ∷ calls) [] first last all = absurd all

@@ -18,12 +18,12 @@ use Rattle.conn_core.specs.Connects.Ends.{Early, Within, Shut}
 
 module _ {P H : Type 0} (step : H → HandlerCall → H → Type 0) (fails : H → Asked → ℕ → Type 0)
     (is_closed is_finished : H → Bool) (inbound_makes outbound_makes : P → ℕ → List ℕ → H → Type 0)
-    (listed : P → List (List ℕ)) (is_eager : P → ℕ → Bool) (eager : ℕ → Bool) (names : List (List ℕ))
-    (role : ConnRole) (own : Key) where
+    (listed : P → List (List ℕ)) (is_eager : P → ℕ → Bool)
+    (inbound_leads outbound_leads : P → ℕ → List ℕ → H → P → Type 0) (start : P) (role : ConnRole) (own : Key) where
   -- within the upgrade
   pub ends_early : (input : List ℕ) (asked : List (ℕ × ℕ)) (before owed : List (ConnEvent H)) (taken output : List ℕ) (x : Upgrading) (protocols : P) → asked ≡ [] → owed ≡ []
-      → IsComing step fails is_closed is_finished inbound_makes outbound_makes listed is_eager eager names role own input before taken x protocols → output ≡ x.pending
-      → Ends step fails is_closed is_finished inbound_makes outbound_makes listed is_eager eager names role own input true asked ((before ++ owed) ++ event.Fault fault.EarlyEnd ∷ []) (taken ++ output)
+      → IsComing step fails is_closed is_finished inbound_makes outbound_makes listed is_eager inbound_leads outbound_leads start role own input before taken x protocols → output ≡ x.pending
+      → Ends step fails is_closed is_finished inbound_makes outbound_makes listed is_eager inbound_leads outbound_leads start role own input true asked ((before ++ owed) ++ event.Fault fault.EarlyEnd ∷ []) (taken ++ output)
   ends_early input asked before owed taken output x protocols unasked none coming given =
       let there : Upgrades x.role x.own input (Ok None) (taken ++ x.pending) = going_by x.stage x.role x.own input (taken ++ x.pending) coming.stands in
       let upgrades = subst (λ (r : ConnRole). Upgrades r own input (Ok None) (taken ++ x.pending)) coming.role_is
@@ -33,12 +33,12 @@ module _ {P H : Type 0} (step : H → HandlerCall → H → Type 0) (fails : H �
 
   -- within a frame
   pub ends_within : (input : List ℕ) (asked : List (ℕ × ℕ)) (told : List (ConnEvent H)) (written : List ℕ) (mux : Mux P H)
-      → (up : IsUpWith step fails is_closed is_finished inbound_makes outbound_makes listed is_eager eager names role own input asked told written mux) → EndsWithin up.3.0.rest
-      → Ends step fails is_closed is_finished inbound_makes outbound_makes listed is_eager eager names role own input true asked (told ++ event.Fault fault.EarlyEnd ∷ []) written
+      → (up : IsUpWith step fails is_closed is_finished inbound_makes outbound_makes listed is_eager inbound_leads outbound_leads start role own input asked told written mux) → EndsWithin up.3.0.rest
+      → Ends step fails is_closed is_finished inbound_makes outbound_makes listed is_eager inbound_leads outbound_leads start role own input true asked (told ++ event.Fault fault.EarlyEnd ∷ []) written
   ends_within input asked told written mux up within = Within told mux.session (tree.get nat_cmp mux.board.streams) mux.board.past.items refl up.3.0 within refl
 
   -- between two frames
   pub is_shut : (input : List ℕ) (asked : List (ℕ × ℕ)) (told : List (ConnEvent H)) (written : List ℕ) (mux : Mux P H)
-      → (up : IsUpWith step fails is_closed is_finished inbound_makes outbound_makes listed is_eager eager names role own input asked told written mux) → ¬ EndsWithin up.3.0.rest
-      → Ends step fails is_closed is_finished inbound_makes outbound_makes listed is_eager eager names role own input true asked (told ++ event.Shut ∷ []) written
+      → (up : IsUpWith step fails is_closed is_finished inbound_makes outbound_makes listed is_eager inbound_leads outbound_leads start role own input asked told written mux) → ¬ EndsWithin up.3.0.rest
+      → Ends step fails is_closed is_finished inbound_makes outbound_makes listed is_eager inbound_leads outbound_leads start role own input true asked (told ++ event.Shut ∷ []) written
   is_shut input asked told written mux up between = Shut told mux.session (tree.get nat_cmp mux.board.streams) mux.board.past.items refl up.3.0 between refl

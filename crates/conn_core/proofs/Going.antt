@@ -15,7 +15,8 @@ use Rattle.conn_log.specs.declared.earlier.Earlier.{Earlier}
 use Rattle.conn_log.specs.declared.event.ConnEvent.{ConnEvent}
 use Rattle.conn_log.specs.declared.event.ConnEvent.TheVariants as event
 use Rattle.conn_log.specs.declared.event.ConnFault.TheVariants as fault
-use Rattle.conn_log.specs.Entries.{items, said, asks}
+use Rattle.conn_log.specs.Entries.{Entry, items, said, asks}
+use Rattle.conn_log.specs.Making.{AreMadeInTurn, MakesOn}
 use Rattle.conn_log.specs.Rests.{AreAtRest, Grows}
 use Rattle.conn_log.proofs.Settling.{said_append, asks_append}
 use Rattle.conn_log.proofs.Early.{early_grows}
@@ -31,17 +32,19 @@ as_known e known_e n known_n p known_p r known_r e_is n_is p_is r_is Q q =
 
 module _ {P H : Type 0} (step : H → HandlerCall → H → Type 0) (fails : H → Asked → ℕ → Type 0)
     (is_closed is_finished : H → Bool) (inbound_makes outbound_makes : P → ℕ → List ℕ → H → Type 0)
-    (listed : P → List (List ℕ)) (is_eager : P → ℕ → Bool) (eager : ℕ → Bool) (names : List (List ℕ))
-    (role : ConnRole) (own : Key) where
+    (listed : P → List (List ℕ)) (is_eager : P → ℕ → Bool)
+    (inbound_leads outbound_leads : P → ℕ → List ℕ → H → P → Type 0) (start : P) (role : ConnRole) (own : Key) where
   -- what was fed led the list on, and what the session wrote was moved
   pub up_on : (input piece : List ℕ) (asked : List (ℕ × ℕ)) (before old new : List (ConnEvent H)) (written : List ℕ) (session between after : State) (streams later : ℕ → Option (Streaming H)) (past last : List (Earlier H))
-      (up : IsUp step fails is_closed is_finished inbound_makes outbound_makes listed is_eager eager names role own input asked (before ++ old) written session streams past)
-      (g : Grows step fails is_closed is_finished inbound_makes outbound_makes eager names (id_of up.key) (session_role role) up.log old new (up.rest ++ piece)
+      (up : IsUp step fails is_closed is_finished inbound_makes outbound_makes listed is_eager inbound_leads outbound_leads start role own input asked (before ++ old) written session streams past)
+      (behind : P)
+      (g : Grows step fails is_closed is_finished inbound_makes outbound_makes (is_eager start) (listed start) (id_of up.key) (session_role role)
+      (MakesOn inbound_leads outbound_leads (id_of up.key) (session_role role) up.now behind) up.log old new (up.rest ++ piece)
       (output (session_role role) (items up.log)) between later last)
       → SessionStands (session_role role) (items (g.newer ++ up.log)) (up.rest ++ piece) (output (session_role role) (items up.log) ++ between.pending) after
-      → (x : IsUp step fails is_closed is_finished inbound_makes outbound_makes listed is_eager eager names role own (input ++ piece) asked (before ++ new) (written ++ between.pending) after later last)
-      × (x.key ≡ up.key)
-  up_on input piece asked before old new written session between after streams later past last up g there =
+      → (x : IsUp step fails is_closed is_finished inbound_makes outbound_makes listed is_eager inbound_leads outbound_leads start role own (input ++ piece) asked (before ++ new) (written ++ between.pending) after later last)
+      × (x.key ≡ up.key) × (x.now ≡ behind)
+  up_on input piece asked before old new written session between after streams later past last up behind g there =
       let now = g.newer ++ up.log in
       let sent = output (session_role role) (items up.log) in
       let all_sent : sent ++ between.pending ≡ output (session_role role) (items now) = g.at_rest.session_stands.output in (
@@ -63,21 +66,26 @@ module _ {P H : Type 0} (step : H → HandlerCall → H → Type 0) (fails : H �
             earlier = g.at_rest.earlier;
           };
           asks_are = asks_append g.newer up.log ∙ ap (λ t. asks up.log ++ t) g.unasked ∙ append-nil (asks up.log) ∙ up.asks_are;
-          early = early_grows eager g.newer up.log g.unasked up.early;
+          early = early_grows (is_eager start) g.newer up.log g.unasked up.early;
+          now = behind;
+          makes = g.makes start up.makes;
           told_is = ap (λ t. before ++ t) g.told_is ∙ sym (append_assoc before old (said g.newer)) ∙ ap (λ t. t ++ said g.newer) up.told_is ∙ ap (λ t. event.Upgraded up.key ∷ t) (sym (said_append g.newer up.log));
           written_is = ap (λ t. t ++ between.pending) up.written_is ∙ append_assoc up.greeting sent between.pending ∙ ap (λ t. up.greeting ++ t) all_sent;
         },
+        refl,
         refl,
       )
 
   -- a fault was met by what was fed
   pub up_faults : (input piece : List ℕ) (asked : List (ℕ × ℕ)) (before old new all : List (ConnEvent H)) (written pending : List ℕ) (session : State) (streams : ℕ → Option (Streaming H)) (past : List (Earlier H))
-      (up : IsUp step fails is_closed is_finished inbound_makes outbound_makes listed is_eager eager names role own input asked (before ++ old) written session streams past)
-      → Faults step fails is_closed is_finished inbound_makes outbound_makes eager names (id_of up.key) (session_role role) up.log [] old new up.rest piece
+      (up : IsUp step fails is_closed is_finished inbound_makes outbound_makes listed is_eager inbound_leads outbound_leads start role own input asked (before ++ old) written session streams past)
+      (behind : P)
+      → Faults step fails is_closed is_finished inbound_makes outbound_makes (is_eager start) (listed start) (id_of up.key) (session_role role)
+      (MakesOn inbound_leads outbound_leads (id_of up.key) (session_role role) up.now behind) up.log [] old new up.rest piece
       (output (session_role role) (items up.log)) pending
       → all ≡ new ++ event.Fault fault.Mux ∷ []
-      → IsFaulty step fails is_closed is_finished inbound_makes outbound_makes listed is_eager eager names role own (input ++ piece) asked (before ++ all) (written ++ pending)
-  up_faults input piece asked before old new all written pending session streams past up f all_is =
+      → IsFaulty step fails is_closed is_finished inbound_makes outbound_makes listed is_eager inbound_leads outbound_leads start role own (input ++ piece) asked (before ++ all) (written ++ pending)
+  up_faults input piece asked before old new all written pending session streams past up behind f all_is =
       let now = f.newer ++ up.log in
       let sent = output (session_role role) (items up.log) in
       let logs : now ≡ now ++ [] = sym (append-nil now) in
@@ -89,10 +97,13 @@ module _ {P H : Type 0} (step : H → HandlerCall → H → Type 0) (fails : H �
         sent = sent;
         pending = pending;
         before = before ++ new;
+        now = behind;
         input_is = ap (λ t. t ++ piece) up.input_is ∙ append_assoc up.first up.rest piece;
         upgraded = up.upgraded;
         faults = record {
           newer = now;
+          makes = λ first first_is. subst (λ (t : List (Entry H)). AreMadeInTurn inbound_leads outbound_leads (id_of up.key) (session_role role) first t behind) logs
+              (f.makes first (subst (λ (p : P). AreMadeInTurn inbound_leads outbound_leads (id_of up.key) (session_role role) p up.log up.now) first_is up.makes));
           asks_are = asks_append f.newer up.log ∙ ap (λ t. asks up.log ++ t) f.asks_are ∙ append-nil (asks up.log) ∙ up.asks_are;
           told_is = ap (λ t. before ++ t) f.told_is ∙ sym (append_assoc before old (said f.newer)) ∙ ap (λ t. t ++ said f.newer) up.told_is ∙ ap (λ t. event.Upgraded up.key ∷ t) (sym (said_append f.newer up.log));
           front = up.rest ++ f.front;
@@ -101,7 +112,7 @@ module _ {P H : Type 0} (step : H → HandlerCall → H → Type 0) (fails : H �
           session = f.session;
           streams = f.streams;
           past = f.past;
-          at_rest = subst (λ t. AreAtRest step fails is_closed is_finished inbound_makes outbound_makes eager names (id_of up.key) (session_role role) t (up.rest ++ f.front) sent f.session f.streams f.past) logs f.at_rest;
+          at_rest = subst (λ t. AreAtRest step fails is_closed is_finished inbound_makes outbound_makes (is_eager start) (listed start) (id_of up.key) (session_role role) t (up.rest ++ f.front) sent f.session f.streams f.past) logs f.at_rest;
           now = f.now;
           came = (f.came.0, f.came.1 ∙ ap (λ t. map Came f.came.0 ++ items t) logs);
           fault = f.fault;
@@ -109,7 +120,7 @@ module _ {P H : Type 0} (step : H → HandlerCall → H → Type 0) (fails : H �
           frames = f.frames;
           output_is = f.output_is;
         };
-        early = early_grows eager f.newer up.log f.asks_are up.early;
+        early = early_grows (is_eager start) f.newer up.log f.asks_are up.early;
         told_is = ap (λ t. before ++ t) all_is ∙ sym (append_assoc before new (event.Fault fault.Mux ∷ []));
         written_is = ap (λ t. t ++ pending) up.written_is ∙ append_assoc up.greeting sent pending;
       }

@@ -66,10 +66,10 @@ module _ {P H : Type 0} (step : H → HandlerCall → H → Type 0) (fails : H �
 
 module _ {P H : Type 0} (step : H → HandlerCall → H → Type 0) (fails : H → Asked → ℕ → Type 0)
     (is_closed is_finished : H → Bool) (inbound_makes outbound_makes : P → ℕ → List ℕ → H → Type 0)
-    (listed : P → List (List ℕ)) (is_eager : P → ℕ → Bool) (eager : ℕ → Bool) (names : List (List ℕ))
-    (role : ConnRole) (own : Key) where
+    (listed : P → List (List ℕ)) (is_eager : P → ℕ → Bool)
+    (inbound_leads outbound_leads : P → ℕ → List ℕ → H → P → Type 0) (start : P) (role : ConnRole) (own : Key) where
   ends_told : (input : List ℕ) (ended : Bool) (asked : List (ℕ × ℕ)) (told : List (ConnEvent H)) (written : List ℕ)
-      → Ends step fails is_closed is_finished inbound_makes outbound_makes listed is_eager eager names role own input ended asked told written → has_ended told ≡ true
+      → Ends step fails is_closed is_finished inbound_makes outbound_makes listed is_eager inbound_leads outbound_leads start role own input ended asked told written → has_ended told ≡ true
   ends_told input ended asked told written (Upgrade why named first told_is comes unasked is) = ap has_ended is
   ends_told input ended asked told written (Session faulty) = ap has_ended faulty.told_is ∙ ends_append faulty.before (event.Fault fault.Mux) refl
   ends_told input ended asked told written (Early is_ended upgrades unasked is) = ap has_ended is
@@ -78,18 +78,18 @@ module _ {P H : Type 0} (step : H → HandlerCall → H → Type 0) (fails : H �
 
   -- it is over where a Fault or Shut was told
   pub told_over : (input : List ℕ) (ended : Bool) (asked : List (ℕ × ℕ)) (told : List (ConnEvent H)) (taken : List ℕ) (phase : Phase P H) (owed : List (ConnEvent H)) (waiting : List ℕ)
-      → Connects step fails is_closed is_finished inbound_makes outbound_makes listed is_eager eager names role own input ended asked told taken phase owed waiting
+      → Connects step fails is_closed is_finished inbound_makes outbound_makes listed is_eager inbound_leads outbound_leads start role own input ended asked told taken phase owed waiting
       → has_ended told ≡ is_over phase
   told_over input ended asked told taken (phases.Upgrading x protocols) owed waiting it = ap has_ended it.4.none_told
   told_over input ended asked told taken (phases.Up mux) owed waiting it =
       let up = it.1.3.0 in
       front_goes_on told owed (ap has_ended up.told_is
-      ∙ said_goes_on step fails is_closed is_finished inbound_makes outbound_makes eager names (id_of up.key) (session_role role) up.log up.at_rest.due)
+      ∙ said_goes_on step fails is_closed is_finished inbound_makes outbound_makes (is_eager start) (listed start) (id_of up.key) (session_role role) up.log up.at_rest.due)
   told_over input ended asked told taken phases.Over owed waiting it = ends_told input ended asked told (taken ++ waiting) it.1
 
   -- the input ends only where it is over
   pub unended : (input : List ℕ) (ended : Bool) (asked : List (ℕ × ℕ)) (told : List (ConnEvent H)) (taken : List ℕ) (phase : Phase P H) (owed : List (ConnEvent H)) (waiting : List ℕ)
-      → Connects step fails is_closed is_finished inbound_makes outbound_makes listed is_eager eager names role own input ended asked told taken phase owed waiting
+      → Connects step fails is_closed is_finished inbound_makes outbound_makes listed is_eager inbound_leads outbound_leads start role own input ended asked told taken phase owed waiting
       → is_over phase ≡ false → ended ≡ false
   unended input ended asked told taken (phases.Upgrading x protocols) owed waiting it going = it.0
   unended input ended asked told taken (phases.Up mux) owed waiting it going = it.0
@@ -98,25 +98,25 @@ module _ {P H : Type 0} (step : H → HandlerCall → H → Type 0) (fails : H �
   -- ---- why it is there
 
   coming : (input taken : List ℕ) (told : List (ConnEvent H)) (x : Upgrading) (protocols : P)
-      → IsComing step fails is_closed is_finished inbound_makes outbound_makes listed is_eager eager names role own input told taken x protocols → Upgrades role own input (Ok None) (taken ++ x.pending)
+      → IsComing step fails is_closed is_finished inbound_makes outbound_makes listed is_eager inbound_leads outbound_leads start role own input told taken x protocols → Upgrades role own input (Ok None) (taken ++ x.pending)
   coming input taken told x protocols it =
       let there : Upgrades x.role x.own input (Ok None) (taken ++ x.pending) = going_by x.stage x.role x.own input (taken ++ x.pending) it.stands in
       subst (λ (r : ConnRole). Upgrades r own input (Ok None) (taken ++ x.pending)) it.role_is
       (subst (λ (k : Key). Upgrades x.role k input (Ok None) (taken ++ x.pending)) it.own_is there)
 
   pub why_there : (input : List ℕ) (ended : Bool) (asked : List (ℕ × ℕ)) (told : List (ConnEvent H)) (taken : List ℕ) (phase : Phase P H) (owed : List (ConnEvent H)) (waiting : List ℕ)
-      → Connects step fails is_closed is_finished inbound_makes outbound_makes listed is_eager eager names role own input ended asked told taken phase owed waiting
-      → Explains step fails is_closed is_finished inbound_makes outbound_makes listed is_eager eager names role own input ended asked told owed (taken ++ waiting_in phase waiting)
+      → Connects step fails is_closed is_finished inbound_makes outbound_makes listed is_eager inbound_leads outbound_leads start role own input ended asked told taken phase owed waiting
+      → Explains step fails is_closed is_finished inbound_makes outbound_makes listed is_eager inbound_leads outbound_leads start role own input ended asked told owed (taken ++ waiting_in phase waiting)
   why_there input ended asked told taken (phases.Upgrading x protocols) owed waiting it = Coming it.0 it.1 it.4.none_told it.2 (coming input taken told x protocols it.4)
   why_there input ended asked told taken (phases.Up mux) owed waiting it = Up mux.session (tree.get nat_cmp mux.board.streams) mux.board.past.items it.0 it.1.3.0
   why_there input ended asked told taken phases.Over owed waiting it = Over it.0 it.1
 
   -- a stream may be opened
   pub may_ask : (input : List ℕ) (ended : Bool) (asked : List (ℕ × ℕ)) (told : List (ConnEvent H)) (taken : List ℕ) (phase : Phase P H) (owed : List (ConnEvent H)) (waiting : List ℕ) (index : ℕ)
-      → Connects step fails is_closed is_finished inbound_makes outbound_makes listed is_eager eager names role own input ended asked told taken phase owed waiting
+      → Connects step fails is_closed is_finished inbound_makes outbound_makes listed is_eager inbound_leads outbound_leads start role own input ended asked told taken phase owed waiting
       → MayOpen listed phase index
-      → (there : Explains step fails is_closed is_finished inbound_makes outbound_makes listed is_eager eager names role own input ended asked told owed (taken ++ waiting_in phase waiting))
-      × MayBeAsked step fails is_closed is_finished inbound_makes outbound_makes listed is_eager eager names role own input ended asked told owed (taken ++ waiting_in phase waiting) there index
+      → (there : Explains step fails is_closed is_finished inbound_makes outbound_makes listed is_eager inbound_leads outbound_leads start role own input ended asked told owed (taken ++ waiting_in phase waiting))
+      × MayBeAsked step fails is_closed is_finished inbound_makes outbound_makes listed is_eager inbound_leads outbound_leads start role own input ended asked told owed (taken ++ waiting_in phase waiting) there index
   unfolding why_there
   may_ask input ended asked told taken (phases.Upgrading x protocols) owed waiting index it may = absurd may
   may_ask input ended asked told taken (phases.Up mux) owed waiting index it may =
@@ -131,10 +131,10 @@ module _ {P H : Type 0} (step : H → HandlerCall → H → Type 0) (fails : H �
 
   -- or why none is
   pub not_asked : (input : List ℕ) (ended : Bool) (asked : List (ℕ × ℕ)) (told : List (ConnEvent H)) (taken : List ℕ) (phase : Phase P H) (owed : List (ConnEvent H)) (waiting : List ℕ) (index : ℕ) (why : ConnRefused)
-      → Connects step fails is_closed is_finished inbound_makes outbound_makes listed is_eager eager names role own input ended asked told taken phase owed waiting
+      → Connects step fails is_closed is_finished inbound_makes outbound_makes listed is_eager inbound_leads outbound_leads start role own input ended asked told taken phase owed waiting
       → IsRefused listed phase index why
-      → (there : Explains step fails is_closed is_finished inbound_makes outbound_makes listed is_eager eager names role own input ended asked told owed (taken ++ waiting_in phase waiting))
-      × IsNotOpened step fails is_closed is_finished inbound_makes outbound_makes listed is_eager eager names role own input ended asked told owed (taken ++ waiting_in phase waiting) there index why
+      → (there : Explains step fails is_closed is_finished inbound_makes outbound_makes listed is_eager inbound_leads outbound_leads start role own input ended asked told owed (taken ++ waiting_in phase waiting))
+      × IsNotOpened step fails is_closed is_finished inbound_makes outbound_makes listed is_eager inbound_leads outbound_leads start role own input ended asked told owed (taken ++ waiting_in phase waiting) there index why
   unfolding why_there
   not_asked input ended asked told taken (phases.Upgrading x protocols) owed waiting index why it refused = (why_there input ended asked told taken (phases.Upgrading x protocols) owed waiting it, refused)
   not_asked input ended asked told taken (phases.Up mux) owed waiting index why it (inl beyond) = (
@@ -153,9 +153,9 @@ module _ {P H : Type 0} (step : H → HandlerCall → H → Type 0) (fails : H �
 
   -- the handlers that are held there
   pub holds : (input : List ℕ) (ended : Bool) (asked : List (ℕ × ℕ)) (told : List (ConnEvent H)) (taken : List ℕ) (phase : Phase P H) (owed : List (ConnEvent H)) (waiting : List ℕ)
-      → (it : Connects step fails is_closed is_finished inbound_makes outbound_makes listed is_eager eager names role own input ended asked told taken phase owed waiting)
+      → (it : Connects step fails is_closed is_finished inbound_makes outbound_makes listed is_eager inbound_leads outbound_leads start role own input ended asked told taken phase owed waiting)
       → IsOrderedIn phase
-      → Holds step fails is_closed is_finished inbound_makes outbound_makes listed is_eager eager names role own input ended asked told owed (taken ++ waiting_in phase waiting)
+      → Holds step fails is_closed is_finished inbound_makes outbound_makes listed is_eager inbound_leads outbound_leads start role own input ended asked told owed (taken ++ waiting_in phase waiting)
       (why_there input ended asked told taken phase owed waiting it) (held_in phase)
   unfolding why_there
   holds input ended asked told taken (phases.Upgrading x protocols) owed waiting it ordered = refl

@@ -49,22 +49,22 @@ err_and X Y (Err e) y none = (none, y)
 
 module _ {P H : Type 0} (step : H → HandlerCall → H → Type 0) (fails : H → Asked → ℕ → Type 0)
     (is_closed is_finished : H → Bool) (inbound_makes outbound_makes : P → ℕ → List ℕ → H → Type 0)
-    (listed : P → List (List ℕ)) (is_eager : P → ℕ → Bool) (eager : ℕ → Bool) (names : List (List ℕ))
-    (role : ConnRole) (own : Key) where
+    (listed : P → List (List ℕ)) (is_eager : P → ℕ → Bool)
+    (inbound_leads outbound_leads : P → ℕ → List ℕ → H → P → Type 0) (start : P) (role : ConnRole) (own : Key) where
   -- what a call leads to
   abbrev pub Leads : Point H → ConnAct → ConnAnswer H → ConnCore P H → Type 0
-  Leads point call answer new = (next : Point H) × Answers step fails is_closed is_finished inbound_makes outbound_makes listed is_eager eager names role own point call answer next
-      × IsAt step fails is_closed is_finished inbound_makes outbound_makes listed is_eager eager names role own next new
+  Leads point call answer new = (next : Point H) × Answers step fails is_closed is_finished inbound_makes outbound_makes listed is_eager inbound_leads outbound_leads start role own point call answer next
+      × IsAt step fails is_closed is_finished inbound_makes outbound_makes listed is_eager inbound_leads outbound_leads start role own next new
 
   pub leads_as : (point : Point H) (call given_call : ConnAct) (answer given : ConnAnswer H) (new : ConnCore P H) → call ≡ given_call → answer ≡ given → Leads point given_call given new → Leads point call answer new
   leads_as point call given_call answer given new call_is answer_is leads =
       subst (λ (a : ConnAct). Leads point a answer new) (sym call_is) (subst (λ (x : ConnAnswer H). Leads point given_call x new) (sym answer_is) leads)
 
-  explained_at : (point : Point H) (core : ConnCore P H) → IsAt step fails is_closed is_finished inbound_makes outbound_makes listed is_eager eager names role own point core → IsExplained step fails is_closed is_finished inbound_makes outbound_makes listed is_eager eager names role own point
+  explained_at : (point : Point H) (core : ConnCore P H) → IsAt step fails is_closed is_finished inbound_makes outbound_makes listed is_eager inbound_leads outbound_leads start role own point core → IsExplained step fails is_closed is_finished inbound_makes outbound_makes listed is_eager inbound_leads outbound_leads start role own point
   explained_at (At input ended asked told owed) core at = (
     waiting_in core.phase core.output.items,
-    subst (λ (o : List (ConnEvent H)). Explains step fails is_closed is_finished inbound_makes outbound_makes listed is_eager eager names role own input ended asked told o (waiting_in core.phase core.output.items)) at.0
-        (why_there step fails is_closed is_finished inbound_makes outbound_makes listed is_eager eager names role own input ended asked told [] core.phase core.owed.items core.output.items at.1.1),
+    subst (λ (o : List (ConnEvent H)). Explains step fails is_closed is_finished inbound_makes outbound_makes listed is_eager inbound_leads outbound_leads start role own input ended asked told o (waiting_in core.phase core.output.items)) at.0
+        (why_there step fails is_closed is_finished inbound_makes outbound_makes listed is_eager inbound_leads outbound_leads start role own input ended asked told [] core.phase core.owed.items core.output.items at.1.1),
   )
   explained_at Spent core at = tt
 
@@ -72,26 +72,26 @@ module _ {P H : Type 0} (step : H → HandlerCall → H → Type 0) (fails : H �
 
   pub tells : (point : Point H) (call : ConnAct) (after : List ℕ → List ℕ) (b : Bool) (old new : ConnCore P H) (r : Result (Vec (ConnEvent H)) ConnRefused)
       → ((input : List ℕ) (ended : Bool) (asked : List (ℕ × ℕ)) (told owed : List (ConnEvent H)) (more : Vec (ConnEvent H)) (next : Point H) → has_ended told ≡ false → next ≡ At (after input) b asked (told ++ more.items) []
-      → AnswersAt step fails is_closed is_finished inbound_makes outbound_makes listed is_eager eager names role own input ended asked told owed call (Events more) next)
+      → AnswersAt step fails is_closed is_finished inbound_makes outbound_makes listed is_eager inbound_leads outbound_leads start role own input ended asked told owed call (Events more) next)
       → ((input : List ℕ) (ended : Bool) (asked : List (ℕ × ℕ)) (told owed : List (ConnEvent H)) (why : ConnRefused) (next : Point H) → IsTurnedAway told why (At input ended asked told owed) next
-      → AnswersAt step fails is_closed is_finished inbound_makes outbound_makes listed is_eager eager names role own input ended asked told owed call (Refused why) next)
-      → ((input : List ℕ) (asked : List (ℕ × ℕ)) (told : List (ConnEvent H)) → Stands step fails is_closed is_finished inbound_makes outbound_makes listed is_eager eager names role own input false asked told [] old → is_over old.phase ≡ false
-      → IfOk r (λ events. Stands step fails is_closed is_finished inbound_makes outbound_makes listed is_eager eager names role own (after input) b asked (told ++ events.items) [] new × (new.owed.items ≡ [])))
+      → AnswersAt step fails is_closed is_finished inbound_makes outbound_makes listed is_eager inbound_leads outbound_leads start role own input ended asked told owed call (Refused why) next)
+      → ((input : List ℕ) (asked : List (ℕ × ℕ)) (told : List (ConnEvent H)) → Stands step fails is_closed is_finished inbound_makes outbound_makes listed is_eager inbound_leads outbound_leads start role own input false asked told [] old → is_over old.phase ≡ false
+      → IfOk r (λ events. Stands step fails is_closed is_finished inbound_makes outbound_makes listed is_eager inbound_leads outbound_leads start role own (after input) b asked (told ++ events.items) [] new × (new.owed.items ≡ [])))
       → (is_over old.phase ≡ false → OnErr r ((r ≡ Err refusals.OutOfMemory) × (is_over new.phase ≡ true)))
       → (is_over old.phase ≡ true → (r ≡ Err refusals.Failed) × (new ≡ old))
-      → IsAt step fails is_closed is_finished inbound_makes outbound_makes listed is_eager eager names role own point old → Leads point call (events_or r) new
+      → IsAt step fails is_closed is_finished inbound_makes outbound_makes listed is_eager inbound_leads outbound_leads start role own point old → Leads point call (events_or r) new
   tells (At input ended asked told owed) call after b old new (Ok events) shape away fed refused failed at = by_over (is_over old.phase) refl
     where
       by_over : (c : Bool) → is_over old.phase ≡ c → Leads (At input ended asked told owed) call (Events events) new
       by_over true over = absurd (let e = (failed over).0 in cc)
       by_over false going =
-          let open_still = unended step fails is_closed is_finished inbound_makes outbound_makes listed is_eager eager names role own input ended asked told [] old.phase old.owed.items old.output.items at.1.1 going in
-          let now = fed input asked told (subst (λ (x : Bool). Stands step fails is_closed is_finished inbound_makes outbound_makes listed is_eager eager names role own input x asked told [] old) open_still at.1) going in
+          let open_still = unended step fails is_closed is_finished inbound_makes outbound_makes listed is_eager inbound_leads outbound_leads start role own input ended asked told [] old.phase old.owed.items old.output.items at.1.1 going in
+          let now = fed input asked told (subst (λ (x : Bool). Stands step fails is_closed is_finished inbound_makes outbound_makes listed is_eager inbound_leads outbound_leads start role own input x asked told [] old) open_still at.1) going in
           let next : Point H = At (after input) b asked (told ++ events.items) [] in
-          let there : IsAt step fails is_closed is_finished inbound_makes outbound_makes listed is_eager eager names role own next new = (now.1, now.0) in (
+          let there : IsAt step fails is_closed is_finished inbound_makes outbound_makes listed is_eager inbound_leads outbound_leads start role own next new = (now.1, now.0) in (
             next,
             (
-              shape input ended asked told owed events next (told_over step fails is_closed is_finished inbound_makes outbound_makes listed is_eager eager names role own input ended asked told [] old.phase old.owed.items old.output.items at.1.1 ∙ going) refl,
+              shape input ended asked told owed events next (told_over step fails is_closed is_finished inbound_makes outbound_makes listed is_eager inbound_leads outbound_leads start role own input ended asked told [] old.phase old.owed.items old.output.items at.1.1 ∙ going) refl,
               explained_at next new there,
             ),
             there,
@@ -103,10 +103,10 @@ module _ {P H : Type 0} (step : H → HandlerCall → H → Type 0) (fails : H �
           let same = failed over in
           let why_is : why ≡ refusals.Failed = (let e = same.0 in cc) in
           let here : Point H = At input ended asked told owed in
-          let there : IsAt step fails is_closed is_finished inbound_makes outbound_makes listed is_eager eager names role own here new = subst (IsAt step fails is_closed is_finished inbound_makes outbound_makes listed is_eager eager names role own here) (sym same.1) at in (
+          let there : IsAt step fails is_closed is_finished inbound_makes outbound_makes listed is_eager inbound_leads outbound_leads start role own here new = subst (IsAt step fails is_closed is_finished inbound_makes outbound_makes listed is_eager inbound_leads outbound_leads start role own here) (sym same.1) at in (
             here,
             (
-              away input ended asked told owed why here (inl (told_over step fails is_closed is_finished inbound_makes outbound_makes listed is_eager eager names role own input ended asked told [] old.phase old.owed.items old.output.items at.1.1 ∙ over, why_is, refl)),
+              away input ended asked told owed why here (inl (told_over step fails is_closed is_finished inbound_makes outbound_makes listed is_eager inbound_leads outbound_leads start role own input ended asked told [] old.phase old.owed.items old.output.items at.1.1 ∙ over, why_is, refl)),
               explained_at here new there,
             ),
             there,
@@ -116,7 +116,7 @@ module _ {P H : Type 0} (step : H → HandlerCall → H → Type 0) (fails : H �
           let why_is : why ≡ refusals.OutOfMemory = (let e = out.0 in cc) in (
             Spent,
             (
-              away input ended asked told owed why Spent (inr (told_over step fails is_closed is_finished inbound_makes outbound_makes listed is_eager eager names role own input ended asked told [] old.phase old.owed.items old.output.items at.1.1 ∙ going, why_is, refl)),
+              away input ended asked told owed why Spent (inr (told_over step fails is_closed is_finished inbound_makes outbound_makes listed is_eager inbound_leads outbound_leads start role own input ended asked told [] old.phase old.owed.items old.output.items at.1.1 ∙ going, why_is, refl)),
               tt,
             ),
             out.1,
@@ -129,7 +129,7 @@ module _ {P H : Type 0} (step : H → HandlerCall → H → Type 0) (fails : H �
 
   -- what is over owes nothing
   pub over_owes : (input : List ℕ) (ended : Bool) (asked : List (ℕ × ℕ)) (told : List (ConnEvent H)) (taken : List ℕ) (phase : Phase P H) (owed : List (ConnEvent H)) (waiting : List ℕ)
-      → is_over phase ≡ true → Connects step fails is_closed is_finished inbound_makes outbound_makes listed is_eager eager names role own input ended asked told taken phase owed waiting → owed ≡ []
+      → is_over phase ≡ true → Connects step fails is_closed is_finished inbound_makes outbound_makes listed is_eager inbound_leads outbound_leads start role own input ended asked told taken phase owed waiting → owed ≡ []
   over_owes input ended asked told taken (phases.Upgrading x protocols) owed waiting over it = absurd (cc over)
   over_owes input ended asked told taken (phases.Up mux) owed waiting over it = absurd (cc over)
   over_owes input ended asked told taken phases.Over owed waiting over it = it.0
@@ -137,28 +137,28 @@ module _ {P H : Type 0} (step : H → HandlerCall → H → Type 0) (fails : H �
   -- ---- an opening
 
   pub asks : (point : Point H) (index : ℕ) (old new : ConnCore P H) (r : Result ℕ ConnRefused)
-      → ((input : List ℕ) (asked : List (ℕ × ℕ)) (told : List (ConnEvent H)) → Stands step fails is_closed is_finished inbound_makes outbound_makes listed is_eager eager names role own input false asked told [] old
-      → IfOk r (λ number. Stands step fails is_closed is_finished inbound_makes outbound_makes listed is_eager eager names role own input false (asked ++ (number, index) ∷ []) told [] new))
-      → ((input : List ℕ) (asked : List (ℕ × ℕ)) (told : List (ConnEvent H)) → Stands step fails is_closed is_finished inbound_makes outbound_makes listed is_eager eager names role own input false asked told [] old
+      → ((input : List ℕ) (asked : List (ℕ × ℕ)) (told : List (ConnEvent H)) → Stands step fails is_closed is_finished inbound_makes outbound_makes listed is_eager inbound_leads outbound_leads start role own input false asked told [] old
+      → IfOk r (λ number. Stands step fails is_closed is_finished inbound_makes outbound_makes listed is_eager inbound_leads outbound_leads start role own input false (asked ++ (number, index) ∷ []) told [] new))
+      → ((input : List ℕ) (asked : List (ℕ × ℕ)) (told : List (ConnEvent H)) → Stands step fails is_closed is_finished inbound_makes outbound_makes listed is_eager inbound_leads outbound_leads start role own input false asked told [] old
       → IfOk r (λ number. OwesOf number old.owed.items new.owed.items))
       → IfOk r (λ number. MayOpen listed old.phase index)
       → IfErr r (λ why. IsRefused listed old.phase index why)
       → IfErr r (λ why. why ≢ refusals.OutOfMemory → new ≡ old)
       → (r ≡ Err refusals.OutOfMemory → is_over new.phase ≡ true)
-      → IsAt step fails is_closed is_finished inbound_makes outbound_makes listed is_eager eager names role own point old → Leads point (Ask index) (stream_or r) new
+      → IsAt step fails is_closed is_finished inbound_makes outbound_makes listed is_eager inbound_leads outbound_leads start role own point old → Leads point (Ask index) (stream_or r) new
   asks (At input ended asked told owed) index old new (Ok n) stands owes may refused kept memory at =
       let going = open_goes_on listed old.phase index may in
-      let open_still = unended step fails is_closed is_finished inbound_makes outbound_makes listed is_eager eager names role own input ended asked told [] old.phase old.owed.items old.output.items at.1.1 going in
-      let before = subst (λ (x : Bool). Stands step fails is_closed is_finished inbound_makes outbound_makes listed is_eager eager names role own input x asked told [] old) open_still at.1 in
+      let open_still = unended step fails is_closed is_finished inbound_makes outbound_makes listed is_eager inbound_leads outbound_leads start role own input ended asked told [] old.phase old.owed.items old.output.items at.1.1 going in
+      let before = subst (λ (x : Bool). Stands step fails is_closed is_finished inbound_makes outbound_makes listed is_eager inbound_leads outbound_leads start role own input x asked told [] old) open_still at.1 in
       let more = owes input asked told before in
       let written = waiting_in old.phase old.output.items in
-      let why = may_ask step fails is_closed is_finished inbound_makes outbound_makes listed is_eager eager names role own input ended asked told [] old.phase old.owed.items old.output.items index at.1.1 may in
+      let why = may_ask step fails is_closed is_finished inbound_makes outbound_makes listed is_eager inbound_leads outbound_leads start role own input ended asked told [] old.phase old.owed.items old.output.items index at.1.1 may in
       let next : Point H = At input false (asked ++ (n, index) ∷ []) told (owed ++ more.0) in
-      let there : IsAt step fails is_closed is_finished inbound_makes outbound_makes listed is_eager eager names role own next new = (more.2 ∙ ap (λ o. o ++ more.0) at.0, stands input asked told before) in (
+      let there : IsAt step fails is_closed is_finished inbound_makes outbound_makes listed is_eager inbound_leads outbound_leads start role own next new = (more.2 ∙ ap (λ o. o ++ more.0) at.0, stands input asked told before) in (
         next,
         (
           (
-            subst (λ (o : List (ConnEvent H)). (w : List ℕ) × (e : Explains step fails is_closed is_finished inbound_makes outbound_makes listed is_eager eager names role own input ended asked told o w) × MayBeAsked step fails is_closed is_finished inbound_makes outbound_makes listed is_eager eager names role own input ended asked told o w e index) at.0
+            subst (λ (o : List (ConnEvent H)). (w : List ℕ) × (e : Explains step fails is_closed is_finished inbound_makes outbound_makes listed is_eager inbound_leads outbound_leads start role own input ended asked told o w) × MayBeAsked step fails is_closed is_finished inbound_makes outbound_makes listed is_eager inbound_leads outbound_leads start role own input ended asked told o w e index) at.0
                 (written, why.0, why.1),
             (more.0, more.1, refl),
           ),
@@ -171,16 +171,16 @@ module _ {P H : Type 0} (step : H → HandlerCall → H → Type 0) (fails : H �
       here : Point H
       here = At input ended asked told owed
 
-      reason : (w : List ℕ) × (e : Explains step fails is_closed is_finished inbound_makes outbound_makes listed is_eager eager names role own input ended asked told owed w) × IsNotOpened step fails is_closed is_finished inbound_makes outbound_makes listed is_eager eager names role own input ended asked told owed w e index why
+      reason : (w : List ℕ) × (e : Explains step fails is_closed is_finished inbound_makes outbound_makes listed is_eager inbound_leads outbound_leads start role own input ended asked told owed w) × IsNotOpened step fails is_closed is_finished inbound_makes outbound_makes listed is_eager inbound_leads outbound_leads start role own input ended asked told owed w e index why
       reason =
-          let it = not_asked step fails is_closed is_finished inbound_makes outbound_makes listed is_eager eager names role own input ended asked told [] old.phase old.owed.items old.output.items index why at.1.1 refused in
-          subst (λ (o : List (ConnEvent H)). (w : List ℕ) × (e : Explains step fails is_closed is_finished inbound_makes outbound_makes listed is_eager eager names role own input ended asked told o w) × IsNotOpened step fails is_closed is_finished inbound_makes outbound_makes listed is_eager eager names role own input ended asked told o w e index why) at.0
+          let it = not_asked step fails is_closed is_finished inbound_makes outbound_makes listed is_eager inbound_leads outbound_leads start role own input ended asked told [] old.phase old.owed.items old.output.items index why at.1.1 refused in
+          subst (λ (o : List (ConnEvent H)). (w : List ℕ) × (e : Explains step fails is_closed is_finished inbound_makes outbound_makes listed is_eager inbound_leads outbound_leads start role own input ended asked told o w) × IsNotOpened step fails is_closed is_finished inbound_makes outbound_makes listed is_eager inbound_leads outbound_leads start role own input ended asked told o w e index why) at.0
           (waiting_in old.phase old.output.items, it.0, it.1)
 
       by_memory : (why ≡ refusals.OutOfMemory) ⊎ (why ≢ refusals.OutOfMemory) → Leads here (Ask index) (Refused why) new
       by_memory (inl is) = (Spent, ((reason, inr (is, refl)), tt), memory (ap Err is))
       by_memory (inr other) =
-          let there : IsAt step fails is_closed is_finished inbound_makes outbound_makes listed is_eager eager names role own here new = subst (IsAt step fails is_closed is_finished inbound_makes outbound_makes listed is_eager eager names role own here) (sym (kept other)) at in
+          let there : IsAt step fails is_closed is_finished inbound_makes outbound_makes listed is_eager inbound_leads outbound_leads start role own here new = subst (IsAt step fails is_closed is_finished inbound_makes outbound_makes listed is_eager inbound_leads outbound_leads start role own here) (sym (kept other)) at in
           (here, ((reason, inl (other, refl)), explained_at here new there), there)
   asks Spent index old new (Ok n) stands owes may refused kept memory at = absurd (let going = open_goes_on listed old.phase index may in let both : true ≡ false = sym at ∙ going in cc both)
   asks Spent index old new (Err why) stands owes may refused kept memory at =
@@ -190,9 +190,9 @@ module _ {P H : Type 0} (step : H → HandlerCall → H → Type 0) (fails : H �
 
   -- ---- one call after another
 
-  pub then_one : (first mid last : Point H) (calls : List ConnAct) (answers : List (ConnAnswer H)) (call : ConnAct) (answer : ConnAnswer H) → AnswersAll step fails is_closed is_finished inbound_makes outbound_makes listed is_eager eager names role own first calls answers mid
-      → Answers step fails is_closed is_finished inbound_makes outbound_makes listed is_eager eager names role own mid call answer last → AnswersAll step fails is_closed is_finished inbound_makes outbound_makes listed is_eager eager names role own first (calls ++ call ∷ []) (answers ++ answer ∷ []) last
-  then_one first mid last [] [] call answer all one = (last, subst (λ (p : Point H). Answers step fails is_closed is_finished inbound_makes outbound_makes listed is_eager eager names role own p call answer last) all one, refl)
+  pub then_one : (first mid last : Point H) (calls : List ConnAct) (answers : List (ConnAnswer H)) (call : ConnAct) (answer : ConnAnswer H) → AnswersAll step fails is_closed is_finished inbound_makes outbound_makes listed is_eager inbound_leads outbound_leads start role own first calls answers mid
+      → Answers step fails is_closed is_finished inbound_makes outbound_makes listed is_eager inbound_leads outbound_leads start role own mid call answer last → AnswersAll step fails is_closed is_finished inbound_makes outbound_makes listed is_eager inbound_leads outbound_leads start role own first (calls ++ call ∷ []) (answers ++ answer ∷ []) last
+  then_one first mid last [] [] call answer all one = (last, subst (λ (p : Point H). Answers step fails is_closed is_finished inbound_makes outbound_makes listed is_eager inbound_leads outbound_leads start role own p call answer last) all one, refl)
   then_one first mid last [] (x ∷ answers) call answer all one = absurd all
   then_one first mid last (a ∷ calls) [] call answer all one = absurd all
   then_one first mid last (a ∷ calls) (x ∷ answers) call answer all one = (all.0, all.1, then_one all.0 mid last calls answers call answer all.2 one)
@@ -200,15 +200,15 @@ module _ {P H : Type 0} (step : H → HandlerCall → H → Type 0) (fails : H �
   -- ---- the last point
 
   pub leaves : (point : Point H) (old new : ConnCore P H) (output : List ℕ) (handlers : List (ℕ × H))
-      → ((input : List ℕ) (ended : Bool) (asked : List (ℕ × ℕ)) (told : List (ConnEvent H)) → Stands step fails is_closed is_finished inbound_makes outbound_makes listed is_eager eager names role own input ended asked told [] old → Stands step fails is_closed is_finished inbound_makes outbound_makes listed is_eager eager names role own input ended asked told output new)
+      → ((input : List ℕ) (ended : Bool) (asked : List (ℕ × ℕ)) (told : List (ConnEvent H)) → Stands step fails is_closed is_finished inbound_makes outbound_makes listed is_eager inbound_leads outbound_leads start role own input ended asked told [] old → Stands step fails is_closed is_finished inbound_makes outbound_makes listed is_eager inbound_leads outbound_leads start role own input ended asked told output new)
       → waiting_in new.phase new.output.items ≡ [] → new.owed.items ≡ old.owed.items → is_over new.phase ≡ is_over old.phase
-      → handlers ≡ held_in new.phase → IsOrderedIn new.phase → IsAt step fails is_closed is_finished inbound_makes outbound_makes listed is_eager eager names role own point old → Leaves step fails is_closed is_finished inbound_makes outbound_makes listed is_eager eager names role own point output handlers
+      → handlers ≡ held_in new.phase → IsOrderedIn new.phase → IsAt step fails is_closed is_finished inbound_makes outbound_makes listed is_eager inbound_leads outbound_leads start role own point old → Leaves step fails is_closed is_finished inbound_makes outbound_makes listed is_eager inbound_leads outbound_leads start role own point output handlers
   leaves (At input ended asked told owed) old new output handlers stands none same over held ordered at =
       let now = (stands input ended asked told at.1).1 in
       let written = output ++ waiting_in new.phase new.output.items in
       let written_is : written ≡ output = ap (λ t. output ++ t) none ∙ append-nil output in
-      subst (λ (w : List ℕ). (there : Explains step fails is_closed is_finished inbound_makes outbound_makes listed is_eager eager names role own input ended asked told owed w) × Holds step fails is_closed is_finished inbound_makes outbound_makes listed is_eager eager names role own input ended asked told owed w there handlers) written_is
-      (subst (λ (o : List (ConnEvent H)). (there : Explains step fails is_closed is_finished inbound_makes outbound_makes listed is_eager eager names role own input ended asked told o written) × Holds step fails is_closed is_finished inbound_makes outbound_makes listed is_eager eager names role own input ended asked told o written there handlers) (same ∙ at.0)
-      (subst (λ (h : List (ℕ × H)). (there : Explains step fails is_closed is_finished inbound_makes outbound_makes listed is_eager eager names role own input ended asked told new.owed.items written) × Holds step fails is_closed is_finished inbound_makes outbound_makes listed is_eager eager names role own input ended asked told new.owed.items written there h) (sym held)
-      (why_there step fails is_closed is_finished inbound_makes outbound_makes listed is_eager eager names role own input ended asked told output new.phase new.owed.items new.output.items now, holds step fails is_closed is_finished inbound_makes outbound_makes listed is_eager eager names role own input ended asked told output new.phase new.owed.items new.output.items now ordered)))
+      subst (λ (w : List ℕ). (there : Explains step fails is_closed is_finished inbound_makes outbound_makes listed is_eager inbound_leads outbound_leads start role own input ended asked told owed w) × Holds step fails is_closed is_finished inbound_makes outbound_makes listed is_eager inbound_leads outbound_leads start role own input ended asked told owed w there handlers) written_is
+      (subst (λ (o : List (ConnEvent H)). (there : Explains step fails is_closed is_finished inbound_makes outbound_makes listed is_eager inbound_leads outbound_leads start role own input ended asked told o written) × Holds step fails is_closed is_finished inbound_makes outbound_makes listed is_eager inbound_leads outbound_leads start role own input ended asked told o written there handlers) (same ∙ at.0)
+      (subst (λ (h : List (ℕ × H)). (there : Explains step fails is_closed is_finished inbound_makes outbound_makes listed is_eager inbound_leads outbound_leads start role own input ended asked told new.owed.items written) × Holds step fails is_closed is_finished inbound_makes outbound_makes listed is_eager inbound_leads outbound_leads start role own input ended asked told new.owed.items written there h) (sym held)
+      (why_there step fails is_closed is_finished inbound_makes outbound_makes listed is_eager inbound_leads outbound_leads start role own input ended asked told output new.phase new.owed.items new.output.items now, holds step fails is_closed is_finished inbound_makes outbound_makes listed is_eager inbound_leads outbound_leads start role own input ended asked told output new.phase new.owed.items new.output.items now ordered)))
   leaves Spent old new output handlers stands none same over held ordered at = held ∙ over_holds new.phase (over ∙ at)

@@ -11,29 +11,29 @@ use Rattle.conn_core.specs.Connects.{IsComing, IsUpWith, Ends, Connects}
 
 module _ {P H : Type 0} (step : H → HandlerCall → H → Type 0) (fails : H → Asked → ℕ → Type 0)
     (is_closed is_finished : H → Bool) (inbound_makes outbound_makes : P → ℕ → List ℕ → H → Type 0)
-    (listed : P → List (List ℕ)) (is_eager : P → ℕ → Bool) (eager : ℕ → Bool) (names : List (List ℕ))
-    (role : ConnRole) (own : Key) where
+    (listed : P → List (List ℕ)) (is_eager : P → ℕ → Bool)
+    (inbound_leads outbound_leads : P → ℕ → List ℕ → H → P → Type 0) (start : P) (role : ConnRole) (own : Key) where
   pub output_taken : (input : List ℕ) (ended : Bool) (asked : List (ℕ × ℕ)) (told : List (ConnEvent H)) (taken : List ℕ) (phase : Phase P H) (owed : List (ConnEvent H)) (waiting given left : List ℕ)
       → given ≡ waiting → left ≡ []
-      → Connects step fails is_closed is_finished inbound_makes outbound_makes listed is_eager eager names role own input ended asked told taken phase owed waiting
-      → Connects step fails is_closed is_finished inbound_makes outbound_makes listed is_eager eager names role own input ended asked told (taken ++ given) phase owed left
+      → Connects step fails is_closed is_finished inbound_makes outbound_makes listed is_eager inbound_leads outbound_leads start role own input ended asked told taken phase owed waiting
+      → Connects step fails is_closed is_finished inbound_makes outbound_makes listed is_eager inbound_leads outbound_leads start role own input ended asked told (taken ++ given) phase owed left
   output_taken input ended asked told taken (phases.Upgrading x protocols) owed waiting given left given_is left_is it = (
     it.0,
     it.1,
     it.2,
     left_is,
-    subst (λ (t : List ℕ). IsComing step fails is_closed is_finished inbound_makes outbound_makes listed is_eager eager names role own input told t x protocols)
+    subst (λ (t : List ℕ). IsComing step fails is_closed is_finished inbound_makes outbound_makes listed is_eager inbound_leads outbound_leads start role own input told t x protocols)
         (sym (ap (λ t. taken ++ t) (given_is ∙ it.3) ∙ append-nil taken)) it.4,
   )
   output_taken input ended asked told taken (phases.Up mux) owed waiting given left given_is left_is it = (
     it.0,
-    subst (λ (t : List ℕ). IsUpWith step fails is_closed is_finished inbound_makes outbound_makes listed is_eager eager names role own input asked (told ++ owed) t mux) (same_in_all taken waiting given left given_is left_is)
+    subst (λ (t : List ℕ). IsUpWith step fails is_closed is_finished inbound_makes outbound_makes listed is_eager inbound_leads outbound_leads start role own input asked (told ++ owed) t mux) (same_in_all taken waiting given left given_is left_is)
         it.1,
   ) where
     same_in_all : (taken waiting given left : List ℕ) → given ≡ waiting → left ≡ [] → taken ++ waiting ≡ (taken ++ given) ++ left
     same_in_all taken waiting given left given_is left_is = ap (λ t. taken ++ t) (sym given_is) ∙ sym (ap (λ t. (taken ++ given) ++ t) left_is ∙ append-nil (taken ++ given))
   output_taken input ended asked told taken phases.Over owed waiting given left given_is left_is it = (
     it.0,
-    subst (λ (t : List ℕ). Ends step fails is_closed is_finished inbound_makes outbound_makes listed is_eager eager names role own input ended asked told t)
+    subst (λ (t : List ℕ). Ends step fails is_closed is_finished inbound_makes outbound_makes listed is_eager inbound_leads outbound_leads start role own input ended asked told t)
         (ap (λ t. taken ++ t) (sym given_is) ∙ sym (ap (λ t. (taken ++ given) ++ t) left_is ∙ append-nil (taken ++ given))) it.1,
   )

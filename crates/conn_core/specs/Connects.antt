@@ -31,6 +31,7 @@ use Rattle.conn_log.specs.Entries.{Entry, items, said, asks}
 use Rattle.conn_log.specs.Asked.{AreMadeEarly, IsRefusedAs, IsBrokenOf}
 use Rattle.conn_log.specs.declared.event.ConnRefused.{ConnRefused}
 use Rattle.conn_log.specs.declared.event.ConnRefused.TheVariants as refusals
+use Rattle.conn_log.specs.Making.{AreMadeInTurn, MakesOn}
 use Rattle.conn_log.specs.Rests.{AreAtRest}
 use Rattle.board.specs.Handlers.{handlers_of, handlers_past}
 use Rattle.mux.specs.declared.mux.Mux.{Mux}
@@ -54,15 +55,14 @@ told_of upgrade.OutOfMemory = None
 
 module _ {P H : Type 0} (step : H → HandlerCall → H → Type 0) (fails : H → Asked → ℕ → Type 0)
     (is_closed is_finished : H → Bool) (inbound_makes outbound_makes : P → ℕ → List ℕ → H → Type 0)
-    (listed : P → List (List ℕ)) (is_eager : P → ℕ → Bool) (eager : ℕ → Bool) (names : List (List ℕ))
-    (role : ConnRole) (own : Key) where
+    (listed : P → List (List ℕ)) (is_eager : P → ℕ → Bool)
+    (inbound_leads outbound_leads : P → ℕ → List ℕ → H → P → Type 0) (start : P) (role : ConnRole) (own : Key) where
   -- It comes up: the upgrade has heard all of the input, and nothing was told.
   pub record IsComing (input : List ℕ) (told : List (ConnEvent H)) (taken : List ℕ) (x : Upgrading) (protocols : P)
       : Type 0 where
     pub role_is : x.role ≡ role
     pub own_is : x.own ≡ own
-    pub names_are : listed protocols ≡ names
-    pub eager_are : is_eager protocols ≡ eager
+    pub protocols_are : protocols ≡ start
     pub stands : UpgradeStands x input taken
     pub none_told : told ≡ []
 
@@ -79,10 +79,14 @@ module _ {P H : Type 0} (step : H → HandlerCall → H → Type 0) (fails : H �
     pub log : List (Entry H)
     pub input_is : input ≡ first ++ rest
     pub upgraded : Upgrades role own first (Ok (Some key)) greeting
-    pub at_rest : AreAtRest step fails is_closed is_finished inbound_makes outbound_makes eager names (id_of key)
-        (session_role role) log rest (output (session_role role) (items log)) session streams past
+    pub at_rest : AreAtRest step fails is_closed is_finished inbound_makes outbound_makes (is_eager start)
+        (listed start) (id_of key) (session_role role) log rest (output (session_role role) (items log)) session streams
+        past
     pub asks_are : asks log ≡ asked
-    pub early : AreMadeEarly eager log
+    pub early : AreMadeEarly (is_eager start) log
+    -- the protocols that it has now: each handler was made once, in turn, from those that it was given on
+    pub now : P
+    pub makes : AreMadeInTurn inbound_leads outbound_leads (id_of key) (session_role role) start log now
     pub told_is : told ≡ event.Upgraded key ∷ said log
     pub written_is : written ≡ greeting ++ output (session_role role) (items log)
 
@@ -97,11 +101,14 @@ module _ {P H : Type 0} (step : H → HandlerCall → H → Type 0) (fails : H �
       pub sent : List ℕ
       pub pending : List ℕ
       pub before : List (ConnEvent H)
+      pub now : P
       pub input_is : input ≡ first ++ rest
       pub upgraded : Upgrades role own first (Ok (Some key)) greeting
-      pub faults : Faults step fails is_closed is_finished inbound_makes outbound_makes eager names (id_of key)
-          (session_role role) [] asked (event.Upgraded key ∷ []) before [] rest sent pending
-      pub early : AreMadeEarly eager faults.newer
+      pub faults : Faults step fails is_closed is_finished inbound_makes outbound_makes (is_eager start) (listed start)
+          (id_of key) (session_role role)
+          (MakesOn inbound_leads outbound_leads (id_of key) (session_role role) start now) [] asked
+          (event.Upgraded key ∷ []) before [] rest sent pending
+      pub early : AreMadeEarly (is_eager start) faults.newer
       pub told_is : told ≡ before ++ event.Fault fault.Mux ∷ []
       pub written_is : written ≡ greeting ++ (sent ++ pending)
 
@@ -129,10 +136,10 @@ module _ {P H : Type 0} (step : H → HandlerCall → H → Type 0) (fails : H �
   -- it is up, with this session and these streams
   abbrev pub IsUpWith : List ℕ → List (ℕ × ℕ) → List (ConnEvent H) → List ℕ → Mux P H → Type 0
   IsUpWith input asked told written mux =
-      (listed mux.board.protocols ≡ names) × (is_eager mux.board.protocols ≡ eager)
+      (listed mux.board.protocols ≡ listed start) × (is_eager mux.board.protocols ≡ is_eager start)
       × (mux.board.role ≡ session_role role)
       × ((up : IsUp input asked told written mux.session (tree.get nat_cmp mux.board.streams) mux.board.past.items)
-      × (mux.board.peer ≡ id_of up.key))
+      × (mux.board.peer ≡ id_of up.key) × (mux.board.protocols ≡ up.now))
 
   -- where it stands, in each phase; what is owed is told by the next call
   abbrev pub Connects : List ℕ → Bool → List (ℕ × ℕ) → List (ConnEvent H) → List ℕ → Phase P H → List (ConnEvent H)

@@ -128,30 +128,30 @@ opened_by calls answers = []
 
 module _ {P H : Type 0} (step : H → HandlerCall → H → Type 0) (fails : H → Asked → ℕ → Type 0)
     (is_closed is_finished : H → Bool) (inbound_makes outbound_makes : P → ℕ → List ℕ → H → Type 0)
-    (listed : P → List (List ℕ)) (is_eager : P → ℕ → Bool) (eager : ℕ → Bool) (names : List (List ℕ))
-    (role : ConnRole) (own : Key) where
+    (listed : P → List (List ℕ)) (is_eager : P → ℕ → Bool)
+    (inbound_leads outbound_leads : P → ℕ → List ℕ → H → P → Type 0) (start : P) (role : ConnRole) (own : Key) where
   -- of an end that is up, with these streams
   abbrev pub WhileUp : ((session : State) (streams : ℕ → Option (Streaming H)) (past : List (Earlier H))
       (input : List ℕ) (asked : List (ℕ × ℕ)) (told : List (ConnEvent H)) (written : List ℕ)
-      → IsUp step fails is_closed is_finished inbound_makes outbound_makes listed is_eager eager names role own input
-      asked told written session streams past → Type 0) → Type 0
+      → IsUp step fails is_closed is_finished inbound_makes outbound_makes listed is_eager inbound_leads outbound_leads
+      start role own input asked told written session streams past → Type 0) → Type 0
   WhileUp fact = (session : State) (streams : ℕ → Option (Streaming H)) (past : List (Earlier H)) (input : List ℕ)
       (asked : List (ℕ × ℕ)) (told : List (ConnEvent H)) (written : List ℕ)
-      (up : IsUp step fails is_closed is_finished inbound_makes outbound_makes listed is_eager eager names role own
-      input asked told written session streams past)
+      (up : IsUp step fails is_closed is_finished inbound_makes outbound_makes listed is_eager inbound_leads
+      outbound_leads start role own input asked told written session streams past)
       → fact session streams past input asked told written up
 
   -- each handler that serves its stream
   abbrev pub AreServing : Type 0
   AreServing = WhileUp (λ session streams past input asked told written up. (n : ℕ) (stream : Streaming H)
       (handler : H) → streams n ≡ Some stream → stream.stage ≡ Serving handler
-      → IsServing step is_closed is_finished names (session_role role) up.log n stream handler)
+      → IsServing step is_closed is_finished (listed start) (session_role role) up.log n stream handler)
 
   -- each handler of an eager protocol, before the talk agrees
   abbrev pub AreEarly : Type 0
   AreEarly = WhileUp (λ session streams past input asked told written up. (n : ℕ) (stream : Streaming H)
       (handler : H) (talk : Talk) → streams n ≡ Some stream → stream.stage ≡ Talking talk (Some handler)
-      → IsEarly step is_closed is_finished names (session_role role) up.log n stream handler)
+      → IsEarly step is_closed is_finished (listed start) (session_role role) up.log n stream handler)
 
   -- Each live stream is held; none was refused or given up, and Done was told of it exactly where its handler was
   -- handed out.
@@ -183,13 +183,13 @@ module _ {P H : Type 0} (step : H → HandlerCall → H → Type 0) (fails : H �
   -- each call has one answer
   abbrev pub EachIsAnswered : Type 0
   EachIsAnswered = (calls : List ConnAct) (answers : List (ConnAnswer H)) (first last : Point H)
-      → AnswersAll step fails is_closed is_finished inbound_makes outbound_makes listed is_eager eager names role own
-      first calls answers last → length answers ≡ length calls
+      → AnswersAll step fails is_closed is_finished inbound_makes outbound_makes listed is_eager inbound_leads
+      outbound_leads start role own first calls answers last → length answers ≡ length calls
 
   -- where memory was not refused, a run is behind all that it was fed, told and was asked for
   abbrev pub AllIsCounted : Type 0
   AllIsCounted = (calls : List ConnAct) (answers : List (ConnAnswer H)) (input : List ℕ) (ended : Bool)
       (asked : List (ℕ × ℕ)) (told owed : List (ConnEvent H))
-      → AnswersAll step fails is_closed is_finished inbound_makes outbound_makes listed is_eager eager names role own
-      (At [] false [] [] []) calls answers (At input ended asked told owed)
+      → AnswersAll step fails is_closed is_finished inbound_makes outbound_makes listed is_eager inbound_leads
+      outbound_leads start role own (At [] false [] [] []) calls answers (At input ended asked told owed)
       → (input ≡ fed_by calls answers) × (asked ≡ opened_by calls answers) × (told ≡ told_by answers)

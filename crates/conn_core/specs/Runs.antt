@@ -84,8 +84,8 @@ pub record AreHeld {H : Type 0} (streams : ℕ → Option (Streaming H)) (past :
 
 module _ {P H : Type 0} (step : H → HandlerCall → H → Type 0) (fails : H → Asked → ℕ → Type 0)
     (is_closed is_finished : H → Bool) (inbound_makes outbound_makes : P → ℕ → List ℕ → H → Type 0)
-    (listed : P → List (List ℕ)) (is_eager : P → ℕ → Bool) (eager : ℕ → Bool) (names : List (List ℕ))
-    (role : ConnRole) (own : Key) where
+    (listed : P → List (List ℕ)) (is_eager : P → ℕ → Bool)
+    (inbound_leads outbound_leads : P → ℕ → List ℕ → H → P → Type 0) (start : P) (role : ConnRole) (own : Key) where
   -- ---- why an end is where it is
 
   -- what came, was opened, told and is owed, and what was written until then: of an end that comes up, is up, or is
@@ -95,10 +95,11 @@ module _ {P H : Type 0} (step : H → HandlerCall → H → Type 0) (fails : H �
     Coming : ended ≡ false → asked ≡ [] → told ≡ [] → owed ≡ [] → Upgrades role own input (Ok None) written
         → Explains input ended asked told owed written
     Up : (session : State) (streams : ℕ → Option (Streaming H)) (past : List (Earlier H)) → ended ≡ false
-        → IsUp step fails is_closed is_finished inbound_makes outbound_makes listed is_eager eager names role own
-        input asked (told ++ owed) written session streams past → Explains input ended asked told owed written
-    Over : owed ≡ [] → Ends step fails is_closed is_finished inbound_makes outbound_makes listed is_eager eager names
-        role own input ended asked told written → Explains input ended asked told owed written
+        → IsUp step fails is_closed is_finished inbound_makes outbound_makes listed is_eager inbound_leads
+        outbound_leads start role own input asked (told ++ owed) written session streams past → Explains input ended
+        asked told owed written
+    Over : owed ≡ [] → Ends step fails is_closed is_finished inbound_makes outbound_makes listed is_eager inbound_leads
+        outbound_leads start role own input ended asked told written → Explains input ended asked told owed written
 
   abbrev pub IsExplained : Point H → Type 0
   IsExplained (At input ended asked told owed) = (written : List ℕ) × Explains input ended asked told owed written
@@ -108,7 +109,8 @@ module _ {P H : Type 0} (step : H → HandlerCall → H → Type 0) (fails : H �
   abbrev pub MayBeAsked : (input : List ℕ) (ended : Bool) (asked : List (ℕ × ℕ)) (told owed : List (ConnEvent H))
       (written : List ℕ) → Explains input ended asked told owed written → ℕ → Type 0
   MayBeAsked input ended asked told owed written (Coming unended none_asked none_told none_owed upgrades) index = ⊥
-  MayBeAsked input ended asked told owed written (Up session streams past unended up) index = (index < length names)
+  MayBeAsked input ended asked told owed written (Up session streams past unended up) index =
+      (index < length (listed start))
       × (start_refusal (session_role role) (items up.log) ≡ None)
   MayBeAsked input ended asked told owed written (Over none_owed ends) index = ⊥
 
@@ -118,8 +120,8 @@ module _ {P H : Type 0} (step : H → HandlerCall → H → Type 0) (fails : H �
   IsNotOpened input ended asked told owed written (Coming unended none_asked none_told none_owed upgrades) index why =
       why ≡ refusals.NotUp
   IsNotOpened input ended asked told owed written (Up session streams past unended up) index why =
-      ((length names ≤ index) × (why ≡ refusals.BadIndex))
-      ⊎ ((index < length names) × IsRefusedAs (start_refusal (session_role role) (items up.log)) why)
+      ((length (listed start) ≤ index) × (why ≡ refusals.BadIndex))
+      ⊎ ((index < length (listed start)) × IsRefusedAs (start_refusal (session_role role) (items up.log)) why)
   IsNotOpened input ended asked told owed written (Over none_owed ends) index why = why ≡ refusals.Failed
 
   -- ---- each call
@@ -185,6 +187,6 @@ module _ {P H : Type 0} (step : H → HandlerCall → H → Type 0) (fails : H �
   -- the end is at this point, and none of its output was taken
   abbrev pub IsAt : Point H → ConnCore P H → Type 0
   IsAt (At input ended asked told owed) core = (core.owed.items ≡ owed)
-      × Stands step fails is_closed is_finished inbound_makes outbound_makes listed is_eager eager names role own
-      input ended asked told [] core
+      × Stands step fails is_closed is_finished inbound_makes outbound_makes listed is_eager inbound_leads
+      outbound_leads start role own input ended asked told [] core
   IsAt Spent core = is_over core.phase ≡ true

@@ -81,12 +81,13 @@ fn push<H: Handler>(
 
 /// Makes one call.
 fn perform<P: Protocols>(core: &mut ConnCore<P>, act: &ConnAct) -> ConnAnswer<P::H>
-    ensures { (eager : ℕ → Bool) (names : List (List ℕ)) (role : ConnRole) (own : Key) (point : Point P.H)
+    ensures { (start : P) (role : ConnRole) (own : Key) (point : Point P.H)
         → IsAt P.H.steps P.H.fails P.H.is_closed P.H.is_finished P.makes_inbound P.makes_outbound P.listed P.is_eager
-        eager names role own point core.old → (next : Point P.H) × Answers P.H.steps P.H.fails P.H.is_closed
-        P.H.is_finished P.makes_inbound P.makes_outbound P.listed P.is_eager eager names role own point act.now result
-        next × IsAt P.H.steps P.H.fails P.H.is_closed P.H.is_finished P.makes_inbound P.makes_outbound P.listed
-        P.is_eager eager names role own next core.new }
+        P.leads_inbound P.leads_outbound start role own point core.old → (next : Point P.H) × Answers P.H.steps
+        P.H.fails P.H.is_closed P.H.is_finished P.makes_inbound P.makes_outbound P.listed P.is_eager P.leads_inbound
+        P.leads_outbound start role own point act.now result next × IsAt P.H.steps P.H.fails P.H.is_closed
+        P.H.is_finished P.makes_inbound P.makes_outbound P.listed P.is_eager P.leads_inbound P.leads_outbound start role
+        own next core.new }
 {
     match act {
         ConnAct::Feed(bytes) => told(core.feed(bytes)),
@@ -105,7 +106,7 @@ pub fn run<P: Protocols>(
     acts: &[ConnAct],
 ) -> Result<ConnRan<P::H>, AllocError>
     ensures ran { IfOk result (λ ran. Runs P.H.steps P.H.fails P.H.is_closed P.H.is_finished P.makes_inbound
-        P.makes_outbound P.listed P.is_eager (P.is_eager protocols) (P.listed protocols) role key acts.now
+        P.makes_outbound P.listed P.is_eager P.leads_inbound P.leads_outbound protocols role key acts.now
         ran.answers.items ran.output.items ran.handlers.items) }
 {
     let Ok(core) = ConnCore::new(alloc, role, key, protocols) else {

@@ -79,13 +79,13 @@ fn go_on<P: Protocols>(
     piece: &Bytes,
     told: &mut Vec<ConnEvent<P::H>>,
 ) -> Result<Phase<P>, ConnRefused>
-    ensures goes { (role : ConnRole) (own : Key) (eager : ℕ → Bool) (names : List (List ℕ)) (input taken : List ℕ)
-        (asked : List (ℕ × ℕ)) (before : List (ConnEvent P.H)) → IsUpWith P.H.steps P.H.fails P.H.is_closed
-        P.H.is_finished P.makes_inbound P.makes_outbound P.listed P.is_eager eager names role own input asked
+    ensures goes { (role : ConnRole) (own : Key) (start : P) (input taken : List ℕ) (asked : List (ℕ × ℕ))
+        (before : List (ConnEvent P.H)) → IsUpWith P.H.steps P.H.fails P.H.is_closed P.H.is_finished P.makes_inbound
+        P.makes_outbound P.listed P.is_eager P.leads_inbound P.leads_outbound start role own input asked
         (before ++ told.old.items) (taken ++ output.old.items) mux
-        → IfOk result (λ phase. Connects P.H.steps P.H.fails P.H.is_closed P.H.is_finished
-        P.makes_inbound P.makes_outbound P.listed P.is_eager eager names role own (input ++ piece.now) false asked
-        (before ++ told.new.items) taken phase [] output.new.items) }
+        → IfOk result (λ phase. Connects P.H.steps P.H.fails P.H.is_closed P.H.is_finished P.makes_inbound
+        P.makes_outbound P.listed P.is_eager P.leads_inbound P.leads_outbound start role own (input ++ piece.now) false
+        asked (before ++ told.new.items) taken phase [] output.new.items) }
     ensures memory { OnErr result (result ≡ Err ConnRefused.OutOfMemory) }
     ensures waits { OnErr result (Grows output.old.items output.new.items) }
 {
@@ -111,13 +111,13 @@ fn come_up<P: Protocols>(
     told: &mut Vec<ConnEvent<P::H>>,
 ) -> Result<Phase<P>, ConnRefused>
     requires within { used ≤ length piece.now }
-    ensures goes { (role : ConnRole) (own : Key) (eager : ℕ → Bool) (names : List (List ℕ)) (input taken : List ℕ)
+    ensures goes { (role : ConnRole) (own : Key) (start : P) (input taken : List ℕ)
         → IsUpWith P.H.steps P.H.fails P.H.is_closed P.H.is_finished P.makes_inbound P.makes_outbound P.listed
-        P.is_eager eager names role own (input ++ take used piece.now) [] (event.Upgraded proven ∷ [])
-        (taken ++ output.old.items) mux → told.old.items ≡ []
+        P.is_eager P.leads_inbound P.leads_outbound start role own (input ++ take used piece.now) []
+        (event.Upgraded proven ∷ []) (taken ++ output.old.items) mux → told.old.items ≡ []
         → IfOk result (λ phase. Connects P.H.steps P.H.fails P.H.is_closed P.H.is_finished P.makes_inbound
-        P.makes_outbound P.listed P.is_eager eager names role own (input ++ piece.now) false [] told.new.items taken
-        phase [] output.new.items) }
+        P.makes_outbound P.listed P.is_eager P.leads_inbound P.leads_outbound start role own (input ++ piece.now) false
+        [] told.new.items taken phase [] output.new.items) }
     ensures memory { OnErr result (result ≡ Err ConnRefused.OutOfMemory) }
     ensures waits { OnErr result (Grows output.old.items output.new.items) }
 {
@@ -135,17 +135,17 @@ fn open<P: Protocols>(
     owed: &mut Vec<ConnEvent<P::H>>,
     output: &mut Vec<u8>,
 ) -> Result<u32, ConnRefused>
-    ensures opens { (role : ConnRole) (own : Key) (eager : ℕ → Bool) (names : List (List ℕ)) (input taken : List ℕ)
-        (asked : List (ℕ × ℕ)) (told : List (ConnEvent P.H)) → IsUpWith P.H.steps P.H.fails P.H.is_closed
-        P.H.is_finished P.makes_inbound P.makes_outbound P.listed P.is_eager eager names role own input asked
+    ensures opens { (role : ConnRole) (own : Key) (start : P) (input taken : List ℕ) (asked : List (ℕ × ℕ))
+        (told : List (ConnEvent P.H)) → IsUpWith P.H.steps P.H.fails P.H.is_closed P.H.is_finished P.makes_inbound
+        P.makes_outbound P.listed P.is_eager P.leads_inbound P.leads_outbound start role own input asked
         (told ++ owed.old.items) (taken ++ output.old.items) mux.old
         → IfOk result (λ number. IsUpWith P.H.steps P.H.fails P.H.is_closed P.H.is_finished P.makes_inbound
-        P.makes_outbound P.listed P.is_eager eager names role own input (asked ++ (number, index) ∷ [])
-        (told ++ owed.new.items) (taken ++ output.new.items) mux.new) }
-    ensures owes { (role : ConnRole) (own : Key) (eager : ℕ → Bool) (names : List (List ℕ)) (input written : List ℕ)
-        (asked : List (ℕ × ℕ)) (told : List (ConnEvent P.H)) → IsUpWith P.H.steps P.H.fails P.H.is_closed
-        P.H.is_finished P.makes_inbound P.makes_outbound P.listed P.is_eager eager names role own input asked told
-        written mux.old → IfOk result (λ number. OwesOf number owed.old.items owed.new.items) }
+        P.makes_outbound P.listed P.is_eager P.leads_inbound P.leads_outbound start role own input
+        (asked ++ (number, index) ∷ []) (told ++ owed.new.items) (taken ++ output.new.items) mux.new) }
+    ensures owes { (role : ConnRole) (own : Key) (start : P) (input written : List ℕ) (asked : List (ℕ × ℕ))
+        (told : List (ConnEvent P.H)) → IsUpWith P.H.steps P.H.fails P.H.is_closed P.H.is_finished P.makes_inbound
+        P.makes_outbound P.listed P.is_eager P.leads_inbound P.leads_outbound start role own input asked told written
+        mux.old → IfOk result (λ number. OwesOf number owed.old.items owed.new.items) }
     ensures within { IfOk result (λ number. index < length (P.listed mux.old.board.protocols)) }
     ensures opened { IfOk result (λ number.
         Whenever mux.old.session (λ role past. start_refusal role past ≡ None)) }
@@ -177,12 +177,13 @@ fn bring_up<P: Protocols>(
     piece: &Bytes,
     told: &mut Vec<ConnEvent<P::H>>,
 ) -> Result<Phase<P>, ConnRefused>
-    ensures goes { (own : Key) (eager : ℕ → Bool) (names : List (List ℕ)) (input taken : List ℕ)
+    ensures goes { (own : Key) (start : P) (input taken : List ℕ)
         → IsComing P.H.steps P.H.fails P.H.is_closed P.H.is_finished P.makes_inbound P.makes_outbound P.listed
-        P.is_eager eager names role own input [] taken upgrade protocols → output.old.items ≡ [] → told.old.items ≡ []
+        P.is_eager P.leads_inbound P.leads_outbound start role own input [] taken upgrade protocols
+        → output.old.items ≡ [] → told.old.items ≡ []
         → IfOk result (λ phase. Connects P.H.steps P.H.fails P.H.is_closed P.H.is_finished P.makes_inbound
-        P.makes_outbound P.listed P.is_eager eager names role own (input ++ piece.now) false [] told.new.items taken
-        phase [] output.new.items) }
+        P.makes_outbound P.listed P.is_eager P.leads_inbound P.leads_outbound start role own (input ++ piece.now) false
+        [] told.new.items taken phase [] output.new.items) }
     ensures memory { OnErr result (result ≡ Err ConnRefused.OutOfMemory) }
     ensures waits { OnErr result (Grows upgrade.pending output.new.items) }
 {
@@ -213,13 +214,13 @@ fn take_on<P: Protocols>(
     piece: &Bytes,
     told: &mut Vec<ConnEvent<P::H>>,
 ) -> Result<Phase<P>, ConnRefused>
-    ensures goes { (own : Key) (eager : ℕ → Bool) (names : List (List ℕ)) (input taken : List ℕ)
-        (asked : List (ℕ × ℕ)) (before : List (ConnEvent P.H)) → Connects P.H.steps P.H.fails P.H.is_closed
-        P.H.is_finished P.makes_inbound P.makes_outbound P.listed P.is_eager eager names role own input false asked
-        before taken phase told.old.items output.old.items → is_over phase ≡ false
+    ensures goes { (own : Key) (start : P) (input taken : List ℕ) (asked : List (ℕ × ℕ)) (before : List (ConnEvent P.H))
+        → Connects P.H.steps P.H.fails P.H.is_closed P.H.is_finished P.makes_inbound P.makes_outbound P.listed
+        P.is_eager P.leads_inbound P.leads_outbound start role own input false asked before taken phase told.old.items
+        output.old.items → is_over phase ≡ false
         → IfOk result (λ now. Connects P.H.steps P.H.fails P.H.is_closed P.H.is_finished P.makes_inbound
-        P.makes_outbound P.listed P.is_eager eager names role own (input ++ piece.now) false asked
-        (before ++ told.new.items) taken now [] output.new.items) }
+        P.makes_outbound P.listed P.is_eager P.leads_inbound P.leads_outbound start role own (input ++ piece.now) false
+        asked (before ++ told.new.items) taken now [] output.new.items) }
     ensures memory { OnErr result (result ≡ Err ConnRefused.OutOfMemory) }
     ensures waits { OnErr result (Grows (waiting_in phase output.old.items) output.new.items) }
 {
@@ -242,8 +243,8 @@ impl<P: Protocols> ConnCore<P> {
         protocols: P,
     ) -> Result<ConnCore<P>, ConnRefused>
         ensures stands { IfOk result (λ core. Stands P.H.steps P.H.fails P.H.is_closed P.H.is_finished P.makes_inbound
-            P.makes_outbound P.listed P.is_eager (P.is_eager protocols) (P.listed protocols) role key [] false [] []
-            [] core) }
+            P.makes_outbound P.listed P.is_eager P.leads_inbound P.leads_outbound protocols role key [] false [] [] []
+            core) }
         ensures none_owed { IfOk result (λ core. core.owed.items ≡ []) }
         ensures memory { OnErr result (result ≡ Err ConnRefused.OutOfMemory) }
     {
@@ -275,13 +276,13 @@ impl<P: Protocols> ConnCore<P> {
     /// A Fault is told last, and the connection is over. Where memory was refused, it is over too, and what was written
     /// before can still be taken.
     pub fn feed_shared(&mut self, piece: Bytes) -> Result<Vec<ConnEvent<P::H>>, ConnRefused>
-        ensures fed { (role : ConnRole) (own : Key) (eager : ℕ → Bool) (names : List (List ℕ)) (input taken : List ℕ)
-            (asked : List (ℕ × ℕ)) (told : List (ConnEvent P.H)) → Stands P.H.steps P.H.fails P.H.is_closed
-            P.H.is_finished P.makes_inbound P.makes_outbound P.listed P.is_eager eager names role own input false asked
-            told taken self.old → is_over self.old.phase ≡ false
+        ensures fed { (role : ConnRole) (own : Key) (start : P) (input taken : List ℕ) (asked : List (ℕ × ℕ))
+            (told : List (ConnEvent P.H)) → Stands P.H.steps P.H.fails P.H.is_closed P.H.is_finished P.makes_inbound
+            P.makes_outbound P.listed P.is_eager P.leads_inbound P.leads_outbound start role own input false asked told
+            taken self.old → is_over self.old.phase ≡ false
             → IfOk result (λ events. Stands P.H.steps P.H.fails P.H.is_closed P.H.is_finished P.makes_inbound
-            P.makes_outbound P.listed P.is_eager eager names role own (input ++ piece) false asked
-            (told ++ events.items) taken self.new) }
+            P.makes_outbound P.listed P.is_eager P.leads_inbound P.leads_outbound start role own (input ++ piece) false
+            asked (told ++ events.items) taken self.new) }
         ensures none_owed { OnOk result (self.new.owed.items ≡ []) }
         ensures refused { is_over self.old.phase ≡ false
             → OnErr result ((result ≡ Err ConnRefused.OutOfMemory) × (is_over self.new.phase ≡ true)) }
@@ -308,13 +309,13 @@ impl<P: Protocols> ConnCore<P> {
 
     /// The same, of bytes that are copied once.
     pub fn feed(&mut self, bytes: &[u8]) -> Result<Vec<ConnEvent<P::H>>, ConnRefused>
-        ensures fed { (role : ConnRole) (own : Key) (eager : ℕ → Bool) (names : List (List ℕ)) (input taken : List ℕ)
-            (asked : List (ℕ × ℕ)) (told : List (ConnEvent P.H)) → Stands P.H.steps P.H.fails P.H.is_closed
-            P.H.is_finished P.makes_inbound P.makes_outbound P.listed P.is_eager eager names role own input false asked
-            told taken self.old → is_over self.old.phase ≡ false
+        ensures fed { (role : ConnRole) (own : Key) (start : P) (input taken : List ℕ) (asked : List (ℕ × ℕ))
+            (told : List (ConnEvent P.H)) → Stands P.H.steps P.H.fails P.H.is_closed P.H.is_finished P.makes_inbound
+            P.makes_outbound P.listed P.is_eager P.leads_inbound P.leads_outbound start role own input false asked told
+            taken self.old → is_over self.old.phase ≡ false
             → IfOk result (λ events. Stands P.H.steps P.H.fails P.H.is_closed P.H.is_finished P.makes_inbound
-            P.makes_outbound P.listed P.is_eager eager names role own (input ++ bytes.now) false asked
-            (told ++ events.items) taken self.new) }
+            P.makes_outbound P.listed P.is_eager P.leads_inbound P.leads_outbound start role own (input ++ bytes.now)
+            false asked (told ++ events.items) taken self.new) }
         ensures none_owed { OnOk result (self.new.owed.items ≡ []) }
         ensures refused { is_over self.old.phase ≡ false
             → OnErr result ((result ≡ Err ConnRefused.OutOfMemory) × (is_over self.new.phase ≡ true)) }
@@ -343,16 +344,16 @@ impl<P: Protocols> ConnCore<P> {
     /// Where several refusals hold, the lowest is answered, and nothing changes. Where memory was refused, the
     /// connection is over, and what was written before can still be taken.
     pub fn ask(&mut self, index: usize) -> Result<u32, ConnRefused>
-        ensures asked { (role : ConnRole) (own : Key) (eager : ℕ → Bool) (names : List (List ℕ)) (input taken : List ℕ)
-            (asked : List (ℕ × ℕ)) (told : List (ConnEvent P.H)) → Stands P.H.steps P.H.fails P.H.is_closed
-            P.H.is_finished P.makes_inbound P.makes_outbound P.listed P.is_eager eager names role own input false asked
-            told taken self.old → IfOk result (λ number. Stands P.H.steps P.H.fails P.H.is_closed P.H.is_finished
-            P.makes_inbound P.makes_outbound P.listed P.is_eager eager names role own input false
-            (asked ++ (number, index) ∷ []) told taken self.new) }
-        ensures owes { (role : ConnRole) (own : Key) (eager : ℕ → Bool) (names : List (List ℕ)) (input taken : List ℕ)
-            (asked : List (ℕ × ℕ)) (told : List (ConnEvent P.H)) → Stands P.H.steps P.H.fails P.H.is_closed
-            P.H.is_finished P.makes_inbound P.makes_outbound P.listed P.is_eager eager names role own input false asked
-            told taken self.old → IfOk result (λ number. OwesOf number self.old.owed.items self.new.owed.items) }
+        ensures asked { (role : ConnRole) (own : Key) (start : P) (input taken : List ℕ) (asked : List (ℕ × ℕ))
+            (told : List (ConnEvent P.H)) → Stands P.H.steps P.H.fails P.H.is_closed P.H.is_finished P.makes_inbound
+            P.makes_outbound P.listed P.is_eager P.leads_inbound P.leads_outbound start role own input false asked told
+            taken self.old → IfOk result (λ number. Stands P.H.steps P.H.fails P.H.is_closed P.H.is_finished
+            P.makes_inbound P.makes_outbound P.listed P.is_eager P.leads_inbound P.leads_outbound start role own input
+            false (asked ++ (number, index) ∷ []) told taken self.new) }
+        ensures owes { (role : ConnRole) (own : Key) (start : P) (input taken : List ℕ) (asked : List (ℕ × ℕ))
+            (told : List (ConnEvent P.H)) → Stands P.H.steps P.H.fails P.H.is_closed P.H.is_finished P.makes_inbound
+            P.makes_outbound P.listed P.is_eager P.leads_inbound P.leads_outbound start role own input false asked told
+            taken self.old → IfOk result (λ number. OwesOf number self.old.owed.items self.new.owed.items) }
         ensures opened { IfOk result (λ number. MayOpen P.listed self.old.phase index) }
         ensures refused { IfErr result (λ refused. IsRefused P.listed self.old.phase index refused) }
         ensures kept { IfErr result (λ refused. refused ≢ ConnRefused.OutOfMemory → self.new ≡ self.old) }
@@ -375,13 +376,13 @@ impl<P: Protocols> ConnCore<P> {
     /// The input of the link has ended: it tells what is owed, and last Shut, or Fault(EarlyEnd) within the upgrade or
     /// within a frame. No handler is called.
     pub fn ended(&mut self) -> Result<Vec<ConnEvent<P::H>>, ConnRefused>
-        ensures ends { (role : ConnRole) (own : Key) (eager : ℕ → Bool) (names : List (List ℕ)) (input taken : List ℕ)
-            (asked : List (ℕ × ℕ)) (told : List (ConnEvent P.H)) → Stands P.H.steps P.H.fails P.H.is_closed
-            P.H.is_finished P.makes_inbound P.makes_outbound P.listed P.is_eager eager names role own input false asked
-            told taken self.old → is_over self.old.phase ≡ false
+        ensures ends { (role : ConnRole) (own : Key) (start : P) (input taken : List ℕ) (asked : List (ℕ × ℕ))
+            (told : List (ConnEvent P.H)) → Stands P.H.steps P.H.fails P.H.is_closed P.H.is_finished P.makes_inbound
+            P.makes_outbound P.listed P.is_eager P.leads_inbound P.leads_outbound start role own input false asked told
+            taken self.old → is_over self.old.phase ≡ false
             → IfOk result (λ events. Stands P.H.steps P.H.fails P.H.is_closed P.H.is_finished P.makes_inbound
-            P.makes_outbound P.listed P.is_eager eager names role own input true asked (told ++ events.items)
-            taken self.new) }
+            P.makes_outbound P.listed P.is_eager P.leads_inbound P.leads_outbound start role own input true asked
+            (told ++ events.items) taken self.new) }
         ensures over { is_over self.new.phase ≡ true }
         ensures refused { is_over self.old.phase ≡ false → OnErr result (result ≡ Err ConnRefused.OutOfMemory) }
         // What was written can still be taken.
@@ -402,12 +403,12 @@ impl<P: Protocols> ConnCore<P> {
     /// The bytes to send that were not taken yet; afterwards none wait. It takes no memory, and always answers: what
     /// was written before a fault, or before memory was refused, is given still.
     pub fn take_output(&mut self) -> Vec<u8>
-        ensures stands { (role : ConnRole) (own : Key) (eager : ℕ → Bool) (names : List (List ℕ)) (input taken : List ℕ)
-            (ended : Bool) (asked : List (ℕ × ℕ)) (told : List (ConnEvent P.H)) → Stands P.H.steps P.H.fails
-            P.H.is_closed P.H.is_finished P.makes_inbound P.makes_outbound P.listed P.is_eager eager names role own
-            input ended asked told taken self.old → Stands P.H.steps P.H.fails P.H.is_closed P.H.is_finished
-            P.makes_inbound P.makes_outbound P.listed P.is_eager eager names role own input ended asked told
-            (taken ++ result.items) self.new }
+        ensures stands { (role : ConnRole) (own : Key) (start : P) (input taken : List ℕ) (ended : Bool)
+            (asked : List (ℕ × ℕ)) (told : List (ConnEvent P.H)) → Stands P.H.steps P.H.fails P.H.is_closed
+            P.H.is_finished P.makes_inbound P.makes_outbound P.listed P.is_eager P.leads_inbound P.leads_outbound start
+            role own input ended asked told taken self.old → Stands P.H.steps P.H.fails P.H.is_closed P.H.is_finished
+            P.makes_inbound P.makes_outbound P.listed P.is_eager P.leads_inbound P.leads_outbound start role own input
+            ended asked told (taken ++ result.items) self.new }
         ensures taken { result.items ≡ waiting_in self.old.phase self.old.output.items }
         ensures none_waits { waiting_in self.new.phase self.new.output.items ≡ [] }
         ensures owed { self.new.owed.items ≡ self.old.owed.items }

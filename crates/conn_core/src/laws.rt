@@ -12,45 +12,45 @@ use handlers::{Handler, Protocols};
 /// told, and the end where the other end has ended its direction. While its stream is live it was asked for bytes last,
 /// and left no credit unasked.
 pub fn handed<P: Protocols>()
-    ensures { (eager : ℕ → Bool) (names : List (List ℕ)) (role : ConnRole) (own : Key)
+    ensures { (start : P) (role : ConnRole) (own : Key)
         → AreServing P.H.steps P.H.fails P.H.is_closed P.H.is_finished P.makes_inbound P.makes_outbound P.listed
-        P.is_eager eager names role own }
+        P.is_eager P.leads_inbound P.leads_outbound start role own }
 {}
 
 /// The handler of an eager protocol was handed nothing before the talk agrees, and was asked for bytes.
 pub fn early<P: Protocols>()
-    ensures { (eager : ℕ → Bool) (names : List (List ℕ)) (role : ConnRole) (own : Key)
+    ensures { (start : P) (role : ConnRole) (own : Key)
         → AreEarly P.H.steps P.H.fails P.H.is_closed P.H.is_finished P.makes_inbound P.makes_outbound P.listed
-        P.is_eager eager names role own }
+        P.is_eager P.leads_inbound P.leads_outbound start role own }
 {}
 
 /// Each live stream is held, and none was refused or given up.
 pub fn live_are_held<P: Protocols>()
-    ensures { (eager : ℕ → Bool) (names : List (List ℕ)) (role : ConnRole) (own : Key)
+    ensures { (start : P) (role : ConnRole) (own : Key)
         → LiveAreHeld P.H.steps P.H.fails P.H.is_closed P.H.is_finished P.makes_inbound P.makes_outbound P.listed
-        P.is_eager eager names role own }
+        P.is_eager P.leads_inbound P.leads_outbound start role own }
 {}
 
 /// The input is the upgrade's, and then the session's; so are what was told and what was written.
 pub fn split<P: Protocols>()
-    ensures { (eager : ℕ → Bool) (names : List (List ℕ)) (role : ConnRole) (own : Key)
+    ensures { (start : P) (role : ConnRole) (own : Key)
         → UpIsSplit P.H.steps P.H.fails P.H.is_closed P.H.is_finished P.makes_inbound P.makes_outbound P.listed
-        P.is_eager eager names role own }
+        P.is_eager P.leads_inbound P.leads_outbound start role own }
 {}
 
 /// Each call of a run has one answer.
 pub fn each_is_answered<P: Protocols>()
-    ensures { (eager : ℕ → Bool) (names : List (List ℕ)) (role : ConnRole) (own : Key)
+    ensures { (start : P) (role : ConnRole) (own : Key)
         → EachIsAnswered P.H.steps P.H.fails P.H.is_closed P.H.is_finished P.makes_inbound P.makes_outbound P.listed
-        P.is_eager eager names role own }
+        P.is_eager P.leads_inbound P.leads_outbound start role own }
 {}
 
 /// Where memory was not refused, a run is behind all bytes of its feeds, all events of its answers, and all streams
 /// that it opened.
 pub fn counted<P: Protocols>()
-    ensures { (eager : ℕ → Bool) (names : List (List ℕ)) (role : ConnRole) (own : Key)
+    ensures { (start : P) (role : ConnRole) (own : Key)
         → AllIsCounted P.H.steps P.H.fails P.H.is_closed P.H.is_finished P.makes_inbound P.makes_outbound P.listed
-        P.is_eager eager names role own }
+        P.is_eager P.leads_inbound P.leads_outbound start role own }
 {}
 
 /// What a run hands back is each handler that is held, with its stream's number, and no other.

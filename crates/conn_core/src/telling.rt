@@ -76,12 +76,13 @@ pub(crate) fn last_output(upgrade: Upgrade) -> Vec<u8>
 
 /// What is told last where the input ends in this phase. What an upgrade has written waits then.
 pub(crate) fn last_event<P: Protocols>(phase: Phase<P>, output: &mut Vec<u8>) -> ConnEvent<P::H>
-    ensures ends { (role : ConnRole) (own : Key) (eager : ℕ → Bool) (names : List (List ℕ)) (input taken : List ℕ)
-        (asked : List (ℕ × ℕ)) (before owed : List (ConnEvent P.H)) → Connects P.H.steps P.H.fails P.H.is_closed
-        P.H.is_finished P.makes_inbound P.makes_outbound P.listed P.is_eager eager names role own input false asked
-        before taken phase owed output.old.items → is_over phase ≡ false
+    ensures ends { (role : ConnRole) (own : Key) (start : P) (input taken : List ℕ) (asked : List (ℕ × ℕ))
+        (before owed : List (ConnEvent P.H)) → Connects P.H.steps P.H.fails P.H.is_closed P.H.is_finished
+        P.makes_inbound P.makes_outbound P.listed P.is_eager P.leads_inbound P.leads_outbound start role own input false
+        asked before taken phase owed output.old.items → is_over phase ≡ false
         → Ends P.H.steps P.H.fails P.H.is_closed P.H.is_finished P.makes_inbound P.makes_outbound P.listed P.is_eager
-        eager names role own input true asked ((before ++ owed) ++ result ∷ []) (taken ++ output.new.items) }
+        P.leads_inbound P.leads_outbound start role own input true asked ((before ++ owed) ++ result ∷ [])
+        (taken ++ output.new.items) }
     ensures waits { output.new.items ≡ waiting_in phase output.old.items }
 {
     match phase {

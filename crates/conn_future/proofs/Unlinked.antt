@@ -134,74 +134,74 @@ module _ {P H : Type 0} (step : H → HandlerCall → H → Type 0) (fails : H �
 
 module _ {P H : Type 0} (step : H → HandlerCall → H → Type 0) (fails : H → Asked → ℕ → Type 0)
     (is_closed is_finished : H → Bool) (inbound_makes outbound_makes : P → ℕ → List ℕ → H → Type 0)
-    (listed : P → List (List ℕ)) (is_eager : P → ℕ → Bool) (eager : ℕ → Bool) (names : List (List ℕ))
-    (role : ConnRole) (own : Key) where
+    (listed : P → List (List ℕ)) (is_eager : P → ℕ → Bool)
+    (inbound_leads outbound_leads : P → ℕ → List ℕ → H → P → Type 0) (start : P) (role : ConnRole) (own : Key) where
   ends_tell : (input : List ℕ) (ended : Bool) (asked : List (ℕ × ℕ)) (told : List (ConnEvent H)) (written : List ℕ)
-      → Ends step fails is_closed is_finished inbound_makes outbound_makes listed is_eager eager names role own input ended asked told written → Tells told
+      → Ends step fails is_closed is_finished inbound_makes outbound_makes listed is_eager inbound_leads outbound_leads start role own input ended asked told written → Tells told
   ends_tell input ended asked told written (Upgrade why named first told_is comes unasked is) =
       LastEnds [] (event.Fault named) refl (upgrade_links why named told_is) is
   ends_tell input ended asked told written (Session faulty) =
-      let due = subst (λ (l : List (Entry H)). AllDue step fails is_closed is_finished inbound_makes outbound_makes eager names (id_of faulty.key) (session_role role) l)
+      let due = subst (λ (l : List (Entry H)). AllDue step fails is_closed is_finished inbound_makes outbound_makes (is_eager start) (listed start) (id_of faulty.key) (session_role role) l)
       (append-nil faulty.faults.newer) faulty.faults.at_rest.due in
       LastEnds faulty.before (event.Fault fault.Mux) (ap has_ended faulty.faults.told_is
-      ∙ said_goes_on step fails is_closed is_finished inbound_makes outbound_makes eager names (id_of faulty.key) (session_role role) faulty.faults.newer due) refl faulty.told_is
+      ∙ said_goes_on step fails is_closed is_finished inbound_makes outbound_makes (is_eager start) (listed start) (id_of faulty.key) (session_role role) faulty.faults.newer due) refl faulty.told_is
   ends_tell input ended asked told written (Early is_ended upgrades unasked is) = LastEnds [] (event.Fault fault.EarlyEnd) refl refl is
   ends_tell input ended asked told written (Within before session streams past is_ended up within is) =
       LastEnds before (event.Fault fault.EarlyEnd) (ap has_ended up.told_is
-      ∙ said_goes_on step fails is_closed is_finished inbound_makes outbound_makes eager names (id_of up.key) (session_role role) up.log up.at_rest.due) refl is
+      ∙ said_goes_on step fails is_closed is_finished inbound_makes outbound_makes (is_eager start) (listed start) (id_of up.key) (session_role role) up.log up.at_rest.due) refl is
   ends_tell input ended asked told written (Shut before session streams past is_ended up between is) =
       LastEnds before event.Shut (ap has_ended up.told_is
-      ∙ said_goes_on step fails is_closed is_finished inbound_makes outbound_makes eager names (id_of up.key) (session_role role) up.log up.at_rest.due) refl is
+      ∙ said_goes_on step fails is_closed is_finished inbound_makes outbound_makes (is_eager start) (listed start) (id_of up.key) (session_role role) up.log up.at_rest.due) refl is
 
   connects_tells : (input : List ℕ) (ended : Bool) (asked : List (ℕ × ℕ)) (told : List (ConnEvent H)) (taken : List ℕ) (phase : Phase P H) (owed : List (ConnEvent H)) (waiting : List ℕ)
-      → Connects step fails is_closed is_finished inbound_makes outbound_makes listed is_eager eager names role own input ended asked told taken phase owed waiting
+      → Connects step fails is_closed is_finished inbound_makes outbound_makes listed is_eager inbound_leads outbound_leads start role own input ended asked told taken phase owed waiting
       → Tells told
   connects_tells input ended asked told taken (phases.Upgrading x protocols) owed waiting it = NoneEnds (ap has_ended it.4.none_told)
   connects_tells input ended asked told taken (phases.Up mux) owed waiting it =
       let up = it.1.3.0 in
       NoneEnds (front_goes_on told owed (ap has_ended up.told_is
-      ∙ said_goes_on step fails is_closed is_finished inbound_makes outbound_makes eager names (id_of up.key) (session_role role) up.log up.at_rest.due))
+      ∙ said_goes_on step fails is_closed is_finished inbound_makes outbound_makes (is_eager start) (listed start) (id_of up.key) (session_role role) up.log up.at_rest.due))
   connects_tells input ended asked told taken phases.Over owed waiting it = ends_tell input ended asked told (taken ++ waiting) it.1
 
 -- ---- of a connection over a link
 
 module _ {L P H : Type 0} (link : LinkGhosts L) (protocols : ProtocolsGhosts P H) (handler : HandlerGhosts H)
-    (eager : ℕ → Bool) (names : List (List ℕ)) (role : ConnRole) (own : Key) where
+    (start : P) (role : ConnRole) (own : Key) where
   core_tells : (given : List ℕ) (ended : Bool) (asked : List (ℕ × ℕ)) (told : List (ConnEvent H)) (taken : List ℕ) (core : ConnCore P H)
-      → CoreStands link protocols handler eager names role own given ended asked told taken core → Tells told
+      → CoreStands link protocols handler start role own given ended asked told taken core → Tells told
   core_tells given ended asked told taken core stands =
       connects_tells handler.steps handler.fails handler.is_closed handler.is_finished protocols.makes_inbound
-      protocols.makes_outbound protocols.listed protocols.is_eager eager names role own given ended asked told taken core.phase core.owed.items core.output.items stands.1
+      protocols.makes_outbound protocols.listed protocols.is_eager protocols.leads_inbound protocols.leads_outbound start role own given ended asked told taken core.phase core.owed.items core.output.items stands.1
 
   pub never_links : (given : List ℕ) (ended : Bool) (asked : List (ℕ × ℕ)) (gave held : List (ConnEvent H)) (taken : List ℕ) (core : ConnCore P H)
-      → CoreStands link protocols handler eager names role own given ended asked (gave ++ event.Fault fault.Link ∷ held) taken core → ⊥
+      → CoreStands link protocols handler start role own given ended asked (gave ++ event.Fault fault.Link ∷ held) taken core → ⊥
   never_links given ended asked gave held taken core stands =
       unlinked gave held (core_tells given ended asked (gave ++ event.Fault fault.Link ∷ held) taken core stands)
 
   -- nothing is told behind a Fault or Shut
   pub none_behind_end : (given : List ℕ) (ended : Bool) (asked : List (ℕ × ℕ)) (gave : List (ConnEvent H)) (e : ConnEvent H) (held : List (ConnEvent H)) (taken : List ℕ) (core : ConnCore P H)
-      → is_end e ≡ true → CoreStands link protocols handler eager names role own given ended asked (gave ++ e ∷ held) taken core → held ≡ []
+      → is_end e ≡ true → CoreStands link protocols handler start role own given ended asked (gave ++ e ∷ held) taken core → held ≡ []
   none_behind_end given ended asked gave e held taken core ends stands =
       last_of gave e held ends (core_tells given ended asked (gave ++ e ∷ held) taken core stands)
 
   -- whether a core is over is seen from what it told
   pub over_is : (given : List ℕ) (ended : Bool) (asked : List (ℕ × ℕ)) (told : List (ConnEvent H)) (taken : List ℕ) (core : ConnCore P H)
-      → CoreStands link protocols handler eager names role own given ended asked told taken core → has_ended told ≡ is_over core.phase
+      → CoreStands link protocols handler start role own given ended asked told taken core → has_ended told ≡ is_over core.phase
   over_is given ended asked told taken core stands =
       told_over handler.steps handler.fails handler.is_closed handler.is_finished protocols.makes_inbound
-      protocols.makes_outbound protocols.listed protocols.is_eager eager names role own given ended asked told taken core.phase core.owed.items core.output.items stands.1
+      protocols.makes_outbound protocols.listed protocols.is_eager protocols.leads_inbound protocols.leads_outbound start role own given ended asked told taken core.phase core.owed.items core.output.items stands.1
 
   -- a core that goes on has told none
   pub none_ends : (given : List ℕ) (ended : Bool) (asked : List (ℕ × ℕ)) (gave : List (ConnEvent H)) (e : ConnEvent H) (held : List (ConnEvent H)) (taken : List ℕ) (core : ConnCore P H)
-      → is_end e ≡ true → CoreStands link protocols handler eager names role own given ended asked (gave ++ e ∷ held) taken core → is_over core.phase ≡ false → ⊥
+      → is_end e ≡ true → CoreStands link protocols handler start role own given ended asked (gave ++ e ∷ held) taken core → is_over core.phase ≡ false → ⊥
   none_ends given ended asked gave e held taken core ends stands goes =
       let is = over_is given ended asked (gave ++ e ∷ held) taken core stands in
       let some = end_within gave e held ends in cc (is, some, goes)
 
-  pub fresh_goes_on : (core : ConnCore P H) → CoreStands link protocols handler eager names role own [] false [] [] [] core → is_over core.phase ≡ false
+  pub fresh_goes_on : (core : ConnCore P H) → CoreStands link protocols handler start role own [] false [] [] [] core → is_over core.phase ≡ false
   fresh_goes_on core stands = sym (over_is [] false [] [] [] core stands)
 
   pub same_over : (given more : List ℕ) (ended end : Bool) (asked opened : List (ℕ × ℕ)) (told : List (ConnEvent H)) (taken all : List ℕ) (core next : ConnCore P H)
-      → CoreStands link protocols handler eager names role own given ended asked told taken core → CoreStands link protocols handler eager names role own more end opened told all next → is_over core.phase ≡ is_over next.phase
+      → CoreStands link protocols handler start role own given ended asked told taken core → CoreStands link protocols handler start role own more end opened told all next → is_over core.phase ≡ is_over next.phase
   same_over given more ended end asked opened told taken all core next stands other =
       sym (over_is given ended asked told taken core stands) ∙ over_is more end opened told all next other

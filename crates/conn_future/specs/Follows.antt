@@ -26,12 +26,13 @@ given_by (Ready None) = []
 given_by Pending = []
 
 module _ {L P H : Type 0} (link : LinkGhosts L) (protocols : ProtocolsGhosts P H) (handler : HandlerGhosts H)
-    (eager : ℕ → Bool) (names : List (List ℕ)) (role : ConnRole) (own : Key) where
+    (start : P) (role : ConnRole) (own : Key) where
   -- The core was fed this input, told these events, and this of its output was taken.
   abbrev pub CoreStands : (input : List ℕ) (ended : Bool) → List (ℕ × ℕ) → List (ConnEvent H) → List ℕ → ConnCore P H
       → Type 0
   CoreStands = Stands handler.steps handler.fails handler.is_closed handler.is_finished protocols.makes_inbound
-      protocols.makes_outbound protocols.listed protocols.is_eager eager names role own
+      protocols.makes_outbound protocols.listed protocols.is_eager protocols.leads_inbound protocols.leads_outbound
+      start role own
 
   -- Since the first state of the link the core was fed exactly what the link gave, also the end exactly where a read
   -- has found it, and told the events that were given and then those that are held. Of what was taken from it the link
@@ -101,17 +102,16 @@ module _ {L P H : Type 0} (link : LinkGhosts L) (protocols : ProtocolsGhosts P H
 abbrev pub Carries : {L P H : Type 0} (link : LinkGhosts L) (protocols : ProtocolsGhosts P H)
     (handler : HandlerGhosts H) → Conn L P H link protocols handler → List (ConnEvent H)
     → Conn L P H link protocols handler → Type 0
-Carries link protocols handler old events new =
-    (eager : ℕ → Bool) (names : List (List ℕ)) (role : ConnRole) (own : Key) (first : _) (asked : List (ℕ × ℕ))
-    (gave : List (ConnEvent _))
-    → Follows link protocols handler eager names role own first asked gave old
-    → Follows link protocols handler eager names role own first asked (gave ++ events) new
+Carries {L} {P} {H} link protocols handler old events new =
+    (start : P) (role : ConnRole) (own : Key) (first : L) (asked : List (ℕ × ℕ)) (gave : List (ConnEvent H))
+    → Follows link protocols handler start role own first asked gave old
+    → Follows link protocols handler start role own first asked (gave ++ events) new
 
 -- Behind a Fault or Shut it is over, and no event is held: it gives none more, and makes no link call.
 abbrev pub EndsBehind : {L P H : Type 0} (link : LinkGhosts L) (protocols : ProtocolsGhosts P H)
     (handler : HandlerGhosts H) → Type 0
 EndsBehind {L} {P} {H} link protocols handler =
-    (eager : ℕ → Bool) (names : List (List ℕ)) (role : ConnRole) (own : Key) (first : L) (asked : List (ℕ × ℕ))
-    (gave : List (ConnEvent H)) (last : ConnEvent H) (conn : Conn L P H link protocols handler)
-    → Follows link protocols handler eager names role own first asked (gave ++ last ∷ []) conn → is_end last ≡ true
+    (start : P) (role : ConnRole) (own : Key) (first : L) (asked : List (ℕ × ℕ)) (gave : List (ConnEvent H))
+    (last : ConnEvent H) (conn : Conn L P H link protocols handler)
+    → Follows link protocols handler start role own first asked (gave ++ last ∷ []) conn → is_end last ≡ true
     → (conn.stage ≡ Over) × (conn.held.items ≡ [])

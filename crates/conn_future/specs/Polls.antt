@@ -24,9 +24,9 @@ pub record Polls {L P H : Type 0} (link : LinkGhosts L) (protocols : ProtocolsGh
   pub follows : Carries link protocols handler old (given_by result) new
   -- Fault(Link) exactly where a call of the link failed
   pub rose : link.failed old.link < link.failed new.link → result ≡ Ready (Some (events.Fault faults.Link))
-  pub fault : (eager : ℕ → Bool) (names : List (List ℕ)) (role : ConnRole) (own : Key) (first : L)
-      (asked : List (ℕ × ℕ)) (gave : List (ConnEvent H))
-      → Follows link protocols handler eager names role own first asked gave old
+  pub fault : (start : P) (role : ConnRole) (own : Key) (first : L) (asked : List (ℕ × ℕ))
+      (gave : List (ConnEvent H))
+      → Follows link protocols handler start role own first asked gave old
       → result ≡ Ready (Some (events.Fault faults.Link)) → link.failed new.link ≡ link.failed old.link + 1
   -- what is held is given without a call
   pub held : (next : ConnEvent H) (rest : List (ConnEvent H)) → old.held.items ≡ next ∷ rest
@@ -36,9 +36,9 @@ pub record Polls {L P H : Type 0} (link : LinkGhosts L) (protocols : ProtocolsGh
   -- the end of the stream exactly where it is over and holds none
   pub over : old.held.items ≡ [] → old.stage ≡ Over
       → (result ≡ Ready None) × (new.held.items ≡ []) × (new.stage ≡ Over)
-  pub ends : (eager : ℕ → Bool) (names : List (List ℕ)) (role : ConnRole) (own : Key) (first : L)
-      (asked : List (ℕ × ℕ)) (gave : List (ConnEvent H))
-      → Follows link protocols handler eager names role own first asked gave old
+  pub ends : (start : P) (role : ConnRole) (own : Key) (first : L) (asked : List (ℕ × ℕ))
+      (gave : List (ConnEvent H))
+      → Follows link protocols handler start role own first asked gave old
       → result ≡ Ready None → (old.held.items ≡ []) × (old.stage ≡ Over)
   pub stage : is_live new.stage ≡ true → new.stage ≡ old.stage
   -- it comes to its end by itself only where the core does, a call of the link fails, or memory is refused

@@ -35,10 +35,10 @@ impl<L: Link, P: Protocols> Conn<L, P> {
     /// A connection over this link, whose core is as [`ConnCore::new`] left it. Its only refusal is want of memory.
     pub fn new(alloc: Global, link: L, core: ConnCore<P>) -> Result<Conn<L, P>, ConnRefused>
         requires can_fail { L.failed link < 2 ^ 64 - 1 }
-        ensures follows { (eager : ℕ → Bool) (names : List (List ℕ)) (role : ConnRole) (own : Key)
+        ensures follows { (start : P) (role : ConnRole) (own : Key)
             → Stands P.H.steps P.H.fails P.H.is_closed P.H.is_finished P.makes_inbound P.makes_outbound P.listed
-            P.is_eager eager names role own [] false [] [] [] core
-            → IfOk result (λ conn. Follows L.Link P.Protocols P.H.Handler eager names role own link [] [] conn) }
+            P.is_eager P.leads_inbound P.leads_outbound start role own [] false [] [] [] core
+            → IfOk result (λ conn. Follows L.Link P.Protocols P.H.Handler start role own link [] [] conn) }
         ensures link { IfOk result (λ conn. conn.link ≡ link) }
         ensures going { IfOk result (λ conn. (conn.stage ≡ Stage.Going) × (conn.held.items ≡ [])) }
         ensures memory { OnErr result (result ≡ Err ConnRefused.OutOfMemory) }
@@ -78,11 +78,11 @@ impl<L: Link, P: Protocols> Conn<L, P> {
     ///
     /// Where memory was refused, the events that are held are given, then Fault(OutOfMemory), and no link call is made.
     pub fn ask(&mut self, index: usize) -> Result<u32, ConnRefused>
-        ensures asked { (eager : ℕ → Bool) (names : List (List ℕ)) (role : ConnRole) (own : Key) (first : L)
-            (asked : List (ℕ × ℕ)) (gave : List (ConnEvent P.H))
-            → Follows L.Link P.Protocols P.H.Handler eager names role own first asked gave self.old
-            → IfOk result (λ number. Follows L.Link P.Protocols P.H.Handler eager names role own first (asked ++
-            (number, index) ∷ []) gave self.new) }
+        ensures asked { (start : P) (role : ConnRole) (own : Key) (first : L) (asked : List (ℕ × ℕ))
+            (gave : List (ConnEvent P.H))
+            → Follows L.Link P.Protocols P.H.Handler start role own first asked gave self.old
+            → IfOk result (λ number. Follows L.Link P.Protocols P.H.Handler start role own first
+            (asked ++ (number, index) ∷ []) gave self.new) }
         ensures refused { OnErr result (Carries L.Link P.Protocols P.H.Handler self.old [] self.new) }
         ensures failed { self.old.stage ≢ Stage.Going → (result ≡ Err ConnRefused.Failed) × (self.new ≡ self.old) }
         ensures opened { IfOk result (λ number. MayOpen P.listed self.old.core.phase index) }
@@ -136,9 +136,9 @@ impl<L: Link, P: Protocols> Conn<L, P> {
         ensures follows { Carries L.Link P.Protocols P.H.Handler self.old (given_by result) self.new }
         ensures rose { L.failed self.old.link < L.failed self.new.link
             → result ≡ Ready (Some (event.Fault fault.Link)) }
-        ensures fault { (eager : ℕ → Bool) (names : List (List ℕ)) (role : ConnRole) (own : Key) (first : L)
-            (asked : List (ℕ × ℕ)) (gave : List (ConnEvent P.H))
-            → Follows L.Link P.Protocols P.H.Handler eager names role own first asked gave self.old
+        ensures fault { (start : P) (role : ConnRole) (own : Key) (first : L) (asked : List (ℕ × ℕ))
+            (gave : List (ConnEvent P.H))
+            → Follows L.Link P.Protocols P.H.Handler start role own first asked gave self.old
             → result ≡ Ready (Some (event.Fault fault.Link))
             → L.failed self.new.link ≡ L.failed self.old.link + 1 }
         ensures held { (event : ConnEvent P.H) (rest : List (ConnEvent P.H)) → self.old.held.items ≡ event ∷ rest
@@ -149,9 +149,9 @@ impl<L: Link, P: Protocols> Conn<L, P> {
             × (self.new.stage ≡ Stage.Over) }
         ensures over { self.old.held.items ≡ [] → self.old.stage ≡ Stage.Over
             → (result ≡ Ready None) × (self.new.held.items ≡ []) × (self.new.stage ≡ Stage.Over) }
-        ensures ends { (eager : ℕ → Bool) (names : List (List ℕ)) (role : ConnRole) (own : Key) (first : L)
-            (asked : List (ℕ × ℕ)) (gave : List (ConnEvent P.H))
-            → Follows L.Link P.Protocols P.H.Handler eager names role own first asked gave self.old
+        ensures ends { (start : P) (role : ConnRole) (own : Key) (first : L) (asked : List (ℕ × ℕ))
+            (gave : List (ConnEvent P.H))
+            → Follows L.Link P.Protocols P.H.Handler start role own first asked gave self.old
             → result ≡ Ready None → (self.old.held.items ≡ []) × (self.old.stage ≡ Stage.Over) }
         ensures stage { is_live self.new.stage ≡ true → self.new.stage ≡ self.old.stage }
         // It comes to its end by itself only where the core does, a call of the link fails, or memory is refused.

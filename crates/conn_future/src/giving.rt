@@ -35,9 +35,9 @@ impl<L: Link, P: Protocols> Conn<L, P> {
             → result ≡ Some (event.Fault fault.OutOfMemory) }
         ensures core { self.new.core ≡ self.old.core }
         ensures link { self.new.link ≡ self.old.link }
-        ensures not_link { (eager : ℕ → Bool) (names : List (List ℕ)) (role : ConnRole) (own : Key) (first : L)
-            (asked : List (ℕ × ℕ)) (gave : List (ConnEvent P.H))
-            → Follows L.Link P.Protocols P.H.Handler eager names role own first asked gave self.old
+        ensures not_link { (start : P) (role : ConnRole) (own : Key) (first : L) (asked : List (ℕ × ℕ))
+            (gave : List (ConnEvent P.H))
+            → Follows L.Link P.Protocols P.H.Handler start role own first asked gave self.old
             → result ≢ Some (event.Fault fault.Link) }
     {
         if let Some(event) = self.held.pop_front() {

@@ -28,12 +28,14 @@ impl<L: Link, P: Protocols> Conn<L, P> {
     // Moves what the core has written behind what is left.
     pub(crate) fn collect(&mut self) -> Result<(), AllocError>
         requires { self.old.stage ≡ Stage.Going }
-        ensures stands { (eager : ℕ → Bool) (names : List (List ℕ)) (role : ConnRole) (own : Key)
-            (input taken : List ℕ) (ended : Bool) (asked : List (ℕ × ℕ)) (told : List (ConnEvent P.H))
+        ensures stands { (start : P) (role : ConnRole) (own : Key) (input taken : List ℕ) (ended : Bool)
+            (asked : List (ℕ × ℕ)) (told : List (ConnEvent P.H))
             → Stands P.H.steps P.H.fails P.H.is_closed P.H.is_finished P.makes_inbound P.makes_outbound P.listed
-            P.is_eager eager names role own input ended asked told (taken ++ self.old.unsent) self.old.core
+            P.is_eager P.leads_inbound P.leads_outbound start role own input ended asked told (taken ++ self.old.unsent)
+            self.old.core
             → OnOk result (Stands P.H.steps P.H.fails P.H.is_closed P.H.is_finished P.makes_inbound P.makes_outbound
-            P.listed P.is_eager eager names role own input ended asked told (taken ++ self.new.unsent) self.new.core) }
+            P.listed P.is_eager P.leads_inbound P.leads_outbound start role own input ended asked told
+            (taken ++ self.new.unsent) self.new.core) }
         ensures none_waits { waiting_in self.new.core.phase self.new.core.output.items ≡ [] }
         ensures over { is_over self.new.core.phase ≡ is_over self.old.core.phase }
         ensures link { self.new.link ≡ self.old.link }
@@ -46,15 +48,14 @@ impl<L: Link, P: Protocols> Conn<L, P> {
 
     // Memory was refused: it tells so behind the events that it holds.
     pub(crate) fn starve(&mut self) -> Turn<P::H>
-        ensures follows { (eager : ℕ → Bool) (names : List (List ℕ)) (role : ConnRole) (own : Key) (first : L)
-            (asked : List (ℕ × ℕ)) (gave : List (ConnEvent P.H))
-            → Parts L.Link P.Protocols P.H.Handler eager names role own first asked gave self.old.link
-            self.old.held.items → Follows L.Link P.Protocols P.H.Handler eager names role own first asked (gave ++
-            gave_by result) self.new }
-        ensures not_link { (eager : ℕ → Bool) (names : List (List ℕ)) (role : ConnRole) (own : Key) (first : L)
-            (asked : List (ℕ × ℕ)) (gave : List (ConnEvent P.H))
-            → Parts L.Link P.Protocols P.H.Handler eager names role own first asked gave self.old.link
-            self.old.held.items → result ≢ Turn.Give (Some (event.Fault fault.Link)) }
+        ensures follows { (start : P) (role : ConnRole) (own : Key) (first : L) (asked : List (ℕ × ℕ))
+            (gave : List (ConnEvent P.H))
+            → Parts L.Link P.Protocols P.H.Handler start role own first asked gave self.old.link self.old.held.items
+            → Follows L.Link P.Protocols P.H.Handler start role own first asked (gave ++ gave_by result) self.new }
+        ensures not_link { (start : P) (role : ConnRole) (own : Key) (first : L) (asked : List (ℕ × ℕ))
+            (gave : List (ConnEvent P.H))
+            → Parts L.Link P.Protocols P.H.Handler start role own first asked gave self.old.link self.old.held.items
+            → result ≢ Turn.Give (Some (event.Fault fault.Link)) }
         ensures gives { OnGoing result ⊥ }
         ensures fails { faults_of result ≡ 0 }
         ensures not_none { result ≢ Turn.Give None }
@@ -69,25 +70,21 @@ impl<L: Link, P: Protocols> Conn<L, P> {
     // The core told these events.
     fn tell(&mut self, events: Vec<ConnEvent<P::H>>) -> Turn<P::H>
         requires { self.old.stage ≡ Stage.Going }
-        ensures follows { (eager : ℕ → Bool) (names : List (List ℕ)) (role : ConnRole) (own : Key) (first : L)
-            (asked : List (ℕ × ℕ)) (gave : List (ConnEvent P.H))
-            (ended : Bool) → Joins L.Link P.Protocols P.H.Handler eager names role own first asked gave ended
-            self.old.link self.old.core self.old.unsent events.items
+        ensures follows { (start : P) (role : ConnRole) (own : Key) (first : L) (asked : List (ℕ × ℕ))
+            (gave : List (ConnEvent P.H)) (ended : Bool) → Joins L.Link P.Protocols P.H.Handler start role own first
+            asked gave ended self.old.link self.old.core self.old.unsent events.items
             → (ended ≡ true → is_over self.old.core.phase ≡ true)
-            → Follows L.Link P.Protocols P.H.Handler eager names role own first asked (gave ++ gave_by result)
-            self.new }
-        ensures not_link { (eager : ℕ → Bool) (names : List (List ℕ)) (role : ConnRole) (own : Key) (first : L)
-            (asked : List (ℕ × ℕ)) (gave : List (ConnEvent P.H))
-            (ended : Bool) → Joins L.Link P.Protocols P.H.Handler eager names role own first asked gave ended
-            self.old.link self.old.core self.old.unsent events.items
+            → Follows L.Link P.Protocols P.H.Handler start role own first asked (gave ++ gave_by result) self.new }
+        ensures not_link { (start : P) (role : ConnRole) (own : Key) (first : L) (asked : List (ℕ × ℕ))
+            (gave : List (ConnEvent P.H)) (ended : Bool) → Joins L.Link P.Protocols P.H.Handler start role own first
+            asked gave ended self.old.link self.old.core self.old.unsent events.items
             → (ended ≡ true → is_over self.old.core.phase ≡ true) → result ≢ Turn.Give (Some (event.Fault fault.Link)) }
         ensures goes_on { OnGoing result ((self.new.stage ≡ Stage.Going) × (self.new.held.items ≡ [])) }
         ensures no_wait { OnWait result ⊥ }
         ensures fails { faults_of result ≡ 0 }
-        ensures not_none { (eager : ℕ → Bool) (names : List (List ℕ)) (role : ConnRole) (own : Key) (first : L)
-            (asked : List (ℕ × ℕ)) (gave : List (ConnEvent P.H))
-            (ended : Bool) → Joins L.Link P.Protocols P.H.Handler eager names role own first asked gave ended
-            self.old.link self.old.core self.old.unsent events.items → has_ended gave ≡ false
+        ensures not_none { (start : P) (role : ConnRole) (own : Key) (first : L) (asked : List (ℕ × ℕ))
+            (gave : List (ConnEvent P.H)) (ended : Bool) → Joins L.Link P.Protocols P.H.Handler start role own first
+            asked gave ended self.old.link self.old.core self.old.unsent events.items → has_ended gave ≡ false
             → result ≢ Turn.Give None }
         ensures stage { is_live self.new.stage ≡ true → self.new.stage ≡ Stage.Going }
         ensures why { self.new.stage ≡ Stage.Over → (is_over self.new.core.phase ≡ true)
@@ -112,28 +109,27 @@ impl<L: Link, P: Protocols> Conn<L, P> {
     pub(crate) fn hear(&mut self, count: usize) -> Turn<P::H>
         requires going { self.old.stage ≡ Stage.Going }
         requires none_held { self.old.held.items ≡ [] }
-        ensures follows { (eager : ℕ → Bool) (names : List (List ℕ)) (role : ConnRole) (own : Key) (first : L)
-            (asked : List (ℕ × ℕ)) (gave : List (ConnEvent P.H)) (before : L)
-            → GoesOn L.Link P.Protocols P.H.Handler eager names role own first asked gave before self.old.core
-            self.old.unsent []
+        ensures follows { (start : P) (role : ConnRole) (own : Key) (first : L) (asked : List (ℕ × ℕ))
+            (gave : List (ConnEvent P.H)) (before : L)
+            → GoesOn L.Link P.Protocols P.H.Handler start role own first asked gave before self.old.core self.old.unsent
+            []
             → L.moves before (take count self.old.buffer.items) [] self.old.link
             → (L.has_ended self.old.link → L.has_ended before)
-            → Follows L.Link P.Protocols P.H.Handler eager names role own first asked (gave ++ gave_by result)
-            self.new }
-        ensures not_link { (eager : ℕ → Bool) (names : List (List ℕ)) (role : ConnRole) (own : Key) (first : L)
-            (asked : List (ℕ × ℕ)) (gave : List (ConnEvent P.H)) (before : L)
-            → GoesOn L.Link P.Protocols P.H.Handler eager names role own first asked gave before self.old.core
-            self.old.unsent []
+            → Follows L.Link P.Protocols P.H.Handler start role own first asked (gave ++ gave_by result) self.new }
+        ensures not_link { (start : P) (role : ConnRole) (own : Key) (first : L) (asked : List (ℕ × ℕ))
+            (gave : List (ConnEvent P.H)) (before : L)
+            → GoesOn L.Link P.Protocols P.H.Handler start role own first asked gave before self.old.core self.old.unsent
+            []
             → L.moves before (take count self.old.buffer.items) [] self.old.link
             → (L.has_ended self.old.link → L.has_ended before)
             → result ≢ Turn.Give (Some (event.Fault fault.Link)) }
         ensures goes_on { OnGoing result ((self.new.stage ≡ Stage.Going) × (self.new.held.items ≡ [])) }
         ensures no_wait { OnWait result ⊥ }
         ensures fails { faults_of result ≡ 0 }
-        ensures not_none { (eager : ℕ → Bool) (names : List (List ℕ)) (role : ConnRole) (own : Key) (first : L)
-            (asked : List (ℕ × ℕ)) (gave : List (ConnEvent P.H)) (before : L)
-            → GoesOn L.Link P.Protocols P.H.Handler eager names role own first asked gave before self.old.core
-            self.old.unsent []
+        ensures not_none { (start : P) (role : ConnRole) (own : Key) (first : L) (asked : List (ℕ × ℕ))
+            (gave : List (ConnEvent P.H)) (before : L)
+            → GoesOn L.Link P.Protocols P.H.Handler start role own first asked gave before self.old.core self.old.unsent
+            []
             → L.moves before (take count self.old.buffer.items) [] self.old.link
             → (L.has_ended self.old.link → L.has_ended before)
             → result ≢ Turn.Give None }
@@ -157,24 +153,23 @@ impl<L: Link, P: Protocols> Conn<L, P> {
     pub(crate) fn end(&mut self) -> Turn<P::H>
         requires going { self.old.stage ≡ Stage.Going }
         requires none_held { self.old.held.items ≡ [] }
-        ensures follows { (eager : ℕ → Bool) (names : List (List ℕ)) (role : ConnRole) (own : Key) (first : L)
-            (asked : List (ℕ × ℕ)) (gave : List (ConnEvent P.H)) (before : L)
-            → GoesOn L.Link P.Protocols P.H.Handler eager names role own first asked gave before self.old.core
-            self.old.unsent [] → L.moves before [] [] self.old.link → L.has_ended self.old.link
-            → Follows L.Link P.Protocols P.H.Handler eager names role own first asked (gave ++ gave_by result)
-            self.new }
-        ensures not_link { (eager : ℕ → Bool) (names : List (List ℕ)) (role : ConnRole) (own : Key) (first : L)
-            (asked : List (ℕ × ℕ)) (gave : List (ConnEvent P.H)) (before : L)
-            → GoesOn L.Link P.Protocols P.H.Handler eager names role own first asked gave before self.old.core
-            self.old.unsent [] → L.moves before [] [] self.old.link → L.has_ended self.old.link
+        ensures follows { (start : P) (role : ConnRole) (own : Key) (first : L) (asked : List (ℕ × ℕ))
+            (gave : List (ConnEvent P.H)) (before : L)
+            → GoesOn L.Link P.Protocols P.H.Handler start role own first asked gave before self.old.core self.old.unsent
+            [] → L.moves before [] [] self.old.link → L.has_ended self.old.link
+            → Follows L.Link P.Protocols P.H.Handler start role own first asked (gave ++ gave_by result) self.new }
+        ensures not_link { (start : P) (role : ConnRole) (own : Key) (first : L) (asked : List (ℕ × ℕ))
+            (gave : List (ConnEvent P.H)) (before : L)
+            → GoesOn L.Link P.Protocols P.H.Handler start role own first asked gave before self.old.core self.old.unsent
+            [] → L.moves before [] [] self.old.link → L.has_ended self.old.link
             → result ≢ Turn.Give (Some (event.Fault fault.Link)) }
         ensures goes_on { OnGoing result ((self.new.stage ≡ Stage.Going) × (self.new.held.items ≡ [])) }
         ensures no_wait { OnWait result ⊥ }
         ensures fails { faults_of result ≡ 0 }
-        ensures not_none { (eager : ℕ → Bool) (names : List (List ℕ)) (role : ConnRole) (own : Key) (first : L)
-            (asked : List (ℕ × ℕ)) (gave : List (ConnEvent P.H)) (before : L)
-            → GoesOn L.Link P.Protocols P.H.Handler eager names role own first asked gave before self.old.core
-            self.old.unsent [] → L.moves before [] [] self.old.link → L.has_ended self.old.link
+        ensures not_none { (start : P) (role : ConnRole) (own : Key) (first : L) (asked : List (ℕ × ℕ))
+            (gave : List (ConnEvent P.H)) (before : L)
+            → GoesOn L.Link P.Protocols P.H.Handler start role own first asked gave before self.old.core self.old.unsent
+            [] → L.moves before [] [] self.old.link → L.has_ended self.old.link
             → result ≢ Turn.Give None }
         ensures stage { is_live self.new.stage ≡ true → self.new.stage ≡ Stage.Going }
         ensures why { self.new.stage ≡ Stage.Over → (is_over self.new.core.phase ≡ true)

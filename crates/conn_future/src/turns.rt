@@ -71,9 +71,9 @@ impl<L: Link, P: Protocols> Conn<L, P> {
         ensures follows { Carries L.Link P.Protocols P.H.Handler self.old (gave_by result) self.new }
         ensures goes_on { OnGoing result ((self.new.stage ≡ self.old.stage) × (self.new.held.items ≡ [])) }
         ensures failures { L.failed self.new.link ≡ L.failed self.old.link + faults_of result }
-        ensures not_link { (eager : ℕ → Bool) (names : List (List ℕ)) (role : ConnRole) (own : Key) (first : L)
-            (asked : List (ℕ × ℕ)) (gave : List (ConnEvent P.H))
-            → Follows L.Link P.Protocols P.H.Handler eager names role own first asked gave self.old
+        ensures not_link { (start : P) (role : ConnRole) (own : Key) (first : L) (asked : List (ℕ × ℕ))
+            (gave : List (ConnEvent P.H))
+            → Follows L.Link P.Protocols P.H.Handler start role own first asked gave self.old
             → result ≢ Turn.Give (Some (event.Fault fault.Link)) }
         ensures shutting { self.old.stage ≡ Stage.Shutting
             → (took : List ℕ) × L.moves self.old.link [] took self.new.link }
@@ -114,16 +114,16 @@ impl<L: Link, P: Protocols> Conn<L, P> {
         ensures follows { Carries L.Link P.Protocols P.H.Handler self.old (gave_by result) self.new }
         ensures goes_on { OnGoing result ((self.new.stage ≡ self.old.stage) × (self.new.held.items ≡ [])) }
         ensures failures { L.failed self.new.link ≡ L.failed self.old.link + faults_of result }
-        ensures not_link { (eager : ℕ → Bool) (names : List (List ℕ)) (role : ConnRole) (own : Key) (first : L)
-            (asked : List (ℕ × ℕ)) (gave : List (ConnEvent P.H))
-            → Follows L.Link P.Protocols P.H.Handler eager names role own first asked gave self.old
+        ensures not_link { (start : P) (role : ConnRole) (own : Key) (first : L) (asked : List (ℕ × ℕ))
+            (gave : List (ConnEvent P.H))
+            → Follows L.Link P.Protocols P.H.Handler start role own first asked gave self.old
             → result ≢ Turn.Give (Some (event.Fault fault.Link)) }
         ensures no_wait { OnWait result ⊥ }
         ensures waits { HasWaited waits.old cx.old (L.reads_at self.old.link) (L.writes_at self.old.link)
             → OnAgain result (HasWaited waits.new cx.new (L.reads_at self.new.link) (L.writes_at self.new.link)) }
-        ensures not_none { (eager : ℕ → Bool) (names : List (List ℕ)) (role : ConnRole) (own : Key) (first : L)
-            (asked : List (ℕ × ℕ)) (gave : List (ConnEvent P.H))
-            → Follows L.Link P.Protocols P.H.Handler eager names role own first asked gave self.old
+        ensures not_none { (start : P) (role : ConnRole) (own : Key) (first : L) (asked : List (ℕ × ℕ))
+            (gave : List (ConnEvent P.H))
+            → Follows L.Link P.Protocols P.H.Handler start role own first asked gave self.old
             → result ≢ Turn.Give None }
         ensures stage { is_live self.new.stage ≡ true → self.new.stage ≡ self.old.stage }
         ensures why { self.old.stage ≡ Stage.Going → self.new.stage ≡ Stage.Over
@@ -157,9 +157,9 @@ impl<L: Link, P: Protocols> Conn<L, P> {
         ensures follows { Carries L.Link P.Protocols P.H.Handler self.old (gave_by result) self.new }
         ensures goes_on { OnGoing result ((self.new.stage ≡ self.old.stage) × (self.new.held.items ≡ [])) }
         ensures failures { L.failed self.new.link ≡ L.failed self.old.link + faults_of result }
-        ensures not_link { (eager : ℕ → Bool) (names : List (List ℕ)) (role : ConnRole) (own : Key) (first : L)
-            (asked : List (ℕ × ℕ)) (gave : List (ConnEvent P.H))
-            → Follows L.Link P.Protocols P.H.Handler eager names role own first asked gave self.old
+        ensures not_link { (start : P) (role : ConnRole) (own : Key) (first : L) (asked : List (ℕ × ℕ))
+            (gave : List (ConnEvent P.H))
+            → Follows L.Link P.Protocols P.H.Handler start role own first asked gave self.old
             → result ≢ Turn.Give (Some (event.Fault fault.Link)) }
         ensures none_moved { L.moves self.old.link [] [] self.new.link }
         ensures no_turn { OnAgain result ⊥ }
@@ -193,9 +193,9 @@ impl<L: Link, P: Protocols> Conn<L, P> {
         ensures follows { Carries L.Link P.Protocols P.H.Handler self.old (gave_by result) self.new }
         ensures goes_on { OnGoing result ((self.new.stage ≡ self.old.stage) × (self.new.held.items ≡ [])) }
         ensures failures { L.failed self.new.link ≡ L.failed self.old.link + faults_of result }
-        ensures not_link { (eager : ℕ → Bool) (names : List (List ℕ)) (role : ConnRole) (own : Key) (first : L)
-            (asked : List (ℕ × ℕ)) (gave : List (ConnEvent P.H))
-            → Follows L.Link P.Protocols P.H.Handler eager names role own first asked gave self.old
+        ensures not_link { (start : P) (role : ConnRole) (own : Key) (first : L) (asked : List (ℕ × ℕ))
+            (gave : List (ConnEvent P.H))
+            → Follows L.Link P.Protocols P.H.Handler start role own first asked gave self.old
             → result ≢ Turn.Give (Some (event.Fault fault.Link)) }
         ensures shutting { self.old.stage ≡ Stage.Shutting
             → (took : List ℕ) × L.moves self.old.link [] took self.new.link }
@@ -204,9 +204,9 @@ impl<L: Link, P: Protocols> Conn<L, P> {
         ensures covers { HasWaited waits.old cx.old (L.reads_at self.old.link) (L.writes_at self.old.link)
             → OnWait result (Covers cx.new (WaitsAt (L.reads_at self.new.link) (L.writes_at self.new.link)
             (L.shuts_at self.new.link) self.new.stage self.new.unsent)) }
-        ensures not_none { (eager : ℕ → Bool) (names : List (List ℕ)) (role : ConnRole) (own : Key) (first : L)
-            (asked : List (ℕ × ℕ)) (gave : List (ConnEvent P.H))
-            → Follows L.Link P.Protocols P.H.Handler eager names role own first asked gave self.old
+        ensures not_none { (start : P) (role : ConnRole) (own : Key) (first : L) (asked : List (ℕ × ℕ))
+            (gave : List (ConnEvent P.H))
+            → Follows L.Link P.Protocols P.H.Handler start role own first asked gave self.old
             → result ≢ Turn.Give None }
         ensures stage { is_live self.new.stage ≡ true → self.new.stage ≡ self.old.stage }
         ensures closes { self.old.stage ≡ Stage.Shutting → (self.new.stage ≡ Stage.Shutting)

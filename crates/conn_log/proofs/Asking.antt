@@ -19,7 +19,7 @@ use Rattle.yamux_session.proofs.Live.{own_next}
 use Rattle.streams.specs.Streams.{fresh}
 use Rattle.streams.specs.State.{Streaming, Stands, is_talking}
 use Rattle.dispatch.specs.declared.direction.Direction.{Direction}
-use Rattle.dispatch.specs.Dispatch.{made_by}
+use Rattle.dispatch.specs.Dispatch.{made_by, led_by, makes_once}
 use Rattle.streams.specs.declared.stage.Stage.{Stage}
 use Rattle.streams.specs.declared.stage.Stage.TheVariants as stages
 use Rattle.streams.specs.State.{kind_of, Served}
@@ -32,6 +32,7 @@ use Rattle.conn_log.specs.declared.event.ConnEvent.{ConnEvent}
 use Rattle.conn_log.specs.Entries.{Entry, items, said, asks, since, agreed_in, over_in, is_over, made_in, left_behind, asked}
 use Rattle.conn_log.specs.Entries.Entry.{Of, Says, Made, Asks}
 use Rattle.conn_log.specs.Due.{AllDue, direction_of, was_reset}
+use Rattle.conn_log.specs.Making.{AreMadeInTurn, MakesOn}
 use Rattle.conn_log.specs.Held.{IsSide, IsHeld, IsAtRest, AreLeft, earlier_of}
 use Rattle.conn_log.specs.Rests.{AreAtRest}
 use Rattle.conn_log.specs.Asked as ask
@@ -132,20 +133,20 @@ module _ {P H : Type 0} (step : H → HandlerCall → H → Type 0) (fails : H �
 
   -- ---- the new stream
 
-  made_first : (log : List (Entry H)) (protocols : P) (n index : ℕ) (handler : Option H) → is_own role n ≡ true → index < length names
-      → IsEarly (eager index) (outbound_makes protocols index peer) handler
+  made_first : (log : List (Entry H)) (protocols : P) (n index : ℕ) (handler : Option H) (none_made : Type 0) (makes : H → Type 0) → is_own role n ≡ true → index < length names
+      → ((it : H) → makes it → outbound_makes protocols index peer it) → IsEarly (eager index) makes none_made handler
       → AllDue step fails is_closed is_finished inbound_makes outbound_makes eager names peer role log
       → AllDue step fails is_closed is_finished inbound_makes outbound_makes eager names peer role (at_first n handler ++ Asks n index ∷ log)
-  made_first log protocols n index None own within early due = (within, due)
-  made_first log protocols n index (Some handler) own within early due = ((refl, early.0, (protocols, makes)), (within, due)) where
-    makes : made_by (inbound_makes protocols) (outbound_makes protocols) (direction_of role n) peer index handler
-    makes = subst (λ b. made_by (inbound_makes protocols) (outbound_makes protocols) (cond b Direction.Outbound Direction.Inbound) peer index handler) (sym own) early.1
+  made_first log protocols n index None none_made makes own within of early due = (within, due)
+  made_first log protocols n index (Some handler) none_made makes own within of early due = ((refl, early.0, (protocols, makes_it)), (within, due)) where
+    makes_it : made_by (inbound_makes protocols) (outbound_makes protocols) (direction_of role n) peer index handler
+    makes_it = subst (λ b. made_by (inbound_makes protocols) (outbound_makes protocols) (cond b Direction.Outbound Direction.Inbound) peer index handler) (sym own) (of handler early.1)
 
   module _ (acts_do : ActsDo) (acts_move : ActsMove) (log : List (Entry H)) (fed sent : List ℕ) (before after : State) (streams now : ℕ → Option (Streaming H)) (past : List (Earlier H)) (n index : ℕ)
-      (handler : Option H) (protocols : P)
+      (handler : Option H) (inbound_leads outbound_leads : P → ℕ → List ℕ → H → P → Type 0) (protocols behind : P)
       (r : AreAtRest step fails is_closed is_finished inbound_makes outbound_makes eager names peer role log fed sent before streams past)
       (there : SessionStands role (Did (Start n) ∷ items log) fed sent after) (within : index < length names)
-      (early : IsEarly (eager index) (outbound_makes protocols index peer) handler) where
+      (early : IsEarly (eager index) (makes_once inbound_makes outbound_makes inbound_leads outbound_leads Direction.Outbound peer protocols behind index) (behind ≡ protocols) handler) where
     items_first : (handler : Option H) → items (at_first n handler ++ Asks n index ∷ log) ≡ Did (Start n) ∷ items log
     items_first None = refl
     items_first (Some handler) = refl
@@ -165,7 +166,8 @@ module _ {P H : Type 0} (step : H → HandlerCall → H → Type 0) (fails : H �
         → Around step fails is_closed is_finished inbound_makes outbound_makes eager names peer role (at_first n handler ++ Asks n index ∷ log) fed sent after now past n just_opened []
     around_asked elsewhere = record {
       session_stands = subst (λ (t : List Item). SessionStands role t fed sent after) (sym (items_first handler)) there;
-      due = made_first log protocols n index handler own within early r.due;
+      due = made_first log protocols n index handler (behind ≡ protocols)
+          (makes_once inbound_makes outbound_makes inbound_leads outbound_leads Direction.Outbound peer protocols behind index) own within (λ it made. made.0) early r.due;
       others = λ m apart. subst (λ (t : Option (Streaming H)). IfSome t (λ it. IsAtRest step is_closed is_finished names role (at_first n handler ++ Asks n index ∷ log) m it)) (sym (elsewhere m apart))
           (if_some (streams m) (λ it. at_rest_same step is_closed is_finished names role log (at_first n handler ++ Asks n index ∷ log) m it
           (same_by_first acts_do acts_move role log n index m handler apart)) (r.each m));
@@ -226,12 +228,19 @@ module _ {P H : Type 0} (step : H → HandlerCall → H → Type 0) (fails : H �
       served = talking_awaits stream.stage talks;
     }
 
+    -- its handler was made by the protocols, which are others then
+    makes_first : (handler : Option H)
+        → IsEarly (eager index) (makes_once inbound_makes outbound_makes inbound_leads outbound_leads Direction.Outbound peer protocols behind index) (behind ≡ protocols) handler
+        → MakesOn inbound_leads outbound_leads peer role protocols behind log (at_first n handler ++ Asks n index ∷ log)
+    makes_first None none = λ first was. subst (λ (p : P). AreMadeInTurn inbound_leads outbound_leads peer role first log p) (sym none.1) was
+    makes_first (Some it) made = λ first was. (protocols, was, (refl, subst (λ b. led_by inbound_leads outbound_leads (cond b Direction.Outbound Direction.Inbound) peer protocols behind index it) (sym own) made.1.1))
+
     -- and it was served
-    pub was_asked : (told told_now : List (ConnEvent H)) (later : State) (then : ℕ → Option (Streaming H)) (aside : List (Earlier H))
-        → Routed step fails is_closed is_finished inbound_makes outbound_makes eager names peer role (at_first n handler ++ Asks n index ∷ log) told told_now fed sent later then aside n []
+    pub was_asked : (last : P) (told told_now : List (ConnEvent H)) (later : State) (then : ℕ → Option (Streaming H)) (aside : List (Earlier H))
+        → Routed step fails is_closed is_finished inbound_makes outbound_makes eager names peer role (MakesOn inbound_leads outbound_leads peer role behind last) (at_first n handler ++ Asks n index ∷ log) told told_now fed sent later then aside n []
         → (more : List (ConnEvent H)) → told_now ≡ told ++ more → AllByRecursion (IsBrokenOf n) more
-        → ask.Asked step fails is_closed is_finished inbound_makes outbound_makes eager names peer role n index log told told_now fed sent later then aside
-    was_asked told told_now later then aside routed more is broken = record {
+        → ask.Asked step fails is_closed is_finished inbound_makes outbound_makes eager names peer role (MakesOn inbound_leads outbound_leads peer role protocols last) n index log told told_now fed sent later then aside
+    was_asked last told told_now later then aside routed more is broken = record {
       later = routed.newer ++ at_first n handler;
       number_is = there.answered.0.1;
       told_is = routed.told_is ∙ ap (λ t. told ++ t) (sym (said_append routed.newer (at_first n handler) ∙ ap (λ t. t ++ said routed.newer) (said_first n handler)));
@@ -239,11 +248,14 @@ module _ {P H : Type 0} (step : H → HandlerCall → H → Type 0) (fails : H �
       only_broken = subst (λ (t : List (ConnEvent H)). AllByRecursion (IsBrokenOf n) t)
           (append_cancel_left told more (said routed.newer) (sym is ∙ routed.told_is) ∙ sym (said_append routed.newer (at_first n handler) ∙ ap (λ t. t ++ said routed.newer) (said_first n handler))) broken;
       at_once = λ on. by_handler handler early on;
+      makes = subst (λ (t : List (Entry H)). MakesOn inbound_leads outbound_leads peer role protocols last log t) (sym (append_assoc routed.newer (at_first n handler) (Asks n index ∷ log)))
+          (λ first was. routed.makes first (makes_first handler early first was));
       at_rest = subst (λ (t : List (Entry H)). AreAtRest step fails is_closed is_finished inbound_makes outbound_makes eager names peer role t fed sent later then aside)
           (sym (append_assoc routed.newer (at_first n handler) (Asks n index ∷ log)))
           (rested step fails is_closed is_finished inbound_makes outbound_makes eager names peer role (routed.newer ++ (at_first n handler ++ Asks n index ∷ log)) fed sent later then aside n routed.view routed.routes);
     } where
-      by_handler : (some : Option H) → IsEarly (eager index) (outbound_makes protocols index peer) some → eager index ≡ true
+      by_handler : (some : Option H)
+          → IsEarly (eager index) (makes_once inbound_makes outbound_makes inbound_leads outbound_leads Direction.Outbound peer protocols behind index) (behind ≡ protocols) some → eager index ≡ true
           → (it : H) × (newer : List (Entry H)) × (routed.newer ++ at_first n some ≡ newer ++ Made n it ∷ [])
-      by_handler None off on = absurd (let e : true ≡ false = sym on ∙ off in cc e)
+      by_handler None off on = absurd (let e : true ≡ false = sym on ∙ off.0 in cc e)
       by_handler (Some it) made on = (it, routed.newer, refl)

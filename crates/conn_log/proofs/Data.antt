@@ -14,7 +14,7 @@ use Rattle.streams.specs.declared.stop.Cause.TheVariants as causes
 use Rattle.streams.specs.Streams.{Past}
 use Rattle.streams.specs.State.{Streaming, Stands, is_talking, awaits_handler, was_handed_out, kind_of, Served}
 use Rattle.dispatch.specs.declared.direction.Direction.TheVariants.{Inbound, Outbound}
-use Rattle.dispatch.specs.Dispatch.{IsKnown, IsMade, made_by}
+use Rattle.dispatch.specs.Dispatch.{IsKnown, IsMade, makes_once}
 use Rattle.routing.specs.declared.delivered.Outcome.{Outcome}
 use Rattle.routing.specs.declared.delivered.Outcome.TheVariants as outcomes
 use Rattle.routing.specs.declared.delivered.Delivered.{Delivered}
@@ -25,8 +25,10 @@ use Rattle.conn_log.specs.declared.event.ConnEvent.TheVariants as event
 use Rattle.conn_log.specs.Entries.{Entry, items, said, asks, agreed, is_over, made_of, agreement}
 use Rattle.conn_log.specs.Entries.Entry.{Says, Made}
 use Rattle.conn_log.specs.Due.{direction_of, IsDue, told_reset, was_reset}
+use Rattle.conn_log.specs.Making.{MakesNone, MakesOn}
 use Rattle.conn_log.specs.Held.{IsSide, IsHeld}
 use Rattle.conn_log.specs.Routes.{IsNoOpening, EndsLast, Around, Comes}
+use Rattle.conn_log.proofs.Making.{makes_none}
 use Rattle.conn_log.proofs.Same.{same_by_making}
 use Rattle.conn_log.proofs.Around.{grown, still}
 use Rattle.conn_log.proofs.Views.{same, came_front}
@@ -98,13 +100,14 @@ module _ {P H : Type 0} (step : H → HandlerCall → H → Type 0) (fails : H �
       grown step fails is_closed is_finished inbound_makes outbound_makes eager names peer role log (Made n made ∷ []) fed sent session session streams streams past n view view rest a
       (is_due, a.due) (λ m apart. same_by_making role log n m made apart) a.session_stands (λ m apart. refl) a.heard refl (λ m. refl) (λ m. refl) (λ m over. over)
 
-  -- What data came to: by these entries, that tell this.
-  pub record Went (log : List (Entry H)) (told : List (ConnEvent H)) (fed sent : List ℕ) (session : State) (streams : ℕ → Option (Streaming H)) (past : List (Earlier H)) (n : ℕ) (rest : List Told)
+  -- What data came to: by these entries, that tell this, and whose handlers were made so.
+  pub record Went (making : List (Entry H) → List (Entry H) → Type 0) (log : List (Entry H)) (told : List (ConnEvent H)) (fed sent : List ℕ) (session : State) (streams : ℕ → Option (Streaming H)) (past : List (Earlier H)) (n : ℕ) (rest : List Told)
       (outcome : Outcome H) : Type 0 where
     pub newer : List (Entry H)
     pub said_is : said newer ≡ told
     pub untold : events role (items (newer ++ log)) ≡ events role (items log)
     pub unasked : asks newer ≡ []
+    pub makes : making log (newer ++ log)
     pub seen_now : Seen
     pub comes : Comes step fails is_closed is_finished inbound_makes outbound_makes eager names peer role (newer ++ log) fed sent session streams past n seen_now rest outcome
 
@@ -112,29 +115,32 @@ module _ {P H : Type 0} (step : H → HandlerCall → H → Type 0) (fails : H �
       (past : List (Earlier H)) (n : ℕ) (view : Seen) (rest : List Told) (new : Streaming H) (over : view.live ≡ false → view.ended ≡ true)
       (elsewhere : (m : ℕ) → (n == m) ≡ false → now m ≡ streams m) (here : now n ≡ Some new) where
     -- a stream that is given up, and why
-    stopped : (log : List (Entry H)) (outcome : Outcome H) (told : ConnEvent H) → after ≡ before
+    stopped : (making : List (Entry H) → List (Entry H) → Type 0) (log : List (Entry H)) → ((newer : List (Entry H)) → MakesNone newer → making log (newer ++ log))
+        → (outcome : Outcome H) (told : ConnEvent H) → after ≡ before
         → Around step fails is_closed is_finished inbound_makes outbound_makes eager names peer role log fed sent before streams past n view rest
         → (Around step fails is_closed is_finished inbound_makes outbound_makes eager names peer role (Says told ∷ log) fed sent after now past n view rest
         → Comes step fails is_closed is_finished inbound_makes outbound_makes eager names peer role log fed sent after now past n view rest outcome)
         → Rattle.conn_log.proofs.Same.IsOf n told → IsDue step fails is_closed is_finished inbound_makes outbound_makes eager names peer role log (Says told)
-        → Went log [] fed sent after now past n rest outcome
-    stopped log outcome told same_session a come of is_due = record {
+        → Went making log [] fed sent after now past n rest outcome
+    stopped making log keeps outcome told same_session a come of is_due = record {
       newer = [];
       said_is = refl;
       untold = refl;
       unasked = refl;
+      makes = keeps [] tt;
       seen_now = view;
       comes = come (around_event step fails is_closed is_finished inbound_makes outbound_makes eager names peer role log fed sent after now past n view rest told of is_due (still step fails is_closed is_finished inbound_makes outbound_makes eager names peer role log fed sent before after streams now past n view rest same_session elsewhere a));
     }
 
     -- the handler took data behind the talk
-    pub takes : (log : List (Entry H)) (bytes : List ℕ) (old : Streaming H) (got : List ℕ) (outcome : Outcome H)
+    pub takes : (making : List (Entry H) → List (Entry H) → Type 0) (log : List (Entry H)) → ((newer : List (Entry H)) → MakesNone newer → making log (newer ++ log))
+        → (bytes : List ℕ) (old : Streaming H) (got : List ℕ) (outcome : Outcome H)
         → (a : Around step fails is_closed is_finished inbound_makes outbound_makes eager names peer role log fed sent before streams past n view rest)
         → view.came ≡ got ++ bytes → view.ended ≡ false
         → (h : IsHeld step is_closed is_finished names role log n got view.ended old)
         → Takes step fails is_closed is_finished role (items log) fed sent n h.so_far bytes old before outcome after new
-        → Went log [] fed sent after now past n rest outcome
-    takes log bytes old got outcome a came going h (inl served) =
+        → Went making log [] fed sent after now past n rest outcome
+    takes making log keeps bytes old got outcome a came going h (inl served) =
         let middle = served.0 in
         let kind : kind_of middle.stage ≡ kind_of old.stage = served.2 in
         let so_far : Past H = record h.so_far { got = h.so_far.got ++ bytes; left = None } in
@@ -153,14 +159,14 @@ module _ {P H : Type 0} (step : H → HandlerCall → H → Type 0) (fails : H �
         } in
         let it = went step fails is_closed is_finished inbound_makes outbound_makes eager names peer role acts_do acts_move log fed sent before after streams now past n view rest middle new a held over
         elsewhere here outcome served.3 in
-        record { newer = it.newer; said_is = it.none_said; untold = it.untold; unasked = it.unasked; seen_now = it.seen_now; comes = it.comes }
-    takes log bytes old got outcome a came going h (inr f) =
+        record { newer = it.newer; said_is = it.none_said; untold = it.untold; unasked = it.unasked; makes = keeps it.newer it.unmade; seen_now = it.seen_now; comes = it.comes }
+    takes making log keeps bytes old got outcome a came going h (inr f) =
         let front = came_front n view rest a.opens_none in
         let data_is : inbound role (items log) n ≡ h.so_far.got ++ bytes ++ front.0 =
         a.heard.came ∙ front.1 ∙ ap (λ t. t ++ front.0) (came ∙ ap (λ t. t ++ bytes) (sym h.got_is)) in
         let handler = f.1.0 in
         let fault : HandlerFault = f.1.1 in
-        stopped log outcome (event.Broken n (causes.Handler fault)) f.0 a
+        stopped making log keeps outcome (event.Broken n (causes.Handler fault)) f.0 a
         (λ around. subst (λ (o : Outcome H). Comes step fails is_closed is_finished inbound_makes outbound_makes eager names peer role log fed sent after now past n view rest o) (sym f.1.4)
         (around, λ e. absurd (cc e)))
         refl (
@@ -189,11 +195,21 @@ module _ {P H : Type 0} (step : H → HandlerCall → H → Type 0) (fails : H �
 
     -- ---- in the talk
 
-    module _ (protocols : P) (log : List (Entry H)) (bytes : List ℕ) (old : Streaming H) (got : List ℕ)
+    module _ (inbound_leads outbound_leads : P → ℕ → List ℕ → H → P → Type 0) (protocols behind_them : P) (log : List (Entry H)) (bytes : List ℕ) (old : Streaming H) (got : List ℕ)
         (a : Around step fails is_closed is_finished inbound_makes outbound_makes eager names peer role log fed sent before streams past n view rest)
         (came : view.came ≡ got ++ bytes) (going : view.ended ≡ false) (h : IsHeld step is_closed is_finished names role log n got view.ended old) where
       abbrev pub makes : ℕ → H → Type 0
-      makes index made = made_by (inbound_makes protocols) (outbound_makes protocols) (direction_of role n) peer index made
+      makes = makes_once inbound_makes outbound_makes inbound_leads outbound_leads (direction_of role n) peer protocols behind_them
+
+      abbrev pub none_made : Type 0
+      none_made = behind_them ≡ protocols
+
+      -- the handlers of the list are made in turn
+      abbrev pub making : List (Entry H) → List (Entry H) → Type 0
+      making = MakesOn inbound_leads outbound_leads peer role protocols behind_them
+
+      keeps : none_made → (newer : List (Entry H)) → MakesNone newer → making log (newer ++ log)
+      keeps kept newer none = makes_none inbound_leads outbound_leads peer role protocols behind_them kept log newer none
 
       -- what comes behind this piece
       behind : List ℕ
@@ -211,15 +227,15 @@ module _ {P H : Type 0} (step : H → HandlerCall → H → Type 0) (fails : H �
       not_over talks = h.over ∙ talking_kind old.stage talks
 
       decided : (outcome : Outcome H) → is_talking old.stage ≡ true → after ≡ before
-          → Stops step fails is_closed is_finished role (items log) fed sent n makes h.so_far bytes outcome → Went log [] fed sent after now past n rest outcome
+          → Stops step fails is_closed is_finished role (items log) fed sent n makes none_made h.so_far bytes outcome → Went making log [] fed sent after now past n rest outcome
       decided outcomes.Refused talks same_session s =
-          stopped log outcomes.Refused (event.Refused n) same_session a (λ around. around) refl (
+          stopped making log (keeps s.5) outcomes.Refused (event.Refused n) same_session a (λ around. around) refl (
             h.talking talks,
             not_over talks,
             record { side = h.so_far.side; first = h.so_far.got ++ s.0; rest = s.1 ++ behind; output = s.2; side_is = h.side_is; data_is = by_front s.0 s.1 s.3; comes_to = s.4 },
           )
       decided (outcomes.Broken (causes.Select fault)) talks same_session s =
-          stopped log (outcomes.Broken (causes.Select fault)) (event.Broken n (causes.Select fault)) same_session a (λ around. (around, λ e. absurd (cc e))) refl (
+          stopped making log (keeps s.2) (outcomes.Broken (causes.Select fault)) (event.Broken n (causes.Select fault)) same_session a (λ around. (around, λ e. absurd (cc e))) refl (
             not_over talks,
             (
               s.0,
@@ -234,10 +250,10 @@ module _ {P H : Type 0} (step : H → HandlerCall → H → Type 0) (fails : H �
       decided (outcomes.Done handler) talks same_session s = absurd s
 
       -- nothing is decided by these bytes
-      undecided : (outcome : Outcome H) (middle : Streaming H) → is_talking old.stage ≡ true → Stands step middle (record h.so_far { got = h.so_far.got ++ bytes }) → is_talking middle.stage ≡ true
+      undecided : (outcome : Outcome H) (middle : Streaming H) → is_talking old.stage ≡ true → Stands step middle (record h.so_far { got = h.so_far.got ++ bytes }) → is_talking middle.stage ≡ true → none_made
           → Came step fails is_closed is_finished role (items log) fed sent n (record h.so_far { got = h.so_far.got ++ bytes }) middle before outcome after new
-          → Went log [] fed sent after now past n rest outcome
-      undecided outcome middle talks stands still_talks came_to =
+          → Went making log [] fed sent after now past n rest outcome
+      undecided outcome middle talks stands still_talks kept came_to =
           let held : IsHeld step is_closed is_finished names role log n view.came view.ended middle = record {
             so_far = record h.so_far { got = h.so_far.got ++ bytes };
             side_is = h.side_is;
@@ -253,13 +269,13 @@ module _ {P H : Type 0} (step : H → HandlerCall → H → Type 0) (fails : H �
           } in
           let it = went step fails is_closed is_finished inbound_makes outbound_makes eager names peer role acts_do acts_move log fed sent before after streams now past n view rest middle new a held over
           elsewhere here outcome came_to in
-          record { newer = it.newer; said_is = it.none_said; untold = it.untold; unasked = it.unasked; seen_now = it.seen_now; comes = it.comes }
+          record { newer = it.newer; said_is = it.none_said; untold = it.untold; unasked = it.unasked; makes = keeps kept it.newer it.unmade; seen_now = it.seen_now; comes = it.comes }
 
       -- both ends agree by a front of these bytes, and the handler takes the rest
       agreed_on : (outcome : Outcome H) (index : ℕ) (front more : List ℕ) (middle : Streaming H) → is_talking old.stage ≡ true
-          → (has : HasAgreed step fails is_closed is_finished role (items log) fed sent n makes h.so_far bytes index front more middle)
+          → (has : HasAgreed step fails is_closed is_finished role (items log) fed sent n makes none_made h.so_far bytes index front more middle)
           → Takes step fails is_closed is_finished role (items log) fed sent n (record h.so_far { got = h.so_far.got ++ front; made = Some has.made }) more middle before outcome after new
-          → Went log (event.Agreed n index ∷ []) fed sent after now past n rest outcome
+          → Went making log (event.Agreed n index ∷ []) fed sent after now past n rest outcome
       agreed_on outcome index front more middle talks has took = by_making has.is_made where
         told_so : List (Entry H)
         told_so = Says (event.Agreed n index) ∷ log
@@ -313,44 +329,48 @@ module _ {P H : Type 0} (step : H → HandlerCall → H → Type 0) (fails : H �
         side_made (Asks name k) s = s
         side_made (Answers known) s = s
 
-        by_making : IsMade makes h.so_far index has.made → Went log (event.Agreed n index ∷ []) fed sent after now past n rest outcome
+        by_making : IsMade makes none_made h.so_far index has.made → Went making log (event.Agreed n index ∷ []) fed sent after now past n rest outcome
         by_making (inl is) =
-            let it = takes told_so more middle (h.so_far.got ++ front) outcome told came_then going
-            (held_at told_so (side_at h.so_far.side h.side_is) agreed_now refl (sym is ∙ h.made_is) h.sent_is) took in
+            let it = takes making told_so (makes_none inbound_leads outbound_leads peer role protocols behind_them is.1 told_so) more middle (h.so_far.got ++ front) outcome told came_then going
+            (held_at told_so (side_at h.so_far.side h.side_is) agreed_now refl (sym is.0 ∙ h.made_is) h.sent_is) took in
             record {
               newer = it.newer ++ Says (event.Agreed n index) ∷ [];
               said_is = said_append it.newer (Says (event.Agreed n index) ∷ []) ∙ ap (λ t. (event.Agreed n index ∷ []) ++ t) it.said_is;
               untold = ap (λ t. events role (items t)) (append_assoc it.newer (Says (event.Agreed n index) ∷ []) log) ∙ it.untold;
               unasked = none_asked it.newer (Says (event.Agreed n index) ∷ []) it.unasked refl;
+              makes = subst (λ t. making log t) (sym (append_assoc it.newer (Says (event.Agreed n index) ∷ []) log)) it.makes;
               seen_now = it.seen_now;
               comes = subst (λ t. Comes step fails is_closed is_finished inbound_makes outbound_makes eager names peer role t fed sent after now past n it.seen_now rest outcome)
                   (sym (append_assoc it.newer (Says (event.Agreed n index) ∷ []) log)) it.comes;
             }
         by_making (inr made) =
-            let it = takes (Made n has.made ∷ told_so) more middle (h.so_far.got ++ front) outcome
-            (around_making told_so fed sent before streams past n view rest has.made (refl, sym h.made_is ∙ made.0, (protocols, made.1)) told) came_then going
+            let it = takes (MakesOn inbound_leads outbound_leads peer role behind_them behind_them) (Made n has.made ∷ told_so)
+            (makes_none inbound_leads outbound_leads peer role behind_them behind_them refl (Made n has.made ∷ told_so)) more middle (h.so_far.got ++ front) outcome
+            (around_making told_so fed sent before streams past n view rest has.made (refl, sym h.made_is ∙ made.0, (protocols, made.1.0)) told) came_then going
             (held_at (Made n has.made ∷ told_so) (side_made h.so_far.side h.side_is) agreed_now refl (sym (ap (λ b. cond b (Some has.made) (made_of role told_so n)) (same n))) h.sent_is) took in
             record {
               newer = it.newer ++ Made n has.made ∷ Says (event.Agreed n index) ∷ [];
               said_is = said_append it.newer (Made n has.made ∷ Says (event.Agreed n index) ∷ []) ∙ ap (λ t. (event.Agreed n index ∷ []) ++ t) it.said_is;
               untold = ap (λ t. events role (items t)) (append_assoc it.newer (Made n has.made ∷ Says (event.Agreed n index) ∷ []) log) ∙ it.untold;
               unasked = none_asked it.newer (Made n has.made ∷ Says (event.Agreed n index) ∷ []) it.unasked refl;
+              makes = subst (λ t. making log t) (sym (append_assoc it.newer (Made n has.made ∷ Says (event.Agreed n index) ∷ []) log))
+                  (λ first was. it.makes first (protocols, was, (refl, made.1.1)));
               seen_now = it.seen_now;
               comes = subst (λ t. Comes step fails is_closed is_finished inbound_makes outbound_makes eager names peer role t fed sent after now past n it.seen_now rest outcome)
                   (sym (append_assoc it.newer (Made n has.made ∷ Says (event.Agreed n index) ∷ []) log)) it.comes;
             }
 
       in_talk : (agreed_by : Option ℕ) (outcome : Outcome H) → is_talking old.stage ≡ true
-          → InTalk step fails is_closed is_finished role (items log) fed sent n makes h.so_far bytes before agreed_by outcome after new
-          → Went log (agreement n agreed_by) fed sent after now past n rest outcome
-      in_talk None outcome talks (inl it) = undecided outcome it.0 talks it.1 it.2 it.3
+          → InTalk step fails is_closed is_finished role (items log) fed sent n makes none_made h.so_far bytes before agreed_by outcome after new
+          → Went making log (agreement n agreed_by) fed sent after now past n rest outcome
+      in_talk None outcome talks (inl it) = undecided outcome it.0 talks it.1 it.2 it.3 it.4
       in_talk None outcome talks (inr it) = decided outcome talks it.0 it.1
       in_talk (Some index) outcome talks it = agreed_on outcome index it.0 it.1 it.2 talks it.3.0 it.3.1
 
-      pub delivered_to : (delivered : Delivered H) → Delivers step fails is_closed is_finished role (items log) fed sent n makes h.so_far bytes old before delivered after new
-          → Went log (agreement n delivered.agreed) fed sent after now past n rest delivered.outcome
+      pub delivered_to : (delivered : Delivered H) → Delivers step fails is_closed is_finished role (items log) fed sent n makes none_made h.so_far bytes old before delivered after new
+          → Went making log (agreement n delivered.agreed) fed sent after now past n rest delivered.outcome
       delivered_to delivered d = by_talk (is_talking old.stage) refl where
-        by_talk : (b : Bool) → is_talking old.stage ≡ b → Went log (agreement n delivered.agreed) fed sent after now past n rest delivered.outcome
+        by_talk : (b : Bool) → is_talking old.stage ≡ b → Went making log (agreement n delivered.agreed) fed sent after now past n rest delivered.outcome
         by_talk true e = in_talk delivered.agreed delivered.outcome e (d.0 e)
-        by_talk false e = subst (λ (k : Option ℕ). Went log (agreement n k) fed sent after now past n rest delivered.outcome) (sym (d.1 e).0)
-            (takes log bytes old got delivered.outcome a came going h (d.1 e).1)
+        by_talk false e = subst (λ (k : Option ℕ). Went making log (agreement n k) fed sent after now past n rest delivered.outcome) (sym (d.1 e).0)
+            (takes making log (keeps (d.1 e).1) bytes old got delivered.outcome a came going h (d.1 e).2)

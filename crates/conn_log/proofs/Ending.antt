@@ -24,6 +24,7 @@ use Rattle.conn_log.specs.declared.event.ConnEvent.TheVariants as event
 use Rattle.conn_log.specs.Entries.{Entry, items, asks, agreed, is_over}
 use Rattle.conn_log.specs.Entries.Entry.{Says}
 use Rattle.conn_log.specs.Due.{HasCome, IsDue}
+use Rattle.conn_log.specs.Making.{MakesNone}
 use Rattle.conn_log.specs.Held.{IsHeld}
 use Rattle.conn_log.specs.Routes.{Around, Comes}
 use Rattle.conn_log.proofs.Around.{still}
@@ -121,6 +122,7 @@ module _ {P H : Type 0} (step : H → HandlerCall → H → Type 0) (fails : H �
       pub none_said : Rattle.conn_log.specs.Entries.said newer ≡ []
       pub untold : events role (items (newer ++ log)) ≡ events role (items log)
       pub unasked : asks newer ≡ []
+      pub unmade : MakesNone newer
       pub seen_now : Seen
       pub comes : Comes step fails is_closed is_finished inbound_makes outbound_makes eager names peer role (newer ++ log) fed sent after now past n seen_now rest outcome
 
@@ -148,6 +150,7 @@ module _ {P H : Type 0} (step : H → HandlerCall → H → Type 0) (fails : H �
           none_said = refl;
           untold = refl;
           unasked = refl;
+          unmade = tt;
           seen_now = ended_view view;
           comes = subst (λ (o : Outcome H). Comes step fails is_closed is_finished inbound_makes outbound_makes eager names peer role log fed sent after now past n (ended_view view) rest o) (sym is) (
             around_event step fails is_closed is_finished inbound_makes outbound_makes eager names peer role log fed sent after now past n (ended_view view) rest (event.Broken n causes.Ended) refl was_due
@@ -175,6 +178,7 @@ module _ {P H : Type 0} (step : H → HandlerCall → H → Type 0) (fails : H �
           none_said = refl;
           untold = refl;
           unasked = refl;
+          unmade = tt;
           seen_now = ended_view view;
           comes = subst (λ (o : Outcome H). Comes step fails is_closed is_finished inbound_makes outbound_makes eager names peer role log fed sent after now past n (ended_view view) rest o) (sym is) (
             around_event step fails is_closed is_finished inbound_makes outbound_makes eager names peer role log fed sent after now past n (ended_view view) rest (event.Broken n (causes.Handler fault)) refl was_due
@@ -191,7 +195,7 @@ module _ {P H : Type 0} (step : H → HandlerCall → H → Type 0) (fails : H �
           let held = told_end served.0 served.1 served.2 in
           let now_it = went step fails is_closed is_finished inbound_makes outbound_makes eager names peer role acts_do acts_move log fed sent before after streams now past n (ended_view view) rest served.0 new
           a held (λ off. refl) elsewhere here outcome served.3 in
-          record { newer = now_it.newer; none_said = now_it.none_said; untold = now_it.untold; unasked = now_it.unasked; seen_now = now_it.seen_now; comes = now_it.comes }
+          record { newer = now_it.newer; none_said = now_it.none_said; untold = now_it.untold; unasked = now_it.unasked; unmade = now_it.unmade; seen_now = now_it.seen_now; comes = now_it.comes }
       by_hands (inr f) = failed outcome f.1.0 f.1.1 f.1.2 f.1.3 f.1.4 f.0
 
       by_talk : (b : Bool) → is_talking old.stage ≡ b → Ended outcome

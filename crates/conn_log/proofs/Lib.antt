@@ -3,6 +3,7 @@ pub mod Around
 pub mod Views
 pub mod StageKinds
 pub mod Served
+pub mod Making
 pub mod Comes
 pub mod Settling
 pub mod Ending
@@ -16,3 +17,4 @@ pub mod Facing
 pub mod Asking
 pub mod Leaving
 pub mod Early
+pub mod MadeRows

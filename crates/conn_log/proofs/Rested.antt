@@ -91,19 +91,21 @@ module _ {P H : Type 0} (step : H → HandlerCall → H → Type 0) (fails : H �
   -- ---- event by event
 
   module _ (log : List (Entry H)) (before mid after : List (ConnEvent H)) (fed sent : List ℕ) (session middle : State) (streams then : ℕ → Option (Streaming H)) (past later : List (Earlier H)) (n : ℕ)
-      (told rest : List Told) where
-    pub begun : mid ≡ before → Awaits step fails is_closed is_finished inbound_makes outbound_makes eager names peer role log fed sent session streams past n told
-        → IsUnderWay step fails is_closed is_finished inbound_makes outbound_makes eager names peer role log before mid fed sent session streams past n told
-    begun same a = record { newer = []; told_is = same ∙ sym (append-nil before); untold = refl; unasked = refl; awaits = a }
+      (told rest : List Told) (making : List (Entry H) → List (Entry H) → Type 0) where
+    pub begun : making log log → mid ≡ before → Awaits step fails is_closed is_finished inbound_makes outbound_makes eager names peer role log fed sent session streams past n told
+        → IsUnderWay step fails is_closed is_finished inbound_makes outbound_makes eager names peer role making log before mid fed sent session streams past n told
+    begun makes same a = record { newer = []; told_is = same ∙ sym (append-nil before); untold = refl; unasked = refl; makes = makes; awaits = a }
 
     -- one more was routed
-    pub went_on : (u : IsUnderWay step fails is_closed is_finished inbound_makes outbound_makes eager names peer role log before mid fed sent session streams past n told)
-        → Routed step fails is_closed is_finished inbound_makes outbound_makes eager names peer role (u.newer ++ log) mid after fed sent middle then later n rest
-        → IsUnderWay step fails is_closed is_finished inbound_makes outbound_makes eager names peer role log before after fed sent middle then later n rest
-    went_on u r =
-        let both = routed_behind step fails is_closed is_finished inbound_makes outbound_makes eager names peer role log u.newer before mid after (said u.newer) fed sent middle then later n rest refl
-        u.told_is u.untold u.unasked r in
-        record { newer = both.newer; told_is = both.told_is; untold = both.untold; unasked = both.unasked; awaits = inr (both.view, both.routes) }
+    pub went_on : (so_far one : List (Entry H) → List (Entry H) → Type 0)
+        → ((longer last : List (Entry H)) → so_far log longer → one longer last → making log last)
+        → (u : IsUnderWay step fails is_closed is_finished inbound_makes outbound_makes eager names peer role so_far log before mid fed sent session streams past n told)
+        → Routed step fails is_closed is_finished inbound_makes outbound_makes eager names peer role one (u.newer ++ log) mid after fed sent middle then later n rest
+        → IsUnderWay step fails is_closed is_finished inbound_makes outbound_makes eager names peer role making log before after fed sent middle then later n rest
+    went_on so_far one joins u r =
+        let both = routed_behind step fails is_closed is_finished inbound_makes outbound_makes eager names peer role log u.newer before mid after (said u.newer) fed sent middle then later n rest
+        making one (λ last made. joins (u.newer ++ log) last u.makes made) refl u.told_is u.untold u.unasked r in
+        record { newer = both.newer; told_is = both.told_is; untold = both.untold; unasked = both.unasked; makes = both.makes; awaits = inr (both.view, both.routes) }
 
   -- ---- behind the last
 
@@ -165,11 +167,11 @@ module _ {P H : Type 0} (step : H → HandlerCall → H → Type 0) (fails : H �
           (r.own_kept (λ none. made (ap (λ k. made_of role log k) (sym same.1) ∙ none)) (ap (λ k. is_over role log k) same.1 ∙ going))
       made_at m (inr apart) made going = r.around.others_kept m apart.0 made going
 
-  pub all_routed : (log : List (Entry H)) (before after : List (ConnEvent H)) (fed sent : List ℕ) (session : State) (streams : ℕ → Option (Streaming H)) (past : List (Earlier H)) (n : ℕ)
-      → IsUnderWay step fails is_closed is_finished inbound_makes outbound_makes eager names peer role log before after fed sent session streams past n []
-      → Grows step fails is_closed is_finished inbound_makes outbound_makes eager names peer role log before after fed sent session streams past
-  all_routed log before after fed sent session streams past n u = by_cases u.awaits where
+  pub all_routed : (making : List (Entry H) → List (Entry H) → Type 0) (log : List (Entry H)) (before after : List (ConnEvent H)) (fed sent : List ℕ) (session : State) (streams : ℕ → Option (Streaming H)) (past : List (Earlier H)) (n : ℕ)
+      → IsUnderWay step fails is_closed is_finished inbound_makes outbound_makes eager names peer role making log before after fed sent session streams past n []
+      → Grows step fails is_closed is_finished inbound_makes outbound_makes eager names peer role making log before after fed sent session streams past
+  all_routed making log before after fed sent session streams past n u = by_cases u.awaits where
     by_cases : Awaits step fails is_closed is_finished inbound_makes outbound_makes eager names peer role (u.newer ++ log) fed sent session streams past n []
-        → Grows step fails is_closed is_finished inbound_makes outbound_makes eager names peer role log before after fed sent session streams past
+        → Grows step fails is_closed is_finished inbound_makes outbound_makes eager names peer role making log before after fed sent session streams past
     by_cases (inl o) = absurd (let e : [] ≡ Told.Opened n ∷ o.0 = o.1 in cc e)
-    by_cases (inr r) = record { newer = u.newer; told_is = u.told_is; unasked = u.unasked; at_rest = rested (u.newer ++ log) fed sent session streams past n r.0 r.1 }
+    by_cases (inr r) = record { newer = u.newer; told_is = u.told_is; unasked = u.unasked; makes = u.makes; at_rest = rested (u.newer ++ log) fed sent session streams past n r.0 r.1 }

@@ -17,6 +17,7 @@ use Rattle.conn_log.specs.declared.event.ConnEvent.TheVariants as event
 use Rattle.conn_log.specs.Entries.{Entry, items, said, asks, is_over}
 use Rattle.conn_log.specs.Entries.Entry.{Of, Says, Made, Asks}
 use Rattle.conn_log.specs.Due.{IsGivenUp}
+use Rattle.conn_log.specs.Making.{MakesNone}
 use Rattle.conn_log.specs.Routes.{IsMoving, Around, Routes, Routed, Resets}
 use Rattle.conn_log.proofs.Same.{Same, same_refl, same_by_act}
 use Rattle.conn_log.proofs.Around.{grown}
@@ -49,25 +50,30 @@ module _ {P H : Type 0} (step : H → HandlerCall → H → Type 0) (fails : H �
     (eager : ℕ → Bool) (names : List (List ℕ)) (peer : List ℕ) (role : Role) where
   -- what was routed in two parts, of which the first told this
   pub routed_behind : (log newer : List (Entry H)) (before mid after more : List (ConnEvent H)) (fed sent : List ℕ) (session : State) (streams : ℕ → Option (Streaming H))
-      (past : List (Earlier H)) (n : ℕ) (rest : List Told) → said newer ≡ more → mid ≡ before ++ more → events role (items (newer ++ log)) ≡ events role (items log) → asks newer ≡ []
-      → Routed step fails is_closed is_finished inbound_makes outbound_makes eager names peer role (newer ++ log) mid after fed sent session streams past n rest
-      → Routed step fails is_closed is_finished inbound_makes outbound_makes eager names peer role log before after fed sent session streams past n rest
-  routed_behind log newer before mid after more fed sent session streams past n rest first is none_told unasked r = record {
+      (past : List (Earlier H)) (n : ℕ) (rest : List Told) (making later : List (Entry H) → List (Entry H) → Type 0)
+      → ((longer : List (Entry H)) → later (newer ++ log) longer → making log longer)
+      → said newer ≡ more → mid ≡ before ++ more → events role (items (newer ++ log)) ≡ events role (items log) → asks newer ≡ []
+      → Routed step fails is_closed is_finished inbound_makes outbound_makes eager names peer role later (newer ++ log) mid after fed sent session streams past n rest
+      → Routed step fails is_closed is_finished inbound_makes outbound_makes eager names peer role making log before after fed sent session streams past n rest
+  routed_behind log newer before mid after more fed sent session streams past n rest making later joins first is none_told unasked r = record {
     newer = r.newer ++ newer;
     view = r.view;
     told_is = r.told_is ∙ ap (λ t. t ++ said r.newer) (is ∙ ap (λ t. before ++ t) (sym first)) ∙ append_assoc before (said newer) (said r.newer) ∙ ap (λ t. before ++ t) (sym (said_append r.newer newer));
     untold = ap (λ t. events role (items t)) (append_assoc r.newer newer log) ∙ r.untold ∙ none_told;
     unasked = none_asked r.newer newer r.unasked unasked;
+    makes = subst (λ t. making log t) (sym (append_assoc r.newer newer log)) (joins (r.newer ++ (newer ++ log)) r.makes);
     routes = subst (λ t. Routes step fails is_closed is_finished inbound_makes outbound_makes eager names peer role t fed sent session streams past n r.view rest)
         (sym (append_assoc r.newer newer log)) r.routes;
   }
 
   pub routed_on : (log : List (Entry H)) (newer : List (Entry H)) (before after : List (ConnEvent H)) (fed sent : List ℕ) (session : State) (streams : ℕ → Option (Streaming H))
-      (past : List (Earlier H)) (n : ℕ) (rest : List Told) → said newer ≡ [] → events role (items (newer ++ log)) ≡ events role (items log) → asks newer ≡ []
-      → Routed step fails is_closed is_finished inbound_makes outbound_makes eager names peer role (newer ++ log) before after fed sent session streams past n rest
-      → Routed step fails is_closed is_finished inbound_makes outbound_makes eager names peer role log before after fed sent session streams past n rest
-  routed_on log newer before after fed sent session streams past n rest none none_told unasked r =
-      routed_behind log newer before before after [] fed sent session streams past n rest none (sym (append-nil before)) none_told unasked r
+      (past : List (Earlier H)) (n : ℕ) (rest : List Told) (making later : List (Entry H) → List (Entry H) → Type 0)
+      → ((longer : List (Entry H)) → later (newer ++ log) longer → making log longer)
+      → said newer ≡ [] → events role (items (newer ++ log)) ≡ events role (items log) → asks newer ≡ []
+      → Routed step fails is_closed is_finished inbound_makes outbound_makes eager names peer role later (newer ++ log) before after fed sent session streams past n rest
+      → Routed step fails is_closed is_finished inbound_makes outbound_makes eager names peer role making log before after fed sent session streams past n rest
+  routed_on log newer before after fed sent session streams past n rest making later joins none none_told unasked r =
+      routed_behind log newer before before after [] fed sent session streams past n rest making later joins none (sym (append-nil before)) none_told unasked r
 
   module _ (acts_do : ActsDo) (acts_move : ActsMove) (log : List (Entry H)) (fed sent : List ℕ) (before after : State) (streams now : ℕ → Option (Streaming H))
       (past : List (Earlier H)) (n : ℕ) (view : Seen) (rest : List Told)
@@ -117,21 +123,24 @@ module _ {P H : Type 0} (step : H → HandlerCall → H → Type 0) (fails : H �
       own_to_reset = λ reset going. absurd (not_going log given_up going);
     }
 
-    pub is_given_up : (told told_now : List (ConnEvent H)) → told_now ≡ told → Resets role (items log) fed sent n before after
-        → Routed step fails is_closed is_finished inbound_makes outbound_makes eager names peer role log told told_now fed sent after now past n rest
-    is_given_up told told_now same_told (inl there) = record {
+    pub is_given_up : (making : List (Entry H) → List (Entry H) → Type 0) → ((newer : List (Entry H)) → MakesNone newer → making log (newer ++ log))
+        → (told told_now : List (ConnEvent H)) → told_now ≡ told → Resets role (items log) fed sent n before after
+        → Routed step fails is_closed is_finished inbound_makes outbound_makes eager names peer role making log told told_now fed sent after now past n rest
+    is_given_up making keeps told told_now same_told (inl there) = record {
       newer = Of (Did (Reset n)) ∷ [];
       view = gone view;
       told_is = same_told ∙ sym (append-nil told);
       untold = append-nil (events role (items log));
       unasked = refl;
+      makes = keeps (Of (Did (Reset n)) ∷ []) tt;
       routes = was_reset there;
     }
-    is_given_up told told_now same_told (inr over) = record {
+    is_given_up making keeps told told_now same_told (inr over) = record {
       newer = [];
       view = gone view;
       told_is = same_told ∙ sym (append-nil told);
       untold = refl;
       unasked = refl;
+      makes = keeps [] tt;
       routes = was_gone over.0 over.1;
     }

@@ -32,10 +32,10 @@ IsRefusedAs reason refusals.Failed = ⊥
 IsRefusedAs reason refusals.NotUp = ⊥
 IsRefusedAs reason refusals.BadIndex = ⊥
 
--- the handler that the stream begins with: that of an eager protocol
-abbrev pub IsEarly : {H : Type 0} → Bool → (H → Type 0) → Option H → Type 0
-IsEarly eager makes None = eager ≡ false
-IsEarly eager makes (Some handler) = (eager ≡ true) × makes handler
+-- the handler that the stream begins with: that of an eager protocol, and of no other one is made
+abbrev pub IsEarly : {H : Type 0} → Bool → (H → Type 0) → Type 0 → Option H → Type 0
+IsEarly eager makes none_made None = (eager ≡ false) × none_made
+IsEarly eager makes none_made (Some handler) = (eager ≡ true) × makes handler
 
 -- what is told of what a stream came to
 abbrev pub told_of : {H : Type 0} → ℕ → Outcome H → List (ConnEvent H)
@@ -57,9 +57,10 @@ module _ {P H : Type 0} (step : H → HandlerCall → H → Type 0) (fails : H �
     (is_closed is_finished : H → Bool) (inbound_makes outbound_makes : P → ℕ → List ℕ → H → Type 0)
     (eager : ℕ → Bool) (names : List (List ℕ)) (peer : List ℕ) (role : Role) where
   -- The stream of this number was opened for the protocol of this index, the list has grown by what was done and told
-  -- then, and all is at rest again.
-  pub record Asked (number index : ℕ) (log : List (Entry H)) (before after : List (ConnEvent H)) (fed sent : List ℕ)
-      (session : State) (streams : ℕ → Option (Streaming H)) (past : List (Earlier H)) : Type 0 where
+  -- then, its handlers were made so, and all is at rest again.
+  pub record Asked (making : List (Entry H) → List (Entry H) → Type 0) (number index : ℕ) (log : List (Entry H))
+      (before after : List (ConnEvent H)) (fed sent : List ℕ) (session : State) (streams : ℕ → Option (Streaming H))
+      (past : List (Earlier H)) : Type 0 where
     pub later : List (Entry H)
     pub number_is : number ≡ next_own role (items log)
     pub told_is : after ≡ before ++ said later
@@ -70,5 +71,6 @@ module _ {P H : Type 0} (step : H → HandlerCall → H → Type 0) (fails : H �
     -- the handler of an eager protocol is made at once
     pub at_once : eager index ≡ true
         → (handler : H) × (newer : List (Entry H)) × (later ≡ newer ++ Made number handler ∷ [])
+    pub makes : making log (later ++ Asks number index ∷ log)
     pub at_rest : AreAtRest step fails is_closed is_finished inbound_makes outbound_makes eager names peer role
         (later ++ Asks number index ∷ log) fed sent session streams past

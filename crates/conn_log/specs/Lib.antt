@@ -1,6 +1,8 @@
 -- cited by public clauses and laws
 pub mod Entries
 pub mod Due
+pub mod Making
+pub mod MakingRows
 pub mod Held
 pub mod Rests
 pub mod Asked

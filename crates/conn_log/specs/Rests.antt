@@ -32,11 +32,14 @@ module _ {P H : Type 0} (step : H → HandlerCall → H → Type 0) (fails : H �
     -- those of earlier openings whose handlers were never finished are where their ends left them
     pub earlier : (n : ℕ) → AreLeft step is_closed is_finished names role log n 0 (earlier_of n past)
 
-  -- The list has grown by entries that say what was told, these bytes came, and all is at rest again.
-  pub record Grows (log : List (Entry H)) (before after : List (ConnEvent H)) (fed sent : List ℕ) (session : State)
-      (streams : ℕ → Option (Streaming H)) (past : List (Earlier H)) : Type 0 where
+  -- The list has grown by entries that say what was told, its handlers were made so, these bytes came, and all is at
+  -- rest again.
+  pub record Grows (making : List (Entry H) → List (Entry H) → Type 0) (log : List (Entry H))
+      (before after : List (ConnEvent H)) (fed sent : List ℕ) (session : State) (streams : ℕ → Option (Streaming H))
+      (past : List (Earlier H)) : Type 0 where
     pub newer : List (Entry H)
     pub told_is : after ≡ before ++ said newer
     -- this end opened no stream
     pub unasked : asks newer ≡ []
+    pub makes : making log (newer ++ log)
     pub at_rest : AreAtRest (newer ++ log) fed sent session streams past

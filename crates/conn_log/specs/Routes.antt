@@ -121,9 +121,11 @@ module _ {P H : Type 0} (step : H → HandlerCall → H → Type 0) (fails : H �
       Around (Says (event.Broken n cause) ∷ log) fed sent session streams past n view rest
       × (cause ≢ causes.Reset)
 
-  -- What routing an event led to: the list has grown, what it says was told, and the rest is still to be routed.
-  pub record Routed (log : List (Entry H)) (before after : List (ConnEvent H)) (fed sent : List ℕ) (session : State)
-      (streams : ℕ → Option (Streaming H)) (past : List (Earlier H)) (n : ℕ) (rest : List Told) : Type 0 where
+  -- What routing an event led to: the list has grown, what it says was told, its handlers were made so, and the rest is
+  -- still to be routed.
+  pub record Routed (making : List (Entry H) → List (Entry H) → Type 0) (log : List (Entry H))
+      (before after : List (ConnEvent H)) (fed sent : List ℕ) (session : State) (streams : ℕ → Option (Streaming H))
+      (past : List (Earlier H)) (n : ℕ) (rest : List Told) : Type 0 where
     pub newer : List (Entry H)
     pub view : Seen
     pub told_is : after ≡ before ++ said newer
@@ -131,6 +133,7 @@ module _ {P H : Type 0} (step : H → HandlerCall → H → Type 0) (fails : H �
     pub untold : events role (items (newer ++ log)) ≡ events role (items log)
     -- and this end opened no stream
     pub unasked : asks newer ≡ []
+    pub makes : making log (newer ++ log)
     pub routes : Routes (newer ++ log) fed sent session streams past n view rest
 
   -- The other end's opening of the stream that is named is to be routed, and then the rest: that of an earlier opening
@@ -149,11 +152,13 @@ module _ {P H : Type 0} (step : H → HandlerCall → H → Type 0) (fails : H �
       ⊎ ((view : Seen) × Routes log fed sent session streams past n view told)
 
   -- A part of what a frame told was routed, and the rest is still to be.
-  pub record IsUnderWay (log : List (Entry H)) (before after : List (ConnEvent H)) (fed sent : List ℕ) (session : State)
-      (streams : ℕ → Option (Streaming H)) (past : List (Earlier H)) (n : ℕ) (rest : List Told) : Type 0 where
+  pub record IsUnderWay (making : List (Entry H) → List (Entry H) → Type 0) (log : List (Entry H))
+      (before after : List (ConnEvent H)) (fed sent : List ℕ) (session : State) (streams : ℕ → Option (Streaming H))
+      (past : List (Earlier H)) (n : ℕ) (rest : List Told) : Type 0 where
     pub newer : List (Entry H)
     pub told_is : after ≡ before ++ said newer
     pub untold : events role (items (newer ++ log)) ≡ events role (items log)
     -- and this end opened no stream
     pub unasked : asks newer ≡ []
+    pub makes : making log (newer ++ log)
     pub awaits : Awaits (newer ++ log) fed sent session streams past n rest

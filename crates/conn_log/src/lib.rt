@@ -4,6 +4,7 @@
 
 mod earlier;
 mod event;
+pub mod laws;
 
 pub use earlier::Earlier;
 pub use event::{ConnEvent, ConnFault, ConnRefused};

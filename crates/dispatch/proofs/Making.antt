@@ -1,5 +1,5 @@
 -- The handler that is made once both ends of a stream agree.
-use Rattle.std.proofs.Common.{◌≡◌, ◌≢◌, ◌⊎◌, inl, inr, ℕ, ◌<◌, ◌≤◌, Bool, true, false, List, [], ◌++◌, length, take, drop, slice_get, Option, Some, None, Result, Ok, sym, ap, ◌∙◌, subst, cond, get_or}
+use Rattle.std.proofs.Common.{◌≡◌, ◌≢◌, ◌⊎◌, inl, inr, ℕ, ◌<◌, ◌≤◌, Bool, true, false, List, [], ◌++◌, length, take, drop, slice_get, Option, Some, None, Result, Ok, refl, sym, ap, ◌∙◌, subst, cond, get_or}
 use Rattle.std.specs.Prelude.{OnOk}
 use Rattle.std.specs.List.{position}
 use Rattle.std.specs.Str.{bytes_eq}
@@ -18,7 +18,7 @@ use Rattle.streams.specs.State.{Streaming, Stands, awaits_handler, handler_of}
 use Rattle.streams.specs.Hearing.{HasHeard, Moves, used_of, served}
 use Rattle.dispatch.specs.declared.direction.Direction.{Direction}
 use Rattle.dispatch.specs.declared.direction.Direction.TheVariants.{Inbound, Outbound}
-use Rattle.dispatch.specs.Dispatch.{IsKnown, AgreesBy, IsMade}
+use Rattle.dispatch.specs.Dispatch.{IsKnown, AgreesBy, IsMade, Negotiates}
 
 -- ---- the index that is agreed on
 
@@ -49,12 +49,17 @@ is_within names Outbound (Answers own) first index output known agrees = absurd 
 
 -- ---- the handler
 
-module _ {H : Type 0} (step : H → HandlerCall → H → Type 0) (makes : ℕ → H → Type 0) where
+-- what is said of these is said of what they are
+pub as_they_are : {A B C : Type 0} (Q : A → B → C → Type 0) (a b : A) (x y : B) (k l : C) → a ≡ b → x ≡ y → k ≡ l → Q b y l → Q a x k
+as_they_are {A} {B} {C} Q a b x y k l first second third q =
+    subst (λ (t : A). Q t x k) (sym first) (subst (λ (t : B). Q b t k) (sym second) (subst (λ (t : C). Q b y t) (sym third) q))
+
+module _ {H : Type 0} (step : H → HandlerCall → H → Type 0) (makes : ℕ → H → Type 0) (none_made : Type 0) where
   -- the handler that a stream holds once both ends agree
   pub record Begun (so_far : Past H) (index : ℕ) (front : List ℕ) (stream : Streaming H) : Type 0 where
     pub handler : H
     pub made : H
-    pub is_made : IsMade makes so_far index made
+    pub is_made : IsMade makes none_made so_far index made
     pub stage_is : stream.stage ≡ stages.Serving handler
     pub stands : Stands step stream (record so_far { got = so_far.got ++ front; made = Some made })
 
@@ -68,7 +73,7 @@ module _ {H : Type 0} (step : H → HandlerCall → H → Type 0) (makes : ℕ �
   pub record Serves (index : ℕ) (result : Result (Unit {0}) Stop) (old new : Streaming H) : Type 0 where
     pub served : awaits_handler old.stage ≡ true → OnOk result ((handler : H) × (new ≡ record old { stage = stages.Serving handler })
         × makes index handler × ((so_far : Past H) → Stands step old so_far → Stands step new (record so_far { made = Some handler })))
-    pub not_awaited : awaits_handler old.stage ≡ false → (result ≡ Ok tt) × (new ≡ old)
+    pub not_awaited : awaits_handler old.stage ≡ false → (result ≡ Ok tt) × (new ≡ old) × none_made
 
   begun_by : (so_far : Past H) (index : ℕ) (front : List ℕ) (held : Option H) (gave : List ℕ) (old new : Streaming H)
       → IsEarly step so_far held gave → old.stage ≡ served index held → Stands step old (record so_far { got = so_far.got ++ front })
@@ -83,12 +88,13 @@ module _ {H : Type 0} (step : H → HandlerCall → H → Type 0) (makes : ℕ �
         stands = it.3 (record so_far { got = so_far.got ++ front }) stands;
       }
   begun_by so_far index front (Some handler) gave old new early at stands s =
-      let same = (s.not_awaited (ap awaits_handler at)).1 in
+      let kept = s.not_awaited (ap awaits_handler at) in
+      let same = kept.1 in
       let made_is = early.1.1 in
       record {
         handler = handler;
         made = early.1.0;
-        is_made = inl made_is;
+        is_made = inl (made_is, kept.2);
         stage_is = ap (λ (x : Streaming H). x.stage) same ∙ at;
         stands = subst (λ (x : Streaming H). Stands step x (record so_far { got = so_far.got ++ front; made = Some early.1.0 })) (sym same)
             (subst (λ (m : Option H). Stands step old (record so_far { got = so_far.got ++ front; made = m })) made_is stands);
@@ -105,12 +111,20 @@ module _ {H : Type 0} (step : H → HandlerCall → H → Type 0) (makes : ℕ �
   agrees_by so_far index used piece old mid h =
       record { output = h.has_heard.output; bytes_are = sym (take-append-drop used piece); agrees = h.has_heard.hears.1 }
 
-  none_made_by : (index : ℕ) (so_far : Past H) (held : Option H) (gave : List ℕ) → IsEarly step so_far held gave → awaits_handler (served index held) ≡ true → so_far.made ≡ None
-  none_made_by index so_far None gave early e = early.0
-  none_made_by index so_far (Some handler) gave early e = absurd (cc e)
+  none_before_by : (index : ℕ) (so_far : Past H) (held : Option H) (gave : List ℕ) → IsEarly step so_far held gave → awaits_handler (served index held) ≡ true → so_far.made ≡ None
+  none_before_by index so_far None gave early e = early.0
+  none_before_by index so_far (Some handler) gave early e = absurd (cc e)
 
   -- where a handler is awaited none was made
-  pub none_made : (so_far : Past H) (index used : ℕ) (piece : List ℕ) (old mid : Streaming H) → Hearing so_far piece old mid (heards.Agreed index used)
+  pub none_made_before : (so_far : Past H) (index used : ℕ) (piece : List ℕ) (old mid : Streaming H) → Hearing so_far piece old mid (heards.Agreed index used)
       → awaits_handler mid.stage ≡ true → so_far.made ≡ None
-  none_made so_far index used piece old mid h awaits =
-      none_made_by index so_far (handler_of old.stage) h.has_heard.gave h.has_heard.early (ap awaits_handler (sym h.moves) ∙ awaits)
+  none_made_before so_far index used piece old mid h awaits =
+      none_before_by index so_far (handler_of old.stage) h.has_heard.gave h.has_heard.early (ap awaits_handler (sym h.moves) ∙ awaits)
+
+  -- by this piece no protocol is agreed on
+  pub none_agreed : (so_far : Past H) (piece : List ℕ) (old new : Streaming H) (heard : Heard) → Hearing so_far piece old new heard
+      → ((index used : ℕ) → heard ≡ heards.Agreed index used → ⊥) → none_made → Negotiates step makes none_made so_far piece (Ok heard) new
+  none_agreed so_far piece old new heards.Going h other kept = (h.stands (λ e. cc e), h.moves.0, kept)
+  none_agreed so_far piece old new (heards.Agreed index used) h other kept = absurd (other index used refl)
+  none_agreed so_far piece old new heards.Refused h other kept =
+      let down = h.has_heard.hears in (down.0, down.1, h.has_heard.output, down.2, down.3, kept)

@@ -32,34 +32,50 @@ abbrev pub made_by : {H : Type 0} → (ℕ → List ℕ → H → Type 0) → (�
 made_by inbound outbound Inbound peer index handler = inbound index peer handler
 made_by inbound outbound Outbound peer index handler = outbound index peer handler
 
+-- by making it once, for a stream that was opened so, the protocols become these others
+abbrev pub led_by : {P H : Type 0} → (P → ℕ → List ℕ → H → P → Type 0) → (P → ℕ → List ℕ → H → P → Type 0) → Direction
+    → List ℕ → P → P → ℕ → H → Type 0
+led_by inbound outbound Inbound peer before behind index handler = inbound before index peer handler behind
+led_by inbound outbound Outbound peer before behind index handler = outbound before index peer handler behind
+
+-- The protocols make it, for a stream that was opened so, and by making it once they become these others.
+abbrev pub makes_once : {P H : Type 0} → (P → ℕ → List ℕ → H → Type 0) → (P → ℕ → List ℕ → H → Type 0)
+    → (P → ℕ → List ℕ → H → P → Type 0) → (P → ℕ → List ℕ → H → P → Type 0) → Direction → List ℕ → P → P → ℕ → H
+    → Type 0
+makes_once inbound outbound inbound_leads outbound_leads direction peer before behind index handler =
+    made_by (inbound before) (outbound before) direction peer index handler
+    × led_by inbound_leads outbound_leads direction peer before behind index handler
+
 -- Both ends agree on the protocol of this index, by the data so far and this front of what comes.
 pub record AgreesBy {H : Type 0} (so_far : Past H) (bytes : List ℕ) (index : ℕ) (front rest : List ℕ) : Type 0 where
   pub output : List ℕ
   pub bytes_are : bytes ≡ front ++ rest
   pub agrees : Agrees so_far.side (so_far.got ++ front) index output
 
--- Its handler is the eager one, or was made then.
-abbrev pub IsMade : {H : Type 0} → (ℕ → H → Type 0) → Past H → ℕ → H → Type 0
-IsMade makes so_far index made = (so_far.made ≡ Some made) ⊎ ((so_far.made ≡ None) × makes index made)
+-- Its handler is the eager one, and none was made then, or it was made then.
+abbrev pub IsMade : {H : Type 0} → (ℕ → H → Type 0) → Type 0 → Past H → ℕ → H → Type 0
+IsMade makes none_made so_far index made =
+    ((so_far.made ≡ Some made) × none_made) ⊎ ((so_far.made ≡ None) × makes index made)
 
-module _ {H : Type 0} (step : H → HandlerCall → H → Type 0) (makes : ℕ → H → Type 0) where
+module _ {H : Type 0} (step : H → HandlerCall → H → Type 0) (makes : ℕ → H → Type 0) (none_made : Type 0) where
   -- What comes of data that the talk takes.
   abbrev pub Negotiates : Past H → List ℕ → Result Heard Stop → Streaming H → Type 0
   -- nothing is decided
   Negotiates so_far bytes (Ok Going) stream =
-      Stands step stream (record so_far { got = so_far.got ++ bytes }) × (is_talking stream.stage ≡ true)
+      Stands step stream (record so_far { got = so_far.got ++ bytes }) × (is_talking stream.stage ≡ true) × none_made
   -- both ends agree by the data so far and this front of what comes, and the handler is there
   Negotiates so_far bytes (Ok (Agreed index used)) stream =
       AgreesBy so_far bytes index (take used bytes) (drop used bytes)
-      × ((made : H) × IsMade makes so_far index made
+      × ((made : H) × IsMade makes none_made so_far index made
       × Stands step stream (record so_far { got = so_far.got ++ take used bytes; made = Some made }))
       × ((handler : H) × (stream.stage ≡ Serving handler))
   -- the other end doesn't know the protocol
   Negotiates so_far bytes (Ok Refused) stream =
       (front : List ℕ) × (rest : List ℕ) × (output : List ℕ) × (bytes ≡ front ++ rest)
-      × IsTurnedDown so_far.side (so_far.got ++ front) output
+      × IsTurnedDown so_far.side (so_far.got ++ front) output × none_made
   Negotiates so_far bytes (Err (Broken (Select fault))) stream =
       (fault ≢ select_faults.OutOfMemory) × ((output : List ℕ) × Faults so_far.side (so_far.got ++ bytes) fault output)
+      × none_made
   Negotiates so_far bytes (Err (Broken (Handler fault))) stream = ⊥
   Negotiates so_far bytes (Err (Broken Reset)) stream = ⊥
   Negotiates so_far bytes (Err (Broken Ended)) stream = ⊥

@@ -1,5 +1,5 @@
 -- Worked rows of handing over (this project's profile): a connection knows x and y.
-use Rattle.std.specs.Prelude.{◌≡◌, ◌↔◌, ℕ, List, [], ◌∷◌, ◌++◌, Some, None}
+use Rattle.std.specs.Prelude.{◌≡◌, ◌↔◌, ℕ, ◌+◌, List, [], ◌∷◌, ◌++◌, Some, None}
 use Rattle.ms_select.specs.Rows.{x, y, header_bytes, y_bytes}
 use Rattle.handlers.specs.Calls.{HandlerCall}
 use Rattle.talks.specs.Talks.{Asks, Answers}
@@ -7,7 +7,7 @@ use Rattle.streams.specs.declared.stage.Stage.TheVariants.{Over}
 use Rattle.streams.specs.Streams.{Past, fresh}
 use Rattle.streams.specs.State.{Streaming}
 use Rattle.dispatch.specs.declared.direction.Direction.TheVariants.{Inbound, Outbound}
-use Rattle.dispatch.specs.Dispatch.{IsKnown, IsMade, MakingRunsOut, made_by}
+use Rattle.dispatch.specs.Dispatch.{IsKnown, IsMade, MakingRunsOut, made_by, led_by, makes_once}
 
 abbrev pub known : List (List ℕ)
 known = x ∷ y ∷ []
@@ -60,6 +60,30 @@ pub record MemoryRows : Type 0 where
 pub record MadeRows : Type 0 where
   pub inbound : (index handler : ℕ) → makes_inbound index handler ↔ ((index ≡ 1) × (handler ≡ 10))
   pub outbound : (index handler : ℕ) → makes_outbound index handler ↔ ((index ≡ 1) × (handler ≡ 20))
-  pub is_eager : (handler : ℕ) → IsMade makes_outbound eager 1 handler ↔ (handler ≡ 30)
-  pub is_new : (handler : ℕ) → IsMade makes_outbound none_yet 1 handler ↔ (handler ≡ 20)
-  pub of_another_index : (handler : ℕ) → ¬ IsMade makes_outbound none_yet 0 handler
+  -- where the eager one is there none is made, and where one is made nothing else is asked
+  pub is_eager : (before behind handler : ℕ) → IsMade makes_outbound (behind ≡ before) eager 1 handler
+      ↔ ((handler ≡ 30) × (behind ≡ before))
+  pub is_new : (handler : ℕ) → IsMade makes_outbound ⊥ none_yet 1 handler ↔ (handler ≡ 20)
+  pub of_another_index : (handler : ℕ) → ¬ IsMade makes_outbound (Unit {0}) none_yet 0 handler
+
+-- protocols are numbers: an inbound handler adds 1 to them, an outbound one 2
+abbrev pub any_inbound : ℕ → ℕ → List ℕ → ℕ → Type 0
+any_inbound before = gives_inbound
+
+abbrev pub any_outbound : ℕ → ℕ → List ℕ → ℕ → Type 0
+any_outbound before = gives_outbound
+
+abbrev pub adds_one : ℕ → ℕ → List ℕ → ℕ → ℕ → Type 0
+adds_one before index peer handler behind = behind ≡ before + 1
+
+abbrev pub adds_two : ℕ → ℕ → List ℕ → ℕ → ℕ → Type 0
+adds_two before index peer handler behind = behind ≡ before + 2
+
+-- each handler is made once, by the protocols of its direction
+pub record OnceRows : Type 0 where
+  pub led_inbound : (behind : ℕ) → led_by adds_one adds_two Inbound (7 ∷ []) 3 behind 1 10 ↔ (behind ≡ 4)
+  pub led_outbound : (behind : ℕ) → led_by adds_one adds_two Outbound (7 ∷ []) 3 behind 1 20 ↔ (behind ≡ 5)
+  pub inbound : (behind handler : ℕ) → makes_once any_inbound any_outbound adds_one adds_two Inbound (7 ∷ []) 3 behind 1
+      handler ↔ ((handler ≡ 10) × (behind ≡ 4))
+  pub outbound : (behind handler : ℕ) → makes_once any_inbound any_outbound adds_one adds_two Outbound (7 ∷ []) 3 behind
+      1 handler ↔ ((handler ≡ 20) × (behind ≡ 5))

@@ -6,7 +6,7 @@ ghost use Rattle.streams.specs.declared.stage.Stage.TheVariants.{Serving};
 ghost use Rattle.streams.specs.Streams.{Past};
 ghost use Rattle.streams.specs.Stops.{not_now};
 ghost use Rattle.streams.specs.State.{Stands, is_talking, awaits_handler};
-ghost use Rattle.dispatch.specs.Dispatch.{IsKnown, Negotiates, MakingRunsOut, made_by};
+ghost use Rattle.dispatch.specs.Dispatch.{IsKnown, Negotiates, MakingRunsOut, makes_once};
 
 use crate::direction::Direction;
 use handlers::Protocols;
@@ -23,8 +23,8 @@ fn make<P: Protocols>(
 ) -> Result<P::H, Stop>
     ensures names { P.listed protocols.new ≡ P.listed protocols.old }
     ensures eager { P.is_eager protocols.new ≡ P.is_eager protocols.old }
-    ensures made { IfOk result (made_by (P.makes_inbound protocols.old) (P.makes_outbound protocols.old) direction peer
-        index) }
+    ensures made { IfOk result (makes_once P.makes_inbound P.makes_outbound P.leads_inbound P.leads_outbound direction
+        peer protocols.old protocols.new index) }
     ensures refused { index < length (P.listed protocols.old) → IfErr result (λ stop. stop ≡ Stop.OutOfMemory) }
 {
     if index >= protocols.names().len() {
@@ -49,10 +49,12 @@ fn serve<P: Protocols>(
     ensures eager { P.is_eager protocols.new ≡ P.is_eager protocols.old }
     ensures served { awaits_handler stream.old.stage ≡ true → OnOk result ((handler : P.H)
         × (stream.new ≡ record stream.old { stage = Serving handler })
-        × made_by (P.makes_inbound protocols.old) (P.makes_outbound protocols.old) direction peer index handler
+        × makes_once P.makes_inbound P.makes_outbound P.leads_inbound P.leads_outbound direction peer protocols.old
+        protocols.new index handler
         × ((so_far : Past P.H) → Stands P.H.steps stream.old so_far
         → Stands P.H.steps stream.new (record so_far { made = Some handler }))) }
-    ensures not_awaited { awaits_handler stream.old.stage ≡ false → (result ≡ Ok tt) × (stream.new ≡ stream.old) }
+    ensures not_awaited { awaits_handler stream.old.stage ≡ false → (result ≡ Ok tt) × (stream.new ≡ stream.old)
+        × (protocols.new ≡ protocols.old) }
     ensures refused { index < length (P.listed protocols.old) → IfErr result (λ stop. (stop ≡ Stop.OutOfMemory)
         × (awaits_handler stream.old.stage ≡ true)) }
 {
@@ -82,13 +84,13 @@ pub fn negotiate<P: Protocols>(
     ensures negotiates { (so_far : Past P.H) → Stands P.H.steps stream.old so_far → is_talking stream.old.stage ≡ true
         → IsKnown (P.listed protocols.old) direction so_far.side → result ≢ Err Stop.OutOfMemory
         → Negotiates P.H.steps
-        (made_by (P.makes_inbound protocols.old) (P.makes_outbound protocols.old) direction peer)
-        so_far bytes.now result stream.new }
+        (makes_once P.makes_inbound P.makes_outbound P.leads_inbound P.leads_outbound direction peer protocols.old
+        protocols.new) (protocols.new ≡ protocols.old) so_far bytes.now result stream.new }
     ensures memory { (so_far : Past P.H) → Stands P.H.steps stream.old so_far → is_talking stream.old.stage ≡ true
         → IsKnown (P.listed protocols.old) direction so_far.side → result ≡ Err Stop.OutOfMemory
         → MakingRunsOut P.H.steps so_far stream.old bytes.now stream.new.waiting }
     ensures out_of_turn { is_talking stream.old.stage ≡ false
-        → (result ≡ Err not_now) × (stream.new ≡ stream.old) }
+        → (result ≡ Err not_now) × (stream.new ≡ stream.old) × (protocols.new ≡ protocols.old) }
 {
     let heard = stream.hear(bytes)?;
     if let Heard::Agreed { index, .. } = heard {

@@ -1,4 +1,5 @@
 -- cited by public clauses and laws
 pub mod Calls
 pub mod Names
+pub mod Numbered
 pub mod Rows

@@ -3,13 +3,25 @@
 ghost use Rattle.std.specs.Prelude.{◌≡◌, ℕ, Bool, length, ◌≤◌, OnOk, IfOk, IfErr};
 ghost use Rattle.handlers.specs.Calls.{HandlerCall, Take, Give, End, Asked, ToTake, ToGive, ToEnd};
 
+use std::marker::Model;
 use thiserror::Error;
 
 /// Why a handler gave up: a number of the handler's own table of faults.
 #[derive(Clone, Copy, Debug, PartialEq, Eq, Error)]
 #[error("the handler of the stream gave up: fault {number}")]
 pub struct HandlerFault {
+    /// The number in that table.
     pub number: u8,
+}
+
+impl Model for HandlerFault {
+    ghost use Rattle.handlers.specs.Numbered.{Numbered};
+
+    ghost Value = { Numbered };
+
+    ghost view = { λ f. record { number = f.number } };
+
+    ghost inverse = { λ v. record { number = v.number } };
 }
 
 /// What serves one stream of a connection: it is handed what comes on the stream, and gives what is to be sent.

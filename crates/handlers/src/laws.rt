@@ -2,6 +2,8 @@
 
 ghost use Rattle.std.specs.Prelude.{◌≡◌, ℕ, Bool, true, false, List, [], ◌++◌};
 ghost use Rattle.handlers.specs.Calls.{HandlerCall, Take, Give, End, Arises, EndsAs, WasHanded, taken};
+ghost use Rattle.handlers.specs.contracts.handler.HandlerFault.{the_view};
+ghost use Rattle.handlers.specs.declared.handler.HandlerFault.TheInside.{Inside as Fields};
 ghost use Rattle.handlers.specs.Names.{NameRows};
 ghost use Rattle.handlers.specs.Rows.{JoinedRows, EndRows, HandedRows, StopRows};
 
@@ -14,6 +16,11 @@ pub fn worked_rows()
     ensures ends { EndRows }
     ensures handed { HandedRows }
     ensures stops { StopRows }
+{}
+
+/// What contracts see of a fault is, field by field, what its public fields hold.
+pub fn fields_are_public()
+    ensures { (fault : Fields) → the_view fault ≡ record { number = fault.number } }
 {}
 
 /// Calls that are made in turn are made as one list.

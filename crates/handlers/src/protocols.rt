@@ -26,6 +26,12 @@ pub trait Protocols: Drop {
 
     ghost makes_outbound: { Self → ℕ → List ℕ → Self.H → Type 0 };
 
+    /// Making this handler, once, for a protocol and a peer leads from the first value to the second: that of a stream
+    /// that the peer opened, and of one that this end opened.
+    ghost leads_inbound: { Self → ℕ → List ℕ → Self.H → Self → Type 0 };
+
+    ghost leads_outbound: { Self → ℕ → List ℕ → Self.H → Self → Type 0 };
+
     /// The names, the same at every call. There may be none.
     fn names(&self) -> &[&str]
         ensures names { map (λ name. name.now) result.now ≡ listed self.now }
@@ -42,6 +48,7 @@ pub trait Protocols: Drop {
         ensures names { listed self.new ≡ listed self.old }
         ensures eager { is_eager self.new ≡ is_eager self.old }
         ensures made { IfOk result (makes_inbound self.old index peer) }
+        ensures step { IfOk result (λ handler. leads_inbound self.old index peer handler self.new) }
         // What may be made later might have been made before.
         ensures kept_inbound { (at : ℕ) (to : List ℕ) (handler : Self.H) → makes_inbound self.new at to handler
             → makes_inbound self.old at to handler }
@@ -54,6 +61,7 @@ pub trait Protocols: Drop {
         ensures names { listed self.new ≡ listed self.old }
         ensures eager { is_eager self.new ≡ is_eager self.old }
         ensures made { IfOk result (makes_outbound self.old index peer) }
+        ensures step { IfOk result (λ handler. leads_outbound self.old index peer handler self.new) }
         // What may be made later might have been made before.
         ensures kept_inbound { (at : ℕ) (to : List ℕ) (handler : Self.H) → makes_inbound self.new at to handler
             → makes_inbound self.old at to handler }

@@ -52,15 +52,16 @@ module _ {P H : Type 0} (step : H → HandlerCall → H → Type 0) (fails : H �
         let it = faced step fails is_closed is_finished inbound_makes outbound_makes eager names peer role laws log fed sent (fed ++ bytes) before session streams past came told rests tells there one filled in
         record { came = came; stream = it.stream; all_for = it.all_for; awaits = it.awaits }
 
-    pub faulted : (telling : List (ConnEvent H)) → session.failed ≡ true → (fault : Fault) × (told ≡ event.Fault fault ∷ [])
-        → Faults step fails is_closed is_finished inbound_makes outbound_makes eager names peer role log [] telling telling fed bytes sent session.pending
-    faulted telling failed alone =
+    pub faulted : (making : List (Entry H) → List (Entry H) → Type 0) → making log log → (telling : List (ConnEvent H)) → session.failed ≡ true → (fault : Fault) × (told ≡ event.Fault fault ∷ [])
+        → Faults step fails is_closed is_finished inbound_makes outbound_makes eager names peer role making log [] telling telling fed bytes sent session.pending
+    faulted making kept telling failed alone =
         let f = led.fails failed in
         let fed_is : fed ++ [] ≡ fed = append-nil fed in
         record {
           newer = [];
           told_is = sym (append-nil telling);
           asks_are = refl;
+          makes = kept;
           front = [];
           rest = bytes;
           bytes_are = refl;
@@ -78,50 +79,57 @@ module _ {P H : Type 0} (step : H → HandlerCall → H → Type 0) (fails : H �
 
   -- what was routed behind what arrived
   pub grows_behind : (log : List (Entry H)) (came : List Arrival) (before after : List (ConnEvent H)) (fed sent : List ℕ) (session : State) (streams : ℕ → Option (Streaming H)) (past : List (Earlier H))
-      → Grows step fails is_closed is_finished inbound_makes outbound_makes eager names peer role (arrived came ++ log) before after fed sent session streams past
-      → Grows step fails is_closed is_finished inbound_makes outbound_makes eager names peer role log before after fed sent session streams past
-  grows_behind log came before after fed sent session streams past g = record {
+      → (making later : List (Entry H) → List (Entry H) → Type 0) → ((longer : List (Entry H)) → later (arrived came ++ log) longer → making log longer)
+      → Grows step fails is_closed is_finished inbound_makes outbound_makes eager names peer role later (arrived came ++ log) before after fed sent session streams past
+      → Grows step fails is_closed is_finished inbound_makes outbound_makes eager names peer role making log before after fed sent session streams past
+  grows_behind log came before after fed sent session streams past making later joins g = record {
     newer = g.newer ++ arrived came;
     told_is = g.told_is ∙ ap (λ t. before ++ t) (sym (said_append g.newer (arrived came) ∙ ap (λ t. t ++ said g.newer) (said_arrived came)));
     unasked = none_asked g.newer (arrived came) g.unasked (asks_arrived H came);
+    makes = subst (λ t. making log t) (sym (append_assoc g.newer (arrived came) log)) (joins (g.newer ++ (arrived came ++ log)) g.makes);
     at_rest = subst (λ t. AreAtRest step fails is_closed is_finished inbound_makes outbound_makes eager names peer role t fed sent session streams past) (sym (append_assoc g.newer (arrived came) log)) g.at_rest;
   }
 
   -- two in turn
   pub grows_on : (log : List (Entry H)) (before middle after : List (ConnEvent H)) (fed first sent : List ℕ) (between session : State) (then streams : ℕ → Option (Streaming H))
       (past later : List (Earlier H))
-      (g : Grows step fails is_closed is_finished inbound_makes outbound_makes eager names peer role log before middle first sent between then past)
-      → Grows step fails is_closed is_finished inbound_makes outbound_makes eager names peer role (g.newer ++ log) middle after fed sent session streams later
-      → Grows step fails is_closed is_finished inbound_makes outbound_makes eager names peer role log before after fed sent session streams later
-  grows_on log before middle after fed first sent between session then streams past later g h = record {
+      (making so_far one : List (Entry H) → List (Entry H) → Type 0) (joins : (longer last : List (Entry H)) → so_far log longer → one longer last → making log last)
+      (g : Grows step fails is_closed is_finished inbound_makes outbound_makes eager names peer role so_far log before middle first sent between then past)
+      → Grows step fails is_closed is_finished inbound_makes outbound_makes eager names peer role one (g.newer ++ log) middle after fed sent session streams later
+      → Grows step fails is_closed is_finished inbound_makes outbound_makes eager names peer role making log before after fed sent session streams later
+  grows_on log before middle after fed first sent between session then streams past later making so_far one joins g h = record {
     newer = h.newer ++ g.newer;
     told_is = h.told_is ∙ ap (λ t. t ++ said h.newer) g.told_is ∙ append_assoc before (said g.newer) (said h.newer) ∙ ap (λ t. before ++ t) (sym (said_append h.newer g.newer));
     unasked = none_asked h.newer g.newer h.unasked g.unasked;
+    makes = subst (λ t. making log t) (sym (append_assoc h.newer g.newer log)) (joins (g.newer ++ log) (h.newer ++ (g.newer ++ log)) g.makes h.makes);
     at_rest = subst (λ t. AreAtRest step fails is_closed is_finished inbound_makes outbound_makes eager names peer role t fed sent session streams later) (sym (append_assoc h.newer g.newer log)) h.at_rest;
   }
 
   -- nothing came yet
-  pub grows_none : (log : List (Entry H)) (told : List (ConnEvent H)) (fed sent : List ℕ) (session : State) (streams : ℕ → Option (Streaming H)) (past : List (Earlier H))
+  pub grows_none : (making : List (Entry H) → List (Entry H) → Type 0) (log : List (Entry H)) → making log log → (told : List (ConnEvent H)) (fed sent : List ℕ) (session : State) (streams : ℕ → Option (Streaming H)) (past : List (Earlier H))
       → AreAtRest step fails is_closed is_finished inbound_makes outbound_makes eager names peer role log fed sent session streams past
-      → Grows step fails is_closed is_finished inbound_makes outbound_makes eager names peer role log told told (fed ++ []) sent session streams past
-  grows_none log told fed sent session streams past rests = record {
+      → Grows step fails is_closed is_finished inbound_makes outbound_makes eager names peer role making log told told (fed ++ []) sent session streams past
+  grows_none making log kept told fed sent session streams past rests = record {
     newer = [];
     told_is = sym (append-nil told);
     unasked = refl;
+    makes = kept;
     at_rest = subst (λ (t : List ℕ). AreAtRest step fails is_closed is_finished inbound_makes outbound_makes eager names peer role log t sent session streams past) (sym (append-nil fed)) rests;
   }
 
   -- the fault came behind what had come before
   pub faults_behind : (log : List (Entry H)) (before middle after : List (ConnEvent H)) (fed first second sent pending : List ℕ) (between : State) (then : ℕ → Option (Streaming H)) (past : List (Earlier H))
-      (g : Grows step fails is_closed is_finished inbound_makes outbound_makes eager names peer role log before middle (fed ++ first) sent between then past)
-      → Faults step fails is_closed is_finished inbound_makes outbound_makes eager names peer role (g.newer ++ log) [] middle after (fed ++ first) second sent pending
-      → Faults step fails is_closed is_finished inbound_makes outbound_makes eager names peer role log [] before after fed (first ++ second) sent pending
-  faults_behind log before middle after fed first second sent pending between then past g f =
+      (making so_far one : List (Entry H) → List (Entry H) → Type 0) (joins : (longer last : List (Entry H)) → so_far log longer → one longer last → making log last)
+      (g : Grows step fails is_closed is_finished inbound_makes outbound_makes eager names peer role so_far log before middle (fed ++ first) sent between then past)
+      → Faults step fails is_closed is_finished inbound_makes outbound_makes eager names peer role one (g.newer ++ log) [] middle after (fed ++ first) second sent pending
+      → Faults step fails is_closed is_finished inbound_makes outbound_makes eager names peer role making log [] before after fed (first ++ second) sent pending
+  faults_behind log before middle after fed first second sent pending between then past making so_far one joins g f =
       let logs : f.newer ++ (g.newer ++ log) ≡ (f.newer ++ g.newer) ++ log = sym (append_assoc f.newer g.newer log) in
       let fronts : (fed ++ first) ++ f.front ≡ fed ++ (first ++ f.front) = append_assoc fed first f.front in
       record {
         newer = f.newer ++ g.newer;
         asks_are = none_asked f.newer g.newer f.asks_are g.unasked;
+        makes = subst (λ t. making log t) logs (joins (g.newer ++ log) (f.newer ++ (g.newer ++ log)) g.makes f.makes);
         told_is = f.told_is ∙ ap (λ t. t ++ said f.newer) g.told_is ∙ append_assoc before (said g.newer) (said f.newer) ∙ ap (λ t. before ++ t) (sym (said_append f.newer g.newer));
         front = first ++ f.front;
         rest = f.rest;
@@ -140,13 +148,14 @@ module _ {P H : Type 0} (step : H → HandlerCall → H → Type 0) (fails : H �
       }
 
   -- what follows the fault isn't read
-  pub faults_before : (log : List (Entry H)) (before after : List (ConnEvent H)) (fed bytes more sent pending : List ℕ)
-      → Faults step fails is_closed is_finished inbound_makes outbound_makes eager names peer role log [] before after fed bytes sent pending
-      → Faults step fails is_closed is_finished inbound_makes outbound_makes eager names peer role log [] before after fed (bytes ++ more) sent pending
-  faults_before log before after fed bytes more sent pending f = record {
+  pub faults_before : (making : List (Entry H) → List (Entry H) → Type 0) (log : List (Entry H)) (before after : List (ConnEvent H)) (fed bytes more sent pending : List ℕ)
+      → Faults step fails is_closed is_finished inbound_makes outbound_makes eager names peer role making log [] before after fed bytes sent pending
+      → Faults step fails is_closed is_finished inbound_makes outbound_makes eager names peer role making log [] before after fed (bytes ++ more) sent pending
+  faults_before making log before after fed bytes more sent pending f = record {
     newer = f.newer;
     told_is = f.told_is;
     asks_are = f.asks_are;
+    makes = f.makes;
     front = f.front;
     rest = f.rest ++ more;
     bytes_are = ap (λ t. t ++ more) f.bytes_are ∙ append_assoc f.front f.rest more;

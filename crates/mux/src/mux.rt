@@ -9,7 +9,7 @@ ghost use Rattle.yamux_session.specs.Acts.{start_refusal};
 ghost use Rattle.yamux_session.specs.State.{Whenever};
 ghost use Rattle.conn_log.specs.Rests.{AreAtRest, Grows};
 ghost use Rattle.conn_log.specs.Asked.{Asked, IsRefusedAs};
-ghost use Rattle.board.specs.Boards.{Keeps};
+ghost use Rattle.board.specs.Boards.{Keeps, MakesOnBoard};
 ghost use Rattle.board.specs.Handlers.{handlers_of, handlers_past};
 ghost use Rattle.mux.specs.Faults.{Faults};
 
@@ -74,8 +74,9 @@ impl<P: Protocols> Mux<P> {
             self.old.board.past.items → IfOk result (λ used. self.new.session.failed ≡ false
             → Grows P.H.steps P.H.fails P.H.is_closed P.H.is_finished P.makes_inbound P.makes_outbound
             (P.is_eager self.old.board.protocols) (P.listed self.old.board.protocols) self.old.board.peer
-            self.old.board.role log told.old.items told.new.items (fed ++ take used (drop at piece.now)) sent
-            self.new.session (tree.get nat_cmp self.new.board.streams) self.new.board.past.items) }
+            self.old.board.role (MakesOnBoard P.leads_inbound P.leads_outbound self.old.board self.new.board) log
+            told.old.items told.new.items (fed ++ take used (drop at piece.now)) sent self.new.session
+            (tree.get nat_cmp self.new.board.streams) self.new.board.past.items) }
         ensures faults { (log : List (Entry P.H)) (fed sent : List ℕ)
             → AreAtRest P.H.steps P.H.fails P.H.is_closed P.H.is_finished P.makes_inbound P.makes_outbound
             (P.is_eager self.old.board.protocols) (P.listed self.old.board.protocols) self.old.board.peer
@@ -83,8 +84,8 @@ impl<P: Protocols> Mux<P> {
             self.old.board.past.items → IfOk result (λ used. self.new.session.failed ≡ true
             → Faults P.H.steps P.H.fails P.H.is_closed P.H.is_finished P.makes_inbound P.makes_outbound
             (P.is_eager self.old.board.protocols) (P.listed self.old.board.protocols) self.old.board.peer
-            self.old.board.role log [] told.old.items told.new.items fed (take used (drop at piece.now)) sent
-            self.new.session.pending) }
+            self.old.board.role (MakesOnBoard P.leads_inbound P.leads_outbound self.old.board self.new.board) log []
+            told.old.items told.new.items fed (take used (drop at piece.now)) sent self.new.session.pending) }
         ensures within { IfOk result (λ used. used ≤ length piece.now - at) }
         ensures goes_on { IfOk result (λ used. at < length piece.now → 0 < used) }
     {
@@ -117,8 +118,9 @@ impl<P: Protocols> Mux<P> {
             self.old.board.past.items → OnOk result (self.new.session.failed ≡ false
             → Grows P.H.steps P.H.fails P.H.is_closed P.H.is_finished P.makes_inbound P.makes_outbound
             (P.is_eager self.old.board.protocols) (P.listed self.old.board.protocols) self.old.board.peer
-            self.old.board.role log told.old.items told.new.items (fed ++ piece.now) sent
-            self.new.session (tree.get nat_cmp self.new.board.streams) self.new.board.past.items) }
+            self.old.board.role (MakesOnBoard P.leads_inbound P.leads_outbound self.old.board self.new.board) log
+            told.old.items told.new.items (fed ++ piece.now) sent self.new.session
+            (tree.get nat_cmp self.new.board.streams) self.new.board.past.items) }
         ensures faults { (log : List (Entry P.H)) (fed sent : List ℕ)
             → AreAtRest P.H.steps P.H.fails P.H.is_closed P.H.is_finished P.makes_inbound P.makes_outbound
             (P.is_eager self.old.board.protocols) (P.listed self.old.board.protocols) self.old.board.peer
@@ -126,8 +128,8 @@ impl<P: Protocols> Mux<P> {
             self.old.board.past.items → OnOk result (self.new.session.failed ≡ true
             → Faults P.H.steps P.H.fails P.H.is_closed P.H.is_finished P.makes_inbound P.makes_outbound
             (P.is_eager self.old.board.protocols) (P.listed self.old.board.protocols) self.old.board.peer
-            self.old.board.role log [] told.old.items told.new.items fed piece.now sent
-            self.new.session.pending) }
+            self.old.board.role (MakesOnBoard P.leads_inbound P.leads_outbound self.old.board self.new.board) log []
+            told.old.items told.new.items fed piece.now sent self.new.session.pending) }
     {
         let mut at = 0;
         while at < piece.len() && !self.session.has_failed() {
@@ -148,8 +150,9 @@ impl<P: Protocols> Mux<P> {
             (P.is_eager self.old.board.protocols) (P.listed self.old.board.protocols) self.old.board.peer
             self.old.board.role log fed sent self.old.session (tree.get nat_cmp self.old.board.streams)
             self.old.board.past.items → IfOk result (λ number. Asked P.H.steps P.H.fails P.H.is_closed P.H.is_finished
-            P.makes_inbound P.makes_outbound (P.is_eager self.old.board.protocols)
-            (P.listed self.old.board.protocols) self.old.board.peer self.old.board.role number index log
+            P.makes_inbound P.makes_outbound (P.is_eager self.old.board.protocols) (P.listed self.old.board.protocols)
+            self.old.board.peer self.old.board.role
+            (MakesOnBoard P.leads_inbound P.leads_outbound self.old.board self.new.board) number index log
             owed.old.items owed.new.items fed sent self.new.session (tree.get nat_cmp self.new.board.streams)
             self.new.board.past.items) }
         ensures bad_index { length (P.listed self.old.board.protocols) ≤ index → result ≡ Err ConnRefused.BadIndex }

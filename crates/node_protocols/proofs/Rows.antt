@@ -11,7 +11,9 @@ use Rattle.identify_h.specs.Faults.{number_of}
 use Rattle.identify_h.specs.Sending.{sending}
 use Rattle.ping_h.specs.Echoes.{fresh}
 use Rattle.node_protocols.specs.Handlers.{Stops}
-use Rattle.node_protocols.specs.Rows.{OwnRows, MakesRows, HandlerRows, StopRows, back}
+use Rattle.identify_h.specs.Messages.{Message}
+use Rattle.node_protocols.specs.Makes.{LeadsOutbound}
+use Rattle.node_protocols.specs.Rows.{OwnRows, MakesRows, LeadsRows, HandlerRows, StopRows, back, counts}
 
 pub own : OwnRows
 unfolding shortest shortest_within
@@ -30,6 +32,25 @@ makes = record {
     λ h. inr (inr (refl, (replicate 32 7, refl, h))),
   );
   none_out = λ own peer handler. elim [ inl h ↦ cc h.0 | inr h ↦ elim h [ inl g ↦ cc g.0 | inr g ↦ cc g.0 ] ];
+}
+
+to_ping : (own other : Message) (peer : List ℕ) (handler : NodeHandler) (next : ℕ)
+    → LeadsOutbound counts (record { own = own; payloads = 4 }) 2 peer handler (record { own = other; payloads = next })
+    → (handler ≡ Pings (round (replicate 32 7))) × (next ≡ 5) × (other ≡ own)
+to_ping own other peer handler next (inl h) = absurd (let e : ◌≡◌ {A = ℕ} 2 0 = h.0 in cc e)
+to_ping own other peer handler next (inr (inl h)) = absurd (let e : ◌≡◌ {A = ℕ} 2 1 = h.0 in cc e)
+to_ping own other peer handler next (inr (inr h)) =
+    let payload = h.1.0 in
+    let step = h.1.1 in
+    (h.1.2 ∙ ap (λ (t : List ℕ). Pings (round t)) step.0, step.1, h.1.3)
+
+pub leads : LeadsRows
+leads = record {
+  inbound = λ node next index peer handler. (λ h. h, λ h. h);
+  identify_out = λ node next peer handler. (elim [ inl h ↦ (h.1, h.2) | inr h ↦ elim h [ inl g ↦ cc g.0 | inr g ↦ cc g.0 ] ], λ h. inl (refl, h.0, h.1));
+  push_out = λ node next peer handler. (elim [ inl h ↦ cc h.0 | inr h ↦ elim h [ inl g ↦ (g.1, g.2) | inr g ↦ cc g.0 ] ], λ h. inr (inl (refl, h.0, h.1)));
+  ping_out = λ own other peer handler next. (to_ping own other peer handler next, λ h. inr (inr (refl, (replicate 32 7, (refl, h.1), h.0, h.2))));
+  none_out = λ node next peer handler. elim [ inl h ↦ cc h.0 | inr h ↦ elim h [ inl g ↦ cc g.0 | inr g ↦ cc g.0 ] ];
 }
 
 pub handlers : HandlerRows

@@ -33,3 +33,15 @@ abbrev pub MakesOutbound : Message → (List ℕ → Type 0) → ℕ → List �
 MakesOutbound own gives index peer handler =
     ((index ≡ 0) × Hears peer handler) ⊎ ((index ≡ 1) × Tells own handler)
     ⊎ ((index ≡ 2) × ((payload : List ℕ) × gives payload × (handler ≡ Pings (round payload))))
+
+-- making it changes nothing that they know
+abbrev pub LeadsInbound : {R : Type 0} → Node R → ℕ → List ℕ → NodeHandler → Node R → Type 0
+LeadsInbound node index peer handler next = MakesInbound node.own index peer handler × (next ≡ node)
+
+-- nor does it on a stream that this end opened, but that a ping asks for its bytes once
+abbrev pub LeadsOutbound : {R : Type 0} → (R → List ℕ → R → Type 0) → Node R → ℕ → List ℕ → NodeHandler → Node R
+    → Type 0
+LeadsOutbound steps node index peer handler next =
+    ((index ≡ 0) × Hears peer handler × (next ≡ node)) ⊎ ((index ≡ 1) × Tells node.own handler × (next ≡ node))
+    ⊎ ((index ≡ 2) × ((payload : List ℕ) × steps node.payloads payload next.payloads
+    × (handler ≡ Pings (round payload)) × (next.own ≡ node.own)))

@@ -1,6 +1,6 @@
 -- Worked rows of the definitions (libp2p identify 1.0.0 and ping 1.0.0; Protocol Buffers, "Encoding"; the indexes are
 -- this project's profile).
-use Rattle.std.specs.Prelude.{◌≡◌, ◌↔◌, ℕ, List, [], ◌∷◌, ◌++◌, true, false, replicate, codes, Some, None}
+use Rattle.std.specs.Prelude.{◌≡◌, ◌↔◌, ℕ, ◌+◌, List, [], ◌∷◌, ◌++◌, true, false, replicate, codes, Some, None}
 use Rattle.handlers.specs.Calls.{HandlerCall, ToGive, ToEnd}
 use Rattle.peer_ids.specs.declared.kind.KeyType.TheVariants.{Ed25519}
 use Rattle.peer_ids.specs.Key.{Key}
@@ -15,7 +15,7 @@ use Rattle.node_protocols.specs.declared.handler.NodeHandler.TheVariants.{Reads,
 use Rattle.node_protocols.specs.Handlers.{NodeStep, NodeFails, Stops, has_failed, is_over, is_closed, is_finished}
 use Rattle.node_protocols.specs.Handlers.{message_of}
 use Rattle.node_protocols.specs.Own.{own_message}
-use Rattle.node_protocols.specs.Makes.{Tells, Hears, MakesInbound, MakesOutbound}
+use Rattle.node_protocols.specs.Makes.{Node, Tells, Hears, MakesInbound, MakesOutbound, LeadsInbound, LeadsOutbound}
 
 -- the Ed25519 key of 32 zero bytes
 abbrev pub zero_key : Key
@@ -48,6 +48,24 @@ pub record MakesRows : Type 0 where
   pub ping_out : (own : Message) (peer : List ℕ) (handler : NodeHandler)
       → MakesOutbound own Sevens 2 peer handler ↔ (handler ≡ Pings (round (replicate 32 7)))
   pub none_out : (own : Message) (peer : List ℕ) (handler : NodeHandler) → ¬ MakesOutbound own Sevens 3 peer handler
+
+-- payloads are numbers: each gives 32 sevens, and is one more then
+abbrev pub counts : ℕ → List ℕ → ℕ → Type 0
+counts before payload next = (payload ≡ replicate 32 7) × (next ≡ before + 1)
+
+-- what is left of a node by making a handler: a ping asks for its bytes once, and nothing else changes
+pub record LeadsRows : Type 0 where
+  pub inbound : (node next : Node ℕ) (index : ℕ) (peer : List ℕ) (handler : NodeHandler)
+      → LeadsInbound node index peer handler next ↔ (MakesInbound node.own index peer handler × (next ≡ node))
+  pub identify_out : (node next : Node ℕ) (peer : List ℕ) (handler : NodeHandler)
+      → LeadsOutbound counts node 0 peer handler next ↔ (Hears peer handler × (next ≡ node))
+  pub push_out : (node next : Node ℕ) (peer : List ℕ) (handler : NodeHandler)
+      → LeadsOutbound counts node 1 peer handler next ↔ (Tells node.own handler × (next ≡ node))
+  pub ping_out : (own other : Message) (peer : List ℕ) (handler : NodeHandler) (next : ℕ)
+      → LeadsOutbound counts (record { own = own; payloads = 4 }) 2 peer handler (record { own = other; payloads = next })
+      ↔ ((handler ≡ Pings (round (replicate 32 7))) × (next ≡ 5) × (other ≡ own))
+  pub none_out : (node next : Node ℕ) (peer : List ℕ) (handler : NodeHandler)
+      → ¬ LeadsOutbound counts node 3 peer handler next
 
 -- a ping that has come back, before the end
 abbrev pub back : Round

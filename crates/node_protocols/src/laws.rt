@@ -13,8 +13,9 @@ ghost use Rattle.node_protocols.specs.contracts.payloads.FixedPayload.{the_view}
 ghost use Rattle.node_protocols.specs.declared.payloads.FixedPayload.TheInside.{Inside as Fields};
 ghost use Rattle.node_protocols.specs.Handlers.{message_of};
 ghost use Rattle.node_protocols.specs.Makes.{Node, Hears, MakesInbound, MakesOutbound};
+ghost use Rattle.node_protocols.specs.Makes.{LeadsInbound, LeadsOutbound};
 ghost use Rattle.node_protocols.specs.Own.{protocol_names};
-ghost use Rattle.node_protocols.specs.Rows.{OwnRows, MakesRows, HandlerRows, StopRows};
+ghost use Rattle.node_protocols.specs.Rows.{OwnRows, MakesRows, LeadsRows, HandlerRows, StopRows};
 
 use crate::handler::NodeHandler;
 use crate::names::{IDENTIFY, PING, PUSH};
@@ -28,6 +29,7 @@ use ping_h::{PingEcho, PingOut};
 pub fn worked_rows()
     ensures own { OwnRows }
     ensures makes { MakesRows }
+    ensures leads { LeadsRows }
     ensures handlers { HandlerRows }
     ensures stops { StopRows }
 {}
@@ -125,6 +127,12 @@ pub fn protocols_of_a_node<R: Payloads>()
     ensures outbound { (node : Node R) (index : ℕ) (peer : List ℕ) (handler : NodeHandler)
         → ⟦<NodeProtocols<R> as Protocols>⟧.makes_outbound node index peer handler
         ↔ MakesOutbound node.own (R.gives node.payloads) index peer handler }
+    ensures inbound_once { (node next : Node R) (index : ℕ) (peer : List ℕ) (handler : NodeHandler)
+        → ⟦<NodeProtocols<R> as Protocols>⟧.leads_inbound node index peer handler next
+        ↔ LeadsInbound node index peer handler next }
+    ensures outbound_once { (node next : Node R) (index : ℕ) (peer : List ℕ) (handler : NodeHandler)
+        → ⟦<NodeProtocols<R> as Protocols>⟧.leads_outbound node index peer handler next
+        ↔ LeadsOutbound R.steps node index peer handler next }
 {}
 
 /// What contracts see of a fixed payload is what its field holds.

@@ -6,6 +6,7 @@ ghost use Rattle.identify_h.specs.Sending.{most_bytes};
 ghost use Rattle.ping_h.specs.Rounds.{round};
 ghost use Rattle.node_protocols.specs.Own.{protocol_names, own_message};
 ghost use Rattle.node_protocols.specs.Makes.{Tells, Hears, MakesInbound, MakesOutbound};
+ghost use Rattle.node_protocols.specs.Makes.{LeadsInbound, LeadsOutbound};
 
 use crate::handler::NodeHandler;
 use crate::names::{IDENTIFY, NAMES, PING, PUSH};
@@ -101,6 +102,10 @@ impl<R: Payloads> Protocols for NodeProtocols<R> {
 
     ghost makes_outbound = { λ node. MakesOutbound node.own (R.gives node.payloads) };
 
+    ghost leads_inbound = { LeadsInbound };
+
+    ghost leads_outbound = { LeadsOutbound R.steps };
+
     fn names(&self) -> &[&str] {
         &NAMES
     }
@@ -112,6 +117,7 @@ impl<R: Payloads> Protocols for NodeProtocols<R> {
     fn inbound(&mut self, index: usize, peer: PeerId) -> Result<NodeHandler, AllocError>
         requires { index < 3 }
         ensures made { IfOk result (MakesInbound self.old.own index peer) }
+        ensures step { IfOk result (λ handler. LeadsInbound self.old index peer handler self.new) }
         ensures kept { self.new ≡ self.old }
         ensures memory { OnErr result (index ≡ 0) }
     {
@@ -125,6 +131,7 @@ impl<R: Payloads> Protocols for NodeProtocols<R> {
     fn outbound(&mut self, index: usize, peer: PeerId) -> Result<NodeHandler, AllocError>
         requires { index < 3 }
         ensures made { IfOk result (MakesOutbound self.old.own (R.gives self.old.payloads) index peer) }
+        ensures step { IfOk result (λ handler. LeadsOutbound R.steps self.old index peer handler self.new) }
         ensures kept { index ≢ 2 → self.new ≡ self.old }
         ensures own { self.new.own ≡ self.old.own }
         ensures payloads { (bytes : List ℕ) → R.gives self.new.payloads bytes → R.gives self.old.payloads bytes }

@@ -63,25 +63,25 @@ module _ {H : Type 0} (step : H → HandlerCall → H → Type 0) (fails : H →
       × (is_talking old.stage ≡ false
       → Hands ToEnd (record so_far { ended = true; left = None }) old before outcome session stream)
 
-  module _ (makes : ℕ → H → Type 0) where
+  module _ (makes : ℕ → H → Type 0) (none_made : Type 0) where
     -- By this front both ends agree on the protocol of this index, and the handler took the rest: so far this came
     -- then.
     pub record HasAgreed (so_far : Past H) (bytes : List ℕ) (index : ℕ) (front rest : List ℕ) (middle : Streaming H)
         : Type 0 where
       pub agrees : AgreesBy so_far bytes index front rest
       pub made : H
-      pub is_made : IsMade makes so_far index made
+      pub is_made : IsMade makes none_made so_far index made
       pub stands : Stands step middle (record so_far { got = so_far.got ++ front; made = Some made })
       pub serving : kind_of middle.stage ≡ Served
 
-    -- Why the stream is done with before it was served: nothing was done then.
+    -- Why the stream is done with before it was served: nothing was done or made then.
     abbrev pub Stops : Past H → List ℕ → Outcome H → Type 0
     Stops so_far bytes Refused =
         (front : List ℕ) × (rest : List ℕ) × (output : List ℕ) × (bytes ≡ front ++ rest)
-        × IsTurnedDown so_far.side (so_far.got ++ front) output
+        × IsTurnedDown so_far.side (so_far.got ++ front) output × none_made
     Stops so_far bytes (Broken (causes.Select fault)) =
         (fault ≢ select_faults.OutOfMemory)
-        × ((output : List ℕ) × Faults so_far.side (so_far.got ++ bytes) fault output)
+        × ((output : List ℕ) × Faults so_far.side (so_far.got ++ bytes) fault output) × none_made
     Stops so_far bytes (Broken (causes.Handler fault)) = ⊥
     Stops so_far bytes (Broken causes.Reset) = ⊥
     Stops so_far bytes (Broken causes.Ended) = ⊥
@@ -92,7 +92,7 @@ module _ {H : Type 0} (step : H → HandlerCall → H → Type 0) (fails : H →
     abbrev pub InTalk : Past H → List ℕ → State → Option ℕ → Outcome H → State → Streaming H → Type 0
     InTalk so_far bytes before None outcome session stream =
         ((middle : Streaming H) × Stands step middle (record so_far { got = so_far.got ++ bytes })
-        × (is_talking middle.stage ≡ true)
+        × (is_talking middle.stage ≡ true) × none_made
         × Came (record so_far { got = so_far.got ++ bytes }) middle before outcome session stream)
         ⊎ ((session ≡ before) × Stops so_far bytes outcome)
     InTalk so_far bytes before (Some index) outcome session stream =
@@ -105,5 +105,5 @@ module _ {H : Type 0} (step : H → HandlerCall → H → Type 0) (fails : H →
     abbrev pub Delivers : Past H → List ℕ → Streaming H → State → Delivered H → State → Streaming H → Type 0
     Delivers so_far bytes old before delivered session stream =
         (is_talking old.stage ≡ true → InTalk so_far bytes before delivered.agreed delivered.outcome session stream)
-        × (is_talking old.stage ≡ false → (delivered.agreed ≡ None)
+        × (is_talking old.stage ≡ false → (delivered.agreed ≡ None) × none_made
         × Takes so_far bytes old before delivered.outcome session stream)

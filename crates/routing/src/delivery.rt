@@ -9,7 +9,7 @@ ghost use Rattle.yamux_session.specs.State.{Stands as SessionStands, Whenever};
 ghost use Rattle.streams.specs.Streams.{Past};
 ghost use Rattle.streams.specs.State.{Stands, is_talking, awaits_handler};
 ghost use Rattle.serving.specs.Served.{MayGrow};
-ghost use Rattle.dispatch.specs.Dispatch.{IsKnown, made_by, MakingRunsOut};
+ghost use Rattle.dispatch.specs.Dispatch.{IsKnown, MakingRunsOut, makes_once};
 ghost use Rattle.streams.specs.declared.stop.Cause.{Cause};
 ghost use Rattle.routing.specs.Routing.{Came, Takes, Ends, Delivers};
 
@@ -131,8 +131,9 @@ pub fn deliver<P: Protocols>(
         → awaits_handler stream.old.stage ≡ false → IsKnown (P.listed protocols.old) direction so_far.side
         → so_far.sent ≡ written role past number → IfOk result (λ delivered.
         Delivers P.H.steps P.H.fails P.H.is_closed P.H.is_finished role past fed sent number
-        (made_by (P.makes_inbound protocols.old) (P.makes_outbound protocols.old) direction peer) so_far bytes.now
-        stream.old session.old delivered session.new stream.new) }
+        (makes_once P.makes_inbound P.makes_outbound P.leads_inbound P.leads_outbound direction peer protocols.old
+        protocols.new) (protocols.new ≡ protocols.old) so_far bytes.now stream.old session.old delivered session.new
+        stream.new) }
     ensures memory { (so_far : Past P.H) → Stands P.H.steps stream.old so_far
         → IsKnown (P.listed protocols.old) direction so_far.side → OnErr result
         (Whenever session.old (λ role past. MayGrow role past number)

@@ -13,12 +13,11 @@ loop-act-init g c =
     let makes = g.P.Protocols in
     let role = c.args.role in
     let key = c.args.key in
-    let eager = makes.is_eager c.args.protocols in
-    let names = makes.listed c.args.protocols in
+    let start = c.args.protocols in
     record {
       led = (
         At [] false [] [] [],
-        subst (λ (xs : List (ConnAnswer _)). AnswersAll H.steps H.fails H.is_closed H.is_finished makes.makes_inbound makes.makes_outbound makes.listed makes.is_eager eager names role key (At [] false [] [] []) [] xs (At [] false [] [] [])) (sym c.new-answers.ensures.items) refl,
+        subst (λ (xs : List (ConnAnswer _)). AnswersAll H.steps H.fails H.is_closed H.is_finished makes.makes_inbound makes.makes_outbound makes.listed makes.is_eager makes.leads_inbound makes.leads_outbound start role key (At [] false [] [] []) [] xs (At [] false [] [] [])) (sym c.new-answers.ensures.items) refl,
         (c.in-Ok.ensures.none_owed, c.in-Ok.ensures.stands),
       );
     }
@@ -29,20 +28,19 @@ loop-act-preserved g c =
     let makes = g.P.Protocols in
     let role = c.args.role in
     let key = c.args.key in
-    let eager = makes.is_eager c.args.protocols in
-    let names = makes.listed c.args.protocols in
+    let start = c.args.protocols in
     let acts = c.args.acts.now in
     let index = c.loop-act.act-index in
     let led = c.loop-act.invariant.led in
-    let next = c.perform.ensures eager names role key led.0 led.2 in
+    let next = c.perform.ensures start role key led.0 led.2 in
     let more : take (index + 1) acts ≡ take index acts ++ c.act-item.result ∷ [] =
     take_more acts index c.act-item.result c.loop-act-test.true ∙ ap (λ (a : ConnAct). take index acts ++ a ∷ []) (sym c.act-item.is) in
     record {
       led = (
         next.0,
-        subst (λ (xs : List (ConnAnswer _)). AnswersAll H.steps H.fails H.is_closed H.is_finished makes.makes_inbound makes.makes_outbound makes.listed makes.is_eager eager names role key (At [] false [] [] []) (take (index + 1) acts) xs next.0) (sym c.in_ok-push.ensures)
-            (subst (λ (calls : List ConnAct). AnswersAll H.steps H.fails H.is_closed H.is_finished makes.makes_inbound makes.makes_outbound makes.listed makes.is_eager eager names role key (At [] false [] [] []) calls (c.loop-act.answers.items ++ c.perform.result ∷ []) next.0) (sym more)
-            (then_one H.steps H.fails H.is_closed H.is_finished makes.makes_inbound makes.makes_outbound makes.listed makes.is_eager eager names role key (At [] false [] [] []) led.0 next.0 (take index acts) c.loop-act.answers.items c.act-item.result c.perform.result led.1 next.1)),
+        subst (λ (xs : List (ConnAnswer _)). AnswersAll H.steps H.fails H.is_closed H.is_finished makes.makes_inbound makes.makes_outbound makes.listed makes.is_eager makes.leads_inbound makes.leads_outbound start role key (At [] false [] [] []) (take (index + 1) acts) xs next.0) (sym c.in_ok-push.ensures)
+            (subst (λ (calls : List ConnAct). AnswersAll H.steps H.fails H.is_closed H.is_finished makes.makes_inbound makes.makes_outbound makes.listed makes.is_eager makes.leads_inbound makes.leads_outbound start role key (At [] false [] [] []) calls (c.loop-act.answers.items ++ c.perform.result ∷ []) next.0) (sym more)
+            (then_one H.steps H.fails H.is_closed H.is_finished makes.makes_inbound makes.makes_outbound makes.listed makes.is_eager makes.leads_inbound makes.leads_outbound start role key (At [] false [] [] []) led.0 next.0 (take index acts) c.loop-act.answers.items c.act-item.result c.perform.result led.1 next.1)),
         next.2,
       );
     }
@@ -53,8 +51,7 @@ returns g c =
     let makes = g.P.Protocols in
     let role = c.args.role in
     let key = c.args.key in
-    let eager = makes.is_eager c.args.protocols in
-    let names = makes.listed c.args.protocols in
+    let start = c.args.protocols in
     let acts = c.args.acts.now in
     let index = c.loop-act.act-index in
     let led = c.loop-act.invariant.led in
@@ -63,9 +60,9 @@ returns g c =
     record {
       ran = (
         led.0,
-        subst (λ (calls : List ConnAct). AnswersAll H.steps H.fails H.is_closed H.is_finished makes.makes_inbound makes.makes_outbound makes.listed makes.is_eager eager names role key (At [] false [] [] []) calls c.loop-act.answers.items led.0) all led.1,
-        leaves H.steps H.fails H.is_closed H.is_finished makes.makes_inbound makes.makes_outbound makes.listed makes.is_eager eager names role key led.0 c.loop-act.core took.new.self took.result.items c.in_ok-handlers.handlers.items
-            (λ input ended asked told stands. took.ensures.stands role key eager names input [] ended asked told stands)
+        subst (λ (calls : List ConnAct). AnswersAll H.steps H.fails H.is_closed H.is_finished makes.makes_inbound makes.makes_outbound makes.listed makes.is_eager makes.leads_inbound makes.leads_outbound start role key (At [] false [] [] []) calls c.loop-act.answers.items led.0) all led.1,
+        leaves H.steps H.fails H.is_closed H.is_finished makes.makes_inbound makes.makes_outbound makes.listed makes.is_eager makes.leads_inbound makes.leads_outbound start role key led.0 c.loop-act.core took.new.self took.result.items c.in_ok-handlers.handlers.items
+            (λ input ended asked told stands. took.ensures.stands role key start input [] ended asked told stands)
             took.ensures.none_waits took.ensures.owed took.ensures.over c.in_ok-handlers.ensures.held c.into_handlers.ensures.ordered led.2,
       );
     }

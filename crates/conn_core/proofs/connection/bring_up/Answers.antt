@@ -13,7 +13,7 @@ use Rattle.conn_core.proofs.Waiting.{on_err, grows_on}
 use Rattle.conn_core.proofs.connection.bring_up.Goals as goal
 
 pub returns-in-Ok-Up-clause-goes : goal.returns-in-Ok-Up-clause-goes
-returns-in-Ok-Up-clause-goes g c = λ own eager names input taken coming none_waits none_told.
+returns-in-Ok-Up-clause-goes g c = λ own start input taken coming none_waits none_told.
     let H = g.P.H.Handler in
     let makes = g.P.Protocols in
     let role = c.args.role in
@@ -28,14 +28,14 @@ returns-in-Ok-Up-clause-goes g c = λ own eager names input taken coming none_wa
     let upgraded = subst (λ (r : ConnRole). Upgrades r own first (Ok (Some proven)) (taken ++ pending)) coming.role_is
     (subst (λ (k : Key). Upgrades c.args.upgrade.role k first (Ok (Some proven)) (taken ++ pending)) coming.own_is by_piece) in
     let written : taken ++ pending ≡ taken ++ c.last_output.result.items = ap (λ (t : List ℕ). taken ++ t) (sym c.last_output.ensures.output) in
-    let up = just_up H.steps H.fails H.is_closed H.is_finished makes.makes_inbound makes.makes_outbound makes.listed makes.is_eager eager names role own
-    c.args.protocols c.new-mux.result proven first (taken ++ c.last_output.result.items) c.peer.result c.session_role.result coming.names_are coming.eager_are c.session_role.ensures c.peer.ensures
+    let up = just_up H.steps H.fails H.is_closed H.is_finished makes.makes_inbound makes.makes_outbound makes.listed makes.is_eager makes.leads_inbound makes.leads_outbound start role own
+    c.args.protocols c.new-mux.result proven first (taken ++ c.last_output.result.items) c.peer.result c.session_role.result coming.protocols_are c.session_role.ensures c.peer.ensures
     c.new-mux.ensures.protocols c.new-mux.ensures.role c.new-mux.ensures.peer c.new-mux.ensures.fresh
     (subst (λ (t : List ℕ). Upgrades role own first (Ok (Some proven)) t) written upgraded) in
-    c.come_up.ensures.goes role own eager names input taken up none_told
+    c.come_up.ensures.goes role own start input taken up none_told
 
 pub returns-in-Ok-clause-goes : goal.returns-in-Ok-clause-goes
-returns-in-Ok-clause-goes g c = λ own eager names input taken coming none_waits none_told.
+returns-in-Ok-clause-goes g c = λ own start input taken coming none_waits none_told.
     let H = g.P.H.Handler in
     let makes = g.P.Protocols in
     let role = c.args.role in
@@ -50,7 +50,7 @@ returns-in-Ok-clause-goes g c = λ own eager names input taken coming none_waits
     let written : taken ++ pending ≡ taken ++ c.last_output-in-Err.result.items = ap (λ (t : List ℕ). taken ++ t) (sym c.last_output-in-Err.ensures.output) in
     let told_is = it.2 ∙ ap (λ (t : List (ConnEvent _)). t ++ event.Fault it.0 ∷ []) none_told in (
       refl,
-      upgrade_failed H.steps H.fails H.is_closed H.is_finished makes.makes_inbound makes.makes_outbound makes.listed makes.is_eager eager names role own
+      upgrade_failed H.steps H.fails H.is_closed H.is_finished makes.makes_inbound makes.makes_outbound makes.listed makes.is_eager makes.leads_inbound makes.leads_outbound start role own
           why it.0 (input ++ piece) (taken ++ c.last_output-in-Err.result.items) c.fail.new.told.items it.1
           (subst (λ (t : List ℕ). Upgrades role own (input ++ piece) (Err why) t) written upgraded) told_is,
     )

@@ -8,7 +8,7 @@ use Rattle.conn_core.proofs.Waiting.{if_err, all_waits}
 use Rattle.conn_core.proofs.connection.come_up.Goals as goal
 
 pub returns-clause-goes : goal.returns-clause-goes
-returns-clause-goes g c = λ role own eager names input taken upw none.
+returns-clause-goes g c = λ role own start input taken upw none.
     let H = g.P.H.Handler in
     let makes = g.P.Protocols in
     let piece = c.args.piece.now in
@@ -20,11 +20,11 @@ returns-clause-goes g c = λ role own eager names input taken upw none.
     c.in-Ok.ensures.ok ∙ take_all (length piece - used) (drop used piece) (omega (arith, length-drop used piece)) in
     let all : first ++ c.in-Ok.rest ≡ input ++ piece =
     ap (λ (t : List ℕ). first ++ t) rest_is ∙ append_assoc input (take used piece) (drop used piece) ∙ ap (λ (t : List ℕ). input ++ t) (take-append-drop used piece) in
-    let up = subst (λ (t : List (ConnEvent _)). IsUpWith H.steps H.fails H.is_closed H.is_finished makes.makes_inbound makes.makes_outbound makes.listed makes.is_eager eager names role own
+    let up = subst (λ (t : List (ConnEvent _)). IsUpWith H.steps H.fails H.is_closed H.is_finished makes.makes_inbound makes.makes_outbound makes.listed makes.is_eager makes.leads_inbound makes.leads_outbound start role own
     first [] t (taken ++ c.args.output.now.items) c.args.mux) (sym told_is) upw in
-    subst (λ (t : List ℕ). IfOk c.go_on.result (λ phase. Connects H.steps H.fails H.is_closed H.is_finished makes.makes_inbound makes.makes_outbound makes.listed makes.is_eager eager names role own
+    subst (λ (t : List ℕ). IfOk c.go_on.result (λ phase. Connects H.steps H.fails H.is_closed H.is_finished makes.makes_inbound makes.makes_outbound makes.listed makes.is_eager makes.leads_inbound makes.leads_outbound start role own
     t false [] c.go_on.new.told.items taken phase [] c.go_on.new.output.items)) all
-    (c.go_on.ensures.goes role own eager names first taken [] [] up)
+    (c.go_on.ensures.goes role own start first taken [] [] up)
 
 pub returns-in_err-tell-clause-waits : goal.returns-in_err-tell-clause-waits
 returns-in_err-tell-clause-waits g c = if_err c.from_residual.result (all_waits c.args.output.now.items)

@@ -7,6 +7,7 @@ use Rattle.yamux_session.specs.Output.{output}
 use Rattle.yamux_session.specs.State.{State}
 use Rattle.conn_log.specs.declared.event.ConnEvent.{ConnEvent}
 use Rattle.conn_log.specs.Entries.{items}
+use Rattle.conn_log.specs.Making.{MakesOn}
 use Rattle.conn_log.specs.Rests.{AreAtRest, Grows}
 use Rattle.mux.specs.Faults.{Faults}
 use Rattle.conn_core.specs.Connects.{IsUp, IsFaulty, session_role}
@@ -15,7 +16,7 @@ use Rattle.conn_core.proofs.Going.{as_known, up_on, up_faults}
 use Rattle.conn_core.proofs.connection.go_on.Goals as goal
 
 pub returns-then-has_failed-clause-goes : goal.returns-then-has_failed-clause-goes
-returns-then-has_failed-clause-goes g c = λ role own eager names input taken asked before upw.
+returns-then-has_failed-clause-goes g c = λ role own start input taken asked before upw.
     let H = g.P.H.Handler in
     let makes = g.P.Protocols in
     let mux = c.args.mux in
@@ -26,23 +27,25 @@ returns-then-has_failed-clause-goes g c = λ role own eager names input taken as
     let streams = tree.get nat_cmp board.streams in
     let after = c.feed.new.self in
     let failed : after.session.failed ≡ true = sym (ap (λ (s : State). s.failed) c.in_ok-collect.ensures.rest) ∙ sym c.has_failed.ensures ∙ c.if-has_failed.true in
-    let faults = as_known (makes.is_eager board.protocols) eager (makes.listed board.protocols) names board.peer (id_of up.key) board.role (session_role role) upw.1 upw.0 upw.3.1 upw.2
+    let faults = as_known (makes.is_eager board.protocols) (makes.is_eager start) (makes.listed board.protocols) (makes.listed start) board.peer (id_of up.key) board.role (session_role role) upw.1 upw.0 upw.3.1 upw.2
     (λ e n p r. AreAtRest H.steps H.fails H.is_closed H.is_finished makes.makes_inbound makes.makes_outbound e n p r up.log up.rest sent mux.session streams board.past.items
     → after.session.failed ≡ true
-    → Faults H.steps H.fails H.is_closed H.is_finished makes.makes_inbound makes.makes_outbound e n p r up.log [] c.args.told.now.items c.feed.new.told.items up.rest piece sent after.session.pending)
+    → Faults H.steps H.fails H.is_closed H.is_finished makes.makes_inbound makes.makes_outbound e n p r (MakesOn makes.leads_inbound makes.leads_outbound p r board.protocols after.board.protocols) up.log [] c.args.told.now.items c.feed.new.told.items up.rest piece sent after.session.pending)
     (c.in-Ok.ensures.faults up.log up.rest sent) up.at_rest failed in
-    let it = up_faults H.steps H.fails H.is_closed H.is_finished makes.makes_inbound makes.makes_outbound makes.listed makes.is_eager eager names role own
-    input piece asked before c.args.told.now.items c.feed.new.told.items c.tell.new.told.items (taken ++ c.args.output.now.items) after.session.pending mux.session streams board.past.items up faults
+    let from_now = subst (λ q. Faults H.steps H.fails H.is_closed H.is_finished makes.makes_inbound makes.makes_outbound (makes.is_eager start) (makes.listed start) (id_of up.key) (session_role role)
+    (MakesOn makes.leads_inbound makes.leads_outbound (id_of up.key) (session_role role) q after.board.protocols) up.log [] c.args.told.now.items c.feed.new.told.items up.rest piece sent after.session.pending) upw.3.2 faults in
+    let it = up_faults H.steps H.fails H.is_closed H.is_finished makes.makes_inbound makes.makes_outbound makes.listed makes.is_eager makes.leads_inbound makes.leads_outbound start role own
+    input piece asked before c.args.told.now.items c.feed.new.told.items c.tell.new.told.items (taken ++ c.args.output.now.items) after.session.pending mux.session streams board.past.items up after.board.protocols from_now
     c.in_ok-tell.ensures.told in
     let written : (taken ++ c.args.output.now.items) ++ after.session.pending ≡ taken ++ c.collect.new.output.items =
     append_assoc taken c.args.output.now.items after.session.pending ∙ ap (λ (t : List ℕ). taken ++ t) (sym c.in_ok-collect.ensures.moved) in (
       refl,
-      Session (subst (λ (t : List ℕ). IsFaulty H.steps H.fails H.is_closed H.is_finished makes.makes_inbound makes.makes_outbound makes.listed makes.is_eager eager names role own
+      Session (subst (λ (t : List ℕ). IsFaulty H.steps H.fails H.is_closed H.is_finished makes.makes_inbound makes.makes_outbound makes.listed makes.is_eager makes.leads_inbound makes.leads_outbound start role own
           (input ++ piece) asked (before ++ c.tell.new.told.items) t) written it),
     )
 
 pub returns-clause-goes : goal.returns-clause-goes
-returns-clause-goes g c = λ role own eager names input taken asked before upw.
+returns-clause-goes g c = λ role own start input taken asked before upw.
     let H = g.P.H.Handler in
     let makes = g.P.Protocols in
     let mux = c.args.mux in
@@ -54,23 +57,26 @@ returns-clause-goes g c = λ role own eager names input taken asked before upw.
     let after = c.feed.new.self in
     let later = tree.get nat_cmp after.board.streams in
     let still : after.session.failed ≡ false = sym (ap (λ (s : State). s.failed) c.in_ok-collect.ensures.rest) ∙ sym c.has_failed.ensures ∙ c.if-has_failed.false in
-    let grown = as_known (makes.is_eager board.protocols) eager (makes.listed board.protocols) names board.peer (id_of up.key) board.role (session_role role) upw.1 upw.0 upw.3.1 upw.2
+    let grows = as_known (makes.is_eager board.protocols) (makes.is_eager start) (makes.listed board.protocols) (makes.listed start) board.peer (id_of up.key) board.role (session_role role) upw.1 upw.0 upw.3.1 upw.2
     (λ e n p r. AreAtRest H.steps H.fails H.is_closed H.is_finished makes.makes_inbound makes.makes_outbound e n p r up.log up.rest sent mux.session streams board.past.items
     → after.session.failed ≡ false
-    → Grows H.steps H.fails H.is_closed H.is_finished makes.makes_inbound makes.makes_outbound e n p r up.log c.args.told.now.items c.feed.new.told.items (up.rest ++ piece) sent after.session
+    → Grows H.steps H.fails H.is_closed H.is_finished makes.makes_inbound makes.makes_outbound e n p r (MakesOn makes.leads_inbound makes.leads_outbound p r board.protocols after.board.protocols) up.log c.args.told.now.items c.feed.new.told.items (up.rest ++ piece) sent after.session
     later after.board.past.items)
     (c.in-Ok.ensures.goes up.log up.rest sent) up.at_rest still in
+    let grown = subst (λ q. Grows H.steps H.fails H.is_closed H.is_finished makes.makes_inbound makes.makes_outbound (makes.is_eager start) (makes.listed start) (id_of up.key) (session_role role)
+    (MakesOn makes.leads_inbound makes.leads_outbound (id_of up.key) (session_role role) q after.board.protocols) up.log c.args.told.now.items c.feed.new.told.items (up.rest ++ piece) sent after.session
+    later after.board.past.items) upw.3.2 grows in
     let there = c.in_ok-collect.ensures.stands (session_role role) (items (grown.newer ++ up.log)) (up.rest ++ piece) sent grown.at_rest.session_stands in
-    let it = up_on H.steps H.fails H.is_closed H.is_finished makes.makes_inbound makes.makes_outbound makes.listed makes.is_eager eager names role own
+    let it = up_on H.steps H.fails H.is_closed H.is_finished makes.makes_inbound makes.makes_outbound makes.listed makes.is_eager makes.leads_inbound makes.leads_outbound start role own
     input piece asked before c.args.told.now.items c.feed.new.told.items (taken ++ c.args.output.now.items) mux.session after.session c.collect.new.session streams later board.past.items after.board.past.items
-    up grown there in
+    up after.board.protocols grown there in
     let written : (taken ++ c.args.output.now.items) ++ after.session.pending ≡ taken ++ c.collect.new.output.items =
     append_assoc taken c.args.output.now.items after.session.pending ∙ ap (λ (t : List ℕ). taken ++ t) (sym c.in_ok-collect.ensures.moved) in
     let told : before ++ c.feed.new.told.items ≡ (before ++ c.feed.new.told.items) ++ [] = sym (append-nil (before ++ c.feed.new.told.items)) in
     let keeps = c.in-Ok.ensures.keeps in
-    let all = subst (λ (t : List ℕ). (x : IsUp H.steps H.fails H.is_closed H.is_finished makes.makes_inbound makes.makes_outbound makes.listed makes.is_eager eager names role own
-    (input ++ piece) asked ((before ++ c.feed.new.told.items) ++ []) t c.collect.new.session later after.board.past.items) × (after.board.peer ≡ id_of x.key)) written
-    (subst (λ (t : List (ConnEvent _)). (x : IsUp H.steps H.fails H.is_closed H.is_finished makes.makes_inbound makes.makes_outbound makes.listed makes.is_eager eager names role own
-    (input ++ piece) asked t ((taken ++ c.args.output.now.items) ++ after.session.pending) c.collect.new.session later after.board.past.items) × (after.board.peer ≡ id_of x.key)) told
-    (it.0, keeps.peer_is ∙ upw.3.1 ∙ sym (ap id_of it.1))) in
+    let all = subst (λ (t : List ℕ). (x : IsUp H.steps H.fails H.is_closed H.is_finished makes.makes_inbound makes.makes_outbound makes.listed makes.is_eager makes.leads_inbound makes.leads_outbound start role own
+    (input ++ piece) asked ((before ++ c.feed.new.told.items) ++ []) t c.collect.new.session later after.board.past.items) × (after.board.peer ≡ id_of x.key) × (after.board.protocols ≡ x.now)) written
+    (subst (λ (t : List (ConnEvent _)). (x : IsUp H.steps H.fails H.is_closed H.is_finished makes.makes_inbound makes.makes_outbound makes.listed makes.is_eager makes.leads_inbound makes.leads_outbound start role own
+    (input ++ piece) asked t ((taken ++ c.args.output.now.items) ++ after.session.pending) c.collect.new.session later after.board.past.items) × (after.board.peer ≡ id_of x.key) × (after.board.protocols ≡ x.now)) told
+    (it.0, keeps.peer_is ∙ upw.3.1 ∙ sym (ap id_of it.1), sym it.2)) in
     (refl, (keeps.names_are ∙ upw.0, keeps.eager_are ∙ upw.1, keeps.role_is ∙ upw.2, all))

@@ -2,7 +2,7 @@ use Rattle.conn_core.proofs.Counting.{each_is_answered as it}
 use Rattle.conn_core.proofs.laws.each_is_answered.Goals as goal
 
 pub returns : goal.returns
-returns g c = λ eager names role own.
+returns g c = λ start role own.
     let H = g.P.H.Handler in
     let makes = g.P.Protocols in
-    it H.steps H.fails H.is_closed H.is_finished makes.makes_inbound makes.makes_outbound makes.listed makes.is_eager eager names role own
+    it H.steps H.fails H.is_closed H.is_finished makes.makes_inbound makes.makes_outbound makes.listed makes.is_eager makes.leads_inbound makes.leads_outbound start role own

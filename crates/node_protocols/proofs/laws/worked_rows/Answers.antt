@@ -12,3 +12,6 @@ returns-clause-handlers c = rows.handlers
 
 pub returns-clause-stops : goal.returns-clause-stops
 returns-clause-stops c = rows.stops
+
+pub returns-clause-leads : goal.returns-clause-leads
+returns-clause-leads c = rows.leads

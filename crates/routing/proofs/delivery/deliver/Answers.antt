@@ -1,7 +1,7 @@
 use Rattle.std.proofs.Common.{◌≡◌, ◌≢◌, ℕ, List, ◌++◌, Bool, true, false, Option, Some, None, Ok, Err, refl, sym, ap, ◌∙◌, subst, inl, inr, take, drop}
 use Rattle.streams.specs.declared.heard.Heard.{Heard}
 use Rattle.streams.specs.State.{Streaming, is_talking, awaits_handler, kind_of}
-use Rattle.dispatch.specs.Dispatch.{made_by, Negotiates}
+use Rattle.dispatch.specs.Dispatch.{Negotiates, makes_once}
 use Rattle.routing.specs.declared.delivered.Delivered.{Delivered}
 use Rattle.routing.specs.Routing.{Delivers, HasAgreed}
 use Rattle.routing.proofs.Delivering.{not_both}
@@ -10,28 +10,32 @@ use Rattle.routing.proofs.delivery.deliver.Goals as goal
 pub returns-then-not-talks-clause-delivers : goal.returns-then-not-talks-clause-delivers
 returns-then-not-talks-clause-delivers g c = λ role past fed sent so_far at stands going awaits known e.
     let H = g.P.H.Handler in
-    let makes = made_by (g.P.Protocols.makes_inbound c.args.protocols.now) (g.P.Protocols.makes_outbound c.args.protocols.now) c.args.direction c.args.peer in
+    let P = g.P.Protocols in
+    let makes = makes_once P.makes_inbound P.makes_outbound P.leads_inbound P.leads_outbound c.args.direction c.args.peer c.args.protocols.now c.args.protocols.now in
+    let none_made = c.args.protocols.now ≡ c.args.protocols.now in
     let quiet : is_talking c.args.stream.now.stage ≡ false = sym c.if-not-talks.ensures in
     subst
-    (λ (d : Delivered _). Delivers H.steps H.fails H.is_closed H.is_finished role past fed sent c.args.number makes so_far c.args.bytes.now c.args.stream.now c.args.session.now d c.taken.new.session c.taken.new.stream)
+    (λ (d : Delivered _). Delivers H.steps H.fails H.is_closed H.is_finished role past fed sent c.args.number makes none_made so_far c.args.bytes.now c.args.stream.now c.args.session.now d c.taken.new.session c.taken.new.stream)
     (sym c.by_none.ensures)
-    (λ talks. absurd (not_both talks quiet), λ _. (refl, c.in_ok-outcome.ensures.takes role past fed sent so_far at stands going quiet awaits e))
+    (λ talks. absurd (not_both talks quiet), λ _. (refl, refl, c.in_ok-outcome.ensures.takes role past fed sent so_far at stands going quiet awaits e))
 
 pub returns-in_ok-deliver_credit-in-Ok-Going-clause-delivers :
     goal.returns-in_ok-deliver_credit-in-Ok-Going-clause-delivers
 returns-in_ok-deliver_credit-in-Ok-Going-clause-delivers g c = λ role past fed sent so_far at stands going awaits known e.
     let H = g.P.H.Handler in
-    let makes = made_by (g.P.Protocols.makes_inbound c.args.protocols.now) (g.P.Protocols.makes_outbound c.args.protocols.now) c.args.direction c.args.peer in
+    let P = g.P.Protocols in
+    let makes = makes_once P.makes_inbound P.makes_outbound P.leads_inbound P.leads_outbound c.args.direction c.args.peer c.args.protocols.now c.negotiate.new.protocols in
+    let none_made = c.negotiate.new.protocols ≡ c.args.protocols.now in
     let bytes = c.args.bytes.now in
     let talks : is_talking c.args.stream.now.stage ≡ true = sym c.if-not-talks.ensures in
     let middle = c.negotiate.new.stream in
-    let came = subst (λ (heard : Heard). Negotiates H.steps makes so_far bytes (Ok heard) middle) c.in-Ok-Going.field-0-is
+    let came = subst (λ (heard : Heard). Negotiates H.steps makes none_made so_far bytes (Ok heard) middle) c.in-Ok-Going.field-0-is
     (c.in-Ok-Going.ensures.negotiates so_far stands talks known (λ e. cc e)) in
     let now = record so_far { got = so_far.got ++ bytes } in
     subst
-    (λ (d : Delivered _). Delivers H.steps H.fails H.is_closed H.is_finished role past fed sent c.args.number makes so_far bytes c.args.stream.now c.args.session.now d c.deliver_credit.new.session c.deliver_credit.new.stream)
+    (λ (d : Delivered _). Delivers H.steps H.fails H.is_closed H.is_finished role past fed sent c.args.number makes none_made so_far bytes c.args.stream.now c.args.session.now d c.deliver_credit.new.session c.deliver_credit.new.stream)
     (sym c.by_none-in-Ok-Going.ensures) (
-      λ _. inl (middle, came.0, came.1, c.in_ok-deliver_credit-in-Ok-Going.ensures.came role past fed sent now at came.0 e),
+      λ _. inl (middle, came.0, came.1, came.2, c.in_ok-deliver_credit-in-Ok-Going.ensures.came role past fed sent now at came.0 e),
       λ quiet. absurd (not_both talks quiet),
     )
 
@@ -39,16 +43,18 @@ pub returns-in_ok-outcome-in-Ok-Agreed-clause-delivers :
     goal.returns-in_ok-outcome-in-Ok-Agreed-clause-delivers
 returns-in_ok-outcome-in-Ok-Agreed-clause-delivers g c = λ role past fed sent so_far at stands going awaits known e.
     let H = g.P.H.Handler in
-    let makes = made_by (g.P.Protocols.makes_inbound c.args.protocols.now) (g.P.Protocols.makes_outbound c.args.protocols.now) c.args.direction c.args.peer in
+    let P = g.P.Protocols in
+    let makes = makes_once P.makes_inbound P.makes_outbound P.leads_inbound P.leads_outbound c.args.direction c.args.peer c.args.protocols.now c.negotiate.new.protocols in
+    let none_made = c.negotiate.new.protocols ≡ c.args.protocols.now in
     let bytes = c.args.bytes.now in
     let talks : is_talking c.args.stream.now.stage ≡ true = sym c.if-not-talks.ensures in
     let middle = c.negotiate.new.stream in
     let index = c.in-Ok-Agreed.index in
     let used = c.in-Ok-Agreed.used in
-    let came = subst (λ (heard : Heard). Negotiates H.steps makes so_far bytes (Ok heard) middle) c.in-Ok-Agreed.field-0-is
+    let came = subst (λ (heard : Heard). Negotiates H.steps makes none_made so_far bytes (Ok heard) middle) c.in-Ok-Agreed.field-0-is
     (c.in-Ok-Agreed.ensures.negotiates so_far stands talks known (λ e. cc e)) in
     let now = record so_far { got = so_far.got ++ take used bytes; made = Some came.1.0 } in
-    let has : HasAgreed H.steps H.fails H.is_closed H.is_finished role past fed sent c.args.number makes so_far bytes index (take used bytes) (drop used bytes) middle = record {
+    let has : HasAgreed H.steps H.fails H.is_closed H.is_finished role past fed sent c.args.number makes none_made so_far bytes index (take used bytes) (drop used bytes) middle = record {
       agrees = came.0;
       made = came.1.0;
       is_made = came.1.1;

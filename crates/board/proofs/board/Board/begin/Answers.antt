@@ -13,8 +13,10 @@ use Rattle.conn_log.specs.declared.event.ConnEvent.{ConnEvent}
 use Rattle.conn_log.specs.Asked.{told_of}
 use Rattle.conn_log.specs.Entries.{Entry, items}
 use Rattle.conn_log.specs.Entries.Entry.{Asks}
+use Rattle.conn_log.specs.Making.{MakesOn}
 use Rattle.conn_log.specs.Routes.{Comes, Routed}
 use Rattle.conn_log.proofs.Comes.{went}
+use Rattle.conn_log.proofs.Making.{makes_none}
 use Rattle.conn_log.proofs.Settling.{routed_on}
 use Rattle.conn_log.proofs.Asking.{at_first, around_asked, held_asked, was_asked, gives_up_only}
 use Rattle.board.proofs.Tables.{elsewhere, here}
@@ -23,11 +25,11 @@ use Rattle.board.proofs.board.Board.begin.Goals as goal
 -- what a stream came to leads on, where the protocols are these
 abbrev LeadsOn : {P H A E : Type 0} (step : H → HandlerCall → H → Type 0) (fails : H → Asked → ℕ → Type 0) (is_closed is_finished : H → Bool)
     (inbound_makes outbound_makes : P → ℕ → List ℕ → H → Type 0) (eager : ℕ → Bool) (names : List (List ℕ)) (peer : List ℕ) (role : Role) (log : List (Entry H))
-    (before after : List (ConnEvent H)) (fed sent : List ℕ) (session later : State) (streams then : ℕ → Option (Streaming H)) (past aside : List (Earlier H)) (n : ℕ) (view : Seen) (outcome : Outcome H)
+    (making : List (Entry H) → List (Entry H) → Type 0) (before after : List (ConnEvent H)) (fed sent : List ℕ) (session later : State) (streams then : ℕ → Option (Streaming H)) (past aside : List (Earlier H)) (n : ℕ) (view : Seen) (outcome : Outcome H)
     → Result A E → Type 0
-LeadsOn step fails is_closed is_finished inbound_makes outbound_makes eager names peer role log before after fed sent session later streams then past aside n view outcome result =
+LeadsOn step fails is_closed is_finished inbound_makes outbound_makes eager names peer role log making before after fed sent session later streams then past aside n view outcome result =
     Comes step fails is_closed is_finished inbound_makes outbound_makes eager names peer role log fed sent session streams past n view [] outcome
-    → OnOk result (Routed step fails is_closed is_finished inbound_makes outbound_makes eager names peer role log before after fed sent later then aside n [])
+    → OnOk result (Routed step fails is_closed is_finished inbound_makes outbound_makes eager names peer role making log before after fed sent later then aside n [])
 
 both : {A E P Q R : Type 0} (r : Result A E) → (P → Q → R) → OnOk r P → OnOk r Q → OnOk r R
 both (Ok x) f p q = f p q
@@ -49,32 +51,35 @@ returns-clause-begins g c = λ log fed sent before r there.
     let updates = c.in_ok-insert.ensures in
     let early = c.in_ok-handler.ensures.early in
     let around = around_asked H.steps H.fails H.is_closed H.is_finished makes.makes_inbound makes.makes_outbound (makes.is_eager board.protocols) (makes.listed board.protocols) board.peer board.role
-    c.acts_tell.ensures.seen c.acts_tell.ensures.windows log fed sent before c.args.session.now old old board.past.items n c.args.index handler board.protocols r there c.requires early
+    c.acts_tell.ensures.seen c.acts_tell.ensures.windows log fed sent before c.args.session.now old old board.past.items n c.args.index handler makes.leads_inbound makes.leads_outbound board.protocols c.early.new.protocols r there c.requires early
     (λ m apart. refl) in
     let held = held_asked H.steps H.fails H.is_closed H.is_finished makes.makes_inbound makes.makes_outbound (makes.is_eager board.protocols) (makes.listed board.protocols) board.peer board.role
-    c.acts_tell.ensures.seen c.acts_tell.ensures.windows log fed sent before c.args.session.now old old board.past.items n c.args.index handler board.protocols r there c.requires early
+    c.acts_tell.ensures.seen c.acts_tell.ensures.windows log fed sent before c.args.session.now old old board.past.items n c.args.index handler makes.leads_inbound makes.leads_outbound board.protocols c.early.new.protocols r there c.requires early
     stream asks.0 (ap (λ (t : List (List ℕ)). Rattle.std.specs.Prelude.slice_get t c.args.index) (sym c.in_ok-handler.ensures.names) ∙ asks.1) asks.3 asks.2 in
     let came = c.in_ok-outcome.ensures.came board.role (items log_now) fed sent held.so_far around.session_stands held.stands held.sent_is in
     let now = went H.steps H.fails H.is_closed H.is_finished makes.makes_inbound makes.makes_outbound (makes.is_eager board.protocols) (makes.listed board.protocols) board.peer board.role
     c.acts_tell.ensures.seen c.acts_tell.ensures.windows log_now fed sent c.args.session.now c.deliver_credit.new.session old table board.past.items n just_opened [] stream c.deliver_credit.new.stream
     around held (λ off. absurd (cc off)) (elsewhere old table n (Some c.deliver_credit.new.stream) updates) (here old table n (Some c.deliver_credit.new.stream) updates) outcome came in
+    let making = MakesOn makes.leads_inbound makes.leads_outbound board.peer board.role c.early.new.protocols c.settle.new.self.protocols in
     let leads = subst
     (λ (e : ℕ → Bool). LeadsOn H.steps H.fails H.is_closed H.is_finished makes.makes_inbound makes.makes_outbound e (makes.listed board.protocols) board.peer board.role (now.newer ++ log_now)
-    c.args.owed.now.items c.settle.new.told.items fed sent c.deliver_credit.new.session c.settle.new.session table (tree.get nat_cmp c.settle.new.self.streams) board.past.items
+    making c.args.owed.now.items c.settle.new.told.items fed sent c.deliver_credit.new.session c.settle.new.session table (tree.get nat_cmp c.settle.new.self.streams) board.past.items
     c.settle.new.self.past.items n now.seen_now outcome c.settle.result)
     c.in_ok-handler.ensures.eager
     (subst
     (λ (names : List (List ℕ)). LeadsOn H.steps H.fails H.is_closed H.is_finished makes.makes_inbound makes.makes_outbound (makes.is_eager c.early.new.protocols) names board.peer board.role
-    (now.newer ++ log_now) c.args.owed.now.items c.settle.new.told.items fed sent c.deliver_credit.new.session c.settle.new.session table (tree.get nat_cmp c.settle.new.self.streams) board.past.items
+    (now.newer ++ log_now) making c.args.owed.now.items c.settle.new.told.items fed sent c.deliver_credit.new.session c.settle.new.session table (tree.get nat_cmp c.settle.new.self.streams) board.past.items
     c.settle.new.self.past.items n now.seen_now outcome c.settle.result)
     c.in_ok-handler.ensures.names
     (c.settle.ensures.settles (now.newer ++ log_now) fed sent now.seen_now [])) in
     both c.settle.result
     (λ routed told_is. was_asked H.steps H.fails H.is_closed H.is_finished makes.makes_inbound makes.makes_outbound (makes.is_eager board.protocols) (makes.listed board.protocols) board.peer board.role
-    c.acts_tell.ensures.seen c.acts_tell.ensures.windows log fed sent before c.args.session.now old old board.past.items n c.args.index handler board.protocols r there c.requires early
-    c.args.owed.now.items c.settle.new.told.items c.settle.new.session (tree.get nat_cmp c.settle.new.self.streams) c.settle.new.self.past.items
+    c.acts_tell.ensures.seen c.acts_tell.ensures.windows log fed sent before c.args.session.now old old board.past.items n c.args.index handler makes.leads_inbound makes.leads_outbound board.protocols c.early.new.protocols r there c.requires early
+    c.settle.new.self.protocols c.args.owed.now.items c.settle.new.told.items c.settle.new.session (tree.get nat_cmp c.settle.new.self.streams) c.settle.new.self.past.items
     (routed_on H.steps H.fails H.is_closed H.is_finished makes.makes_inbound makes.makes_outbound (makes.is_eager board.protocols) (makes.listed board.protocols) board.peer board.role log_now
-    now.newer c.args.owed.now.items c.settle.new.told.items fed sent c.settle.new.session (tree.get nat_cmp c.settle.new.self.streams) c.settle.new.self.past.items n [] now.none_said now.untold now.unasked routed)
+    now.newer c.args.owed.now.items c.settle.new.told.items fed sent c.settle.new.session (tree.get nat_cmp c.settle.new.self.streams) c.settle.new.self.past.items n [] making making
+    (λ longer made first was. made first (makes_none makes.leads_inbound makes.leads_outbound board.peer board.role c.early.new.protocols c.early.new.protocols refl log_now now.newer now.unmade first was))
+    now.none_said now.untold now.unasked routed)
     (told_of n outcome) told_is
     (gives_up_only H.steps H.fails H.is_closed H.is_finished board.role (items log_now) fed sent n held.so_far stream c.args.session.now outcome c.deliver_credit.new.session c.deliver_credit.new.stream
     asks.2 came))

@@ -5,8 +5,10 @@ use Rattle.std.specs.BTreeMap as tree
 use Rattle.yamux_session.specs.Events.{Told}
 use Rattle.streams.specs.State.{Streaming}
 use Rattle.conn_log.specs.Entries.{items}
+use Rattle.conn_log.specs.Making.{MakesOn}
 use Rattle.conn_log.specs.Routes.{IsMoving, Routed}
 use Rattle.conn_log.proofs.Ending.{end_came, has_ended}
+use Rattle.conn_log.proofs.Making.{makes_none}
 use Rattle.conn_log.proofs.Settling.{routed_on}
 use Rattle.board.proofs.Tables.{elsewhere, here}
 use Rattle.board.proofs.Telling.{on_ok, end_dropped}
@@ -18,10 +20,12 @@ returns-in_default-clause-routes g c = λ log fed sent view rest r.
     let makes = g.P.Protocols in
     let board = c.args.self.now in
     subst (λ (f : ℕ → Option (Streaming _)). Routed H.steps H.fails H.is_closed H.is_finished makes.makes_inbound makes.makes_outbound (makes.is_eager board.protocols) (makes.listed board.protocols)
-    board.peer board.role log c.args.told.now.items c.args.told.now.items fed sent c.args.session.now f board.past.items c.args.number rest)
+    board.peer board.role (MakesOn makes.leads_inbound makes.leads_outbound board.peer board.role board.protocols board.protocols)
+    log c.args.told.now.items c.args.told.now.items fed sent c.args.session.now f board.past.items c.args.number rest)
     (ap (tree.get nat_cmp) (sym c.get_mut.follows.holds-at-none))
     (end_dropped H.steps H.fails H.is_closed H.is_finished makes.makes_inbound makes.makes_outbound (makes.is_eager board.protocols) (makes.listed board.protocols) board.peer board.role log
-    c.args.told.now.items c.args.told.now.items fed sent c.args.session.now (tree.get nat_cmp board.streams) board.past.items c.args.number rest view refl (sym c.in_default.ensures.value) r)
+    c.args.told.now.items c.args.told.now.items fed sent c.args.session.now (tree.get nat_cmp board.streams) board.past.items c.args.number rest
+    (MakesOn makes.leads_inbound makes.leads_outbound board.peer board.role board.protocols board.protocols) (λ first was. was) view refl (sym c.in_default.ensures.value) r)
 
 pub returns-clause-routes : goal.returns-clause-routes
 returns-clause-routes g c = λ log fed sent view rest r.
@@ -45,5 +49,9 @@ returns-clause-routes g c = λ log fed sent view rest r.
     c.in_ok-outcome.outcome ends in
     on_ok c.settle.result
     (λ routed. routed_on H.steps H.fails H.is_closed H.is_finished makes.makes_inbound makes.makes_outbound (makes.is_eager board.protocols) (makes.listed board.protocols) board.peer board.role log
-    now.newer c.args.told.now.items c.settle.new.told.items fed sent c.settle.new.session (tree.get nat_cmp c.settle.new.self.streams) c.settle.new.self.past.items n rest now.none_said now.untold now.unasked routed)
+    now.newer c.args.told.now.items c.settle.new.told.items fed sent c.settle.new.session (tree.get nat_cmp c.settle.new.self.streams) c.settle.new.self.past.items n rest
+    (MakesOn makes.leads_inbound makes.leads_outbound board.peer board.role board.protocols c.settle.new.self.protocols)
+    (MakesOn makes.leads_inbound makes.leads_outbound board.peer board.role board.protocols c.settle.new.self.protocols)
+    (λ longer made first was. made first (makes_none makes.leads_inbound makes.leads_outbound board.peer board.role board.protocols board.protocols refl log now.newer now.unmade first was))
+    now.none_said now.untold now.unasked routed)
     (c.settle.ensures.settles (now.newer ++ log) fed sent now.seen_now rest now.comes)

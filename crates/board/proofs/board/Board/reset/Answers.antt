@@ -7,6 +7,7 @@ use Rattle.streams.specs.declared.stop.Cause.TheVariants as causes
 use Rattle.streams.specs.State.{Streaming}
 use Rattle.conn_log.specs.declared.event.ConnEvent.TheVariants as event
 use Rattle.conn_log.specs.Due.{told_reset}
+use Rattle.conn_log.specs.Making.{MakesOn}
 use Rattle.conn_log.specs.Routes.{IsMoving}
 use Rattle.conn_log.proofs.Views.{same, gone}
 use Rattle.conn_log.proofs.Resetting.{forgotten, was_broken}
@@ -26,7 +27,8 @@ returns-in_default-clause-routes g c = λ log fed sent session view rest r.
     let n = c.args.number in
     let old = tree.get nat_cmp board.streams in
     told_none H.steps H.fails H.is_closed H.is_finished makes.makes_inbound makes.makes_outbound (makes.is_eager board.protocols) (makes.listed board.protocols) board.peer board.role log
-    c.args.told.now.items c.args.told.now.items fed sent session _ board.past.items n rest (gone view) refl
+    c.args.told.now.items c.args.told.now.items fed sent session _ board.past.items n rest
+    (MakesOn makes.leads_inbound makes.leads_outbound board.peer board.role board.protocols board.protocols) (λ first was. was) (gone view) refl
     (forgotten H.steps H.fails H.is_closed H.is_finished makes.makes_inbound makes.makes_outbound (makes.is_eager board.protocols) (makes.listed board.protocols) board.peer board.role log
     fed sent session old _ board.past.items n view rest r.around
     (over_by _ (λ going. not_some (old n) (r.own_to_reset (ap (λ b. b || told_reset n rest) (same n)) going) (sym c.in_default.ensures.value)))
@@ -42,7 +44,8 @@ returns-then-was_handed_out-clause-routes g c = λ log fed sent session view res
     let moving = subst (λ (t : Option (Streaming _)). IfSome t (λ it. IsMoving H.steps H.fails H.is_closed H.is_finished makes.makes_inbound makes.makes_outbound (makes.is_eager board.protocols)
     (makes.listed board.protocols) board.peer board.role log n view (Told.Reset n ∷ rest) it)) (sym c.in-Some.ensures.value) r.own in
     told_none H.steps H.fails H.is_closed H.is_finished makes.makes_inbound makes.makes_outbound (makes.is_eager board.protocols) (makes.listed board.protocols) board.peer board.role log
-    c.args.told.now.items c.args.told.now.items fed sent session _ board.past.items n rest (gone view) refl
+    c.args.told.now.items c.args.told.now.items fed sent session _ board.past.items n rest
+    (MakesOn makes.leads_inbound makes.leads_outbound board.peer board.role board.protocols board.protocols) (λ first was. was) (gone view) refl
     (forgotten H.steps H.fails H.is_closed H.is_finished makes.makes_inbound makes.makes_outbound (makes.is_eager board.protocols) (makes.listed board.protocols) board.peer board.role log
     fed sent session old _ board.past.items n view rest r.around (moving.held.over ∙ sym c.was_handed_out.ensures ∙ c.if-was_handed_out.true)
     (elsewhere old _ n None c.remove.ensures.updates.0) (here old _ n None c.remove.ensures.updates.0))
@@ -58,7 +61,8 @@ returns-clause-routes g c = λ log fed sent session view rest r.
     (makes.listed board.protocols) board.peer board.role log n view (Told.Reset n ∷ rest) it)) (sym c.in-Some.ensures.value) r.own in
     on_ok c.tell.result
     (λ is. told_at H.steps H.fails H.is_closed H.is_finished makes.makes_inbound makes.makes_outbound (makes.is_eager board.protocols) (makes.listed board.protocols) board.peer board.role log
-    c.args.told.now.items c.tell.new.told.items fed sent session _ board.past.items n rest (gone view) (event.Broken n causes.Reset) is
+    c.args.told.now.items c.tell.new.told.items fed sent session _ board.past.items n rest
+    (MakesOn makes.leads_inbound makes.leads_outbound board.peer board.role board.protocols board.protocols) (gone view) (event.Broken n causes.Reset) (λ first was. was) is
     (was_broken H.steps H.fails H.is_closed H.is_finished makes.makes_inbound makes.makes_outbound (makes.is_eager board.protocols) (makes.listed board.protocols) board.peer board.role log
     fed sent session old _ board.past.items n view rest r.around (elsewhere old _ n None c.remove.ensures.updates.0) (here old _ n None c.remove.ensures.updates.0)
     c.in-Some.stream moving (sym c.was_handed_out.ensures ∙ c.if-was_handed_out.false)))

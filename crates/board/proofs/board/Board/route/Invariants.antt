@@ -5,7 +5,7 @@ use Rattle.std.specs.BTreeMap as tree
 use Rattle.yamux_session.specs.Arrives.{tellings}
 use Rattle.conn_log.specs.Entries.{Entry}
 use Rattle.conn_log.specs.Routes.{IsFor, Awaits, IsUnderWay}
-use Rattle.board.specs.Boards.{Keeps}
+use Rattle.board.specs.Boards.{Keeps, MakesOnBoard}
 use Rattle.board.proofs.board.Board.route.Given as goal
 
 abbrev pub invariant-loop-event : goal.invariant-loop-event
@@ -19,5 +19,5 @@ invariant-loop-event g l =
           → Awaits H.steps H.fails H.is_closed H.is_finished makes.makes_inbound makes.makes_outbound (makes.is_eager board.protocols) (makes.listed board.protocols) board.peer board.role
           log fed sent l.fn.session (tree.get nat_cmp board.streams) board.past.items n (tellings l.fn.events)
           → IsUnderWay H.steps H.fails H.is_closed H.is_finished makes.makes_inbound makes.makes_outbound (makes.is_eager board.protocols) (makes.listed board.protocols) board.peer board.role
-          log l.fn.told.items l.told.items fed sent l.session (tree.get nat_cmp l.self.streams) l.self.past.items n (tellings (drop l.event-index l.fn.events));
+          (MakesOnBoard makes.leads_inbound makes.leads_outbound board l.self) log l.fn.told.items l.told.items fed sent l.session (tree.get nat_cmp l.self.streams) l.self.past.items n (tellings (drop l.event-index l.fn.events));
     }

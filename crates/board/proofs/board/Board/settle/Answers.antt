@@ -4,6 +4,7 @@ use Rattle.std.specs.BTreeMap as tree
 use Rattle.routing.specs.declared.delivered.Outcome.{Outcome}
 use Rattle.conn_log.specs.declared.event.ConnEvent.TheVariants as event
 use Rattle.conn_log.specs.Entries.Entry.{Says}
+use Rattle.conn_log.specs.Making.{MakesOn}
 use Rattle.conn_log.specs.Routes.{Comes}
 use Rattle.board.proofs.Telling.{on_ok, told_none, told_at, told_then}
 use Rattle.board.proofs.board.Board.settle.Goals as goal
@@ -16,7 +17,8 @@ returns-in-Going-clause-settles g c = λ log fed sent view rest comes.
     let there = subst (λ (o : Outcome _). Comes H.steps H.fails H.is_closed H.is_finished makes.makes_inbound makes.makes_outbound (makes.is_eager board.protocols) (makes.listed board.protocols)
     board.peer board.role log fed sent c.args.session.now (tree.get nat_cmp board.streams) board.past.items c.args.number view rest o) c.in-Going.is comes in
     told_none H.steps H.fails H.is_closed H.is_finished makes.makes_inbound makes.makes_outbound (makes.is_eager board.protocols) (makes.listed board.protocols) board.peer board.role log
-    c.args.told.now.items c.args.told.now.items fed sent c.args.session.now (tree.get nat_cmp board.streams) board.past.items c.args.number rest view refl there
+    c.args.told.now.items c.args.told.now.items fed sent c.args.session.now (tree.get nat_cmp board.streams) board.past.items c.args.number rest
+    (MakesOn makes.leads_inbound makes.leads_outbound board.peer board.role board.protocols board.protocols) (λ first was. was) view refl there
 
 pub returns-in-Done-clause-settles : goal.returns-in-Done-clause-settles
 returns-in-Done-clause-settles g c = λ log fed sent view rest comes.
@@ -27,7 +29,8 @@ returns-in-Done-clause-settles g c = λ log fed sent view rest comes.
     board.peer board.role log fed sent c.args.session.now (tree.get nat_cmp board.streams) board.past.items c.args.number view rest o) c.in-Done.is comes in
     on_ok c.tell.result
     (λ is. told_at H.steps H.fails H.is_closed H.is_finished makes.makes_inbound makes.makes_outbound (makes.is_eager board.protocols) (makes.listed board.protocols) board.peer board.role log
-    c.args.told.now.items c.tell.new.told.items fed sent c.args.session.now (tree.get nat_cmp board.streams) board.past.items c.args.number rest view (event.Done c.args.number c.in-Done.handler) is there)
+    c.args.told.now.items c.tell.new.told.items fed sent c.args.session.now (tree.get nat_cmp board.streams) board.past.items c.args.number rest
+    (MakesOn makes.leads_inbound makes.leads_outbound board.peer board.role board.protocols board.protocols) view (event.Done c.args.number c.in-Done.handler) (λ first was. was) is there)
     c.tell.ensures
 
 pub returns-in_ok-give_up-in-Refused-clause-settles :
@@ -41,7 +44,9 @@ returns-in_ok-give_up-in-Refused-clause-settles g c = λ log fed sent view rest 
     on_ok c.tell-in-Refused.result
     (λ is. told_then H.steps H.fails H.is_closed H.is_finished makes.makes_inbound makes.makes_outbound (makes.is_eager board.protocols) (makes.listed board.protocols) board.peer board.role log
     c.args.told.now.items c.tell-in-Refused.new.told.items fed sent c.give_up.new.session (tree.get nat_cmp c.give_up.new.self.streams) c.give_up.new.self.past.items c.args.number rest
-    (event.Refused c.args.number) is
+    (MakesOn makes.leads_inbound makes.leads_outbound board.peer board.role board.protocols c.give_up.new.self.protocols)
+    (MakesOn makes.leads_inbound makes.leads_outbound board.peer board.role board.protocols c.give_up.new.self.protocols)
+    (event.Refused c.args.number) (λ longer made. made) is
     (c.in_ok-give_up-in-Refused.ensures.gives_up (Says (event.Refused c.args.number) ∷ log) fed sent view rest [] there refl))
     c.tell-in-Refused.ensures
 
@@ -56,6 +61,9 @@ returns-in_ok-give_up-in-Broken-clause-settles g c = λ log fed sent view rest c
     on_ok c.tell-in-Broken.result
     (λ is. told_then H.steps H.fails H.is_closed H.is_finished makes.makes_inbound makes.makes_outbound (makes.is_eager board.protocols) (makes.listed board.protocols) board.peer board.role log
     c.args.told.now.items c.tell-in-Broken.new.told.items fed sent c.give_up-in-Broken.new.session (tree.get nat_cmp c.give_up-in-Broken.new.self.streams) c.give_up-in-Broken.new.self.past.items
-    c.args.number rest (event.Broken c.args.number c.in-Broken.cause) is
+    c.args.number rest
+    (MakesOn makes.leads_inbound makes.leads_outbound board.peer board.role board.protocols c.give_up-in-Broken.new.self.protocols)
+    (MakesOn makes.leads_inbound makes.leads_outbound board.peer board.role board.protocols c.give_up-in-Broken.new.self.protocols)
+    (event.Broken c.args.number c.in-Broken.cause) (λ longer made. made) is
     (c.in_ok-give_up-in-Broken.ensures.gives_up (Says (event.Broken c.args.number c.in-Broken.cause) ∷ log) fed sent view rest [] there.0 (refl, there.1)))
     c.tell-in-Broken.ensures

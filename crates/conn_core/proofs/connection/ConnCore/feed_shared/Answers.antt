@@ -26,21 +26,21 @@ returns-in_err-self-clause-waits g c =
     (subst (λ (x : Phase _ _). Grows (waiting_in x core.output.items) output) c.replace-phase.ensures.value c.in_err-self.ensures.waits))
 
 pub returns-clause-fed : goal.returns-clause-fed
-returns-clause-fed g c = λ role own eager names input taken asked told stands going.
+returns-clause-fed g c = λ role own start input taken asked told stands going.
     let H = g.P.H.Handler in
     let makes = g.P.Protocols in
     let core = c.args.self.now in
-    let own_role = subst (λ (r : ConnRole). Connects H.steps H.fails H.is_closed H.is_finished makes.makes_inbound makes.makes_outbound makes.listed makes.is_eager eager names r own
+    let own_role = subst (λ (r : ConnRole). Connects H.steps H.fails H.is_closed H.is_finished makes.makes_inbound makes.makes_outbound makes.listed makes.is_eager makes.leads_inbound makes.leads_outbound start r own
     input false asked told taken core.phase core.owed.items core.output.items) (sym stands.0) stands.1 in
-    let from_phase = subst (λ (x : Phase _ _). Connects H.steps H.fails H.is_closed H.is_finished makes.makes_inbound makes.makes_outbound makes.listed makes.is_eager eager names core.role own
+    let from_phase = subst (λ (x : Phase _ _). Connects H.steps H.fails H.is_closed H.is_finished makes.makes_inbound makes.makes_outbound makes.listed makes.is_eager makes.leads_inbound makes.leads_outbound start core.role own
     input false asked told taken x core.owed.items core.output.items) (sym c.replace-phase.ensures.value) own_role in
-    let from_owed = subst (λ (v : Vec (ConnEvent _)). Connects H.steps H.fails H.is_closed H.is_finished makes.makes_inbound makes.makes_outbound makes.listed makes.is_eager eager names
+    let from_owed = subst (λ (v : Vec (ConnEvent _)). Connects H.steps H.fails H.is_closed H.is_finished makes.makes_inbound makes.makes_outbound makes.listed makes.is_eager makes.leads_inbound makes.leads_outbound start
     core.role own input false asked told taken c.replace-phase.result v.items core.output.items) (sym c.replace-told.ensures.value) from_phase in
-    let goes = c.in_ok-self.ensures.goes own eager names input taken asked told from_owed (ap is_over c.replace-phase.ensures.value ∙ going) in
+    let goes = c.in_ok-self.ensures.goes own start input taken asked told from_owed (ap is_over c.replace-phase.ensures.value ∙ going) in
     let none_owed : c.replace-told.new.dest.items ≡ [] = ap (λ (v : Vec (ConnEvent _)). v.items) c.replace-told.ensures.after ∙ c.new.ensures.items in (
       stands.0,
-      subst (λ (r : ConnRole). Connects H.steps H.fails H.is_closed H.is_finished makes.makes_inbound makes.makes_outbound makes.listed makes.is_eager eager names r own
+      subst (λ (r : ConnRole). Connects H.steps H.fails H.is_closed H.is_finished makes.makes_inbound makes.makes_outbound makes.listed makes.is_eager makes.leads_inbound makes.leads_outbound start r own
           (input ++ c.args.piece) false asked (told ++ c.take_on.new.told.items) taken c.in_ok-self.field-0 c.replace-told.new.dest.items c.take_on.new.output.items) stands.0
-          (subst (λ (t : List (ConnEvent _)). Connects H.steps H.fails H.is_closed H.is_finished makes.makes_inbound makes.makes_outbound makes.listed makes.is_eager eager names core.role own
+          (subst (λ (t : List (ConnEvent _)). Connects H.steps H.fails H.is_closed H.is_finished makes.makes_inbound makes.makes_outbound makes.listed makes.is_eager makes.leads_inbound makes.leads_outbound start core.role own
           (input ++ c.args.piece) false asked (told ++ c.take_on.new.told.items) taken c.in_ok-self.field-0 t c.take_on.new.output.items) (sym none_owed) goes),
     )

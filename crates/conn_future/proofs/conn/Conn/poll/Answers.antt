@@ -11,7 +11,7 @@ use Rattle.conn_future.proofs.conn.Conn.poll.Goals as goal
 use Rattle.conn_future.proofs.conn.Conn.poll.Goals.{then-not-is_empty-via-then-not-is_empty, then-not-is_empty-via-else-not-is_empty+then-not-is_live}
 
 pub returns-then-not-is_empty-clause-fault : goal.returns-then-not-is_empty-clause-fault
-returns-then-not-is_empty-clause-fault g c eager names role own first asked gave stays is = absurd (c.give.ensures.not_link eager names role own first asked gave stays (cc is))
+returns-then-not-is_empty-clause-fault g c start role own first asked gave stays is = absurd (c.give.ensures.not_link start role own first asked gave stays (cc is))
 
 pub loop-init : goal.loop-init
 loop-init g c =
@@ -22,7 +22,7 @@ loop-init g c =
       stage = refl;
       none_held = none_of c.args.self.now.held.items none;
       failures = refl;
-      follows = λ eager names role own first asked gave stays. stays;
+      follows = λ start role own first asked gave stays. stays;
       shutting = λ is. ([], g.met.L.Link.moves_nothing c.args.self.now.link);
       waits = record { reading = λ is. absurd (cc is); writing = λ is. absurd (cc is) };
       kept = λ fact holds. holds;
@@ -34,8 +34,8 @@ loop-preserved g c = record {
   stage = c.in-Again.ensures.goes_on.0 ∙ c.loop.invariant.stage;
   none_held = c.in-Again.ensures.goes_on.1;
   failures = search rules;
-  follows = λ eager names role own first asked gave stays. subst (λ (l : List (ConnEvent _)). Follows g.L.Link g.P.Protocols g.P.H.Handler eager names role own first asked l c.turn.new.self) (append-nil gave)
-      (c.in-Again.ensures.follows eager names role own first asked gave (c.loop.invariant.follows eager names role own first asked gave stays));
+  follows = λ start role own first asked gave stays. subst (λ (l : List (ConnEvent _)). Follows g.L.Link g.P.Protocols g.P.H.Handler start role own first asked l c.turn.new.self) (append-nil gave)
+      (c.in-Again.ensures.follows start role own first asked gave (c.loop.invariant.follows start role own first asked gave stays));
   shutting = λ is. shut_on g.L.Link.moves g.met.L.Link.moves_on c.args.self.now.link c.loop.self.link c.turn.new.self.link
       (c.loop.invariant.shutting is) (c.turn.ensures.shutting (c.loop.invariant.stage ∙ is));
   waits = c.in-Again.ensures.waits c.loop.invariant.waits;
@@ -43,13 +43,13 @@ loop-preserved g c = record {
 }
 
 pub returns-in-Give-clause-follows : goal.returns-in-Give-clause-follows
-returns-in-Give-clause-follows g c eager names role own first asked gave stays = c.in-Give.ensures.follows eager names role own first asked gave (c.loop.invariant.follows eager names role own first asked gave stays)
+returns-in-Give-clause-follows g c start role own first asked gave stays = c.in-Give.ensures.follows start role own first asked gave (c.loop.invariant.follows start role own first asked gave stays)
 
 pub returns-in-Failed-clause-follows : goal.returns-in-Failed-clause-follows
-returns-in-Failed-clause-follows g c eager names role own first asked gave stays = c.in-Failed.ensures.follows eager names role own first asked gave (c.loop.invariant.follows eager names role own first asked gave stays)
+returns-in-Failed-clause-follows g c start role own first asked gave stays = c.in-Failed.ensures.follows start role own first asked gave (c.loop.invariant.follows start role own first asked gave stays)
 
 pub returns-in-Wait-clause-follows : goal.returns-in-Wait-clause-follows
-returns-in-Wait-clause-follows g c eager names role own first asked gave stays = c.in-Wait.ensures.follows eager names role own first asked gave (c.loop.invariant.follows eager names role own first asked gave stays)
+returns-in-Wait-clause-follows g c start role own first asked gave stays = c.in-Wait.ensures.follows start role own first asked gave (c.loop.invariant.follows start role own first asked gave stays)
 
 pub returns-in-Give-clause-shutting : goal.returns-in-Give-clause-shutting
 returns-in-Give-clause-shutting g c is = shut_on g.L.Link.moves g.met.L.Link.moves_on c.args.self.now.link c.loop.self.link c.turn.new.self.link
@@ -64,24 +64,24 @@ returns-in-Wait-clause-shutting g c is = shut_on g.L.Link.moves g.met.L.Link.mov
     (c.loop.invariant.shutting is) (c.turn.ensures.shutting (c.loop.invariant.stage ∙ is))
 
 pub returns-in-Give-clause-fault : goal.returns-in-Give-clause-fault
-returns-in-Give-clause-fault g c eager names role own first asked gave stays is = absurd (c.in-Give.ensures.not_link eager names role own first asked gave (c.loop.invariant.follows eager names role own first asked gave stays) (cc is))
+returns-in-Give-clause-fault g c start role own first asked gave stays is = absurd (c.in-Give.ensures.not_link start role own first asked gave (c.loop.invariant.follows start role own first asked gave stays) (cc is))
 
 pub returns-in-Wait-clause-registered : goal.returns-in-Wait-clause-registered
 returns-in-Wait-clause-registered g c = c.in-Wait.ensures.covers c.loop.invariant.waits
 
 pub returns-clause-follows : goal.returns-clause-follows
-returns-clause-follows g c eager names role own first asked gave stays = subst (λ (l : List (ConnEvent _)). Follows g.L.Link g.P.Protocols g.P.H.Handler eager names role own first asked l c.loop.self) (sym (ap (λ p. gave ++ given_by p) c.yield_now.ensures.pending ∙ append-nil gave))
-    (c.loop.invariant.follows eager names role own first asked gave stays)
+returns-clause-follows g c start role own first asked gave stays = subst (λ (l : List (ConnEvent _)). Follows g.L.Link g.P.Protocols g.P.H.Handler start role own first asked l c.loop.self) (sym (ap (λ p. gave ++ given_by p) c.yield_now.ensures.pending ∙ append-nil gave))
+    (c.loop.invariant.follows start role own first asked gave stays)
 
 pub returns-in-Give-clause-ends : goal.returns-in-Give-clause-ends
-returns-in-Give-clause-ends g c eager names role own first asked gave stays is =
-    absurd (c.in-Give.ensures.not_none eager names role own first asked gave (c.loop.invariant.follows eager names role own first asked gave stays) (cc is))
+returns-in-Give-clause-ends g c start role own first asked gave stays is =
+    absurd (c.in-Give.ensures.not_none start role own first asked gave (c.loop.invariant.follows start role own first asked gave stays) (cc is))
 
 pub returns-then-not-is_empty-clause-stage : goal.returns-then-not-is_empty-clause-stage
 returns-then-not-is_empty-clause-stage g c is = c.give.ensures.kept (sym c.give.ensures.live ∙ is)
 
 pub returns-then-not-is_empty-clause-ends : goal.returns-then-not-is_empty-clause-ends
-returns-then-not-is_empty-clause-ends g c eager names role own first asked gave stays is =
+returns-then-not-is_empty-clause-ends g c start role own first asked gave stays is =
     let empty = c.give.ensures.empty (cc is) in
     let zero : deque_len c.args.self.now.held ≡ 0 = omega (arith, ap length empty.0, c.args.self.now.held.ok) in (
       empty.0,

@@ -15,9 +15,9 @@ invariant-loop g l = record {
   stage : l.self.stage ≡ l.fn.self.stage;
   none_held : l.self.held.items ≡ [];
   failures : g.L.Link.failed l.self.link ≡ g.L.Link.failed l.fn.self.link;
-  follows : (eager : ℕ → Bool) (names : List (List ℕ)) (role : ConnRole) (own : Key) (first : _) (asked : List (ℕ × ℕ)) (gave : List (ConnEvent _))
-      → Follows g.L.Link g.P.Protocols g.P.H.Handler eager names role own first asked gave l.fn.self
-      → Follows g.L.Link g.P.Protocols g.P.H.Handler eager names role own first asked gave l.self;
+  follows : (start : _) (role : ConnRole) (own : Key) (first : _) (asked : List (ℕ × ℕ)) (gave : List (ConnEvent _))
+      → Follows g.L.Link g.P.Protocols g.P.H.Handler start role own first asked gave l.fn.self
+      → Follows g.L.Link g.P.Protocols g.P.H.Handler start role own first asked gave l.self;
   shutting : l.fn.self.stage ≡ Shutting → (took : List ℕ) × g.L.Link.moves l.fn.self.link [] took l.self.link;
   waits : HasWaited l.waits l.cx (g.L.Link.reads_at l.self.link) (g.L.Link.writes_at l.self.link);
   kept : Keeps l.fn.cx l.cx;

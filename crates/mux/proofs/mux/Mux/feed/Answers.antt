@@ -4,6 +4,8 @@ use Rattle.std.specs.Ordering.{nat_cmp}
 use Rattle.std.specs.BTreeMap as tree
 use Rattle.yamux_session.proofs.Pieces.{take_on}
 use Rattle.conn_log.specs.Rests.{AreAtRest, Grows}
+use Rattle.conn_log.specs.Making.{MakesOn}
+use Rattle.board.specs.Boards.{MakesOnBoard}
 use Rattle.board.proofs.Stepping.{keeps_on, kept_on}
 use Rattle.mux.specs.Faults.{Faults}
 use Rattle.mux.proofs.Framing.{grows_on, faults_behind, faults_before}
@@ -29,29 +31,34 @@ loop-at-preserved g c =
           let frame = kept_on makes.listed makes.is_eager board c.loop-at.self.board inv.keeps
           (λ eager names peer role. AreAtRest H.steps H.fails H.is_closed H.is_finished makes.makes_inbound makes.makes_outbound eager names peer role (before.newer ++ log) (fed ++ take at piece) sent
           c.loop-at.self.session (tree.get nat_cmp c.loop-at.self.board.streams) c.loop-at.self.board.past.items → c.feed_frame.new.self.session.failed ≡ false
-          → Grows H.steps H.fails H.is_closed H.is_finished makes.makes_inbound makes.makes_outbound eager names peer role (before.newer ++ log) c.loop-at.told.items c.feed_frame.new.told.items
+          → Grows H.steps H.fails H.is_closed H.is_finished makes.makes_inbound makes.makes_outbound eager names peer role
+          (MakesOn makes.leads_inbound makes.leads_outbound peer role c.loop-at.self.board.protocols c.feed_frame.new.self.board.protocols) (before.newer ++ log) c.loop-at.told.items c.feed_frame.new.told.items
           ((fed ++ take at piece) ++ more) sent c.feed_frame.new.self.session (tree.get nat_cmp c.feed_frame.new.self.board.streams) c.feed_frame.new.self.board.past.items)
           (c.in_ok-at.ensures.goes (before.newer ++ log) (fed ++ take at piece) sent) in
           subst (λ (t : List ℕ). Grows H.steps H.fails H.is_closed H.is_finished makes.makes_inbound makes.makes_outbound (makes.is_eager board.protocols) (makes.listed board.protocols) board.peer
-          board.role log c.args.told.now.items c.feed_frame.new.told.items t sent c.feed_frame.new.self.session (tree.get nat_cmp c.feed_frame.new.self.board.streams)
+          board.role (MakesOnBoard makes.leads_inbound makes.leads_outbound board c.feed_frame.new.self.board) log c.args.told.now.items c.feed_frame.new.told.items t sent c.feed_frame.new.self.session (tree.get nat_cmp c.feed_frame.new.self.board.streams)
           c.feed_frame.new.self.board.past.items) (append_assoc fed (take at piece) more ∙ ap (λ (t : List ℕ). fed ++ t) bytes)
           (grows_on H.steps H.fails H.is_closed H.is_finished makes.makes_inbound makes.makes_outbound (makes.is_eager board.protocols) (makes.listed board.protocols) board.peer board.role
           log c.args.told.now.items c.loop-at.told.items c.feed_frame.new.told.items ((fed ++ take at piece) ++ more) (fed ++ take at piece) sent c.loop-at.self.session c.feed_frame.new.self.session
           (tree.get nat_cmp c.loop-at.self.board.streams) (tree.get nat_cmp c.feed_frame.new.self.board.streams) c.loop-at.self.board.past.items c.feed_frame.new.self.board.past.items
-          before (frame before.at_rest still));
+          (MakesOnBoard makes.leads_inbound makes.leads_outbound board c.feed_frame.new.self.board) (MakesOnBoard makes.leads_inbound makes.leads_outbound board c.loop-at.self.board)
+          (MakesOn makes.leads_inbound makes.leads_outbound board.peer board.role c.loop-at.self.board.protocols c.feed_frame.new.self.board.protocols) (λ longer last made one first was. one first (made first was)) before (frame before.at_rest still));
       faults = λ log fed sent rests failed.
           let before = inv.goes log fed sent rests going in
           let frame = kept_on makes.listed makes.is_eager board c.loop-at.self.board inv.keeps
           (λ eager names peer role. AreAtRest H.steps H.fails H.is_closed H.is_finished makes.makes_inbound makes.makes_outbound eager names peer role (before.newer ++ log) (fed ++ take at piece) sent
           c.loop-at.self.session (tree.get nat_cmp c.loop-at.self.board.streams) c.loop-at.self.board.past.items → c.feed_frame.new.self.session.failed ≡ true
-          → Faults H.steps H.fails H.is_closed H.is_finished makes.makes_inbound makes.makes_outbound eager names peer role (before.newer ++ log) [] c.loop-at.told.items c.feed_frame.new.told.items
+          → Faults H.steps H.fails H.is_closed H.is_finished makes.makes_inbound makes.makes_outbound eager names peer role
+          (MakesOn makes.leads_inbound makes.leads_outbound peer role c.loop-at.self.board.protocols c.feed_frame.new.self.board.protocols) (before.newer ++ log) [] c.loop-at.told.items c.feed_frame.new.told.items
           (fed ++ take at piece) more sent c.feed_frame.new.self.session.pending)
           (c.in_ok-at.ensures.faults (before.newer ++ log) (fed ++ take at piece) sent) in
           subst (λ (t : List ℕ). Faults H.steps H.fails H.is_closed H.is_finished makes.makes_inbound makes.makes_outbound (makes.is_eager board.protocols) (makes.listed board.protocols) board.peer
-          board.role log [] c.args.told.now.items c.feed_frame.new.told.items fed t sent c.feed_frame.new.self.session.pending) bytes
+          board.role (MakesOnBoard makes.leads_inbound makes.leads_outbound board c.feed_frame.new.self.board) log [] c.args.told.now.items c.feed_frame.new.told.items fed t sent c.feed_frame.new.self.session.pending) bytes
           (faults_behind H.steps H.fails H.is_closed H.is_finished makes.makes_inbound makes.makes_outbound (makes.is_eager board.protocols) (makes.listed board.protocols) board.peer board.role
           log c.args.told.now.items c.loop-at.told.items c.feed_frame.new.told.items fed (take at piece) more sent c.feed_frame.new.self.session.pending c.loop-at.self.session
-          (tree.get nat_cmp c.loop-at.self.board.streams) c.loop-at.self.board.past.items before (frame before.at_rest failed));
+          (tree.get nat_cmp c.loop-at.self.board.streams) c.loop-at.self.board.past.items
+          (MakesOnBoard makes.leads_inbound makes.leads_outbound board c.feed_frame.new.self.board) (MakesOnBoard makes.leads_inbound makes.leads_outbound board c.loop-at.self.board)
+          (MakesOn makes.leads_inbound makes.leads_outbound board.peer board.role c.loop-at.self.board.protocols c.feed_frame.new.self.board.protocols) (λ longer last made one first was. one first (made first was)) before (frame before.at_rest failed));
     }
 
 pub returns-else-not-has_failed-clause-faults : goal.returns-else-not-has_failed-clause-faults
@@ -61,9 +68,9 @@ returns-else-not-has_failed-clause-faults g c = λ log fed sent rests failed.
     let board = c.args.self.now.board in
     let piece = c.args.piece.now in
     subst (λ (t : List ℕ). Faults H.steps H.fails H.is_closed H.is_finished makes.makes_inbound makes.makes_outbound (makes.is_eager board.protocols) (makes.listed board.protocols) board.peer
-    board.role log [] c.args.told.now.items c.loop-at.told.items fed t sent c.loop-at.self.session.pending) (take-append-drop c.loop-at.at piece)
+    board.role (MakesOnBoard makes.leads_inbound makes.leads_outbound board c.loop-at.self.board) log [] c.args.told.now.items c.loop-at.told.items fed t sent c.loop-at.self.session.pending) (take-append-drop c.loop-at.at piece)
     (faults_before H.steps H.fails H.is_closed H.is_finished makes.makes_inbound makes.makes_outbound (makes.is_eager board.protocols) (makes.listed board.protocols) board.peer board.role
-    log c.args.told.now.items c.loop-at.told.items fed (take c.loop-at.at piece) (drop c.loop-at.at piece) sent c.loop-at.self.session.pending
+    (MakesOnBoard makes.leads_inbound makes.leads_outbound board c.loop-at.self.board) log c.args.told.now.items c.loop-at.told.items fed (take c.loop-at.at piece) (drop c.loop-at.at piece) sent c.loop-at.self.session.pending
     (c.loop-at.invariant.faults log fed sent rests failed))
 
 pub returns-after-loop-at-clause-goes : goal.returns-after-loop-at-clause-goes
@@ -72,7 +79,7 @@ returns-after-loop-at-clause-goes g c = λ log fed sent rests still.
     let makes = g.P.Protocols in
     let board = c.args.self.now.board in
     subst (λ (t : List ℕ). Grows H.steps H.fails H.is_closed H.is_finished makes.makes_inbound makes.makes_outbound (makes.is_eager board.protocols) (makes.listed board.protocols) board.peer
-    board.role log c.args.told.now.items c.loop-at.told.items (fed ++ t) sent c.loop-at.self.session (tree.get nat_cmp c.loop-at.self.board.streams) c.loop-at.self.board.past.items)
+    board.role (MakesOnBoard makes.leads_inbound makes.leads_outbound board c.loop-at.self.board) log c.args.told.now.items c.loop-at.told.items (fed ++ t) sent c.loop-at.self.session (tree.get nat_cmp c.loop-at.self.board.streams) c.loop-at.self.board.past.items)
     (take_all c.loop-at.at c.args.piece.now (let all = c.loop-at-test.false in let size = c.len.ensures.value in omega arith))
     (c.loop-at.invariant.goes log fed sent rests still)
 
@@ -82,6 +89,6 @@ returns-after-loop-at-clause-faults g c = λ log fed sent rests failed.
     let makes = g.P.Protocols in
     let board = c.args.self.now.board in
     subst (λ (t : List ℕ). Faults H.steps H.fails H.is_closed H.is_finished makes.makes_inbound makes.makes_outbound (makes.is_eager board.protocols) (makes.listed board.protocols) board.peer
-    board.role log [] c.args.told.now.items c.loop-at.told.items fed t sent c.loop-at.self.session.pending)
+    board.role (MakesOnBoard makes.leads_inbound makes.leads_outbound board c.loop-at.self.board) log [] c.args.told.now.items c.loop-at.told.items fed t sent c.loop-at.self.session.pending)
     (take_all c.loop-at.at c.args.piece.now (let all = c.loop-at-test.false in let size = c.len.ensures.value in omega arith))
     (c.loop-at.invariant.faults log fed sent rests failed)

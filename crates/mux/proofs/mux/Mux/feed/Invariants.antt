@@ -3,7 +3,7 @@ use Rattle.std.specs.Ordering.{nat_cmp}
 use Rattle.std.specs.BTreeMap as tree
 use Rattle.conn_log.specs.Entries.{Entry}
 use Rattle.conn_log.specs.Rests.{AreAtRest, Grows}
-use Rattle.board.specs.Boards.{Keeps}
+use Rattle.board.specs.Boards.{Keeps, MakesOnBoard}
 use Rattle.mux.specs.Faults.{Faults}
 use Rattle.mux.proofs.mux.Mux.feed.Given as goal
 
@@ -19,12 +19,12 @@ invariant-loop-at g l =
           → AreAtRest H.steps H.fails H.is_closed H.is_finished makes.makes_inbound makes.makes_outbound (makes.is_eager board.protocols) (makes.listed board.protocols) board.peer board.role
           log fed sent l.fn.self.session (tree.get nat_cmp board.streams) board.past.items → l.self.session.failed ≡ false
           → Grows H.steps H.fails H.is_closed H.is_finished makes.makes_inbound makes.makes_outbound (makes.is_eager board.protocols) (makes.listed board.protocols) board.peer board.role
-          log l.fn.told.items l.told.items (fed ++ take l.at l.fn.piece) sent l.self.session (tree.get nat_cmp l.self.board.streams) l.self.board.past.items;
+          (MakesOnBoard makes.leads_inbound makes.leads_outbound board l.self.board) log l.fn.told.items l.told.items (fed ++ take l.at l.fn.piece) sent l.self.session (tree.get nat_cmp l.self.board.streams) l.self.board.past.items;
       faults : (log : List (Entry _)) (fed sent : List ℕ)
           → AreAtRest H.steps H.fails H.is_closed H.is_finished makes.makes_inbound makes.makes_outbound (makes.is_eager board.protocols) (makes.listed board.protocols) board.peer board.role
           log fed sent l.fn.self.session (tree.get nat_cmp board.streams) board.past.items → l.self.session.failed ≡ true
           → Faults H.steps H.fails H.is_closed H.is_finished makes.makes_inbound makes.makes_outbound (makes.is_eager board.protocols) (makes.listed board.protocols) board.peer board.role
-          log [] l.fn.told.items l.told.items fed (take l.at l.fn.piece) sent l.self.session.pending;
+          (MakesOnBoard makes.leads_inbound makes.leads_outbound board l.self.board) log [] l.fn.told.items l.told.items fed (take l.at l.fn.piece) sent l.self.session.pending;
     }
 
 abbrev pub decreases-loop-at : goal.decreases-loop-at

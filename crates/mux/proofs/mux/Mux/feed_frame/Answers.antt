@@ -1,4 +1,4 @@
-use Rattle.std.proofs.Common.{◌≡◌, ℕ, true, false, List, ◌++◌, take, drop, sym, ap, ◌∙◌, subst}
+use Rattle.std.proofs.Common.{◌≡◌, ℕ, true, false, List, ◌++◌, take, drop, refl, sym, ap, ◌∙◌, subst}
 use Rattle.std.specs.List.{AllByRecursion}
 use Rattle.std.specs.Ordering.{nat_cmp}
 use Rattle.std.specs.BTreeMap as tree
@@ -8,7 +8,10 @@ use Rattle.conn_log.specs.Entries.{Entry, items}
 use Rattle.conn_log.specs.Routes.{IsFor, Awaits}
 use Rattle.conn_log.specs.Rests.{AreAtRest, Grows}
 use Rattle.conn_log.proofs.Facing.{SessionLaws}
+use Rattle.conn_log.specs.Making.{MakesOn}
 use Rattle.conn_log.proofs.Arriving.{arrived}
+use Rattle.conn_log.proofs.Making.{makes_none, arrived_none}
+use Rattle.board.specs.Boards.{MakesOnBoard}
 use Rattle.mux.proofs.Framing.{framed, faulted, grows_behind}
 use Rattle.mux.proofs.mux.Mux.feed_frame.Goals as goal
 
@@ -21,7 +24,8 @@ returns-then-has_failed-clause-faults g c = λ log fed sent rests failed.
     let led = c.in-Ok.ensures.fed board.role (items log) fed sent rests.session_stands in
     faulted H.steps H.fails H.is_closed H.is_finished makes.makes_inbound makes.makes_outbound (makes.is_eager board.protocols) (makes.listed board.protocols) board.peer board.role
     log fed bytes sent c.args.self.now.session c.feed_frame.new.self (tree.get nat_cmp board.streams) board.past.items rests led.0
-    (added c.new-events.result.items c.feed_frame.new.told.items) led.1 c.args.told.now.items failed (c.in-Ok.ensures.fault_alone rests.session_stands.going failed)
+    (added c.new-events.result.items c.feed_frame.new.told.items) led.1
+    (MakesOn makes.leads_inbound makes.leads_outbound board.peer board.role board.protocols board.protocols) (λ first was. was) c.args.told.now.items failed (c.in-Ok.ensures.fault_alone rests.session_stands.going failed)
 
 -- what the frame told was routed
 went : (g : Rattle.mux.proofs.mux.Mux.feed_frame.Given.Over) (c : goal.After-drop-events-2 g) (log : List (Entry g.row.P-H.Denot)) (fed sent : List ℕ)
@@ -30,7 +34,8 @@ went : (g : Rattle.mux.proofs.mux.Mux.feed_frame.Given.Over) (c : goal.After-dro
     c.args.self.now.board.role log fed sent c.args.self.now.session (tree.get nat_cmp c.args.self.now.board.streams) c.args.self.now.board.past.items
     → Grows {P = g.row.P.Denot} {H = g.row.P-H.Denot} g.P.H.Handler.steps g.P.H.Handler.fails g.P.H.Handler.is_closed g.P.H.Handler.is_finished g.P.Protocols.makes_inbound
     g.P.Protocols.makes_outbound (g.P.Protocols.is_eager c.args.self.now.board.protocols) (g.P.Protocols.listed c.args.self.now.board.protocols) c.args.self.now.board.peer
-    c.args.self.now.board.role log c.args.told.now.items c.route.new.told.items (fed ++ take c.in-Ok.used (drop c.args.at c.args.piece.now)) sent c.route.new.session
+    c.args.self.now.board.role (MakesOnBoard {P = g.row.P.Denot} {H = g.row.P-H.Denot} g.P.Protocols.leads_inbound g.P.Protocols.leads_outbound c.args.self.now.board c.route.new.self)
+    log c.args.told.now.items c.route.new.told.items (fed ++ take c.in-Ok.used (drop c.args.at c.args.piece.now)) sent c.route.new.session
     (tree.get nat_cmp c.route.new.self.streams) c.route.new.self.past.items
 went g c log fed sent rests =
     let H = g.P.H.Handler in
@@ -57,6 +62,9 @@ went g c log fed sent rests =
     let then = arrived it.came ++ log in
     grows_behind H.steps H.fails H.is_closed H.is_finished makes.makes_inbound makes.makes_outbound (makes.is_eager board.protocols) (makes.listed board.protocols) board.peer board.role
     log it.came c.args.told.now.items c.route.new.told.items (fed ++ bytes) sent c.route.new.session (tree.get nat_cmp c.route.new.self.streams) c.route.new.self.past.items
+    (MakesOn makes.leads_inbound makes.leads_outbound board.peer board.role board.protocols c.route.new.self.protocols)
+    (MakesOn makes.leads_inbound makes.leads_outbound board.peer board.role board.protocols c.route.new.self.protocols)
+    (λ longer made first was. made first (makes_none makes.leads_inbound makes.leads_outbound board.peer board.role board.protocols board.protocols refl log (arrived it.came) (arrived_none _ it.came) first was))
     (c.in_ok-route.ensures.routes then (fed ++ bytes) sent it.stream
     (subst (λ (t : List Event). AllByRecursion (IsFor it.stream) t) told_is it.all_for)
     (subst (λ (t : List Event). Awaits H.steps H.fails H.is_closed H.is_finished makes.makes_inbound makes.makes_outbound (makes.is_eager board.protocols) (makes.listed board.protocols)
