@@ -2,9 +2,9 @@
 
 ghost use Rattle.std.specs.Prelude.{◌≡◌, ◌+◌, ◌-◌, ◌^◌, true, false, min, Err};
 ghost use Rattle.tokio.specs.Net.{stream_readable, stream_writable};
-ghost use Rattle.socket_link.specs.Sockets.{SocketMoves, nothing_moved, moved_on, ended_stays};
+ghost use Rattle.socket_link.specs.Sockets.{SocketMoves, nothing_moved, moved_on, ended_stays, shut_stays};
 
-use conn_link::{Link, LinkFault};
+use conn_link::{Link, LinkFault, finds_end};
 use futures::ready;
 use futures::task::{Context, Poll};
 use std::io;
@@ -70,6 +70,8 @@ impl Link for SocketLink {
 
     ghost stays_ended = { ended_stays };
 
+    ghost stays_shut = { shut_stays };
+
     fn poll_read(
         &mut self,
         cx: &mut Context<'_>,
@@ -84,7 +86,7 @@ impl Link for SocketLink {
             }
             match self.stream.try_read(buffer) {
                 Ok(count) => {
-                    self.has_ended = count == 0 && !buffer.is_empty();
+                    self.has_ended = finds_end(buffer.len(), count);
                     return Poll::Ready(Ok(count));
                 }
                 Err(error) if error.kind() == io::ErrorKind::WouldBlock => {}
