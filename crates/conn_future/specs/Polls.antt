@@ -1,6 +1,6 @@
 -- What a poll of a connection over a link gives, and what it leaves.
 -- Source: this project's profile of a connection.
-use Rattle.std.specs.Prelude.{◌≡◌, ◌⊎◌, ◌+◌, ◌<◌, ℕ, Bool, true, false, List, [], ◌∷◌, Option, Some, None}
+use Rattle.std.specs.Prelude.{◌≡◌, ◌≢◌, ◌⊎◌, ◌+◌, ◌<◌, ℕ, Bool, true, false, List, [], ◌∷◌, Option, Some, None}
 use Rattle.futures.specs.Poll.{OnPending}
 use Rattle.futures.specs.declared.task.Poll.{Poll}
 use Rattle.futures.specs.declared.task.Poll.TheVariants.{Ready}
@@ -15,7 +15,7 @@ use Rattle.conn_log.specs.declared.event.ConnFault.TheVariants as faults
 use Rattle.conn_core.specs.Connects.{is_over}
 use Rattle.conn_future.specs.declared.stage.Stage.TheVariants.{Going, Shutting, Starved, Over}
 use Rattle.conn_future.specs.declared.conn.Conn.{Conn}
-use Rattle.conn_future.specs.Stages.{is_live}
+use Rattle.conn_future.specs.Stages.{is_live, Drains}
 use Rattle.conn_future.specs.Follows.{Carries, Follows, given_by}
 
 pub record Polls {L P H : Type 0} (link : LinkGhosts L) (protocols : ProtocolsGhosts P H) (handler : HandlerGhosts H)
@@ -48,5 +48,7 @@ pub record Polls {L P H : Type 0} (link : LinkGhosts L) (protocols : ProtocolsGh
   pub closes : old.held.items ≡ [] → old.stage ≡ Shutting → (new.stage ≡ Shutting) ⊎ ((new.stage ≡ Over)
       × ((result ≡ Ready (Some (events.Fault faults.Link))) ⊎ (result ≡ Ready (Some events.Shut))))
   pub no_call : is_live old.stage ≡ false → new.link ≡ old.link
-  pub shutting : old.stage ≡ Shutting → (took : List ℕ) × link.moves old.link [] took new.link
+  -- the link is told to shut only behind shut, once it took all output
+  pub unshut : old.stage ≢ Shutting → link.is_shut new.link → link.is_shut old.link
+  pub shutting : old.stage ≡ Shutting → (rest : List ℕ) × Drains link old.link old.unsent new.link rest
   pub none_held : OnPending result ((new.held.items ≡ []) × (new.stage ≡ old.stage))

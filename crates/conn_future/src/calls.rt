@@ -11,7 +11,7 @@ ghost use Rattle.conn_log.specs.declared.event.ConnEvent.{ConnEvent};
 ghost use Rattle.conn_log.specs.declared.event.ConnEvent.TheVariants as event;
 ghost use Rattle.conn_log.specs.declared.event.ConnFault.TheVariants as fault;
 ghost use Rattle.conn_core.specs.Connects.{Stands, MayOpen, IsRefused, is_over};
-ghost use Rattle.conn_future.specs.Stages.{is_live, shut_stage, WaitsAt};
+ghost use Rattle.conn_future.specs.Stages.{is_live, shut_stage, Drains, WaitsAt};
 ghost use Rattle.conn_future.specs.Follows.{Carries, Follows, given_by};
 ghost use Rattle.conn_future.specs.Polls.{Polls};
 
@@ -163,8 +163,10 @@ impl<L: Link, P: Protocols> Conn<L, P> {
             → (self.new.stage ≡ Stage.Shutting) ⊎ ((self.new.stage ≡ Stage.Over)
             × ((result ≡ Ready (Some (event.Fault fault.Link))) ⊎ (result ≡ Ready (Some event.Shut)))) }
         ensures no_call { is_live self.old.stage ≡ false → self.new.link ≡ self.old.link }
+        // The link is told to shut only behind shut, once it took all output.
+        ensures unshut { self.old.stage ≢ Stage.Shutting → L.is_shut self.new.link → L.is_shut self.old.link }
         ensures shutting { self.old.stage ≡ Stage.Shutting
-            → (took : List ℕ) × L.moves self.old.link [] took self.new.link }
+            → (rest : List ℕ) × Drains L.Link self.old.link self.old.unsent self.new.link rest }
         ensures none_held { OnPending result ((self.new.held.items ≡ []) × (self.new.stage ≡ self.old.stage)) }
         ensures registered { OnPending result (Covers cx.new (WaitsAt (L.reads_at self.new.link)
             (L.writes_at self.new.link) (L.shuts_at self.new.link) self.new.stage self.new.unsent)) }

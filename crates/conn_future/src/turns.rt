@@ -3,7 +3,7 @@
 ghost use Rattle.std.specs.Prelude.{◌≡◌, ◌≢◌, ◌+◌, ◌<◌, ◌⊎◌, ℕ, Bool, true, false, List, [], length};
 ghost use Rattle.std.specs.Prelude.{Some, None, IfOk, OnOk};
 ghost use Rattle.futures.specs.Task.{Covers, Keeps};
-ghost use Rattle.conn_future.specs.Stages.{is_live, WaitsAt};
+ghost use Rattle.conn_future.specs.Stages.{is_live, Drains, WaitsAt};
 ghost use Rattle.peer_ids.specs.Key.{Key};
 ghost use Rattle.upgrade.specs.declared.role.ConnRole.{ConnRole};
 ghost use Rattle.conn_log.specs.declared.event.ConnEvent.{ConnEvent};
@@ -75,8 +75,9 @@ impl<L: Link, P: Protocols> Conn<L, P> {
             (asked : List (ℕ × ℕ)) (gave : List (ConnEvent P.H))
             → Follows L.Link P.Protocols P.H.Handler eager names role own first asked gave self.old
             → result ≢ Turn.Give (Some (event.Fault fault.Link)) }
-        ensures shutting { self.old.stage ≡ Stage.Shutting
-            → (took : List ℕ) × L.moves self.old.link [] took self.new.link }
+        ensures unshut { L.is_shut self.new.link → L.is_shut self.old.link }
+        ensures shutting { self.old.stage ≡ Stage.Shutting → (rest : List ℕ) × Drains L.Link self.old.link
+            self.old.unsent self.new.link rest × OnAgain result (rest ≡ self.new.unsent) }
         ensures no_wait { OnWait result ⊥ }
         ensures waits { HasWaited waits.old cx.old (L.reads_at self.old.link) (L.writes_at self.old.link)
             → OnAgain result (HasWaited waits.new cx.new (L.reads_at self.new.link) (L.writes_at self.new.link)) }
@@ -118,6 +119,7 @@ impl<L: Link, P: Protocols> Conn<L, P> {
             (asked : List (ℕ × ℕ)) (gave : List (ConnEvent P.H))
             → Follows L.Link P.Protocols P.H.Handler eager names role own first asked gave self.old
             → result ≢ Turn.Give (Some (event.Fault fault.Link)) }
+        ensures unshut { L.is_shut self.new.link → L.is_shut self.old.link }
         ensures no_wait { OnWait result ⊥ }
         ensures waits { HasWaited waits.old cx.old (L.reads_at self.old.link) (L.writes_at self.old.link)
             → OnAgain result (HasWaited waits.new cx.new (L.reads_at self.new.link) (L.writes_at self.new.link)) }
@@ -197,8 +199,9 @@ impl<L: Link, P: Protocols> Conn<L, P> {
             (asked : List (ℕ × ℕ)) (gave : List (ConnEvent P.H))
             → Follows L.Link P.Protocols P.H.Handler eager names role own first asked gave self.old
             → result ≢ Turn.Give (Some (event.Fault fault.Link)) }
-        ensures shutting { self.old.stage ≡ Stage.Shutting
-            → (took : List ℕ) × L.moves self.old.link [] took self.new.link }
+        ensures unshut { self.old.stage ≢ Stage.Shutting → L.is_shut self.new.link → L.is_shut self.old.link }
+        ensures shutting { self.old.stage ≡ Stage.Shutting → (rest : List ℕ) × Drains L.Link self.old.link
+            self.old.unsent self.new.link rest × OnAgain result (rest ≡ self.new.unsent) }
         ensures waits { HasWaited waits.old cx.old (L.reads_at self.old.link) (L.writes_at self.old.link)
             → OnAgain result (HasWaited waits.new cx.new (L.reads_at self.new.link) (L.writes_at self.new.link)) }
         ensures covers { HasWaited waits.old cx.old (L.reads_at self.old.link) (L.writes_at self.old.link)
