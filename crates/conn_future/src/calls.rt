@@ -13,7 +13,6 @@ ghost use Rattle.conn_log.specs.declared.event.ConnFault.TheVariants as fault;
 ghost use Rattle.conn_core.specs.Connects.{Stands, MayOpen, IsRefused, is_over};
 ghost use Rattle.conn_future.specs.Stages.{is_live, shut_stage, Drains, WaitsAt};
 ghost use Rattle.conn_future.specs.Follows.{Carries, Follows, given_by};
-ghost use Rattle.conn_future.specs.Polls.{Polls};
 
 use crate::conn::Conn;
 use crate::stage::Stage;
@@ -127,12 +126,19 @@ impl<L: Link, P: Protocols> Conn<L, P> {
             self.stage = Stage::Shutting;
         }
     }
+}
+
+impl<L: Link, P: Protocols> Stream for Conn<L, P> {
+    type Item = ConnEvent<P::H>;
+
+    ghost needs = { λ conn source. WaitsAt (L.reads_at conn.link) (L.writes_at conn.link) (L.shuts_at conn.link)
+        conn.stage conn.unsent source };
 
     /// The next event, in the order of the core; None, where no more comes. It makes at most 32 calls of the link, and
     /// then asks for another poll.
     ///
     /// Where it is pending, it has asked for another poll, or has registered at each source that it waits for.
-    pub fn poll(&mut self, cx: &mut Context<'_>) -> Poll<Option<ConnEvent<P::H>>>
+    fn poll_next(&mut self, cx: &mut Context<'_>) -> Poll<Option<ConnEvent<P::H>>>
         ensures follows { Carries L.Link P.Protocols P.H.Handler self.old (given_by result) self.new }
         ensures rose { L.failed self.old.link < L.failed self.new.link
             → result ≡ Ready (Some (event.Fault fault.Link)) }
@@ -188,22 +194,5 @@ impl<L: Link, P: Protocols> Conn<L, P> {
             }
         }
         cx.yield_now()
-    }
-}
-
-impl<L: Link, P: Protocols> Stream for Conn<L, P> {
-    type Item = ConnEvent<P::H>;
-
-    ghost needs = { λ conn source. WaitsAt (L.reads_at conn.link) (L.writes_at conn.link) (L.shuts_at conn.link)
-        conn.stage conn.unsent source };
-
-    fn poll_next(&mut self, cx: &mut Context<'_>) -> Poll<Option<ConnEvent<P::H>>>
-        // What `poll` promises.
-        ensures polls { Polls L.Link P.Protocols P.H.Handler self.old result self.new }
-        ensures registered { OnPending result (Covers cx.new (WaitsAt (L.reads_at self.new.link)
-            (L.writes_at self.new.link) (L.shuts_at self.new.link) self.new.stage self.new.unsent)) }
-        ensures kept { Keeps cx.old cx.new }
-    {
-        self.poll(cx)
     }
 }

@@ -1,17 +1,14 @@
 //! What a read leads to.
 
-ghost use Rattle.std.specs.Prelude.{◌≡◌, ◌≢◌, ◌<◌, ◌≤◌, ◌⊎◌, ℕ, Bool, true, false, List, [], ◌++◌};
-ghost use Rattle.std.specs.Prelude.{Some, None, OnOk, take, vec_len};
+ghost use Rattle.std.specs.Prelude.{◌≡◌, ◌<◌, ◌≤◌, ℕ, Bool, true, false, List, [], ◌++◌, OnOk, take, vec_len};
 ghost use Rattle.peer_ids.specs.Key.{Key};
 ghost use Rattle.upgrade.specs.declared.role.ConnRole.{ConnRole};
 ghost use Rattle.conn_log.specs.declared.event.ConnEvent.{ConnEvent};
-ghost use Rattle.conn_log.specs.declared.event.ConnEvent.TheVariants as event;
-ghost use Rattle.conn_log.specs.declared.event.ConnFault.TheVariants as fault;
 ghost use Rattle.conn_core.specs.Connects.{Stands, is_over, waiting_in};
 ghost use Rattle.conn_core.specs.Runs.{has_ended};
 ghost use Rattle.conn_future.specs.Stages.{is_live};
-ghost use Rattle.conn_future.specs.Follows.{Follows, Joins, GoesOn, Parts};
-ghost use Rattle.conn_future.specs.Turning.{OnGoing, OnWait, gave_by, faults_of};
+ghost use Rattle.conn_future.specs.Follows.{Joins, GoesOn, Parts};
+ghost use Rattle.conn_future.specs.Turning.{OnGoing, OnWait, faults_of, Leads, EndsFor};
 
 use crate::conn::Conn;
 use crate::stage::Stage;
@@ -49,17 +46,12 @@ impl<L: Link, P: Protocols> Conn<L, P> {
         ensures follows { (eager : ℕ → Bool) (names : List (List ℕ)) (role : ConnRole) (own : Key) (first : L)
             (asked : List (ℕ × ℕ)) (gave : List (ConnEvent P.H))
             → Parts L.Link P.Protocols P.H.Handler eager names role own first asked gave self.old.link
-            self.old.held.items → Follows L.Link P.Protocols P.H.Handler eager names role own first asked (gave ++
-            gave_by result) self.new }
-        ensures not_link { (eager : ℕ → Bool) (names : List (List ℕ)) (role : ConnRole) (own : Key) (first : L)
-            (asked : List (ℕ × ℕ)) (gave : List (ConnEvent P.H))
-            → Parts L.Link P.Protocols P.H.Handler eager names role own first asked gave self.old.link
-            self.old.held.items → result ≢ Turn.Give (Some (event.Fault fault.Link)) }
+            self.old.held.items → Leads L.Link P.Protocols P.H.Handler eager names role own first asked gave
+            result self.new }
         ensures gives { OnGoing result ⊥ }
         ensures fails { faults_of result ≡ 0 }
-        ensures not_none { result ≢ Turn.Give None }
         ensures stage { is_live self.new.stage ≡ false }
-        ensures why { self.new.stage ≡ Stage.Over → result ≡ Turn.Give (Some (event.Fault fault.OutOfMemory)) }
+        ensures why { EndsFor L.Link P.Protocols P.H.Handler result self.new }
         ensures link { self.new.link ≡ self.old.link }
     {
         self.stop(Stage::Starved);
@@ -73,25 +65,14 @@ impl<L: Link, P: Protocols> Conn<L, P> {
             (asked : List (ℕ × ℕ)) (gave : List (ConnEvent P.H))
             (ended : Bool) → Joins L.Link P.Protocols P.H.Handler eager names role own first asked gave ended
             self.old.link self.old.core self.old.unsent events.items
-            → (ended ≡ true → is_over self.old.core.phase ≡ true)
-            → Follows L.Link P.Protocols P.H.Handler eager names role own first asked (gave ++ gave_by result)
-            self.new }
-        ensures not_link { (eager : ℕ → Bool) (names : List (List ℕ)) (role : ConnRole) (own : Key) (first : L)
-            (asked : List (ℕ × ℕ)) (gave : List (ConnEvent P.H))
-            (ended : Bool) → Joins L.Link P.Protocols P.H.Handler eager names role own first asked gave ended
-            self.old.link self.old.core self.old.unsent events.items
-            → (ended ≡ true → is_over self.old.core.phase ≡ true) → result ≢ Turn.Give (Some (event.Fault fault.Link)) }
+            → (ended ≡ true → is_over self.old.core.phase ≡ true) → has_ended gave ≡ false
+            → Leads L.Link P.Protocols P.H.Handler eager names role own first asked gave
+            result self.new }
         ensures goes_on { OnGoing result ((self.new.stage ≡ Stage.Going) × (self.new.held.items ≡ [])) }
         ensures no_wait { OnWait result ⊥ }
         ensures fails { faults_of result ≡ 0 }
-        ensures not_none { (eager : ℕ → Bool) (names : List (List ℕ)) (role : ConnRole) (own : Key) (first : L)
-            (asked : List (ℕ × ℕ)) (gave : List (ConnEvent P.H))
-            (ended : Bool) → Joins L.Link P.Protocols P.H.Handler eager names role own first asked gave ended
-            self.old.link self.old.core self.old.unsent events.items → has_ended gave ≡ false
-            → result ≢ Turn.Give None }
         ensures stage { is_live self.new.stage ≡ true → self.new.stage ≡ Stage.Going }
-        ensures why { self.new.stage ≡ Stage.Over → (is_over self.new.core.phase ≡ true)
-            ⊎ (result ≡ Turn.Give (Some (event.Fault fault.OutOfMemory))) }
+        ensures why { EndsFor L.Link P.Protocols P.H.Handler result self.new }
         ensures link { self.new.link ≡ self.old.link }
     {
         self.held = VecDeque::from(events);
@@ -118,28 +99,13 @@ impl<L: Link, P: Protocols> Conn<L, P> {
             self.old.unsent []
             → L.moves before (take count self.old.buffer.items) [] self.old.link
             → (L.has_ended self.old.link → L.has_ended before)
-            → Follows L.Link P.Protocols P.H.Handler eager names role own first asked (gave ++ gave_by result)
-            self.new }
-        ensures not_link { (eager : ℕ → Bool) (names : List (List ℕ)) (role : ConnRole) (own : Key) (first : L)
-            (asked : List (ℕ × ℕ)) (gave : List (ConnEvent P.H)) (before : L)
-            → GoesOn L.Link P.Protocols P.H.Handler eager names role own first asked gave before self.old.core
-            self.old.unsent []
-            → L.moves before (take count self.old.buffer.items) [] self.old.link
-            → (L.has_ended self.old.link → L.has_ended before)
-            → result ≢ Turn.Give (Some (event.Fault fault.Link)) }
+            → Leads L.Link P.Protocols P.H.Handler eager names role own first asked gave
+            result self.new }
         ensures goes_on { OnGoing result ((self.new.stage ≡ Stage.Going) × (self.new.held.items ≡ [])) }
         ensures no_wait { OnWait result ⊥ }
         ensures fails { faults_of result ≡ 0 }
-        ensures not_none { (eager : ℕ → Bool) (names : List (List ℕ)) (role : ConnRole) (own : Key) (first : L)
-            (asked : List (ℕ × ℕ)) (gave : List (ConnEvent P.H)) (before : L)
-            → GoesOn L.Link P.Protocols P.H.Handler eager names role own first asked gave before self.old.core
-            self.old.unsent []
-            → L.moves before (take count self.old.buffer.items) [] self.old.link
-            → (L.has_ended self.old.link → L.has_ended before)
-            → result ≢ Turn.Give None }
         ensures stage { is_live self.new.stage ≡ true → self.new.stage ≡ Stage.Going }
-        ensures why { self.new.stage ≡ Stage.Over → (is_over self.new.core.phase ≡ true)
-            ⊎ (result ≡ Turn.Give (Some (event.Fault fault.OutOfMemory))) }
+        ensures why { EndsFor L.Link P.Protocols P.H.Handler result self.new }
         ensures link { self.new.link ≡ self.old.link }
     {
         let mut piece = mem::replace(&mut self.buffer, Vec::new(self.alloc));
@@ -161,24 +127,13 @@ impl<L: Link, P: Protocols> Conn<L, P> {
             (asked : List (ℕ × ℕ)) (gave : List (ConnEvent P.H)) (before : L)
             → GoesOn L.Link P.Protocols P.H.Handler eager names role own first asked gave before self.old.core
             self.old.unsent [] → L.moves before [] [] self.old.link → L.has_ended self.old.link
-            → Follows L.Link P.Protocols P.H.Handler eager names role own first asked (gave ++ gave_by result)
-            self.new }
-        ensures not_link { (eager : ℕ → Bool) (names : List (List ℕ)) (role : ConnRole) (own : Key) (first : L)
-            (asked : List (ℕ × ℕ)) (gave : List (ConnEvent P.H)) (before : L)
-            → GoesOn L.Link P.Protocols P.H.Handler eager names role own first asked gave before self.old.core
-            self.old.unsent [] → L.moves before [] [] self.old.link → L.has_ended self.old.link
-            → result ≢ Turn.Give (Some (event.Fault fault.Link)) }
+            → Leads L.Link P.Protocols P.H.Handler eager names role own first asked gave
+            result self.new }
         ensures goes_on { OnGoing result ((self.new.stage ≡ Stage.Going) × (self.new.held.items ≡ [])) }
         ensures no_wait { OnWait result ⊥ }
         ensures fails { faults_of result ≡ 0 }
-        ensures not_none { (eager : ℕ → Bool) (names : List (List ℕ)) (role : ConnRole) (own : Key) (first : L)
-            (asked : List (ℕ × ℕ)) (gave : List (ConnEvent P.H)) (before : L)
-            → GoesOn L.Link P.Protocols P.H.Handler eager names role own first asked gave before self.old.core
-            self.old.unsent [] → L.moves before [] [] self.old.link → L.has_ended self.old.link
-            → result ≢ Turn.Give None }
         ensures stage { is_live self.new.stage ≡ true → self.new.stage ≡ Stage.Going }
-        ensures why { self.new.stage ≡ Stage.Over → (is_over self.new.core.phase ≡ true)
-            ⊎ (result ≡ Turn.Give (Some (event.Fault fault.OutOfMemory))) }
+        ensures why { EndsFor L.Link P.Protocols P.H.Handler result self.new }
         ensures link { self.new.link ≡ self.old.link }
     {
         match self.core.ended() {
