@@ -119,6 +119,7 @@ impl<L: Link, P: Protocols> Conn<L, P> {
         ensures follows { Carries L.Link P.Protocols P.H.Handler self.old [] self.new }
         ensures stage { self.new.stage ≡ shut_stage self.old.stage }
         ensures link { self.new.link ≡ self.old.link }
+        ensures core { self.new.core ≡ self.old.core }
         ensures unsent { self.new.unsent ≡ self.old.unsent }
         ensures held { self.new.held ≡ self.old.held }
     {

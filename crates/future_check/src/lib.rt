@@ -1,4 +1,4 @@
-//! Tests of a pipe, and of a connection over one, by public calls.
+//! Tests of links, and of a connection over one, by public calls.
 #![tactic(auto)]
 
 #[cfg(test)]
@@ -19,3 +19,5 @@ mod scripted_tests;
 mod scripts;
 #[cfg(test)]
 mod shut_tests;
+#[cfg(test)]
+mod socket_tests;

@@ -1,7 +1,7 @@
 //! A pipe by itself: what its calls answer by their steps.
 
-use crate::scripts::{FAIL, PENDING, steps_of};
-use conn_link::{Link, LinkFault, Pipe};
+use crate::scripts::{FAIL, PENDING, answer_of, steps_of};
+use conn_link::{Link, Pipe};
 use futures::task::Poll;
 use futures::test::MockTask;
 use std::alloc::Global;
@@ -10,8 +10,7 @@ use std::test::*;
 /// What a link gives or takes in all: a call offers four bytes of it at a time.
 const ALL: &[u8] = b"abcdef";
 
-/// The codes of a list of steps, and what calls in turn answer by them: a digit stands for so many bytes, p for one that
-/// is pending, f for one that fails.
+/// The codes of a list of steps, and what calls in turn answer by them.
 static ROWS: [(&[u8], &[u8]); 11] = [
     // Past the end of the list a call moves all that it can, and past the end of the input nothing.
     (&[], b"4200"),
@@ -29,14 +28,6 @@ static ROWS: [(&[u8], &[u8]); 11] = [
     (&[9, 9, 9, PENDING, FAIL], b"420pf00"),
     (&[1, 1, 1, 1, 1, 1, PENDING, FAIL, 1], b"111111pf00"),
 ];
-
-fn answer_of(letter: u8) -> Poll<Result<usize, LinkFault>> {
-    match letter {
-        b'p' => Poll::Pending,
-        b'f' => Poll::Ready(Err(LinkFault)),
-        digit => Poll::Ready(Ok(usize::from(digit.saturating_sub(b'0')))),
-    }
-}
 
 /// What a link has given, or taken, and whether each call answered as it was to.
 #[derive(Drop)]

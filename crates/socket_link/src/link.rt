@@ -58,7 +58,7 @@ impl<S: Socket> Link for SocketLink<S> {
 
     ghost writes_at = { λ link source. source ≡ S.writes_at link.socket };
 
-    ghost shuts_at = { λ _ _. ⊥ };
+    ghost shuts_at = { λ link source. source ≡ S.writes_at link.socket };
 
     ghost moves_nothing = { nothing_moved S.moves S.is_shut S.moves_nothing };
 

@@ -2,7 +2,7 @@
 
 ghost use Rattle.std.specs.Prelude.{◌≡◌, ◌≤◌, ℕ, List, [], length, ⊤};
 ghost use Rattle.futures.specs.Poll.{OnPending};
-ghost use Rattle.futures.specs.Task.{Covers, Keeps, IsArmed};
+ghost use Rattle.futures.specs.Task.{Covers, Keeps};
 ghost use Rattle.tokio.specs.Net.{stream_readable, stream_writable};
 ghost use Rattle.tokio.specs.Io.Moved.{OnReadyOk};
 ghost use Rattle.conn_link.specs.Moving.{MovesNothing, MovesOn, StaysShut};
@@ -57,7 +57,7 @@ pub trait Socket: Drop {
     fn poll_shut(&mut self, cx: &mut Context<'_>) -> Poll<io::Result<()>>
         ensures moved { moves self.old [] [] self.new }
         ensures shut { OnReadyOk result (is_shut self.new) }
-        ensures registered { OnPending result (IsArmed cx.new) }
+        ensures registered { OnPending result (Covers cx.new (λ source. source ≡ writes_at self.new)) }
         ensures kept { Keeps cx.old cx.new };
 
     ghost moves_nothing: { MovesNothing moves };
