@@ -73,7 +73,7 @@ module _ {L : Type 0} (link : LinkGhosts L) where
   shut_before : (first mid last : L) (mid_left rest : List ℕ) → (link.is_shut mid → link.is_shut first ⊎ (mid_left ≡ []))
       → (mid_left ≡ [] → rest ≡ []) → link.is_shut mid ⊎ (rest ≡ []) → link.is_shut first ⊎ (rest ≡ [])
   shut_before first mid last mid_left rest before none (inr is) = inr is
-  shut_before first mid last mid_left rest before none (inl shut) = elim before shut [
+  shut_before first mid last mid_left rest before none (inl shut) = elim (before shut) [
     | inl was ↦ inl was
     | inr is ↦ inr (none is)
   ]

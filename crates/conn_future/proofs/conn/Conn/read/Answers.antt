@@ -1,4 +1,4 @@
-use Rattle.std.proofs.Common.{◌≡◌, ◌∙◌, Ok, Err, List, ℕ, [], length, false, refl, ap, sym, subst}
+use Rattle.std.proofs.Common.{◌∙◌, Ok, Err, List, ℕ, [], length, false, refl, ap, sym, subst}
 use Rattle.futures.specs.declared.task.Poll.TheVariants.{Ready, Pending}
 use Rattle.conn_future.specs.Stages.{is_live}
 use Rattle.conn_future.proofs.Moved.{of_count, of_fault, of_pending, found_none, fault_ends_not, pending_ends_not, some_end_not, none_ends}
@@ -25,25 +25,25 @@ returns-in-Ready-Ok-eq0-clause-follows g c eager names role own first asked gave
 
 pub returns-in-Ready-Err-clause-follows : goal.returns-in-Ready-Err-clause-follows
 returns-in-Ready-Err-clause-follows g c eager names role own first asked gave stays = record {
-      follows = stays_failed g.L.Link g.P.Protocols g.P.H.Handler eager names role own g.met.L.Link.moves_on g.met.L.Link.stays_ended first asked gave c.args.self.now.link c.poll_read.new.self c.args.self.now.core c.args.self.now.unsent []
-        c.args.self.now.held.items c.args.self.now.stage (ap is_live c.requires.going) c.requires.none_held stays
-        (subst (λ (l : List ℕ). g.L.Link.moves c.args.self.now.link l [] c.poll_read.new.self)
-        (of_fault c.poll_read.result _ c.in-Ready-Err._fault (cc (c.in-Ready-Err.is, c.in-Ready-Err.field-0-is))) c.poll_read.ensures.moved)
-        (λ there. found_none _ (length c.as_mut_slice.result.now) c.poll_read.result (Ready (Err c.in-Ready-Err._fault)) (cc (c.in-Ready-Err.is, c.in-Ready-Err.field-0-is)) (fault_ends_not (length c.as_mut_slice.result.now) c.in-Ready-Err._fault) (c.poll_read.ensures.found there));
-      not_link = λ is. absurd (cc is);
-      not_none = λ is. absurd (cc is);
-    }
+  follows = stays_failed g.L.Link g.P.Protocols g.P.H.Handler eager names role own g.met.L.Link.moves_on g.met.L.Link.stays_ended first asked gave c.args.self.now.link c.poll_read.new.self c.args.self.now.core c.args.self.now.unsent []
+      c.args.self.now.held.items c.args.self.now.stage (ap is_live c.requires.going) c.requires.none_held stays
+      (subst (λ (l : List ℕ). g.L.Link.moves c.args.self.now.link l [] c.poll_read.new.self)
+      (of_fault c.poll_read.result _ c.in-Ready-Err._fault (cc (c.in-Ready-Err.is, c.in-Ready-Err.field-0-is))) c.poll_read.ensures.moved)
+      (λ there. found_none _ (length c.as_mut_slice.result.now) c.poll_read.result (Ready (Err c.in-Ready-Err._fault)) (cc (c.in-Ready-Err.is, c.in-Ready-Err.field-0-is)) (fault_ends_not (length c.as_mut_slice.result.now) c.in-Ready-Err._fault) (c.poll_read.ensures.found there));
+  not_link = λ is. absurd (cc is);
+  not_none = λ is. absurd (cc is);
+}
 
 pub returns-in-Pending-clause-follows : goal.returns-in-Pending-clause-follows
 returns-in-Pending-clause-follows g c eager names role own first asked gave stays = record {
-      follows = stays_pending g.L.Link g.P.Protocols g.P.H.Handler eager names role own g.met.L.Link.moves_on g.met.L.Link.stays_ended first asked gave c.args.self.now.link c.poll_read.new.self c.args.self.now.core c.args.self.now.unsent
-        c.args.self.now.held.items c.args.self.now.stage (ap is_live c.requires.going) stays
-        (subst (λ (l : List ℕ). g.L.Link.moves c.args.self.now.link l [] c.poll_read.new.self)
-        (of_pending c.poll_read.result _ c.in-Pending.is) c.poll_read.ensures.moved)
-        (λ there. found_none _ (length c.as_mut_slice.result.now) c.poll_read.result Pending c.in-Pending.is (pending_ends_not (length c.as_mut_slice.result.now)) (c.poll_read.ensures.found there));
-      not_link = λ is. absurd (cc is);
-      not_none = λ is. absurd (cc is);
-    }
+  follows = stays_pending g.L.Link g.P.Protocols g.P.H.Handler eager names role own g.met.L.Link.moves_on g.met.L.Link.stays_ended first asked gave c.args.self.now.link c.poll_read.new.self c.args.self.now.core c.args.self.now.unsent
+      c.args.self.now.held.items c.args.self.now.stage (ap is_live c.requires.going) stays
+      (subst (λ (l : List ℕ). g.L.Link.moves c.args.self.now.link l [] c.poll_read.new.self)
+      (of_pending c.poll_read.result _ c.in-Pending.is) c.poll_read.ensures.moved)
+      (λ there. found_none _ (length c.as_mut_slice.result.now) c.poll_read.result Pending c.in-Pending.is (pending_ends_not (length c.as_mut_slice.result.now)) (c.poll_read.ensures.found there));
+  not_link = λ is. absurd (cc is);
+  not_none = λ is. absurd (cc is);
+}
 
 pub returns-in-Ready-Ok-clause-follows : goal.returns-in-Ready-Ok-clause-follows
 returns-in-Ready-Ok-clause-follows g c eager names role own first asked gave stays =

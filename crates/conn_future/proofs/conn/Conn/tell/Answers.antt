@@ -10,9 +10,9 @@ pub returns-then-is_over-clause-follows : goal.returns-then-is_over-clause-follo
 returns-then-is_over-clause-follows g c eager names role own first asked gave ended joins ends unended =
     let over = sym c.is_over.ensures ∙ c.if-is_over.true in
     let stays =
-        told_stays g.L.Link g.P.Protocols g.P.H.Handler eager names role own first asked gave ended c.args.self.now.link c.stop.new.self.link c.args.self.now.core c.stop.new.self.core
-        c.args.self.now.unsent c.stop.new.self.unsent c.args.events.items c.stop.new.self.held.items c.stop.new.self.stage c.stop.ensures.stage c.stop.ensures.link c.stop.ensures.core
-        (ap (λ h. h.items) c.stop.ensures.held ∙ c.from.ensures.0) over joins in record {
+    told_stays g.L.Link g.P.Protocols g.P.H.Handler eager names role own first asked gave ended c.args.self.now.link c.stop.new.self.link c.args.self.now.core c.stop.new.self.core
+    c.args.self.now.unsent c.stop.new.self.unsent c.args.events.items c.stop.new.self.held.items c.stop.new.self.stage c.stop.ensures.stage c.stop.ensures.link c.stop.ensures.core
+    (ap (λ h. h.items) c.stop.ensures.held ∙ c.from.ensures.0) over joins in record {
       follows = c.give.ensures.follows eager names role own first asked gave stays;
       not_link = λ is. c.give.ensures.not_link eager names role own first asked gave stays (cc is);
       not_none = λ is.
@@ -32,13 +32,13 @@ returns-then-is_empty-clause-follows g c eager names role own first asked gave e
     let goes_on : is_over c.args.self.now.core.phase ≡ false = sym c.is_over.ensures ∙ c.if-is_over.false in
     let going : ended ≡ false = not_true ended (λ is. absurd (cc (ends is, goes_on))) in
     let stays =
-        going_stays g.L.Link g.P.Protocols g.P.H.Handler eager names role own first asked gave c.collect.new.self.link c.collect.new.self.core c.collect.new.self.unsent c.collect.new.self.held.items
-        c.collect.new.self.stage (c.collect.ensures.stage ∙ c.requires)
-        (goes_collected g.L.Link g.P.Protocols g.P.H.Handler eager names role own first asked gave ended c.args.self.now.link c.collect.new.self.link c.args.self.now.core c.collect.new.self.core
-        c.args.self.now.unsent c.collect.new.self.unsent c.args.events.items c.collect.new.self.held.items
-        (λ input taken end told stood. c.in-Ok.ensures.stands eager names role own input taken end asked told stood)
-        c.collect.ensures.link (ap (λ h. h.items) c.collect.ensures.held ∙ c.from.ensures.0) going
-        (c.collect.ensures.over ∙ goes_on) c.collect.ensures.none_waits joins) in record {
+    going_stays g.L.Link g.P.Protocols g.P.H.Handler eager names role own first asked gave c.collect.new.self.link c.collect.new.self.core c.collect.new.self.unsent c.collect.new.self.held.items
+    c.collect.new.self.stage (c.collect.ensures.stage ∙ c.requires)
+    (goes_collected g.L.Link g.P.Protocols g.P.H.Handler eager names role own first asked gave ended c.args.self.now.link c.collect.new.self.link c.args.self.now.core c.collect.new.self.core
+    c.args.self.now.unsent c.collect.new.self.unsent c.args.events.items c.collect.new.self.held.items
+    (λ input taken end told stood. c.in-Ok.ensures.stands eager names role own input taken end asked told stood)
+    c.collect.ensures.link (ap (λ h. h.items) c.collect.ensures.held ∙ c.from.ensures.0) going
+    (c.collect.ensures.over ∙ goes_on) c.collect.ensures.none_waits joins) in record {
       follows = stays_none g.L.Link g.P.Protocols g.P.H.Handler eager names role own first asked gave c.collect.new.self.link c.collect.new.self.core c.collect.new.self.unsent c.collect.new.self.held.items
           c.collect.new.self.held.items c.collect.new.self.stage refl stays;
       not_link = λ is. absurd (cc is);
@@ -50,13 +50,13 @@ returns-clause-follows g c eager names role own first asked gave ended joins end
     let goes_on : is_over c.args.self.now.core.phase ≡ false = sym c.is_over.ensures ∙ c.if-is_over.false in
     let going : ended ≡ false = not_true ended (λ is. absurd (cc (ends is, goes_on))) in
     let stays =
-        going_stays g.L.Link g.P.Protocols g.P.H.Handler eager names role own first asked gave c.collect.new.self.link c.collect.new.self.core c.collect.new.self.unsent c.collect.new.self.held.items
-        c.collect.new.self.stage (c.collect.ensures.stage ∙ c.requires)
-        (goes_collected g.L.Link g.P.Protocols g.P.H.Handler eager names role own first asked gave ended c.args.self.now.link c.collect.new.self.link c.args.self.now.core c.collect.new.self.core
-        c.args.self.now.unsent c.collect.new.self.unsent c.args.events.items c.collect.new.self.held.items
-        (λ input taken end told stood. c.in-Ok.ensures.stands eager names role own input taken end asked told stood)
-        c.collect.ensures.link (ap (λ h. h.items) c.collect.ensures.held ∙ c.from.ensures.0) going
-        (c.collect.ensures.over ∙ goes_on) c.collect.ensures.none_waits joins) in record {
+    going_stays g.L.Link g.P.Protocols g.P.H.Handler eager names role own first asked gave c.collect.new.self.link c.collect.new.self.core c.collect.new.self.unsent c.collect.new.self.held.items
+    c.collect.new.self.stage (c.collect.ensures.stage ∙ c.requires)
+    (goes_collected g.L.Link g.P.Protocols g.P.H.Handler eager names role own first asked gave ended c.args.self.now.link c.collect.new.self.link c.args.self.now.core c.collect.new.self.core
+    c.args.self.now.unsent c.collect.new.self.unsent c.args.events.items c.collect.new.self.held.items
+    (λ input taken end told stood. c.in-Ok.ensures.stands eager names role own input taken end asked told stood)
+    c.collect.ensures.link (ap (λ h. h.items) c.collect.ensures.held ∙ c.from.ensures.0) going
+    (c.collect.ensures.over ∙ goes_on) c.collect.ensures.none_waits joins) in record {
       follows = c.give-2.ensures.follows eager names role own first asked gave stays;
       not_link = λ is. c.give-2.ensures.not_link eager names role own first asked gave stays (cc is);
       not_none = λ is.
