@@ -1,6 +1,7 @@
 -- How far a connection over a link is, and the sources at which it waits.
 -- Source: this project's profile of a connection.
-use Rattle.std.specs.Prelude.{◌≡◌, ◌≢◌, ◌⊎◌, ℕ, Bool, true, false, List, []}
+use Rattle.std.specs.Prelude.{◌≡◌, ◌≢◌, ◌⊎◌, ◌++◌, ℕ, Bool, true, false, List, []}
+use Rattle.conn_link.specs.declared.link.Link.{Ghosts as LinkGhosts}
 use Rattle.conn_future.specs.declared.stage.Stage.{Stage}
 use Rattle.conn_future.specs.declared.stage.Stage.TheVariants.{Going, Shutting, Starved, Over}
 
@@ -27,3 +28,11 @@ shut_stage Going = Shutting
 shut_stage Shutting = Shutting
 shut_stage Starved = Starved
 shut_stage Over = Over
+
+-- What a link goes through behind shut, from one state to another: it is read no more, takes a first part of the output
+-- that is left, and is told to shut only once it took all of it.
+pub record Drains {L : Type 0} (link : LinkGhosts L) (old : L) (left : List ℕ) (new : L) (rest : List ℕ) : Type 0 where
+  pub took : List ℕ
+  pub parts : left ≡ took ++ rest
+  pub moved : link.moves old [] took new
+  pub unshut : link.is_shut new → link.is_shut old ⊎ (rest ≡ [])

@@ -1,12 +1,21 @@
 -- What one turn of a poll leaves: this project's profile.
-use Rattle.std.specs.Prelude.{◌≡◌, ℕ, true, List, [], ◌∷◌}
+use Rattle.std.specs.Prelude.{◌≡◌, ◌≢◌, ◌⊎◌, ◌++◌, ℕ, Bool, true, List, [], ◌∷◌, Some, None}
 use Rattle.futures.specs.declared.task.context.Context.{Context}
+use Rattle.futures.specs.declared.task.Poll.TheVariants.{Ready}
 use Rattle.futures.specs.Task.{Covers}
+use Rattle.conn_link.specs.declared.link.Link.{Ghosts as LinkGhosts}
+use Rattle.handlers.specs.declared.handler.Handler.{Ghosts as HandlerGhosts}
+use Rattle.handlers.specs.declared.protocols.Protocols.{Ghosts as ProtocolsGhosts}
+use Rattle.peer_ids.specs.Key.{Key}
+use Rattle.upgrade.specs.declared.role.ConnRole.{ConnRole}
 use Rattle.conn_log.specs.declared.event.ConnEvent.{ConnEvent}
 use Rattle.conn_log.specs.declared.event.ConnEvent.TheVariants as event
 use Rattle.conn_log.specs.declared.event.ConnFault.TheVariants as fault
-use Rattle.futures.specs.declared.task.Poll.TheVariants.{Ready}
-use Rattle.conn_future.specs.Follows.{given_by}
+use Rattle.conn_core.specs.Connects.{is_over}
+use Rattle.conn_future.specs.declared.stage.Stage.TheVariants.{Shutting, Over}
+use Rattle.conn_future.specs.declared.conn.Conn.{Conn}
+use Rattle.conn_future.specs.Stages.{Drains}
+use Rattle.conn_future.specs.Follows.{Follows, given_by}
 use Rattle.conn_future.specs.declared.turns.Waits.{Waits}
 use Rattle.conn_future.specs.declared.turns.Turn.{Turn}
 use Rattle.conn_future.specs.declared.turns.Turn.TheVariants.{Again, Give, Failed, Wait}
@@ -50,3 +59,37 @@ OnGoing Again P = P
 OnGoing (Give given) P = Unit {0}
 OnGoing Failed P = Unit {0}
 OnGoing Wait P = P
+
+module _ {L P H : Type 0} (link : LinkGhosts L) (protocols : ProtocolsGhosts P H) (handler : HandlerGhosts H) where
+  -- The connection stands with what the turn gave behind those events. No event that it gives says that a call of the
+  -- link failed, and that none comes more it doesn't give.
+  pub record Leads (start : P) (role : ConnRole) (own : Key) (first : L)
+      (asked : List (ℕ × ℕ)) (gave : List (ConnEvent H)) (result : Turn H)
+      (new : Conn L P H link protocols handler) : Type 0 where
+    pub follows : Follows link protocols handler start role own first asked (gave ++ gave_by result) new
+    pub not_link : result ≢ Give (Some (event.Fault fault.Link))
+    pub not_none : result ≢ Give None
+
+  -- wherever it stood, the turn leads on from there
+  abbrev pub Turns : (old : Conn L P H link protocols handler) → Turn H → (new : Conn L P H link protocols handler)
+      → Type 0
+  Turns old result new =
+      (start : P) (role : ConnRole) (own : Key) (first : L) (asked : List (ℕ × ℕ))
+      (gave : List (ConnEvent H)) → Follows link protocols handler start role own first asked gave old
+      → Leads start role own first asked gave result new
+
+  -- It comes to its end only where the core does, a call of the link failed, or memory was refused.
+  abbrev pub EndsFor : Turn H → (new : Conn L P H link protocols handler) → Type 0
+  EndsFor result new = new.stage ≡ Over → (is_over new.core.phase ≡ true)
+      ⊎ ((result ≡ Failed) ⊎ (result ≡ Give (Some (event.Fault fault.OutOfMemory))))
+
+  -- Behind shut it ends by Shut, or where a call of the link failed.
+  abbrev pub ClosesBy : Turn H → (new : Conn L P H link protocols handler) → Type 0
+  ClosesBy result new = (new.stage ≡ Shutting)
+      ⊎ ((new.stage ≡ Over) × ((result ≡ Failed) ⊎ (result ≡ Give (Some event.Shut))))
+
+  -- What the link goes through behind shut. Where another turn follows, the rest is what is left then.
+  abbrev pub DrainsBy : (old : Conn L P H link protocols handler) → Turn H → (new : Conn L P H link protocols handler)
+      → Type 0
+  DrainsBy old result new = (rest : List ℕ) × Drains link old.link old.unsent new.link rest
+      × OnAgain result (rest ≡ new.unsent)

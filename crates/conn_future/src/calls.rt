@@ -11,9 +11,8 @@ ghost use Rattle.conn_log.specs.declared.event.ConnEvent.{ConnEvent};
 ghost use Rattle.conn_log.specs.declared.event.ConnEvent.TheVariants as event;
 ghost use Rattle.conn_log.specs.declared.event.ConnFault.TheVariants as fault;
 ghost use Rattle.conn_core.specs.Connects.{Stands, MayOpen, IsRefused, is_over};
-ghost use Rattle.conn_future.specs.Stages.{is_live, shut_stage, WaitsAt};
+ghost use Rattle.conn_future.specs.Stages.{is_live, shut_stage, Drains, WaitsAt};
 ghost use Rattle.conn_future.specs.Follows.{Carries, Follows, given_by};
-ghost use Rattle.conn_future.specs.Polls.{Polls};
 
 use crate::conn::Conn;
 use crate::stage::Stage;
@@ -78,11 +77,11 @@ impl<L: Link, P: Protocols> Conn<L, P> {
     ///
     /// Where memory was refused, the events that are held are given, then Fault(OutOfMemory), and no link call is made.
     pub fn ask(&mut self, index: usize) -> Result<u32, ConnRefused>
-        ensures asked { (start : P) (role : ConnRole) (own : Key) (first : L) (asked : List (ℕ × ℕ))
-            (gave : List (ConnEvent P.H))
+        ensures asked { (start : P) (role : ConnRole) (own : Key) (first : L)
+            (asked : List (ℕ × ℕ)) (gave : List (ConnEvent P.H))
             → Follows L.Link P.Protocols P.H.Handler start role own first asked gave self.old
-            → IfOk result (λ number. Follows L.Link P.Protocols P.H.Handler start role own first
-            (asked ++ (number, index) ∷ []) gave self.new) }
+            → IfOk result (λ number. Follows L.Link P.Protocols P.H.Handler start role own first (asked ++
+            (number, index) ∷ []) gave self.new) }
         ensures refused { OnErr result (Carries L.Link P.Protocols P.H.Handler self.old [] self.new) }
         ensures failed { self.old.stage ≢ Stage.Going → (result ≡ Err ConnRefused.Failed) × (self.new ≡ self.old) }
         ensures opened { IfOk result (λ number. MayOpen P.listed self.old.core.phase index) }
@@ -120,6 +119,7 @@ impl<L: Link, P: Protocols> Conn<L, P> {
         ensures follows { Carries L.Link P.Protocols P.H.Handler self.old [] self.new }
         ensures stage { self.new.stage ≡ shut_stage self.old.stage }
         ensures link { self.new.link ≡ self.old.link }
+        ensures core { self.new.core ≡ self.old.core }
         ensures unsent { self.new.unsent ≡ self.old.unsent }
         ensures held { self.new.held ≡ self.old.held }
     {
@@ -127,17 +127,24 @@ impl<L: Link, P: Protocols> Conn<L, P> {
             self.stage = Stage::Shutting;
         }
     }
+}
+
+impl<L: Link, P: Protocols> Stream for Conn<L, P> {
+    type Item = ConnEvent<P::H>;
+
+    ghost needs = { λ conn source. WaitsAt (L.reads_at conn.link) (L.writes_at conn.link) (L.shuts_at conn.link)
+        conn.stage conn.unsent source };
 
     /// The next event, in the order of the core; None, where no more comes. It makes at most 32 calls of the link, and
     /// then asks for another poll.
     ///
     /// Where it is pending, it has asked for another poll, or has registered at each source that it waits for.
-    pub fn poll(&mut self, cx: &mut Context<'_>) -> Poll<Option<ConnEvent<P::H>>>
+    fn poll_next(&mut self, cx: &mut Context<'_>) -> Poll<Option<ConnEvent<P::H>>>
         ensures follows { Carries L.Link P.Protocols P.H.Handler self.old (given_by result) self.new }
         ensures rose { L.failed self.old.link < L.failed self.new.link
             → result ≡ Ready (Some (event.Fault fault.Link)) }
-        ensures fault { (start : P) (role : ConnRole) (own : Key) (first : L) (asked : List (ℕ × ℕ))
-            (gave : List (ConnEvent P.H))
+        ensures fault { (start : P) (role : ConnRole) (own : Key) (first : L)
+            (asked : List (ℕ × ℕ)) (gave : List (ConnEvent P.H))
             → Follows L.Link P.Protocols P.H.Handler start role own first asked gave self.old
             → result ≡ Ready (Some (event.Fault fault.Link))
             → L.failed self.new.link ≡ L.failed self.old.link + 1 }
@@ -149,8 +156,8 @@ impl<L: Link, P: Protocols> Conn<L, P> {
             × (self.new.stage ≡ Stage.Over) }
         ensures over { self.old.held.items ≡ [] → self.old.stage ≡ Stage.Over
             → (result ≡ Ready None) × (self.new.held.items ≡ []) × (self.new.stage ≡ Stage.Over) }
-        ensures ends { (start : P) (role : ConnRole) (own : Key) (first : L) (asked : List (ℕ × ℕ))
-            (gave : List (ConnEvent P.H))
+        ensures ends { (start : P) (role : ConnRole) (own : Key) (first : L)
+            (asked : List (ℕ × ℕ)) (gave : List (ConnEvent P.H))
             → Follows L.Link P.Protocols P.H.Handler start role own first asked gave self.old
             → result ≡ Ready None → (self.old.held.items ≡ []) × (self.old.stage ≡ Stage.Over) }
         ensures stage { is_live self.new.stage ≡ true → self.new.stage ≡ self.old.stage }
@@ -163,8 +170,10 @@ impl<L: Link, P: Protocols> Conn<L, P> {
             → (self.new.stage ≡ Stage.Shutting) ⊎ ((self.new.stage ≡ Stage.Over)
             × ((result ≡ Ready (Some (event.Fault fault.Link))) ⊎ (result ≡ Ready (Some event.Shut)))) }
         ensures no_call { is_live self.old.stage ≡ false → self.new.link ≡ self.old.link }
+        // The link is told to shut only behind shut, once it took all output.
+        ensures unshut { self.old.stage ≢ Stage.Shutting → L.is_shut self.new.link → L.is_shut self.old.link }
         ensures shutting { self.old.stage ≡ Stage.Shutting
-            → (took : List ℕ) × L.moves self.old.link [] took self.new.link }
+            → (rest : List ℕ) × Drains L.Link self.old.link self.old.unsent self.new.link rest }
         ensures none_held { OnPending result ((self.new.held.items ≡ []) × (self.new.stage ≡ self.old.stage)) }
         ensures registered { OnPending result (Covers cx.new (WaitsAt (L.reads_at self.new.link)
             (L.writes_at self.new.link) (L.shuts_at self.new.link) self.new.stage self.new.unsent)) }
@@ -186,22 +195,5 @@ impl<L: Link, P: Protocols> Conn<L, P> {
             }
         }
         cx.yield_now()
-    }
-}
-
-impl<L: Link, P: Protocols> Stream for Conn<L, P> {
-    type Item = ConnEvent<P::H>;
-
-    ghost needs = { λ conn source. WaitsAt (L.reads_at conn.link) (L.writes_at conn.link) (L.shuts_at conn.link)
-        conn.stage conn.unsent source };
-
-    fn poll_next(&mut self, cx: &mut Context<'_>) -> Poll<Option<ConnEvent<P::H>>>
-        // What `poll` promises.
-        ensures polls { Polls L.Link P.Protocols P.H.Handler self.old result self.new }
-        ensures registered { OnPending result (Covers cx.new (WaitsAt (L.reads_at self.new.link)
-            (L.writes_at self.new.link) (L.shuts_at self.new.link) self.new.stage self.new.unsent)) }
-        ensures kept { Keeps cx.old cx.new }
-    {
-        self.poll(cx)
     }
 }

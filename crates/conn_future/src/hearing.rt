@@ -1,17 +1,14 @@
 //! What a read leads to.
 
-ghost use Rattle.std.specs.Prelude.{◌≡◌, ◌≢◌, ◌<◌, ◌≤◌, ◌⊎◌, ℕ, Bool, true, false, List, [], ◌++◌};
-ghost use Rattle.std.specs.Prelude.{Some, None, OnOk, take, vec_len};
+ghost use Rattle.std.specs.Prelude.{◌≡◌, ◌<◌, ◌≤◌, ℕ, Bool, true, false, List, [], ◌++◌, OnOk, take, vec_len};
 ghost use Rattle.peer_ids.specs.Key.{Key};
 ghost use Rattle.upgrade.specs.declared.role.ConnRole.{ConnRole};
 ghost use Rattle.conn_log.specs.declared.event.ConnEvent.{ConnEvent};
-ghost use Rattle.conn_log.specs.declared.event.ConnEvent.TheVariants as event;
-ghost use Rattle.conn_log.specs.declared.event.ConnFault.TheVariants as fault;
 ghost use Rattle.conn_core.specs.Connects.{Stands, is_over, waiting_in};
 ghost use Rattle.conn_core.specs.Runs.{has_ended};
 ghost use Rattle.conn_future.specs.Stages.{is_live};
-ghost use Rattle.conn_future.specs.Follows.{Follows, Joins, GoesOn, Parts};
-ghost use Rattle.conn_future.specs.Turning.{OnGoing, OnWait, gave_by, faults_of};
+ghost use Rattle.conn_future.specs.Follows.{Joins, GoesOn, Parts};
+ghost use Rattle.conn_future.specs.Turning.{OnGoing, OnWait, faults_of, Leads, EndsFor};
 
 use crate::conn::Conn;
 use crate::stage::Stage;
@@ -28,8 +25,8 @@ impl<L: Link, P: Protocols> Conn<L, P> {
     // Moves what the core has written behind what is left.
     pub(crate) fn collect(&mut self) -> Result<(), AllocError>
         requires { self.old.stage ≡ Stage.Going }
-        ensures stands { (start : P) (role : ConnRole) (own : Key) (input taken : List ℕ) (ended : Bool)
-            (asked : List (ℕ × ℕ)) (told : List (ConnEvent P.H))
+        ensures stands { (start : P) (role : ConnRole) (own : Key)
+            (input taken : List ℕ) (ended : Bool) (asked : List (ℕ × ℕ)) (told : List (ConnEvent P.H))
             → Stands P.H.steps P.H.fails P.H.is_closed P.H.is_finished P.makes_inbound P.makes_outbound P.listed
             P.is_eager P.leads_inbound P.leads_outbound start role own input ended asked told (taken ++ self.old.unsent)
             self.old.core
@@ -48,19 +45,15 @@ impl<L: Link, P: Protocols> Conn<L, P> {
 
     // Memory was refused: it tells so behind the events that it holds.
     pub(crate) fn starve(&mut self) -> Turn<P::H>
-        ensures follows { (start : P) (role : ConnRole) (own : Key) (first : L) (asked : List (ℕ × ℕ))
-            (gave : List (ConnEvent P.H))
-            → Parts L.Link P.Protocols P.H.Handler start role own first asked gave self.old.link self.old.held.items
-            → Follows L.Link P.Protocols P.H.Handler start role own first asked (gave ++ gave_by result) self.new }
-        ensures not_link { (start : P) (role : ConnRole) (own : Key) (first : L) (asked : List (ℕ × ℕ))
-            (gave : List (ConnEvent P.H))
-            → Parts L.Link P.Protocols P.H.Handler start role own first asked gave self.old.link self.old.held.items
-            → result ≢ Turn.Give (Some (event.Fault fault.Link)) }
+        ensures follows { (start : P) (role : ConnRole) (own : Key) (first : L)
+            (asked : List (ℕ × ℕ)) (gave : List (ConnEvent P.H))
+            → Parts L.Link P.Protocols P.H.Handler start role own first asked gave self.old.link
+            self.old.held.items → Leads L.Link P.Protocols P.H.Handler start role own first asked gave
+            result self.new }
         ensures gives { OnGoing result ⊥ }
         ensures fails { faults_of result ≡ 0 }
-        ensures not_none { result ≢ Turn.Give None }
         ensures stage { is_live self.new.stage ≡ false }
-        ensures why { self.new.stage ≡ Stage.Over → result ≡ Turn.Give (Some (event.Fault fault.OutOfMemory)) }
+        ensures why { EndsFor L.Link P.Protocols P.H.Handler result self.new }
         ensures link { self.new.link ≡ self.old.link }
     {
         self.stop(Stage::Starved);
@@ -70,25 +63,18 @@ impl<L: Link, P: Protocols> Conn<L, P> {
     // The core told these events.
     fn tell(&mut self, events: Vec<ConnEvent<P::H>>) -> Turn<P::H>
         requires { self.old.stage ≡ Stage.Going }
-        ensures follows { (start : P) (role : ConnRole) (own : Key) (first : L) (asked : List (ℕ × ℕ))
-            (gave : List (ConnEvent P.H)) (ended : Bool) → Joins L.Link P.Protocols P.H.Handler start role own first
-            asked gave ended self.old.link self.old.core self.old.unsent events.items
-            → (ended ≡ true → is_over self.old.core.phase ≡ true)
-            → Follows L.Link P.Protocols P.H.Handler start role own first asked (gave ++ gave_by result) self.new }
-        ensures not_link { (start : P) (role : ConnRole) (own : Key) (first : L) (asked : List (ℕ × ℕ))
-            (gave : List (ConnEvent P.H)) (ended : Bool) → Joins L.Link P.Protocols P.H.Handler start role own first
-            asked gave ended self.old.link self.old.core self.old.unsent events.items
-            → (ended ≡ true → is_over self.old.core.phase ≡ true) → result ≢ Turn.Give (Some (event.Fault fault.Link)) }
+        ensures follows { (start : P) (role : ConnRole) (own : Key) (first : L)
+            (asked : List (ℕ × ℕ)) (gave : List (ConnEvent P.H))
+            (ended : Bool) → Joins L.Link P.Protocols P.H.Handler start role own first asked gave ended
+            self.old.link self.old.core self.old.unsent events.items
+            → (ended ≡ true → is_over self.old.core.phase ≡ true) → has_ended gave ≡ false
+            → Leads L.Link P.Protocols P.H.Handler start role own first asked gave
+            result self.new }
         ensures goes_on { OnGoing result ((self.new.stage ≡ Stage.Going) × (self.new.held.items ≡ [])) }
         ensures no_wait { OnWait result ⊥ }
         ensures fails { faults_of result ≡ 0 }
-        ensures not_none { (start : P) (role : ConnRole) (own : Key) (first : L) (asked : List (ℕ × ℕ))
-            (gave : List (ConnEvent P.H)) (ended : Bool) → Joins L.Link P.Protocols P.H.Handler start role own first
-            asked gave ended self.old.link self.old.core self.old.unsent events.items → has_ended gave ≡ false
-            → result ≢ Turn.Give None }
         ensures stage { is_live self.new.stage ≡ true → self.new.stage ≡ Stage.Going }
-        ensures why { self.new.stage ≡ Stage.Over → (is_over self.new.core.phase ≡ true)
-            ⊎ (result ≡ Turn.Give (Some (event.Fault fault.OutOfMemory))) }
+        ensures why { EndsFor L.Link P.Protocols P.H.Handler result self.new }
         ensures link { self.new.link ≡ self.old.link }
     {
         self.held = VecDeque::from(events);
@@ -109,33 +95,19 @@ impl<L: Link, P: Protocols> Conn<L, P> {
     pub(crate) fn hear(&mut self, count: usize) -> Turn<P::H>
         requires going { self.old.stage ≡ Stage.Going }
         requires none_held { self.old.held.items ≡ [] }
-        ensures follows { (start : P) (role : ConnRole) (own : Key) (first : L) (asked : List (ℕ × ℕ))
-            (gave : List (ConnEvent P.H)) (before : L)
-            → GoesOn L.Link P.Protocols P.H.Handler start role own first asked gave before self.old.core self.old.unsent
-            []
+        ensures follows { (start : P) (role : ConnRole) (own : Key) (first : L)
+            (asked : List (ℕ × ℕ)) (gave : List (ConnEvent P.H)) (before : L)
+            → GoesOn L.Link P.Protocols P.H.Handler start role own first asked gave before self.old.core
+            self.old.unsent []
             → L.moves before (take count self.old.buffer.items) [] self.old.link
             → (L.has_ended self.old.link → L.has_ended before)
-            → Follows L.Link P.Protocols P.H.Handler start role own first asked (gave ++ gave_by result) self.new }
-        ensures not_link { (start : P) (role : ConnRole) (own : Key) (first : L) (asked : List (ℕ × ℕ))
-            (gave : List (ConnEvent P.H)) (before : L)
-            → GoesOn L.Link P.Protocols P.H.Handler start role own first asked gave before self.old.core self.old.unsent
-            []
-            → L.moves before (take count self.old.buffer.items) [] self.old.link
-            → (L.has_ended self.old.link → L.has_ended before)
-            → result ≢ Turn.Give (Some (event.Fault fault.Link)) }
+            → Leads L.Link P.Protocols P.H.Handler start role own first asked gave
+            result self.new }
         ensures goes_on { OnGoing result ((self.new.stage ≡ Stage.Going) × (self.new.held.items ≡ [])) }
         ensures no_wait { OnWait result ⊥ }
         ensures fails { faults_of result ≡ 0 }
-        ensures not_none { (start : P) (role : ConnRole) (own : Key) (first : L) (asked : List (ℕ × ℕ))
-            (gave : List (ConnEvent P.H)) (before : L)
-            → GoesOn L.Link P.Protocols P.H.Handler start role own first asked gave before self.old.core self.old.unsent
-            []
-            → L.moves before (take count self.old.buffer.items) [] self.old.link
-            → (L.has_ended self.old.link → L.has_ended before)
-            → result ≢ Turn.Give None }
         ensures stage { is_live self.new.stage ≡ true → self.new.stage ≡ Stage.Going }
-        ensures why { self.new.stage ≡ Stage.Over → (is_over self.new.core.phase ≡ true)
-            ⊎ (result ≡ Turn.Give (Some (event.Fault fault.OutOfMemory))) }
+        ensures why { EndsFor L.Link P.Protocols P.H.Handler result self.new }
         ensures link { self.new.link ≡ self.old.link }
     {
         let mut piece = mem::replace(&mut self.buffer, Vec::new(self.alloc));
@@ -153,27 +125,17 @@ impl<L: Link, P: Protocols> Conn<L, P> {
     pub(crate) fn end(&mut self) -> Turn<P::H>
         requires going { self.old.stage ≡ Stage.Going }
         requires none_held { self.old.held.items ≡ [] }
-        ensures follows { (start : P) (role : ConnRole) (own : Key) (first : L) (asked : List (ℕ × ℕ))
-            (gave : List (ConnEvent P.H)) (before : L)
-            → GoesOn L.Link P.Protocols P.H.Handler start role own first asked gave before self.old.core self.old.unsent
-            [] → L.moves before [] [] self.old.link → L.has_ended self.old.link
-            → Follows L.Link P.Protocols P.H.Handler start role own first asked (gave ++ gave_by result) self.new }
-        ensures not_link { (start : P) (role : ConnRole) (own : Key) (first : L) (asked : List (ℕ × ℕ))
-            (gave : List (ConnEvent P.H)) (before : L)
-            → GoesOn L.Link P.Protocols P.H.Handler start role own first asked gave before self.old.core self.old.unsent
-            [] → L.moves before [] [] self.old.link → L.has_ended self.old.link
-            → result ≢ Turn.Give (Some (event.Fault fault.Link)) }
+        ensures follows { (start : P) (role : ConnRole) (own : Key) (first : L)
+            (asked : List (ℕ × ℕ)) (gave : List (ConnEvent P.H)) (before : L)
+            → GoesOn L.Link P.Protocols P.H.Handler start role own first asked gave before self.old.core
+            self.old.unsent [] → L.moves before [] [] self.old.link → L.has_ended self.old.link
+            → Leads L.Link P.Protocols P.H.Handler start role own first asked gave
+            result self.new }
         ensures goes_on { OnGoing result ((self.new.stage ≡ Stage.Going) × (self.new.held.items ≡ [])) }
         ensures no_wait { OnWait result ⊥ }
         ensures fails { faults_of result ≡ 0 }
-        ensures not_none { (start : P) (role : ConnRole) (own : Key) (first : L) (asked : List (ℕ × ℕ))
-            (gave : List (ConnEvent P.H)) (before : L)
-            → GoesOn L.Link P.Protocols P.H.Handler start role own first asked gave before self.old.core self.old.unsent
-            [] → L.moves before [] [] self.old.link → L.has_ended self.old.link
-            → result ≢ Turn.Give None }
         ensures stage { is_live self.new.stage ≡ true → self.new.stage ≡ Stage.Going }
-        ensures why { self.new.stage ≡ Stage.Over → (is_over self.new.core.phase ≡ true)
-            ⊎ (result ≡ Turn.Give (Some (event.Fault fault.OutOfMemory))) }
+        ensures why { EndsFor L.Link P.Protocols P.H.Handler result self.new }
         ensures link { self.new.link ≡ self.old.link }
     {
         match self.core.ended() {

@@ -1,17 +1,10 @@
 //! A turn of a poll: at most one call of the link.
 
-ghost use Rattle.std.specs.Prelude.{◌≡◌, ◌≢◌, ◌+◌, ◌<◌, ◌⊎◌, ℕ, Bool, true, false, List, [], length};
-ghost use Rattle.std.specs.Prelude.{Some, None, IfOk, OnOk};
+ghost use Rattle.std.specs.Prelude.{◌≡◌, ◌≢◌, ◌+◌, ◌<◌, true, false, [], length, IfOk, OnOk};
 ghost use Rattle.futures.specs.Task.{Covers, Keeps};
 ghost use Rattle.conn_future.specs.Stages.{is_live, WaitsAt};
-ghost use Rattle.peer_ids.specs.Key.{Key};
-ghost use Rattle.upgrade.specs.declared.role.ConnRole.{ConnRole};
-ghost use Rattle.conn_log.specs.declared.event.ConnEvent.{ConnEvent};
-ghost use Rattle.conn_log.specs.declared.event.ConnEvent.TheVariants as event;
-ghost use Rattle.conn_log.specs.declared.event.ConnFault.TheVariants as fault;
-ghost use Rattle.conn_core.specs.Connects.{is_over};
-ghost use Rattle.conn_future.specs.Follows.{Carries, Follows};
-ghost use Rattle.conn_future.specs.Turning.{HasWaited, OnAgain, OnGoing, OnWait, gave_by, faults_of};
+ghost use Rattle.conn_future.specs.Turning.{HasWaited, OnAgain, OnGoing, OnWait, faults_of};
+ghost use Rattle.conn_future.specs.Turning.{Turns, EndsFor, ClosesBy, DrainsBy};
 
 use crate::conn::Conn;
 use crate::stage::Stage;
@@ -68,25 +61,18 @@ impl<L: Link, P: Protocols> Conn<L, P> {
         requires live { is_live self.old.stage ≡ true }
         requires none_held { self.old.held.items ≡ [] }
         requires can_wait { waits.old.writing ≡ false }
-        ensures follows { Carries L.Link P.Protocols P.H.Handler self.old (gave_by result) self.new }
+        ensures follows { Turns L.Link P.Protocols P.H.Handler self.old result self.new }
         ensures goes_on { OnGoing result ((self.new.stage ≡ self.old.stage) × (self.new.held.items ≡ [])) }
         ensures failures { L.failed self.new.link ≡ L.failed self.old.link + faults_of result }
-        ensures not_link { (start : P) (role : ConnRole) (own : Key) (first : L) (asked : List (ℕ × ℕ))
-            (gave : List (ConnEvent P.H))
-            → Follows L.Link P.Protocols P.H.Handler start role own first asked gave self.old
-            → result ≢ Turn.Give (Some (event.Fault fault.Link)) }
+        ensures unshut { L.is_shut self.new.link → L.is_shut self.old.link }
         ensures shutting { self.old.stage ≡ Stage.Shutting
-            → (took : List ℕ) × L.moves self.old.link [] took self.new.link }
+            → DrainsBy L.Link P.Protocols P.H.Handler self.old result self.new }
         ensures no_wait { OnWait result ⊥ }
         ensures waits { HasWaited waits.old cx.old (L.reads_at self.old.link) (L.writes_at self.old.link)
             → OnAgain result (HasWaited waits.new cx.new (L.reads_at self.new.link) (L.writes_at self.new.link)) }
-        ensures not_none { result ≢ Turn.Give None }
         ensures stage { is_live self.new.stage ≡ true → self.new.stage ≡ self.old.stage }
-        ensures closes { self.old.stage ≡ Stage.Shutting → (self.new.stage ≡ Stage.Shutting)
-            ⊎ ((self.new.stage ≡ Stage.Over) × ((result ≡ Turn.Failed) ⊎ (result ≡ Turn.Give (Some event.Shut)))) }
-        ensures why { self.old.stage ≡ Stage.Going → self.new.stage ≡ Stage.Over
-            → (is_over self.new.core.phase ≡ true) ⊎ ((result ≡ Turn.Failed)
-            ⊎ (result ≡ Turn.Give (Some (event.Fault fault.OutOfMemory)))) }
+        ensures closes { self.old.stage ≡ Stage.Shutting → ClosesBy L.Link P.Protocols P.H.Handler result self.new }
+        ensures why { self.old.stage ≡ Stage.Going → EndsFor L.Link P.Protocols P.H.Handler result self.new }
         ensures kept { Keeps cx.old cx.new }
     {
         match self.link.poll_write(cx, self.unsent.as_slice()) {
@@ -111,24 +97,15 @@ impl<L: Link, P: Protocols> Conn<L, P> {
         requires going { self.old.stage ≡ Stage.Going }
         requires none_held { self.old.held.items ≡ [] }
         requires can_wait { waits.old.reading ≡ false }
-        ensures follows { Carries L.Link P.Protocols P.H.Handler self.old (gave_by result) self.new }
+        ensures follows { Turns L.Link P.Protocols P.H.Handler self.old result self.new }
         ensures goes_on { OnGoing result ((self.new.stage ≡ self.old.stage) × (self.new.held.items ≡ [])) }
         ensures failures { L.failed self.new.link ≡ L.failed self.old.link + faults_of result }
-        ensures not_link { (start : P) (role : ConnRole) (own : Key) (first : L) (asked : List (ℕ × ℕ))
-            (gave : List (ConnEvent P.H))
-            → Follows L.Link P.Protocols P.H.Handler start role own first asked gave self.old
-            → result ≢ Turn.Give (Some (event.Fault fault.Link)) }
+        ensures unshut { L.is_shut self.new.link → L.is_shut self.old.link }
         ensures no_wait { OnWait result ⊥ }
         ensures waits { HasWaited waits.old cx.old (L.reads_at self.old.link) (L.writes_at self.old.link)
             → OnAgain result (HasWaited waits.new cx.new (L.reads_at self.new.link) (L.writes_at self.new.link)) }
-        ensures not_none { (start : P) (role : ConnRole) (own : Key) (first : L) (asked : List (ℕ × ℕ))
-            (gave : List (ConnEvent P.H))
-            → Follows L.Link P.Protocols P.H.Handler start role own first asked gave self.old
-            → result ≢ Turn.Give None }
         ensures stage { is_live self.new.stage ≡ true → self.new.stage ≡ self.old.stage }
-        ensures why { self.old.stage ≡ Stage.Going → self.new.stage ≡ Stage.Over
-            → (is_over self.new.core.phase ≡ true) ⊎ ((result ≡ Turn.Failed)
-            ⊎ (result ≡ Turn.Give (Some (event.Fault fault.OutOfMemory)))) }
+        ensures why { self.old.stage ≡ Stage.Going → EndsFor L.Link P.Protocols P.H.Handler result self.new }
         ensures kept { Keeps cx.old cx.new }
     {
         let Ok(()) = fill(self.alloc, &mut self.buffer) else {
@@ -154,21 +131,16 @@ impl<L: Link, P: Protocols> Conn<L, P> {
         requires shutting { self.old.stage ≡ Stage.Shutting }
         requires none_held { self.old.held.items ≡ [] }
         requires none_left { self.old.unsent ≡ [] }
-        ensures follows { Carries L.Link P.Protocols P.H.Handler self.old (gave_by result) self.new }
+        ensures follows { Turns L.Link P.Protocols P.H.Handler self.old result self.new }
         ensures goes_on { OnGoing result ((self.new.stage ≡ self.old.stage) × (self.new.held.items ≡ [])) }
         ensures failures { L.failed self.new.link ≡ L.failed self.old.link + faults_of result }
-        ensures not_link { (start : P) (role : ConnRole) (own : Key) (first : L) (asked : List (ℕ × ℕ))
-            (gave : List (ConnEvent P.H))
-            → Follows L.Link P.Protocols P.H.Handler start role own first asked gave self.old
-            → result ≢ Turn.Give (Some (event.Fault fault.Link)) }
-        ensures none_moved { L.moves self.old.link [] [] self.new.link }
+        ensures shutting { self.old.stage ≡ Stage.Shutting
+            → DrainsBy L.Link P.Protocols P.H.Handler self.old result self.new }
         ensures no_turn { OnAgain result ⊥ }
         ensures covers { OnWait result (Covers cx.new (WaitsAt (L.reads_at self.new.link) (L.writes_at self.new.link)
             (L.shuts_at self.new.link) self.new.stage self.new.unsent)) }
-        ensures not_none { result ≢ Turn.Give None }
         ensures stage { is_live self.new.stage ≡ true → self.new.stage ≡ self.old.stage }
-        ensures closes { self.old.stage ≡ Stage.Shutting → (self.new.stage ≡ Stage.Shutting)
-            ⊎ ((self.new.stage ≡ Stage.Over) × ((result ≡ Turn.Failed) ⊎ (result ≡ Turn.Give (Some event.Shut)))) }
+        ensures closes { self.old.stage ≡ Stage.Shutting → ClosesBy L.Link P.Protocols P.H.Handler result self.new }
         ensures kept { Keeps cx.old cx.new }
     {
         match self.link.poll_shut(cx) {
@@ -190,30 +162,20 @@ impl<L: Link, P: Protocols> Conn<L, P> {
     pub(crate) fn turn(&mut self, cx: &mut Context<'_>, waits: &mut Waits) -> Turn<P::H>
         requires live { is_live self.old.stage ≡ true }
         requires none_held { self.old.held.items ≡ [] }
-        ensures follows { Carries L.Link P.Protocols P.H.Handler self.old (gave_by result) self.new }
+        ensures follows { Turns L.Link P.Protocols P.H.Handler self.old result self.new }
         ensures goes_on { OnGoing result ((self.new.stage ≡ self.old.stage) × (self.new.held.items ≡ [])) }
         ensures failures { L.failed self.new.link ≡ L.failed self.old.link + faults_of result }
-        ensures not_link { (start : P) (role : ConnRole) (own : Key) (first : L) (asked : List (ℕ × ℕ))
-            (gave : List (ConnEvent P.H))
-            → Follows L.Link P.Protocols P.H.Handler start role own first asked gave self.old
-            → result ≢ Turn.Give (Some (event.Fault fault.Link)) }
+        ensures unshut { self.old.stage ≢ Stage.Shutting → L.is_shut self.new.link → L.is_shut self.old.link }
         ensures shutting { self.old.stage ≡ Stage.Shutting
-            → (took : List ℕ) × L.moves self.old.link [] took self.new.link }
+            → DrainsBy L.Link P.Protocols P.H.Handler self.old result self.new }
         ensures waits { HasWaited waits.old cx.old (L.reads_at self.old.link) (L.writes_at self.old.link)
             → OnAgain result (HasWaited waits.new cx.new (L.reads_at self.new.link) (L.writes_at self.new.link)) }
         ensures covers { HasWaited waits.old cx.old (L.reads_at self.old.link) (L.writes_at self.old.link)
             → OnWait result (Covers cx.new (WaitsAt (L.reads_at self.new.link) (L.writes_at self.new.link)
             (L.shuts_at self.new.link) self.new.stage self.new.unsent)) }
-        ensures not_none { (start : P) (role : ConnRole) (own : Key) (first : L) (asked : List (ℕ × ℕ))
-            (gave : List (ConnEvent P.H))
-            → Follows L.Link P.Protocols P.H.Handler start role own first asked gave self.old
-            → result ≢ Turn.Give None }
         ensures stage { is_live self.new.stage ≡ true → self.new.stage ≡ self.old.stage }
-        ensures closes { self.old.stage ≡ Stage.Shutting → (self.new.stage ≡ Stage.Shutting)
-            ⊎ ((self.new.stage ≡ Stage.Over) × ((result ≡ Turn.Failed) ⊎ (result ≡ Turn.Give (Some event.Shut)))) }
-        ensures why { self.old.stage ≡ Stage.Going → self.new.stage ≡ Stage.Over
-            → (is_over self.new.core.phase ≡ true) ⊎ ((result ≡ Turn.Failed)
-            ⊎ (result ≡ Turn.Give (Some (event.Fault fault.OutOfMemory)))) }
+        ensures closes { self.old.stage ≡ Stage.Shutting → ClosesBy L.Link P.Protocols P.H.Handler result self.new }
+        ensures why { self.old.stage ≡ Stage.Going → EndsFor L.Link P.Protocols P.H.Handler result self.new }
         ensures kept { Keeps cx.old cx.new }
     {
         if !self.unsent.is_empty() && !waits.writing {

@@ -7,7 +7,8 @@ use Rattle.futures.specs.declared.task.Poll.TheVariants as polls
 use Rattle.conn_link.specs.declared.link.LinkFault.{LinkFault}
 use Rattle.conn_link.specs.declared.step.PipeStep.{PipeStep}
 use Rattle.conn_link.specs.declared.step.PipeStep.TheVariants.{Upto, Pending, Fail}
-use Rattle.conn_link.specs.Piping.{CanGo, answer_by, found_end}
+use Rattle.conn_link.specs.Moving.{found_end}
+use Rattle.conn_link.specs.Piping.{CanGo, answer_by}
 
 -- the steps that are left can go
 pub all_next : (old new : List PipeStep) → new ≡ drop 1 old → All CanGo old → All CanGo new

@@ -1,5 +1,5 @@
 -- A pipe as its callers see it, and what its lists of steps make of a call: this project's profile.
-use Rattle.std.specs.Prelude.{◌≡◌, ℕ, zero, suc, ◌≤◌, min, Bool, true, false, List, [], ◌∷◌, ◌++◌, Result, Ok, Err}
+use Rattle.std.specs.Prelude.{◌≡◌, ℕ, ◌≤◌, min, Bool, true, false, List, [], ◌∷◌, ◌++◌, Result, Ok, Err}
 use Rattle.futures.specs.declared.task.Poll.{Poll}
 use Rattle.futures.specs.declared.task.Poll.TheVariants as polls
 use Rattle.conn_link.specs.declared.link.LinkFault.{LinkFault}
@@ -40,19 +40,14 @@ answer_by (Upto most ∷ steps) able = polls.Ready (Ok (min most able))
 answer_by (Pending ∷ steps) able = polls.Pending
 answer_by (Fail ∷ steps) able = failure
 
--- A read finds the end where it moves none, and its buffer has room.
-abbrev pub found_end : (room : ℕ) → Poll (Result ℕ LinkFault) → Bool
-found_end zero polled = false
-found_end (suc room) (polls.Ready (Ok zero)) = true
-found_end (suc room) (polls.Ready (Ok (suc count))) = false
-found_end (suc room) (polls.Ready (Err fault)) = false
-found_end (suc room) polls.Pending = false
+abbrev pub IsShut : Piped → Type 0
+IsShut pipe = pipe.is_open ≡ false
 
 -- From the first state to the second the front of the input was given, and what was taken was written behind the rest.
--- An end that was found stays found.
+-- An end that was found stays found, and what was shut stays shut.
 abbrev pub PipeMoves : Piped → List ℕ → List ℕ → Piped → Type 0
 PipeMoves first given taken last = (first.unread ≡ given ++ last.unread) × (last.written ≡ first.written ++ taken)
-    × (first.has_ended ≡ true → last.has_ended ≡ true)
+    × (first.has_ended ≡ true → last.has_ended ≡ true) × (IsShut first → IsShut last)
 
 -- a read found the end, and nothing is left behind it
 abbrev pub HasEnded : Piped → Type 0

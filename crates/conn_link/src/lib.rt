@@ -6,10 +6,8 @@ mod link;
 mod pipe;
 mod script;
 mod step;
-#[cfg(test)]
-mod tests;
 mod unread;
 
-pub use link::{Link, LinkFault};
+pub use link::{Link, LinkFault, finds_end};
 pub use pipe::Pipe;
 pub use step::PipeStep;

@@ -1,10 +1,10 @@
 //! What a connection stands on.
 
-ghost use Rattle.std.specs.Prelude.{◌≡◌, ◌<◌, ◌≤◌, ◌⊎◌, ℕ, List, [], length, Ok};
+ghost use Rattle.std.specs.Prelude.{◌≡◌, ◌≤◌, ◌⊎◌, ℕ, true, List, [], length, Ok};
 ghost use Rattle.futures.specs.Poll.{OnPending};
 ghost use Rattle.futures.specs.Task.{Covers, Keeps};
-ghost use Rattle.conn_link.specs.Moving.{count_moved, bytes_moved, counted, OnSuccess, Within};
-ghost use Rattle.conn_link.specs.Moving.{MovesNothing, MovesOn, StaysEnded};
+ghost use Rattle.conn_link.specs.Moving.{count_moved, bytes_moved, counted, found_end, OnSuccess, Within};
+ghost use Rattle.conn_link.specs.Moving.{MovesNothing, MovesOn, StaysEnded, StaysShut};
 
 use futures::task::{Context, Poll};
 use thiserror::Error;
@@ -26,7 +26,7 @@ pub trait Link: Drop {
     /// A read found the end of the input.
     ghost has_ended: { Self → Type 0 };
 
-    /// The other end is told that no more bytes come.
+    /// The other end may have been told that no more bytes come.
     ghost is_shut: { Self → Type 0 };
 
     /// How many calls have failed.
@@ -49,10 +49,10 @@ pub trait Link: Drop {
     ) -> Poll<Result<usize, LinkFault>>
         ensures bound { count_moved result ≤ length buffer.new }
         ensures moved { moves self.old (bytes_moved result buffer.new) [] self.new }
-        ensures end { result ≡ Poll.Ready (Ok 0) → 0 < length buffer.old → has_ended self.new }
+        ensures end { found_end (length buffer.old) result ≡ true → has_ended self.new }
         // Nothing else is the end.
-        ensures found { has_ended self.new
-            → has_ended self.old ⊎ ((result ≡ Poll.Ready (Ok 0)) × (0 < length buffer.old)) }
+        ensures found { has_ended self.new → has_ended self.old ⊎ (found_end (length buffer.old) result ≡ true) }
+        ensures not_shut { is_shut self.new → is_shut self.old }
         ensures failures { failed self.new ≡ counted (failed self.old) result }
         ensures registered { OnPending result (Covers cx.new (reads_at self.new)) }
         ensures elsewhere { Within (writes_at self.new) (writes_at self.old) }
@@ -63,6 +63,7 @@ pub trait Link: Drop {
         ensures bound { count_moved result ≤ length bytes.now }
         ensures moved { moves self.old [] (bytes_moved result bytes.now) self.new }
         ensures not_found { has_ended self.new → has_ended self.old }
+        ensures not_shut { is_shut self.new → is_shut self.old }
         ensures failures { failed self.new ≡ counted (failed self.old) result }
         ensures registered { OnPending result (Covers cx.new (writes_at self.new)) }
         ensures elsewhere { Within (reads_at self.new) (reads_at self.old) }
@@ -86,4 +87,13 @@ pub trait Link: Drop {
     ghost moves_on: { MovesOn moves };
 
     ghost stays_ended: { StaysEnded moves has_ended };
+
+    ghost stays_shut: { StaysShut moves is_shut };
+}
+
+/// Whether a read into so much room that moved so many bytes found the end of the input.
+pub fn finds_end(room: usize, count: usize) -> bool
+    ensures { result ≡ found_end room (Poll.Ready (Ok count)) }
+{
+    room != 0 && count == 0
 }

@@ -6,11 +6,11 @@ ghost use Rattle.std.specs.List.{All};
 ghost use Rattle.std.specs.Vec.{vec_capacity, vec_len};
 ghost use Rattle.futures.specs.Poll.{OnPending};
 ghost use Rattle.futures.specs.Task.{IsArmed, Keeps};
-ghost use Rattle.conn_link.specs.Moving.{count_moved, bytes_moved, counted};
-ghost use Rattle.conn_link.specs.Piping.{Piped, PipeMoves, HasEnded, CanGo, answer_by, failure, found_end};
-ghost use Rattle.conn_link.specs.PipeLaws.{none_moved, moved_on, ended_stays};
+ghost use Rattle.conn_link.specs.Moving.{count_moved, bytes_moved, counted, found_end};
+ghost use Rattle.conn_link.specs.Piping.{Piped, PipeMoves, HasEnded, IsShut, CanGo, answer_by, failure};
+ghost use Rattle.conn_link.specs.PipeLaws.{none_moved, moved_on, ended_stays, shut_stays};
 
-use crate::link::{Link, LinkFault};
+use crate::link::{Link, LinkFault, finds_end};
 use crate::script::Script;
 use crate::step::PipeStep;
 use crate::unread::Unread;
@@ -91,7 +91,7 @@ impl Link for Pipe {
 
     ghost has_ended = { HasEnded };
 
-    ghost is_shut = { λ pipe. pipe.is_open ≡ false };
+    ghost is_shut = { IsShut };
 
     ghost failed = { λ pipe. pipe.failures };
 
@@ -108,6 +108,8 @@ impl Link for Pipe {
 
     ghost stays_ended = { ended_stays };
 
+    ghost stays_shut = { shut_stays };
+
     fn poll_read(
         &mut self,
         cx: &mut Context<'_>,
@@ -121,9 +123,8 @@ impl Link for Pipe {
           failures = counted self.old.failures result;
           has_ended = self.old.has_ended || found_end (length buffer.old) result;
         } }
-        ensures end { result ≡ Poll.Ready (Ok 0) → 0 < length buffer.old → HasEnded self.new }
-        ensures found { HasEnded self.new
-            → HasEnded self.old ⊎ ((result ≡ Poll.Ready (Ok 0)) × (0 < length buffer.old)) }
+        ensures end { found_end (length buffer.old) result ≡ true → HasEnded self.new }
+        ensures found { HasEnded self.new → HasEnded self.old ⊎ (found_end (length buffer.old) result ≡ true) }
         ensures again { OnPending result ((cx.new.is_woken ≡ true) × IsArmed cx.new) }
         ensures calm { result ≢ Poll.Pending → cx.new ≡ cx.old }
         ensures kept { Keeps cx.old cx.new }
@@ -185,13 +186,6 @@ impl Link for Pipe {
     {
         self.failures
     }
-}
-
-// A read into so much room that moves so many bytes.
-fn finds_end(room: usize, count: usize) -> bool
-    ensures { result ≡ found_end room (Poll.Ready (Ok count)) }
-{
-    room != 0 && count == 0
 }
 
 // A count that is full stays.

@@ -49,6 +49,8 @@ impl<L: Link> Link for Counted<L> {
 
     ghost stays_ended = { λ a b. L.stays_ended a.link b.link };
 
+    ghost stays_shut = { λ a b. L.stays_shut a.link b.link };
+
     fn poll_read(
         &mut self,
         cx: &mut Context<'_>,

@@ -1,4 +1,4 @@
-//! Tests of a connection over a link, by public calls.
+//! Tests of links, and of a connection over one, by public calls.
 #![tactic(auto)]
 
 #[cfg(test)]
@@ -7,6 +7,8 @@ mod counted;
 mod ends;
 #[cfg(test)]
 mod failing_tests;
+#[cfg(test)]
+mod pipe_tests;
 #[cfg(test)]
 mod quiet;
 #[cfg(test)]
@@ -17,3 +19,5 @@ mod scripted_tests;
 mod scripts;
 #[cfg(test)]
 mod shut_tests;
+#[cfg(test)]
+mod socket_tests;

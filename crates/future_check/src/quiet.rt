@@ -46,6 +46,8 @@ impl Link for Quiet {
 
     ghost stays_ended = { λ _ _ _ _ _ ended. absurd ended };
 
+    ghost stays_shut = { λ _ _ _ _ _ is. is };
+
     fn poll_read(
         &mut self,
         cx: &mut Context<'_>,

@@ -4,7 +4,8 @@ ghost use Rattle.std.specs.Prelude.{IfSome};
 ghost use Rattle.std.specs.List.{All};
 ghost use Rattle.conn_link.specs.Piping.{CanGo};
 
-use conn_link::PipeStep;
+use conn_link::{LinkFault, PipeStep};
+use futures::task::Poll;
 use std::alloc::Global;
 
 /// The code of a call that is pending.
@@ -32,6 +33,15 @@ pub(crate) fn steps_of(alloc: Global, codes: &[u8]) -> Option<Vec<PipeStep>>
         steps.push(step_of(*code)).ok()?;
     }
     Some(steps)
+}
+
+/// What a call answers: a digit stands for so many bytes, p for a call that is pending, f for one that fails.
+pub(crate) fn answer_of(letter: u8) -> Poll<Result<usize, LinkFault>> {
+    match letter {
+        b'p' => Poll::Pending,
+        b'f' => Poll::Ready(Err(LinkFault)),
+        digit => Poll::Ready(Ok(usize::from(digit.saturating_sub(b'0')))),
+    }
 }
 
 /// So many times these two codes in turn.

@@ -1,2 +1,3 @@
 -- cited by public clauses
+pub mod Tries
 pub mod Sockets

@@ -1,7 +1,9 @@
 //! A link over a socket.
 #![tactic(auto)]
 
+mod link;
 mod socket;
 
 pub use conn_link::{Link, LinkFault};
-pub use socket::SocketLink;
+pub use link::SocketLink;
+pub use socket::Socket;

@@ -1,124 +1,105 @@
-//! A socket that is polled by hand.
+//! What a link over a socket stands on.
 
-ghost use Rattle.std.specs.Prelude.{◌≡◌, ◌+◌, ◌-◌, ◌^◌, true, false, min, Err};
+ghost use Rattle.std.specs.Prelude.{◌≡◌, ◌≤◌, ℕ, List, [], length, ⊤};
+ghost use Rattle.futures.specs.Poll.{OnPending};
+ghost use Rattle.futures.specs.Task.{Covers, Keeps};
 ghost use Rattle.tokio.specs.Net.{stream_readable, stream_writable};
-ghost use Rattle.socket_link.specs.Sockets.{SocketMoves, nothing_moved, moved_on, ended_stays};
+ghost use Rattle.tokio.specs.Io.Moved.{OnReadyOk};
+ghost use Rattle.conn_link.specs.Moving.{MovesNothing, MovesOn, StaysShut};
+ghost use Rattle.socket_link.specs.Tries.{count_tried, bytes_tried};
 
-use conn_link::{Link, LinkFault};
-use futures::ready;
 use futures::task::{Context, Poll};
 use std::io;
 use tokio::io::AsyncWrite;
 use tokio::net::TcpStream;
 
-/// How often a call asks a socket that says it is ready and then isn't, before it asks to be polled again.
-const TRIES: u32 = 2;
+/// A stream of bytes to another end and back that says when a try is worth a call.
+pub trait Socket: Drop {
+    /// From the first state to the second it gave the first bytes, and took the second.
+    ghost moves: { Self → List ℕ → List ℕ → Self → Type 0 };
 
-/// A link over a socket of this machine.
-///
-/// Nothing is known of its bytes, but that none come behind the end of the input.
-#[derive(Drop)]
-pub struct SocketLink {
-    stream: TcpStream,
-    failures: u64,
-    has_ended: bool,
-    is_shut: bool,
+    /// The other end may have been told that no more bytes come.
+    ghost is_shut: { Self → Type 0 };
+
+    /// The source at which one waits to read.
+    ghost reads_at: { Self → ℕ };
+
+    /// The source at which one waits to write.
+    ghost writes_at: { Self → ℕ };
+
+    /// Ready once a read is worth a try.
+    fn poll_readable(&mut self, cx: &mut Context<'_>) -> Poll<io::Result<()>>
+        ensures same { self.new ≡ self.old }
+        ensures registered { OnPending result (Covers cx.new (λ source. source ≡ reads_at self.new)) }
+        ensures kept { Keeps cx.old cx.new };
+
+    /// Ready once a write is worth a try.
+    fn poll_writable(&mut self, cx: &mut Context<'_>) -> Poll<io::Result<()>>
+        ensures same { self.new ≡ self.old }
+        ensures registered { OnPending result (Covers cx.new (λ source. source ≡ writes_at self.new)) }
+        ensures kept { Keeps cx.old cx.new };
+
+    /// Reads to the front of the buffer, and answers how many bytes; `WouldBlock` where there are none yet.
+    fn try_read(&mut self, buffer: &mut [u8]) -> io::Result<usize>
+        ensures bound { count_tried result ≤ length buffer.new }
+        ensures moved { moves self.old (bytes_tried result buffer.new) [] self.new }
+        ensures not_shut { is_shut self.new → is_shut self.old }
+        ensures sources { (reads_at self.new ≡ reads_at self.old) × (writes_at self.new ≡ writes_at self.old) };
+
+    /// Writes bytes from the front of these, and answers how many; `WouldBlock` where it takes none yet.
+    fn try_write(&mut self, bytes: &[u8]) -> io::Result<usize>
+        ensures bound { count_tried result ≤ length bytes.now }
+        ensures moved { moves self.old [] (bytes_tried result bytes.now) self.new }
+        ensures not_shut { is_shut self.new → is_shut self.old }
+        ensures sources { (reads_at self.new ≡ reads_at self.old) × (writes_at self.new ≡ writes_at self.old) };
+
+    /// Tells the other end that no more bytes come.
+    fn poll_shut(&mut self, cx: &mut Context<'_>) -> Poll<io::Result<()>>
+        ensures moved { moves self.old [] [] self.new }
+        ensures shut { OnReadyOk result (is_shut self.new) }
+        ensures registered { OnPending result (Covers cx.new (λ source. source ≡ writes_at self.new)) }
+        ensures kept { Keeps cx.old cx.new };
+
+    ghost moves_nothing: { MovesNothing moves };
+
+    ghost moves_on: { MovesOn moves };
+
+    ghost stays_shut: { StaysShut moves is_shut };
 }
 
-impl SocketLink {
-    /// A link over a socket that is connected.
-    pub fn new(stream: TcpStream) -> SocketLink
-        ensures { (result.failures ≡ 0) × (result.has_ended ≡ false) × (result.is_shut ≡ false) }
-    {
-        SocketLink {
-            stream,
-            failures: 0,
-            has_ended: false,
-            is_shut: false,
-        }
+/// Nothing is known of its bytes.
+impl Socket for TcpStream {
+    ghost moves = { λ _ _ _ _. ⊤ };
+
+    ghost is_shut = { λ _. ⊤ };
+
+    ghost reads_at = { stream_readable };
+
+    ghost writes_at = { stream_writable };
+
+    ghost moves_nothing = { λ _. tt };
+
+    ghost moves_on = { λ _ _ _ _ _ _ _ _ _. tt };
+
+    ghost stays_shut = { λ _ _ _ _ _ is. is };
+
+    fn poll_readable(&mut self, cx: &mut Context<'_>) -> Poll<io::Result<()>> {
+        self.poll_read_ready(cx)
     }
 
-    // A call failed; a count that is full stays.
-    fn fail<T>(&mut self) -> Poll<Result<T, LinkFault>>
-        ensures { (result ≡ Poll.Ready (Err (record {}))) × (self.new ≡ record self.old {
-          failures = min (self.old.failures + 1) (2 ^ 64 - 1);
-        }) }
-    {
-        self.failures = self.failures.saturating_add(1);
-        Poll::Ready(Err(LinkFault))
-    }
-}
-
-impl Link for SocketLink {
-    ghost moves = { SocketMoves };
-
-    ghost has_ended = { λ socket. socket.has_ended ≡ true };
-
-    ghost is_shut = { λ socket. socket.is_shut ≡ true };
-
-    ghost failed = { λ socket. socket.failures };
-
-    ghost reads_at = { λ socket source. source ≡ stream_readable socket.stream };
-
-    ghost writes_at = { λ socket source. source ≡ stream_writable socket.stream };
-
-    ghost shuts_at = { λ _ _. ⊥ };
-
-    ghost moves_nothing = { nothing_moved };
-
-    ghost moves_on = { moved_on };
-
-    ghost stays_ended = { ended_stays };
-
-    fn poll_read(
-        &mut self,
-        cx: &mut Context<'_>,
-        buffer: &mut [u8],
-    ) -> Poll<Result<usize, LinkFault>> {
-        if self.has_ended {
-            return Poll::Ready(Ok(0));
-        }
-        for _ in 0..TRIES {
-            if ready!(self.stream.poll_read_ready(cx)).is_err() {
-                return self.fail();
-            }
-            match self.stream.try_read(buffer) {
-                Ok(count) => {
-                    self.has_ended = count == 0 && !buffer.is_empty();
-                    return Poll::Ready(Ok(count));
-                }
-                Err(error) if error.kind() == io::ErrorKind::WouldBlock => {}
-                Err(_error) => return self.fail(),
-            }
-        }
-        cx.yield_now()
+    fn poll_writable(&mut self, cx: &mut Context<'_>) -> Poll<io::Result<()>> {
+        self.poll_write_ready(cx)
     }
 
-    fn poll_write(&mut self, cx: &mut Context<'_>, bytes: &[u8]) -> Poll<Result<usize, LinkFault>> {
-        for _ in 0..TRIES {
-            if ready!(self.stream.poll_write_ready(cx)).is_err() {
-                return self.fail();
-            }
-            match self.stream.try_write(bytes) {
-                Ok(count) => return Poll::Ready(Ok(count)),
-                Err(error) if error.kind() == io::ErrorKind::WouldBlock => {}
-                Err(_error) => return self.fail(),
-            }
-        }
-        cx.yield_now()
+    fn try_read(&mut self, buffer: &mut [u8]) -> io::Result<usize> {
+        TcpStream::try_read(self, buffer)
     }
 
-    fn poll_shut(&mut self, cx: &mut Context<'_>) -> Poll<Result<(), LinkFault>> {
-        match ready!(self.stream.poll_shutdown(cx)) {
-            Ok(()) => {
-                self.is_shut = true;
-                Poll::Ready(Ok(()))
-            }
-            Err(_error) => self.fail(),
-        }
+    fn try_write(&mut self, bytes: &[u8]) -> io::Result<usize> {
+        TcpStream::try_write(self, bytes)
     }
 
-    fn failures(&self) -> u64 {
-        self.failures
+    fn poll_shut(&mut self, cx: &mut Context<'_>) -> Poll<io::Result<()>> {
+        self.poll_shutdown(cx)
     }
 }

@@ -1,18 +1,118 @@
+use Rattle.std.proofs.Common.{◌≡◌, ◌∙◌, ℕ, List, ◌++◌, length, deque_len, arith, rules, refl, ap, sym, subst}
+use Rattle.std.proofs.lemmas.Bool.{eqb-true, eq-eqb}
+use Rattle.std.proofs.lemmas.List.{append-nil}
+use Rattle.conn_log.specs.declared.event.ConnEvent.{ConnEvent}
+use Rattle.conn_future.specs.Stages.{is_live, Drains}
+use Rattle.conn_future.specs.Follows.{Follows, given_by}
+use Rattle.conn_future.proofs.Lists.{none_of}
+use Rattle.conn_future.proofs.Moved.{drains_none, drains_on}
+use Rattle.conn_future.proofs.Stopped.{over_of}
 use Rattle.conn_future.proofs.calls.ConnStream.poll_next.Goals as goal
+use Rattle.conn_future.proofs.calls.ConnStream.poll_next.Goals.{then-not-is_empty-via-then-not-is_empty, then-not-is_empty-via-else-not-is_empty+then-not-is_live}
 
-pub returns-clause-polls : goal.returns-clause-polls
-returns-clause-polls g c = record {
-  follows = c.poll.ensures.follows;
-  rose = c.poll.ensures.rose;
-  fault = c.poll.ensures.fault;
-  held = c.poll.ensures.held;
-  starved = c.poll.ensures.starved;
-  over = c.poll.ensures.over;
-  ends = c.poll.ensures.ends;
-  stage = c.poll.ensures.stage;
-  why = c.poll.ensures.why;
-  closes = c.poll.ensures.closes;
-  no_call = c.poll.ensures.no_call;
-  shutting = c.poll.ensures.shutting;
-  none_held = c.poll.ensures.none_held;
+pub returns-then-not-is_empty-clause-fault : goal.returns-then-not-is_empty-clause-fault
+returns-then-not-is_empty-clause-fault g c start role own first asked gave stays is = absurd (c.give.ensures.not_link start role own first asked gave stays (cc is))
+
+pub loop-init : goal.loop-init
+loop-init g c =
+    let empty = eqb-true (deque_len c.args.self.now.held) 0 (sym c.is_empty.ensures ∙ c.if-not-is_empty.false) in
+    let none : length c.args.self.now.held.items ≡ 0 = omega (arith, empty, c.args.self.now.held.ok) in
+    record {
+      live = sym c.is_live.ensures ∙ c.if-not-is_live.false;
+      stage = refl;
+      none_held = none_of c.args.self.now.held.items none;
+      failures = refl;
+      follows = λ start role own first asked gave stays. stays;
+      unshut = λ other shut. shut;
+      shutting = λ is. drains_none g.L.Link g.met.L.Link.moves_nothing c.args.self.now.link c.args.self.now.unsent;
+      waits = record { reading = λ is. absurd (cc is); writing = λ is. absurd (cc is) };
+      kept = λ fact holds. holds;
+    }
+
+pub loop-preserved : goal.loop-preserved
+loop-preserved g c = record {
+  live = ap is_live c.in-Again.ensures.goes_on.0 ∙ c.loop.invariant.live;
+  stage = c.in-Again.ensures.goes_on.0 ∙ c.loop.invariant.stage;
+  none_held = c.in-Again.ensures.goes_on.1;
+  failures = search rules;
+  follows = λ start role own first asked gave stays. subst (λ (l : List (ConnEvent _)). Follows g.L.Link g.P.Protocols g.P.H.Handler start role own first asked l c.turn.new.self) (append-nil gave)
+      (c.in-Again.ensures.follows start role own first asked gave (c.loop.invariant.follows start role own first asked gave stays)).follows;
+  unshut = λ other shut. c.loop.invariant.unshut other (c.turn.ensures.unshut (λ is. other (sym c.loop.invariant.stage ∙ is)) shut);
+  shutting = λ is.
+      let by = c.in-Again.ensures.shutting (c.loop.invariant.stage ∙ is) in
+      drains_on g.L.Link g.met.L.Link.moves_on c.args.self.now.link c.loop.self.link c.turn.new.self.link c.args.self.now.unsent c.loop.self.unsent c.turn.new.self.unsent
+      (c.loop.invariant.shutting is) (subst (λ (rest : List ℕ). Drains g.L.Link c.loop.self.link c.loop.self.unsent c.turn.new.self.link rest) by.2 by.1);
+  waits = c.in-Again.ensures.waits c.loop.invariant.waits;
+  kept = λ fact holds. c.turn.ensures.kept fact (c.loop.invariant.kept fact holds);
 }
+
+pub returns-in-Give-clause-follows : goal.returns-in-Give-clause-follows
+returns-in-Give-clause-follows g c start role own first asked gave stays = (c.in-Give.ensures.follows start role own first asked gave (c.loop.invariant.follows start role own first asked gave stays)).follows
+
+pub returns-in-Failed-clause-follows : goal.returns-in-Failed-clause-follows
+returns-in-Failed-clause-follows g c start role own first asked gave stays = (c.in-Failed.ensures.follows start role own first asked gave (c.loop.invariant.follows start role own first asked gave stays)).follows
+
+pub returns-in-Wait-clause-follows : goal.returns-in-Wait-clause-follows
+returns-in-Wait-clause-follows g c start role own first asked gave stays = (c.in-Wait.ensures.follows start role own first asked gave (c.loop.invariant.follows start role own first asked gave stays)).follows
+
+pub returns-in-Give-clause-shutting : goal.returns-in-Give-clause-shutting
+returns-in-Give-clause-shutting g c is =
+    let by = c.turn.ensures.shutting (c.loop.invariant.stage ∙ is) in (
+      by.0,
+      drains_on g.L.Link g.met.L.Link.moves_on c.args.self.now.link c.loop.self.link c.turn.new.self.link c.args.self.now.unsent c.loop.self.unsent by.0 (c.loop.invariant.shutting is) by.1,
+    )
+
+pub returns-in-Failed-clause-shutting : goal.returns-in-Failed-clause-shutting
+returns-in-Failed-clause-shutting g c is =
+    let by = c.turn.ensures.shutting (c.loop.invariant.stage ∙ is) in (
+      by.0,
+      drains_on g.L.Link g.met.L.Link.moves_on c.args.self.now.link c.loop.self.link c.turn.new.self.link c.args.self.now.unsent c.loop.self.unsent by.0 (c.loop.invariant.shutting is) by.1,
+    )
+
+pub returns-in-Wait-clause-shutting : goal.returns-in-Wait-clause-shutting
+returns-in-Wait-clause-shutting g c is =
+    let by = c.turn.ensures.shutting (c.loop.invariant.stage ∙ is) in (
+      by.0,
+      drains_on g.L.Link g.met.L.Link.moves_on c.args.self.now.link c.loop.self.link c.turn.new.self.link c.args.self.now.unsent c.loop.self.unsent by.0 (c.loop.invariant.shutting is) by.1,
+    )
+
+pub returns-in-Give-clause-fault : goal.returns-in-Give-clause-fault
+returns-in-Give-clause-fault g c start role own first asked gave stays is = absurd ((c.in-Give.ensures.follows start role own first asked gave (c.loop.invariant.follows start role own first asked gave stays)).not_link (cc is))
+
+pub returns-in-Wait-clause-registered : goal.returns-in-Wait-clause-registered
+returns-in-Wait-clause-registered g c = c.in-Wait.ensures.covers c.loop.invariant.waits
+
+pub returns-clause-follows : goal.returns-clause-follows
+returns-clause-follows g c start role own first asked gave stays = subst (λ (l : List (ConnEvent _)). Follows g.L.Link g.P.Protocols g.P.H.Handler start role own first asked l c.loop.self) (sym (ap (λ p. gave ++ given_by p) c.yield_now.ensures.pending ∙ append-nil gave))
+    (c.loop.invariant.follows start role own first asked gave stays)
+
+pub returns-in-Give-clause-ends : goal.returns-in-Give-clause-ends
+returns-in-Give-clause-ends g c start role own first asked gave stays is =
+    absurd ((c.in-Give.ensures.follows start role own first asked gave (c.loop.invariant.follows start role own first asked gave stays)).not_none (cc is))
+
+pub returns-then-not-is_empty-clause-stage : goal.returns-then-not-is_empty-clause-stage
+returns-then-not-is_empty-clause-stage g c is = c.give.ensures.kept (sym c.give.ensures.live ∙ is)
+
+pub returns-then-not-is_empty-clause-ends : goal.returns-then-not-is_empty-clause-ends
+returns-then-not-is_empty-clause-ends g c start role own first asked gave stays is =
+    let empty = c.give.ensures.empty (cc is) in
+    let zero : deque_len c.args.self.now.held ≡ 0 = omega (arith, ap length empty.0, c.args.self.now.held.ok) in (
+      empty.0,
+      elim c.then-not-is_empty.branch [
+        | then-not-is_empty-via-then-not-is_empty w ↦ absurd (cc (c.is_empty.ensures, eq-eqb (deque_len c.args.self.now.held) 0 zero, w.if-not-is_empty.true))
+        | then-not-is_empty-via-else-not-is_empty+then-not-is_live w ↦ over_of c.args.self.now.stage (sym w.is_live.ensures ∙ w.if-not-is_live.true) empty.1
+      ],
+    )
+
+pub returns-then-not-is_empty-clause-shutting : goal.returns-then-not-is_empty-clause-shutting
+returns-then-not-is_empty-clause-shutting g c is = (
+  c.args.self.now.unsent,
+  subst (λ l. Drains g.L.Link c.args.self.now.link c.args.self.now.unsent l c.args.self.now.unsent) (sym c.give.ensures.link)
+      (drains_none g.L.Link g.met.L.Link.moves_nothing c.args.self.now.link c.args.self.now.unsent),
+)
+
+pub returns-then-not-is_empty-clause-unshut : goal.returns-then-not-is_empty-clause-unshut
+returns-then-not-is_empty-clause-unshut g c other shut = subst g.L.Link.is_shut c.give.ensures.link shut
+
+pub returns-clause-shutting : goal.returns-clause-shutting
+returns-clause-shutting g c is = (c.loop.self.unsent, c.loop.invariant.shutting is)

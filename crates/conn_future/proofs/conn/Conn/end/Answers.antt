@@ -7,27 +7,10 @@ returns-in-Ok-clause-follows g c start role own first asked gave before goes mov
     c.tell.ensures.follows start role own first asked gave true
     (joins_ended g.L.Link g.P.Protocols g.P.H.Handler start role own g.met.L.Link.moves_on first asked gave before c.args.self.now.link c.args.self.now.core c.ended.new.self c.args.self.now.unsent c.in-Ok.events.items
     (λ input taken told stood live. c.in-Ok.ensures.ends role own start input taken asked told stood live) goes moved reached) (λ _. c.ended.ensures.over)
-
-pub returns-in-Ok-clause-not_link : goal.returns-in-Ok-clause-not_link
-returns-in-Ok-clause-not_link g c start role own first asked gave before goes moved reached =
-    c.tell.ensures.not_link start role own first asked gave true
-    (joins_ended g.L.Link g.P.Protocols g.P.H.Handler start role own g.met.L.Link.moves_on first asked gave before c.args.self.now.link c.args.self.now.core c.ended.new.self c.args.self.now.unsent c.in-Ok.events.items
-    (λ input taken told stood live. c.in-Ok.ensures.ends role own start input taken asked told stood live) goes moved reached) (λ _. c.ended.ensures.over)
+    (goes_unended g.L.Link g.P.Protocols g.P.H.Handler start role own first asked gave before c.args.self.now.core c.args.self.now.unsent goes)
 
 pub returns-in-Err-clause-follows : goal.returns-in-Err-clause-follows
 returns-in-Err-clause-follows g c start role own first asked gave before goes moved reached =
     c.starve.ensures.follows start role own first asked gave
     (parts_heard g.L.Link g.P.Protocols g.P.H.Handler start role own g.met.L.Link.moves_on first asked gave before c.args.self.now.link c.args.self.now.link c.args.self.now.core c.args.self.now.unsent
     [] c.args.self.now.held.items refl c.requires.none_held goes moved)
-
-pub returns-in-Err-clause-not_link : goal.returns-in-Err-clause-not_link
-returns-in-Err-clause-not_link g c start role own first asked gave before goes moved reached =
-    c.starve.ensures.not_link start role own first asked gave
-    (parts_heard g.L.Link g.P.Protocols g.P.H.Handler start role own g.met.L.Link.moves_on first asked gave before c.args.self.now.link c.args.self.now.link c.args.self.now.core c.args.self.now.unsent
-    [] c.args.self.now.held.items refl c.requires.none_held goes moved)
-
-pub returns-in-Ok-clause-not_none : goal.returns-in-Ok-clause-not_none
-returns-in-Ok-clause-not_none g c start role own first asked gave before goes moved reached =
-    c.tell.ensures.not_none start role own first asked gave true
-    (joins_ended g.L.Link g.P.Protocols g.P.H.Handler start role own g.met.L.Link.moves_on first asked gave before c.args.self.now.link c.args.self.now.core c.ended.new.self c.args.self.now.unsent c.in-Ok.events.items
-    (λ input taken told stood live. c.in-Ok.ensures.ends role own start input taken asked told stood live) goes moved reached) (goes_unended g.L.Link g.P.Protocols g.P.H.Handler start role own first asked gave before c.args.self.now.core c.args.self.now.unsent goes)

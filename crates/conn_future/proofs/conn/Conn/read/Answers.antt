@@ -1,7 +1,7 @@
-use Rattle.std.proofs.Common.{◌≡◌, ◌∙◌, Ok, Err, List, ℕ, [], false, refl, ap, sym, subst}
+use Rattle.std.proofs.Common.{◌∙◌, Ok, Err, List, ℕ, [], length, false, refl, ap, sym, subst}
 use Rattle.futures.specs.declared.task.Poll.TheVariants.{Ready, Pending}
 use Rattle.conn_future.specs.Stages.{is_live}
-use Rattle.conn_future.proofs.Moved.{of_count, of_fault, of_pending, found_none}
+use Rattle.conn_future.proofs.Moved.{of_count, of_fault, of_pending, found_none, fault_ends_not, pending_ends_not, some_end_not, none_ends}
 use Rattle.conn_future.proofs.Lists.{written_back}
 use Rattle.conn_future.proofs.Standing.{parts_of, goes_of, goes_none, stays_failed, stays_pending}
 use Rattle.conn_future.proofs.conn.Conn.read.Goals as goal
@@ -9,13 +9,6 @@ use Rattle.conn_future.proofs.conn.Conn.read.Goals as goal
 pub returns-in_default-clause-follows : goal.returns-in_default-clause-follows
 returns-in_default-clause-follows g c start role own first asked gave stays =
     c.starve.ensures.follows start role own first asked gave
-    (parts_of g.L.Link g.P.Protocols g.P.H.Handler start role own first asked gave false c.args.self.now.link c.args.self.now.link c.args.self.now.core c.args.self.now.unsent c.args.self.now.held.items c.args.self.now.held.items refl refl
-    (goes_of g.L.Link g.P.Protocols g.P.H.Handler start role own first asked gave c.args.self.now.link c.args.self.now.core c.args.self.now.unsent c.args.self.now.held.items c.args.self.now.stage c.requires.going stays).goes_on
-    (goes_of g.L.Link g.P.Protocols g.P.H.Handler start role own first asked gave c.args.self.now.link c.args.self.now.core c.args.self.now.unsent c.args.self.now.held.items c.args.self.now.stage c.requires.going stays).joins)
-
-pub returns-in_default-clause-not_link : goal.returns-in_default-clause-not_link
-returns-in_default-clause-not_link g c start role own first asked gave stays =
-    c.starve.ensures.not_link start role own first asked gave
     (parts_of g.L.Link g.P.Protocols g.P.H.Handler start role own first asked gave false c.args.self.now.link c.args.self.now.link c.args.self.now.core c.args.self.now.unsent c.args.self.now.held.items c.args.self.now.held.items refl refl
     (goes_of g.L.Link g.P.Protocols g.P.H.Handler start role own first asked gave c.args.self.now.link c.args.self.now.core c.args.self.now.unsent c.args.self.now.held.items c.args.self.now.stage c.requires.going stays).goes_on
     (goes_of g.L.Link g.P.Protocols g.P.H.Handler start role own first asked gave c.args.self.now.link c.args.self.now.core c.args.self.now.unsent c.args.self.now.held.items c.args.self.now.stage c.requires.going stays).joins)
@@ -28,33 +21,29 @@ returns-in-Ready-Ok-eq0-clause-follows g c start role own first asked gave stays
     c.requires.going c.requires.none_held stays)
     (subst (λ (l : List ℕ). g.L.Link.moves c.args.self.now.link l [] c.poll_read.new.self)
     (of_count c.poll_read.result _ _ 0 (cc (c.in-Ready-Ok-eq0.is, c.in-Ready-Ok-eq0.field-0-is)) refl) c.poll_read.ensures.moved)
-    (c.poll_read.ensures.end (cc (c.in-Ready-Ok-eq0.is, c.in-Ready-Ok-eq0.field-0-is)) (rw c.as_mut_slice.ensures.value c.in-Ok.ensures))
-
-pub returns-in-Ready-Ok-eq0-clause-not_link : goal.returns-in-Ready-Ok-eq0-clause-not_link
-returns-in-Ready-Ok-eq0-clause-not_link g c start role own first asked gave stays =
-    c.end.ensures.not_link start role own first asked gave
-    c.args.self.now.link
-    (goes_none g.L.Link g.P.Protocols g.P.H.Handler start role own first asked gave c.args.self.now.link c.args.self.now.core c.args.self.now.unsent c.args.self.now.held.items c.args.self.now.stage
-    c.requires.going c.requires.none_held stays)
-    (subst (λ (l : List ℕ). g.L.Link.moves c.args.self.now.link l [] c.poll_read.new.self)
-    (of_count c.poll_read.result _ _ 0 (cc (c.in-Ready-Ok-eq0.is, c.in-Ready-Ok-eq0.field-0-is)) refl) c.poll_read.ensures.moved)
-    (c.poll_read.ensures.end (cc (c.in-Ready-Ok-eq0.is, c.in-Ready-Ok-eq0.field-0-is)) (rw c.as_mut_slice.ensures.value c.in-Ok.ensures))
+    (c.poll_read.ensures.end (none_ends (length c.as_mut_slice.result.now) c.poll_read.result (cc (c.in-Ready-Ok-eq0.is, c.in-Ready-Ok-eq0.field-0-is)) (rw c.as_mut_slice.ensures.value c.in-Ok.ensures)))
 
 pub returns-in-Ready-Err-clause-follows : goal.returns-in-Ready-Err-clause-follows
-returns-in-Ready-Err-clause-follows g c start role own first asked gave stays =
-    stays_failed g.L.Link g.P.Protocols g.P.H.Handler start role own g.met.L.Link.moves_on g.met.L.Link.stays_ended first asked gave c.args.self.now.link c.poll_read.new.self c.args.self.now.core c.args.self.now.unsent []
-    c.args.self.now.held.items c.args.self.now.stage (ap is_live c.requires.going) c.requires.none_held stays
-    (subst (λ (l : List ℕ). g.L.Link.moves c.args.self.now.link l [] c.poll_read.new.self)
-    (of_fault c.poll_read.result _ c.in-Ready-Err._fault (cc (c.in-Ready-Err.is, c.in-Ready-Err.field-0-is))) c.poll_read.ensures.moved)
-    (λ there. found_none _ c.poll_read.result (Ready (Err c.in-Ready-Err._fault)) _ (cc (c.in-Ready-Err.is, c.in-Ready-Err.field-0-is)) (λ is. absurd (cc is)) (c.poll_read.ensures.found there))
+returns-in-Ready-Err-clause-follows g c start role own first asked gave stays = record {
+  follows = stays_failed g.L.Link g.P.Protocols g.P.H.Handler start role own g.met.L.Link.moves_on g.met.L.Link.stays_ended first asked gave c.args.self.now.link c.poll_read.new.self c.args.self.now.core c.args.self.now.unsent []
+      c.args.self.now.held.items c.args.self.now.stage (ap is_live c.requires.going) c.requires.none_held stays
+      (subst (λ (l : List ℕ). g.L.Link.moves c.args.self.now.link l [] c.poll_read.new.self)
+      (of_fault c.poll_read.result _ c.in-Ready-Err._fault (cc (c.in-Ready-Err.is, c.in-Ready-Err.field-0-is))) c.poll_read.ensures.moved)
+      (λ there. found_none _ (length c.as_mut_slice.result.now) c.poll_read.result (Ready (Err c.in-Ready-Err._fault)) (cc (c.in-Ready-Err.is, c.in-Ready-Err.field-0-is)) (fault_ends_not (length c.as_mut_slice.result.now) c.in-Ready-Err._fault) (c.poll_read.ensures.found there));
+  not_link = λ is. absurd (cc is);
+  not_none = λ is. absurd (cc is);
+}
 
 pub returns-in-Pending-clause-follows : goal.returns-in-Pending-clause-follows
-returns-in-Pending-clause-follows g c start role own first asked gave stays =
-    stays_pending g.L.Link g.P.Protocols g.P.H.Handler start role own g.met.L.Link.moves_on g.met.L.Link.stays_ended first asked gave c.args.self.now.link c.poll_read.new.self c.args.self.now.core c.args.self.now.unsent
-    c.args.self.now.held.items c.args.self.now.stage (ap is_live c.requires.going) stays
-    (subst (λ (l : List ℕ). g.L.Link.moves c.args.self.now.link l [] c.poll_read.new.self)
-    (of_pending c.poll_read.result _ c.in-Pending.is) c.poll_read.ensures.moved)
-    (λ there. found_none _ c.poll_read.result Pending _ c.in-Pending.is (λ is. absurd (cc is)) (c.poll_read.ensures.found there))
+returns-in-Pending-clause-follows g c start role own first asked gave stays = record {
+  follows = stays_pending g.L.Link g.P.Protocols g.P.H.Handler start role own g.met.L.Link.moves_on g.met.L.Link.stays_ended first asked gave c.args.self.now.link c.poll_read.new.self c.args.self.now.core c.args.self.now.unsent
+      c.args.self.now.held.items c.args.self.now.stage (ap is_live c.requires.going) stays
+      (subst (λ (l : List ℕ). g.L.Link.moves c.args.self.now.link l [] c.poll_read.new.self)
+      (of_pending c.poll_read.result _ c.in-Pending.is) c.poll_read.ensures.moved)
+      (λ there. found_none _ (length c.as_mut_slice.result.now) c.poll_read.result Pending c.in-Pending.is (pending_ends_not (length c.as_mut_slice.result.now)) (c.poll_read.ensures.found there));
+  not_link = λ is. absurd (cc is);
+  not_none = λ is. absurd (cc is);
+}
 
 pub returns-in-Ready-Ok-clause-follows : goal.returns-in-Ready-Ok-clause-follows
 returns-in-Ready-Ok-clause-follows g c start role own first asked gave stays =
@@ -64,34 +53,4 @@ returns-in-Ready-Ok-clause-follows g c start role own first asked gave stays =
     (subst (λ (l : List ℕ). g.L.Link.moves c.args.self.now.link l [] c.poll_read.new.self)
     (of_count c.poll_read.result c.poll_read.new.buffer _ c.in-Ready-Ok.count (cc (c.in-Ready-Ok.is, c.in-Ready-Ok.field-0-is))
     (sym (written_back c.fill.new.kept.len c.poll_read.new.buffer c.fill.new.kept.items (c.poll_read.auto.buffer ∙ c.as_mut_slice.ensures.len)))) c.poll_read.ensures.moved)
-    (λ there. found_none _ c.poll_read.result (Ready (Ok c.in-Ready-Ok.count)) _ (cc (c.in-Ready-Ok.is, c.in-Ready-Ok.field-0-is)) (λ is. let zero : c.in-Ready-Ok.count ≡ 0 = cc is in c.in-Ready-Ok.count-test.1 zero) (c.poll_read.ensures.found there))
-
-pub returns-in-Ready-Ok-clause-not_link : goal.returns-in-Ready-Ok-clause-not_link
-returns-in-Ready-Ok-clause-not_link g c start role own first asked gave stays =
-    c.hear.ensures.not_link start role own first asked gave c.args.self.now.link
-    (goes_none g.L.Link g.P.Protocols g.P.H.Handler start role own first asked gave c.args.self.now.link c.args.self.now.core c.args.self.now.unsent c.args.self.now.held.items c.args.self.now.stage
-    c.requires.going c.requires.none_held stays)
-    (subst (λ (l : List ℕ). g.L.Link.moves c.args.self.now.link l [] c.poll_read.new.self)
-    (of_count c.poll_read.result c.poll_read.new.buffer _ c.in-Ready-Ok.count (cc (c.in-Ready-Ok.is, c.in-Ready-Ok.field-0-is))
-    (sym (written_back c.fill.new.kept.len c.poll_read.new.buffer c.fill.new.kept.items (c.poll_read.auto.buffer ∙ c.as_mut_slice.ensures.len)))) c.poll_read.ensures.moved)
-    (λ there. found_none _ c.poll_read.result (Ready (Ok c.in-Ready-Ok.count)) _ (cc (c.in-Ready-Ok.is, c.in-Ready-Ok.field-0-is)) (λ is. let zero : c.in-Ready-Ok.count ≡ 0 = cc is in c.in-Ready-Ok.count-test.1 zero) (c.poll_read.ensures.found there))
-
-pub returns-in-Ready-Ok-eq0-clause-not_none : goal.returns-in-Ready-Ok-eq0-clause-not_none
-returns-in-Ready-Ok-eq0-clause-not_none g c start role own first asked gave stays =
-    c.end.ensures.not_none start role own first asked gave
-    c.args.self.now.link
-    (goes_none g.L.Link g.P.Protocols g.P.H.Handler start role own first asked gave c.args.self.now.link c.args.self.now.core c.args.self.now.unsent c.args.self.now.held.items c.args.self.now.stage
-    c.requires.going c.requires.none_held stays)
-    (subst (λ (l : List ℕ). g.L.Link.moves c.args.self.now.link l [] c.poll_read.new.self)
-    (of_count c.poll_read.result _ _ 0 (cc (c.in-Ready-Ok-eq0.is, c.in-Ready-Ok-eq0.field-0-is)) refl) c.poll_read.ensures.moved)
-    (c.poll_read.ensures.end (cc (c.in-Ready-Ok-eq0.is, c.in-Ready-Ok-eq0.field-0-is)) (rw c.as_mut_slice.ensures.value c.in-Ok.ensures))
-
-pub returns-in-Ready-Ok-clause-not_none : goal.returns-in-Ready-Ok-clause-not_none
-returns-in-Ready-Ok-clause-not_none g c start role own first asked gave stays =
-    c.hear.ensures.not_none start role own first asked gave c.args.self.now.link
-    (goes_none g.L.Link g.P.Protocols g.P.H.Handler start role own first asked gave c.args.self.now.link c.args.self.now.core c.args.self.now.unsent c.args.self.now.held.items c.args.self.now.stage
-    c.requires.going c.requires.none_held stays)
-    (subst (λ (l : List ℕ). g.L.Link.moves c.args.self.now.link l [] c.poll_read.new.self)
-    (of_count c.poll_read.result c.poll_read.new.buffer _ c.in-Ready-Ok.count (cc (c.in-Ready-Ok.is, c.in-Ready-Ok.field-0-is))
-    (sym (written_back c.fill.new.kept.len c.poll_read.new.buffer c.fill.new.kept.items (c.poll_read.auto.buffer ∙ c.as_mut_slice.ensures.len)))) c.poll_read.ensures.moved)
-    (λ there. found_none _ c.poll_read.result (Ready (Ok c.in-Ready-Ok.count)) _ (cc (c.in-Ready-Ok.is, c.in-Ready-Ok.field-0-is)) (λ is. let zero : c.in-Ready-Ok.count ≡ 0 = cc is in c.in-Ready-Ok.count-test.1 zero) (c.poll_read.ensures.found there))
+    (λ there. found_none _ (length c.as_mut_slice.result.now) c.poll_read.result (Ready (Ok c.in-Ready-Ok.count)) (cc (c.in-Ready-Ok.is, c.in-Ready-Ok.field-0-is)) (some_end_not (length c.as_mut_slice.result.now) c.in-Ready-Ok.count c.in-Ready-Ok.count-test.1) (c.poll_read.ensures.found there))

@@ -8,20 +8,15 @@ use Rattle.conn_future.proofs.conn.Conn.starve.Goals as goal
 
 pub returns-clause-follows : goal.returns-clause-follows
 returns-clause-follows g c start role own first asked gave parts =
-    c.give.ensures.follows start role own first asked gave
-    (parts_stay g.L.Link g.P.Protocols g.P.H.Handler start role own first asked gave c.args.self.now.link c.stop.new.self.link c.stop.new.self.core c.stop.new.self.unsent
-    c.args.self.now.held.items c.stop.new.self.held.items c.stop.new.self.stage c.stop.ensures.stage c.stop.ensures.link (ap (λ h. h.items) c.stop.ensures.held) parts)
-
-pub returns-clause-not_link : goal.returns-clause-not_link
-returns-clause-not_link g c start role own first asked gave parts is =
-    c.give.ensures.not_link start role own first asked gave
-    (parts_stay g.L.Link g.P.Protocols g.P.H.Handler start role own first asked gave c.args.self.now.link c.stop.new.self.link c.stop.new.self.core c.stop.new.self.unsent
-    c.args.self.now.held.items c.stop.new.self.held.items c.stop.new.self.stage c.stop.ensures.stage c.stop.ensures.link (ap (λ h. h.items) c.stop.ensures.held) parts) (cc is)
-
-pub returns-clause-not_none : goal.returns-clause-not_none
-returns-clause-not_none g c is =
-    given_any c.stop.new.self.held.items c.give.result (event.Fault fault.OutOfMemory) (λ x rest held. (c.give.ensures.held x rest held).0)
-    (λ none. (c.give.ensures.starved none c.stop.ensures.stage).0) (cc is)
+    let stays =
+    parts_stay g.L.Link g.P.Protocols g.P.H.Handler start role own first asked gave c.args.self.now.link c.stop.new.self.link c.stop.new.self.core c.stop.new.self.unsent
+    c.args.self.now.held.items c.stop.new.self.held.items c.stop.new.self.stage c.stop.ensures.stage c.stop.ensures.link (ap (λ h. h.items) c.stop.ensures.held) parts in record {
+      follows = c.give.ensures.follows start role own first asked gave stays;
+      not_link = λ is. c.give.ensures.not_link start role own first asked gave stays (cc is);
+      not_none = λ is.
+          given_any c.stop.new.self.held.items c.give.result (event.Fault fault.OutOfMemory) (λ x rest held. (c.give.ensures.held x rest held).0)
+          (λ none. (c.give.ensures.starved none c.stop.ensures.stage).0) (cc is);
+    }
 
 pub returns-clause-stage : goal.returns-clause-stage
 returns-clause-stage g c = c.give.ensures.live ∙ ap is_live c.stop.ensures.stage

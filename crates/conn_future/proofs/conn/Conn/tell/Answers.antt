@@ -7,82 +7,63 @@ use Rattle.conn_future.proofs.Standing.{told_stays, parts_of, goes_collected, go
 use Rattle.conn_future.proofs.conn.Conn.tell.Goals as goal
 
 pub returns-then-is_over-clause-follows : goal.returns-then-is_over-clause-follows
-returns-then-is_over-clause-follows g c start role own first asked gave ended joins ends =
-    c.give.ensures.follows start role own first asked gave
-    (told_stays g.L.Link g.P.Protocols g.P.H.Handler start role own first asked gave ended c.args.self.now.link c.stop.new.self.link c.args.self.now.core c.stop.new.self.core
+returns-then-is_over-clause-follows g c start role own first asked gave ended joins ends unended =
+    let over = sym c.is_over.ensures ∙ c.if-is_over.true in
+    let stays =
+    told_stays g.L.Link g.P.Protocols g.P.H.Handler start role own first asked gave ended c.args.self.now.link c.stop.new.self.link c.args.self.now.core c.stop.new.self.core
     c.args.self.now.unsent c.stop.new.self.unsent c.args.events.items c.stop.new.self.held.items c.stop.new.self.stage c.stop.ensures.stage c.stop.ensures.link c.stop.ensures.core
-    (ap (λ h. h.items) c.stop.ensures.held ∙ c.from.ensures.0) (sym c.is_over.ensures ∙ c.if-is_over.true) joins)
-
-pub returns-then-is_over-clause-not_link : goal.returns-then-is_over-clause-not_link
-returns-then-is_over-clause-not_link g c start role own first asked gave ended joins ends is =
-    c.give.ensures.not_link start role own first asked gave
-    (told_stays g.L.Link g.P.Protocols g.P.H.Handler start role own first asked gave ended c.args.self.now.link c.stop.new.self.link c.args.self.now.core c.stop.new.self.core
-    c.args.self.now.unsent c.stop.new.self.unsent c.args.events.items c.stop.new.self.held.items c.stop.new.self.stage c.stop.ensures.stage c.stop.ensures.link c.stop.ensures.core
-    (ap (λ h. h.items) c.stop.ensures.held ∙ c.from.ensures.0) (sym c.is_over.ensures ∙ c.if-is_over.true) joins) (cc is)
+    (ap (λ h. h.items) c.stop.ensures.held ∙ c.from.ensures.0) over joins in record {
+      follows = c.give.ensures.follows start role own first asked gave stays;
+      not_link = λ is. c.give.ensures.not_link start role own first asked gave stays (cc is);
+      not_none = λ is.
+          some_given c.stop.new.self.held.items c.give.result (λ x rest held. (c.give.ensures.held x rest held).0)
+          (λ none. tells_some g.L.Link g.P.Protocols g.P.H.Handler start role own first asked gave ended c.args.self.now.link c.args.self.now.core c.args.self.now.unsent c.args.events.items joins unended
+          over (sym (ap (λ h. h.items) c.stop.ensures.held ∙ c.from.ensures.0) ∙ none)) (cc is);
+    }
 
 pub returns-in_default-clause-follows : goal.returns-in_default-clause-follows
-returns-in_default-clause-follows g c start role own first asked gave ended joins ends =
+returns-in_default-clause-follows g c start role own first asked gave ended joins ends unended =
     c.starve.ensures.follows start role own first asked gave
     (parts_of g.L.Link g.P.Protocols g.P.H.Handler start role own first asked gave ended c.args.self.now.link c.collect.new.self.link c.args.self.now.core c.args.self.now.unsent c.args.events.items
     c.collect.new.self.held.items c.collect.ensures.link (ap (λ h. h.items) c.collect.ensures.held ∙ c.from.ensures.0) (sym c.is_over.ensures ∙ c.if-is_over.false) joins)
 
-pub returns-in_default-clause-not_link : goal.returns-in_default-clause-not_link
-returns-in_default-clause-not_link g c start role own first asked gave ended joins ends is =
-    c.starve.ensures.not_link start role own first asked gave
-    (parts_of g.L.Link g.P.Protocols g.P.H.Handler start role own first asked gave ended c.args.self.now.link c.collect.new.self.link c.args.self.now.core c.args.self.now.unsent c.args.events.items
-    c.collect.new.self.held.items c.collect.ensures.link (ap (λ h. h.items) c.collect.ensures.held ∙ c.from.ensures.0) (sym c.is_over.ensures ∙ c.if-is_over.false) joins) is
-
 pub returns-then-is_empty-clause-follows : goal.returns-then-is_empty-clause-follows
-returns-then-is_empty-clause-follows g c start role own first asked gave ended joins ends =
+returns-then-is_empty-clause-follows g c start role own first asked gave ended joins ends unended =
     let goes_on : is_over c.args.self.now.core.phase ≡ false = sym c.is_over.ensures ∙ c.if-is_over.false in
-    let unended : ended ≡ false = not_true ended (λ is. absurd (cc (ends is, goes_on))) in
-    stays_none g.L.Link g.P.Protocols g.P.H.Handler start role own first asked gave c.collect.new.self.link c.collect.new.self.core c.collect.new.self.unsent c.collect.new.self.held.items
-    c.collect.new.self.held.items c.collect.new.self.stage refl
-    (going_stays g.L.Link g.P.Protocols g.P.H.Handler start role own first asked gave c.collect.new.self.link c.collect.new.self.core c.collect.new.self.unsent c.collect.new.self.held.items
+    let going : ended ≡ false = not_true ended (λ is. absurd (cc (ends is, goes_on))) in
+    let stays =
+    going_stays g.L.Link g.P.Protocols g.P.H.Handler start role own first asked gave c.collect.new.self.link c.collect.new.self.core c.collect.new.self.unsent c.collect.new.self.held.items
     c.collect.new.self.stage (c.collect.ensures.stage ∙ c.requires)
     (goes_collected g.L.Link g.P.Protocols g.P.H.Handler start role own first asked gave ended c.args.self.now.link c.collect.new.self.link c.args.self.now.core c.collect.new.self.core
     c.args.self.now.unsent c.collect.new.self.unsent c.args.events.items c.collect.new.self.held.items
     (λ input taken end told stood. c.in-Ok.ensures.stands start role own input taken end asked told stood)
-    c.collect.ensures.link (ap (λ h. h.items) c.collect.ensures.held ∙ c.from.ensures.0) unended
-    (c.collect.ensures.over ∙ goes_on) c.collect.ensures.none_waits joins))
+    c.collect.ensures.link (ap (λ h. h.items) c.collect.ensures.held ∙ c.from.ensures.0) going
+    (c.collect.ensures.over ∙ goes_on) c.collect.ensures.none_waits joins) in record {
+      follows = stays_none g.L.Link g.P.Protocols g.P.H.Handler start role own first asked gave c.collect.new.self.link c.collect.new.self.core c.collect.new.self.unsent c.collect.new.self.held.items
+          c.collect.new.self.held.items c.collect.new.self.stage refl stays;
+      not_link = λ is. absurd (cc is);
+      not_none = λ is. absurd (cc is);
+    }
 
 pub returns-clause-follows : goal.returns-clause-follows
-returns-clause-follows g c start role own first asked gave ended joins ends =
+returns-clause-follows g c start role own first asked gave ended joins ends unended =
     let goes_on : is_over c.args.self.now.core.phase ≡ false = sym c.is_over.ensures ∙ c.if-is_over.false in
-    let unended : ended ≡ false = not_true ended (λ is. absurd (cc (ends is, goes_on))) in
-    c.give-2.ensures.follows start role own first asked gave
-    (going_stays g.L.Link g.P.Protocols g.P.H.Handler start role own first asked gave c.collect.new.self.link c.collect.new.self.core c.collect.new.self.unsent c.collect.new.self.held.items
+    let going : ended ≡ false = not_true ended (λ is. absurd (cc (ends is, goes_on))) in
+    let stays =
+    going_stays g.L.Link g.P.Protocols g.P.H.Handler start role own first asked gave c.collect.new.self.link c.collect.new.self.core c.collect.new.self.unsent c.collect.new.self.held.items
     c.collect.new.self.stage (c.collect.ensures.stage ∙ c.requires)
     (goes_collected g.L.Link g.P.Protocols g.P.H.Handler start role own first asked gave ended c.args.self.now.link c.collect.new.self.link c.args.self.now.core c.collect.new.self.core
     c.args.self.now.unsent c.collect.new.self.unsent c.args.events.items c.collect.new.self.held.items
     (λ input taken end told stood. c.in-Ok.ensures.stands start role own input taken end asked told stood)
-    c.collect.ensures.link (ap (λ h. h.items) c.collect.ensures.held ∙ c.from.ensures.0) unended
-    (c.collect.ensures.over ∙ goes_on) c.collect.ensures.none_waits joins))
-
-pub returns-clause-not_link : goal.returns-clause-not_link
-returns-clause-not_link g c start role own first asked gave ended joins ends is =
-    let goes_on : is_over c.args.self.now.core.phase ≡ false = sym c.is_over.ensures ∙ c.if-is_over.false in
-    let unended : ended ≡ false = not_true ended (λ is. absurd (cc (ends is, goes_on))) in
-    c.give-2.ensures.not_link start role own first asked gave
-    (going_stays g.L.Link g.P.Protocols g.P.H.Handler start role own first asked gave c.collect.new.self.link c.collect.new.self.core c.collect.new.self.unsent c.collect.new.self.held.items
-    c.collect.new.self.stage (c.collect.ensures.stage ∙ c.requires)
-    (goes_collected g.L.Link g.P.Protocols g.P.H.Handler start role own first asked gave ended c.args.self.now.link c.collect.new.self.link c.args.self.now.core c.collect.new.self.core
-    c.args.self.now.unsent c.collect.new.self.unsent c.args.events.items c.collect.new.self.held.items
-    (λ input taken end told stood. c.in-Ok.ensures.stands start role own input taken end asked told stood)
-    c.collect.ensures.link (ap (λ h. h.items) c.collect.ensures.held ∙ c.from.ensures.0) unended
-    (c.collect.ensures.over ∙ goes_on) c.collect.ensures.none_waits joins)) (cc is)
-
-pub returns-then-is_over-clause-not_none : goal.returns-then-is_over-clause-not_none
-returns-then-is_over-clause-not_none g c start role own first asked gave ended joins unended is =
-    some_given c.stop.new.self.held.items c.give.result (λ x rest held. (c.give.ensures.held x rest held).0)
-    (λ none. tells_some g.L.Link g.P.Protocols g.P.H.Handler start role own first asked gave ended c.args.self.now.link c.args.self.now.core c.args.self.now.unsent c.args.events.items joins unended
-    (sym c.is_over.ensures ∙ c.if-is_over.true) (sym (ap (λ h. h.items) c.stop.ensures.held ∙ c.from.ensures.0) ∙ none)) (cc is)
-
-pub returns-clause-not_none : goal.returns-clause-not_none
-returns-clause-not_none g c start role own first asked gave ended joins unended is =
-    some_given c.collect.new.self.held.items c.give-2.result (λ x rest held. (c.give-2.ensures.held x rest held).0)
-    (λ none. let zero : deque_len c.collect.new.self.held ≡ 0 = omega (arith, ap length none, c.collect.new.self.held.ok) in
-    cc (c.is_empty.ensures, eq-eqb (deque_len c.collect.new.self.held) 0 zero, c.if-is_empty.false)) (cc is)
+    c.collect.ensures.link (ap (λ h. h.items) c.collect.ensures.held ∙ c.from.ensures.0) going
+    (c.collect.ensures.over ∙ goes_on) c.collect.ensures.none_waits joins) in record {
+      follows = c.give-2.ensures.follows start role own first asked gave stays;
+      not_link = λ is. c.give-2.ensures.not_link start role own first asked gave stays (cc is);
+      not_none = λ is.
+          some_given c.collect.new.self.held.items c.give-2.result (λ x rest held. (c.give-2.ensures.held x rest held).0)
+          (λ none. let zero : deque_len c.collect.new.self.held ≡ 0 = omega (arith, ap length none, c.collect.new.self.held.ok) in
+          cc (c.is_empty.ensures, eq-eqb (deque_len c.collect.new.self.held) 0 zero, c.if-is_empty.false)) (cc is);
+    }
 
 pub returns-then-is_over-clause-stage : goal.returns-then-is_over-clause-stage
 returns-then-is_over-clause-stage g c is =

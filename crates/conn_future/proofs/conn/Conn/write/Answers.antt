@@ -1,24 +1,60 @@
-use Rattle.std.proofs.Common.{subst, ℕ, List, []}
-use Rattle.conn_future.proofs.Moved.{of_count, of_fault, of_pending}
+use Rattle.std.proofs.Common.{subst, refl, ℕ, List, []}
+use Rattle.conn_future.proofs.Moved.{of_count, of_fault, of_pending, drains_some, drains_still}
 use Rattle.conn_future.proofs.Standing.{stays_wrote_to, stays_failed, stays_pending}
 use Rattle.conn_future.proofs.conn.Conn.write.Goals as goal
 
 pub returns-in-Ready-Ok-clause-follows : goal.returns-in-Ready-Ok-clause-follows
-returns-in-Ready-Ok-clause-follows g c start role own first asked gave stays =
-    stays_wrote_to g.L.Link g.P.Protocols g.P.H.Handler start role own g.met.L.Link.moves_on g.met.L.Link.stays_ended first asked gave c.args.self.now.link c.poll_write.new.self c.args.self.now.core c.args.self.now.unsent c.advance.new.self
-    _ c.args.self.now.held.items c.in-Ready-Ok.count c.args.self.now.stage c.requires.live c.advance.ensures
-    (of_count c.poll_write.result c.as_slice.result.now c.args.self.now.unsent c.in-Ready-Ok.count (cc (c.in-Ready-Ok.is, c.in-Ready-Ok.field-0-is)) c.as_slice.ensures) stays c.poll_write.ensures.moved c.poll_write.ensures.not_found
+returns-in-Ready-Ok-clause-follows g c start role own first asked gave stays = record {
+  follows = stays_wrote_to g.L.Link g.P.Protocols g.P.H.Handler start role own g.met.L.Link.moves_on g.met.L.Link.stays_ended first asked gave c.args.self.now.link c.poll_write.new.self c.args.self.now.core c.args.self.now.unsent c.advance.new.self
+      _ c.args.self.now.held.items c.in-Ready-Ok.count c.args.self.now.stage c.requires.live c.advance.ensures
+      (of_count c.poll_write.result c.as_slice.result.now c.args.self.now.unsent c.in-Ready-Ok.count (cc (c.in-Ready-Ok.is, c.in-Ready-Ok.field-0-is)) c.as_slice.ensures) stays c.poll_write.ensures.moved c.poll_write.ensures.not_found;
+  not_link = λ is. absurd (cc is);
+  not_none = λ is. absurd (cc is);
+}
 
 pub returns-in-Ready-Err-clause-follows : goal.returns-in-Ready-Err-clause-follows
-returns-in-Ready-Err-clause-follows g c start role own first asked gave stays =
-    stays_failed g.L.Link g.P.Protocols g.P.H.Handler start role own g.met.L.Link.moves_on g.met.L.Link.stays_ended first asked gave c.args.self.now.link c.poll_write.new.self c.args.self.now.core c.args.self.now.unsent []
-    c.args.self.now.held.items c.args.self.now.stage c.requires.live c.requires.none_held stays
-    (subst (λ (l : List ℕ). g.L.Link.moves c.args.self.now.link [] l c.poll_write.new.self)
-    (of_fault c.poll_write.result c.as_slice.result.now c.in-Ready-Err._fault (cc (c.in-Ready-Err.is, c.in-Ready-Err.field-0-is))) c.poll_write.ensures.moved) c.poll_write.ensures.not_found
+returns-in-Ready-Err-clause-follows g c start role own first asked gave stays = record {
+  follows = stays_failed g.L.Link g.P.Protocols g.P.H.Handler start role own g.met.L.Link.moves_on g.met.L.Link.stays_ended first asked gave c.args.self.now.link c.poll_write.new.self c.args.self.now.core c.args.self.now.unsent []
+      c.args.self.now.held.items c.args.self.now.stage c.requires.live c.requires.none_held stays
+      (subst (λ (l : List ℕ). g.L.Link.moves c.args.self.now.link [] l c.poll_write.new.self)
+      (of_fault c.poll_write.result c.as_slice.result.now c.in-Ready-Err._fault (cc (c.in-Ready-Err.is, c.in-Ready-Err.field-0-is))) c.poll_write.ensures.moved) c.poll_write.ensures.not_found;
+  not_link = λ is. absurd (cc is);
+  not_none = λ is. absurd (cc is);
+}
 
 pub returns-in-Pending-clause-follows : goal.returns-in-Pending-clause-follows
-returns-in-Pending-clause-follows g c start role own first asked gave stays =
-    stays_pending g.L.Link g.P.Protocols g.P.H.Handler start role own g.met.L.Link.moves_on g.met.L.Link.stays_ended first asked gave c.args.self.now.link c.poll_write.new.self c.args.self.now.core c.args.self.now.unsent
-    c.args.self.now.held.items c.args.self.now.stage c.requires.live stays
-    (subst (λ (l : List ℕ). g.L.Link.moves c.args.self.now.link [] l c.poll_write.new.self)
-    (of_pending c.poll_write.result c.as_slice.result.now c.in-Pending.is) c.poll_write.ensures.moved) c.poll_write.ensures.not_found
+returns-in-Pending-clause-follows g c start role own first asked gave stays = record {
+  follows = stays_pending g.L.Link g.P.Protocols g.P.H.Handler start role own g.met.L.Link.moves_on g.met.L.Link.stays_ended first asked gave c.args.self.now.link c.poll_write.new.self c.args.self.now.core c.args.self.now.unsent
+      c.args.self.now.held.items c.args.self.now.stage c.requires.live stays
+      (subst (λ (l : List ℕ). g.L.Link.moves c.args.self.now.link [] l c.poll_write.new.self)
+      (of_pending c.poll_write.result c.as_slice.result.now c.in-Pending.is) c.poll_write.ensures.moved) c.poll_write.ensures.not_found;
+  not_link = λ is. absurd (cc is);
+  not_none = λ is. absurd (cc is);
+}
+
+pub returns-in-Ready-Ok-clause-shutting : goal.returns-in-Ready-Ok-clause-shutting
+returns-in-Ready-Ok-clause-shutting g c is = (
+  c.advance.new.self,
+  drains_some g.L.Link c.args.self.now.link c.poll_write.new.self c.args.self.now.unsent c.advance.new.self c.in-Ready-Ok.count c.advance.ensures
+      (subst (λ (l : List ℕ). g.L.Link.moves c.args.self.now.link [] l c.poll_write.new.self)
+      (of_count c.poll_write.result c.as_slice.result.now c.args.self.now.unsent c.in-Ready-Ok.count (cc (c.in-Ready-Ok.is, c.in-Ready-Ok.field-0-is)) c.as_slice.ensures) c.poll_write.ensures.moved) c.poll_write.ensures.not_shut,
+  refl,
+)
+
+pub returns-in-Ready-Err-clause-shutting : goal.returns-in-Ready-Err-clause-shutting
+returns-in-Ready-Err-clause-shutting g c is = (
+  c.args.self.now.unsent,
+  drains_still g.L.Link c.args.self.now.link c.poll_write.new.self c.args.self.now.unsent
+      (subst (λ (l : List ℕ). g.L.Link.moves c.args.self.now.link [] l c.poll_write.new.self)
+      (of_fault c.poll_write.result c.as_slice.result.now c.in-Ready-Err._fault (cc (c.in-Ready-Err.is, c.in-Ready-Err.field-0-is))) c.poll_write.ensures.moved) c.poll_write.ensures.not_shut,
+  tt,
+)
+
+pub returns-in-Pending-clause-shutting : goal.returns-in-Pending-clause-shutting
+returns-in-Pending-clause-shutting g c is = (
+  c.args.self.now.unsent,
+  drains_still g.L.Link c.args.self.now.link c.poll_write.new.self c.args.self.now.unsent
+      (subst (λ (l : List ℕ). g.L.Link.moves c.args.self.now.link [] l c.poll_write.new.self)
+      (of_pending c.poll_write.result c.as_slice.result.now c.in-Pending.is) c.poll_write.ensures.moved) c.poll_write.ensures.not_shut,
+  refl,
+)

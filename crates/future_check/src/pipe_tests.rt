@@ -1,8 +1,7 @@
-ghost use Rattle.std.specs.Prelude.{IfSome};
-ghost use Rattle.std.specs.List.{All};
-ghost use Rattle.conn_link.specs.Piping.{CanGo};
+//! A pipe by itself: what its calls answer by their steps.
 
-use crate::{Link, LinkFault, Pipe, PipeStep};
+use crate::scripts::{FAIL, PENDING, answer_of, steps_of};
+use conn_link::{Link, Pipe};
 use futures::task::Poll;
 use futures::test::MockTask;
 use std::alloc::Global;
@@ -11,53 +10,24 @@ use std::test::*;
 /// What a link gives or takes in all: a call offers four bytes of it at a time.
 const ALL: &[u8] = b"abcdef";
 
-/// The steps of a list, and what calls in turn answer by them. A digit stands for a step, or an answer, of so many
-/// bytes, p for one that is pending, f for one that fails.
+/// The codes of a list of steps, and what calls in turn answer by them.
 static ROWS: [(&[u8], &[u8]); 11] = [
     // Past the end of the list a call moves all that it can, and past the end of the input nothing.
-    (b"", b"4200"),
-    (b"1", b"14100"),
-    (b"2", b"24000"),
+    (&[], b"4200"),
+    (&[1], b"14100"),
+    (&[2], b"24000"),
     // No more than there is room for, and no more than is left.
-    (b"99", b"4200"),
-    (b"39", b"33000"),
+    (&[9, 9], b"4200"),
+    (&[3, 9], b"33000"),
     // What is pending or fails moves nothing.
-    (b"p", b"p420"),
-    (b"f", b"f420"),
-    (b"1p2f9", b"1p2f30"),
-    (b"ppff", b"ppff420"),
+    (&[PENDING], b"p420"),
+    (&[FAIL], b"f420"),
+    (&[1, PENDING, 2, FAIL, 9], b"1p2f30"),
+    (&[PENDING, PENDING, FAIL, FAIL], b"ppff420"),
     // The steps go on past the end of the input.
-    (b"999pf", b"420pf00"),
-    (b"111111pf1", b"111111pf00"),
+    (&[9, 9, 9, PENDING, FAIL], b"420pf00"),
+    (&[1, 1, 1, 1, 1, 1, PENDING, FAIL, 1], b"111111pf00"),
 ];
-
-fn step_of(letter: u8) -> PipeStep
-    ensures { CanGo result }
-{
-    match letter {
-        b'p' => PipeStep::Pending,
-        b'f' => PipeStep::Fail,
-        digit => PipeStep::Upto(usize::from(digit.saturating_sub(b'0')).max(1)),
-    }
-}
-
-fn steps_of(alloc: Global, letters: &[u8]) -> Option<Vec<PipeStep>>
-    ensures { IfSome result (λ steps. All CanGo steps.items) }
-{
-    let mut steps = Vec::new(alloc);
-    for letter in letters {
-        steps.push(step_of(*letter)).ok()?;
-    }
-    Some(steps)
-}
-
-fn answer_of(letter: u8) -> Poll<Result<usize, LinkFault>> {
-    match letter {
-        b'p' => Poll::Pending,
-        b'f' => Poll::Ready(Err(LinkFault)),
-        digit => Poll::Ready(Ok(usize::from(digit.saturating_sub(b'0')))),
-    }
-}
 
 /// What a link has given, or taken, and whether each call answered as it was to.
 #[derive(Drop)]
@@ -175,7 +145,7 @@ fn in_turn<L: Link>(alloc: Global, task: &MockTask, link: &mut L) -> Option<bool
 
 /// Reads and writes have each their own steps, and shutting takes none of them.
 fn both_ways(alloc: Global, task: &MockTask) -> Option<bool> {
-    let (reads, writes) = (steps_of(alloc, b"1p")?, steps_of(alloc, b"f2")?);
+    let (reads, writes) = (steps_of(alloc, &[1, PENDING])?, steps_of(alloc, &[FAIL, 2])?);
     let mut pipe = Pipe::new(alloc, ALL.to_vec(alloc).ok()?, reads, writes);
     let was_shut = pipe.is_shut();
     let is_right = in_turn(alloc, task, &mut pipe)? && pipe.written() == ALL;
@@ -191,7 +161,7 @@ fn both_directions(rt: HostRuntime) -> Result<(), Fail> {
 
 /// A read into an empty buffer gives nothing, and takes a step all the same.
 fn into_nothing(alloc: Global, task: &MockTask) -> Option<bool> {
-    let reads = steps_of(alloc, b"1p")?;
+    let reads = steps_of(alloc, &[1, PENDING])?;
     let mut pipe = Pipe::new(alloc, ALL.to_vec(alloc).ok()?, reads, Vec::new(alloc));
     let first = task.enter(|cx| pipe.poll_read(cx, &mut []));
     let rest = read(alloc, task, &mut pipe, b"p420")?;

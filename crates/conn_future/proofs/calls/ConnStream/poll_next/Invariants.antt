@@ -1,13 +1,13 @@
-use Rattle.std.proofs.Common.{◌≡◌, ℕ, Bool, true, List, []}
+use Rattle.std.proofs.Common.{◌≡◌, ◌≢◌, ℕ, Bool, true, List, []}
 use Rattle.futures.specs.Task.{Keeps}
 use Rattle.peer_ids.specs.Key.{Key}
 use Rattle.upgrade.specs.declared.role.ConnRole.{ConnRole}
 use Rattle.conn_log.specs.declared.event.ConnEvent.{ConnEvent}
 use Rattle.conn_future.specs.declared.stage.Stage.TheVariants.{Shutting}
-use Rattle.conn_future.specs.Stages.{is_live}
+use Rattle.conn_future.specs.Stages.{is_live, Drains}
 use Rattle.conn_future.specs.Follows.{Follows}
 use Rattle.conn_future.specs.Turning.{HasWaited}
-use Rattle.conn_future.proofs.conn.Conn.poll.Given as goal
+use Rattle.conn_future.proofs.calls.ConnStream.poll_next.Given as goal
 
 abbrev pub invariant-loop : goal.invariant-loop
 invariant-loop g l = record {
@@ -15,10 +15,11 @@ invariant-loop g l = record {
   stage : l.self.stage ≡ l.fn.self.stage;
   none_held : l.self.held.items ≡ [];
   failures : g.L.Link.failed l.self.link ≡ g.L.Link.failed l.fn.self.link;
-  follows : (start : _) (role : ConnRole) (own : Key) (first : _) (asked : List (ℕ × ℕ)) (gave : List (ConnEvent _))
+  follows : (start : P) (role : ConnRole) (own : Key) (first : _) (asked : List (ℕ × ℕ)) (gave : List (ConnEvent _))
       → Follows g.L.Link g.P.Protocols g.P.H.Handler start role own first asked gave l.fn.self
       → Follows g.L.Link g.P.Protocols g.P.H.Handler start role own first asked gave l.self;
-  shutting : l.fn.self.stage ≡ Shutting → (took : List ℕ) × g.L.Link.moves l.fn.self.link [] took l.self.link;
+  unshut : l.fn.self.stage ≢ Shutting → g.L.Link.is_shut l.self.link → g.L.Link.is_shut l.fn.self.link;
+  shutting : l.fn.self.stage ≡ Shutting → Drains g.L.Link l.fn.self.link l.fn.self.unsent l.self.link l.self.unsent;
   waits : HasWaited l.waits l.cx (g.L.Link.reads_at l.self.link) (g.L.Link.writes_at l.self.link);
   kept : Keeps l.fn.cx l.cx;
 }

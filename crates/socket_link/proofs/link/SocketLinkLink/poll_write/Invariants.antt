@@ -1,0 +1,15 @@
+use Rattle.std.proofs.Common.{◌≡◌, []}
+use Rattle.futures.specs.Task.{Keeps}
+use Rattle.socket_link.proofs.link.SocketLinkLink.poll_write.Given as goal
+
+abbrev pub invariant-loop : goal.invariant-loop
+invariant-loop g l = record {
+  moved : g.S.Socket.moves l.fn.self.socket [] [] l.self.socket;
+  not_shut : g.S.Socket.is_shut l.self.socket → g.S.Socket.is_shut l.fn.self.socket;
+  reads_at : g.S.Socket.reads_at l.self.socket ≡ g.S.Socket.reads_at l.fn.self.socket;
+  writes_at : g.S.Socket.writes_at l.self.socket ≡ g.S.Socket.writes_at l.fn.self.socket;
+  has_ended : l.self.has_ended ≡ l.fn.self.has_ended;
+  is_shut : l.self.is_shut ≡ l.fn.self.is_shut;
+  failures : l.self.failures ≡ l.fn.self.failures;
+  kept : Keeps l.fn.cx l.cx;
+}
