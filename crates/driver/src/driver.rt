@@ -168,7 +168,7 @@ impl<'a, N: Net, C: Caller> Driver<'a, N, C> {
                 return;
             }
             self.serve_at(at, cx);
-            if self.is_gone(at) {
+            if self.is_gone(at) && at < self.seats.len() {
                 self.seats.swap_remove(at);
             } else {
                 at += 1;

@@ -17,7 +17,7 @@ use upgrade::ConnRole;
 pub type Spoken = NodeProtocols<RandomPayloads>;
 
 /// A connection of a node.
-pub type Socketed = Conn<SocketLink, Spoken>;
+pub type Socketed = Conn<SocketLink<TcpStream>, Spoken>;
 
 /// What each connection of a node is made with.
 #[derive(Drop)]

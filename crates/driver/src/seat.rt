@@ -7,7 +7,7 @@ use crate::caller::Caller;
 use crate::making::{Maker, Socketed};
 use conn_log::ConnEvent;
 use futures::task::{Context, Poll};
-use futures::Future;
+use futures::{Future, Stream, ready};
 use identify_h::Identify;
 use node_protocols::NodeHandler;
 use plaintext_x::Proven;
@@ -190,14 +190,28 @@ impl Seat {
     pub fn serve<C: Caller>(&mut self, cx: &mut Context<'_>, maker: &mut Maker, caller: &mut C)
         ensures { Keeps cx.old cx.new }
     {
-        if let Way::Connecting(connecting) = &mut self.way {
-            match connecting.poll(cx) {
-                Poll::Ready(Ok(stream)) => self.way = way_of(maker, stream, ConnRole::Dialer),
-                Poll::Ready(Err(_)) => self.way = Way::Ended,
-                Poll::Pending => return,
+        if let Poll::Ready(connected) = self.poll_connected(cx) {
+            if let Some(stream) = connected {
+                self.way = way_of(maker, stream, ConnRole::Dialer);
+            }
+            self.hear_all(cx, caller);
+        }
+    }
+
+    /// The socket that is connected now; none, where it was before, or can't be.
+    fn poll_connected(&mut self, cx: &mut Context<'_>) -> Poll<Option<TcpStream>>
+        ensures { Keeps cx.old cx.new }
+    {
+        let Way::Connecting(connecting) = &mut self.way else {
+            return Poll::Ready(None);
+        };
+        match ready!(connecting.poll(cx)) {
+            Ok(stream) => Poll::Ready(Some(stream)),
+            Err(_) => {
+                self.way = Way::Ended;
+                Poll::Ready(None)
             }
         }
-        self.hear_all(cx, caller);
     }
 
     /// Hears what the connection tells, until it waits.
@@ -208,7 +222,7 @@ impl Seat {
             let Way::Up(conn) = &mut self.way else {
                 return;
             };
-            match conn.poll(cx) {
+            match conn.poll_next(cx) {
                 Poll::Ready(Some(event)) => self.hear(event, caller),
                 Poll::Ready(None) => self.way = Way::Ended,
                 Poll::Pending => {
@@ -259,10 +273,12 @@ impl Seat {
     /// Keeps what the peer said of itself: what was asked for replaces what is kept, and a push is merged into it.
     fn keep(&mut self, stream: u32, message: Identify) {
         let was_asked = self.streams.iter().any(|asked| asked.number == stream);
-        self.identify = match self.identify.take() {
-            Some(kept) if !was_asked => Some(kept.merged_with(message)),
-            _ => Some(message),
+        let kept = if was_asked {
+            None
+        } else {
+            self.identify.take()
         };
+        self.identify = Some(merged(kept, message));
     }
 
     /// What the peer has said of itself.
@@ -276,5 +292,13 @@ fn way_of(maker: &mut Maker, stream: TcpStream, role: ConnRole) -> Way {
     match maker.conn(stream, role) {
         Ok(conn) => Way::Up(conn),
         Err(_) => Way::Ended,
+    }
+}
+
+/// What is kept with a message merged into it.
+fn merged(kept: Option<Identify>, message: Identify) -> Identify {
+    match kept {
+        Some(kept) => kept.merged_with(message),
+        None => message,
     }
 }
