@@ -1,6 +1,6 @@
 //! A dialer that knows no protocol, from its first call to its last.
 
-ghost use Rattle.std.specs.Prelude.{[], ◌∷◌, ⊤, true, false, codes, if◌then◌else◌};
+ghost use Rattle.std.specs.Prelude.{◌≡◌, [], ◌∷◌, ⊤, true, false, codes, if◌then◌else◌};
 
 use conn_core::*;
 use conn_log::ConnEvent;
@@ -67,6 +67,10 @@ impl Protocols for Mutes {
     ghost makes_inbound = { λ _ _ _ _. ⊤ };
 
     ghost makes_outbound = { λ _ _ _ _. ⊤ };
+
+    ghost leads_inbound = { λ old _ _ _ new. new ≡ old };
+
+    ghost leads_outbound = { λ old _ _ _ new. new ≡ old };
 
     fn names(&self) -> &[&str] {
         if self.is_known { &NAMES } else { &NO_NAMES }

@@ -2,11 +2,12 @@
 
 ghost use Rattle.std.specs.Prelude.{⊤, ◌&&◌, ◌==◌, vec_len};
 
+use crate::stopping::{Why, why_stopped};
 use handlers::{Handler, HandlerFault};
 use serving::*;
 use std::alloc::Global;
 use std::test::*;
-use streams::{Cause, Stop, Stream};
+use streams::{Stop, Stream};
 use yamux_session::{Event, Role, Session};
 
 /// What either end of the talk writes: the header, and the name.
@@ -80,7 +81,7 @@ enum Does {
 enum Served {
     Going,
     Done,
-    Stopped(Stop),
+    Stopped(Why),
 }
 
 /// What the client does, what serving came to, how many bytes the client is told then and whether the end came, and how
@@ -171,7 +172,7 @@ impl Pair {
         match serve(&mut self.server, 1, &mut self.stream) {
             Ok(None) => Served::Going,
             Ok(Some(_)) => Served::Done,
-            Err(stop) => Served::Stopped(stop),
+            Err(stop) => Served::Stopped(why_stopped(stop)),
         }
     }
 
@@ -254,7 +255,7 @@ static SCRIPTS: [&[Step]; 2] = [
 /// The handler gives up when it is asked: nothing is sent.
 const GIVES_UP: Step = Step {
     does: Does::Writes(5),
-    served: Served::Stopped(Stop::Broken(Cause::Handler(HandlerFault { number: 7 }))),
+    served: Served::Stopped(Why::Handler(7)),
     told: 0,
     ended: false,
     credit: Some(262144),
