@@ -237,7 +237,10 @@ fn hand(protocols: &mut Two, direction: Direction, came: &mut Came, piece: &[u8]
         came.agreed = Some(index);
         rest = &piece[used..];
     }
-    came.last = came.stream.take(rest).map(|()| Heard::Going);
+    came.last = match came.stream.take(rest) {
+        Ok(()) => Ok(Heard::Going),
+        Err(stop) => Err(stop),
+    };
 }
 
 /// The end comes. Whether the handler, which is handed out, is of this direction and index, and was handed this.

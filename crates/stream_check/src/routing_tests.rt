@@ -213,11 +213,11 @@ fn begin(alloc: Global, direction: Direction, most: usize) -> Result<Pair, Fail>
 
 impl Pair {
     fn outcome(&mut self, outcome: Outcome<Echo>) {
-        self.place = match outcome {
+        self.place = match &outcome {
             Outcome::Going => Place::Going,
             Outcome::Done(_) => Place::Done,
             Outcome::Refused => Place::Refused,
-            Outcome::Broken(cause) => Place::Broken(why_broken(cause)),
+            Outcome::Broken(cause) => Place::Broken(why_broken(*cause)),
         };
     }
 

@@ -113,7 +113,9 @@ fn open(client: &mut Session, server: &mut Session) -> Result<(), Fail> {
 
 /// The stream hears what was asked, and gets its handler.
 fn agree(alloc: Global, stream: &mut Stream<Echo>, failing: bool) -> Result<(), Fail> {
-    stream.hear(M_X).ok().ok_or("an agreement")?;
+    let Ok(_) = stream.hear(M_X) else {
+        return Err("an agreement".into());
+    };
     if !stream.awaits_handler() {
         return Err("no agreement".into());
     }
@@ -163,7 +165,9 @@ impl Pair {
             Does::Takes => self.client.taken(1, usize::MAX)?,
         }
         for event in &self.server.feed(&self.client.take_output())? {
-            self.hears(event).ok().ok_or("what is told is taken")?;
+            let Ok(()) = self.hears(event) else {
+                return Err("what is told is taken".into());
+            };
         }
         Ok(())
     }

@@ -205,12 +205,17 @@ impl Came {
         if !self.stream.talks() {
             return self.stream.take(bytes);
         }
-        let Heard::Agreed { index, used } = self.stream.hear(bytes)? else {
-            return Ok(());
+        let (index, used) = match self.stream.hear(bytes) {
+            Ok(Heard::Agreed { index, used }) => (index, used),
+            Ok(_) => return Ok(()),
+            Err(stop) => return Err(stop),
         };
         self.agreed = Some(index);
         if self.stream.awaits_handler() {
-            self.stream.serve(Echo::owing(alloc, b"", 0, false)?);
+            let Ok(echo) = Echo::owing(alloc, b"", 0, false) else {
+                return Err(Stop::OutOfMemory);
+            };
+            self.stream.serve(echo);
         }
         self.stream.take(&bytes[used..])
     }
@@ -228,7 +233,9 @@ impl Came {
         if self.stop.is_some() {
             return true;
         }
-        self.stop = self.hand(alloc, piece).err();
+        if let Err(stop) = self.hand(alloc, piece) {
+            self.stop = Some(stop);
+        }
         self.stop.is_some() || self.gives(room)
     }
 
