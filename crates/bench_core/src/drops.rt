@@ -1,6 +1,6 @@
 //! A protocol whose handler drops what it takes.
 
-ghost use Rattle.std.specs.Prelude.{⊤, [], ◌∷◌, false, codes};
+ghost use Rattle.std.specs.Prelude.{◌≡◌, ⊤, [], ◌∷◌, false, codes};
 
 use handlers::{Handler, HandlerFault, Protocols};
 use peer_ids::PeerId;
@@ -60,6 +60,10 @@ impl Protocols for Drops {
     ghost makes_inbound = { λ _ _ _ _. ⊤ };
 
     ghost makes_outbound = { λ _ _ _ _. ⊤ };
+
+    ghost leads_inbound = { λ old _ _ _ new. new ≡ old };
+
+    ghost leads_outbound = { λ old _ _ _ new. new ≡ old };
 
     fn names(&self) -> &[&str] {
         &NAMES

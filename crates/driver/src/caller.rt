@@ -71,21 +71,21 @@ impl Looking for Fresh {
 
 /// A caller of a swarm, by its pass.
 #[derive(Drop)]
-pub struct Member<'a, R: Wait, J: Identity, L: Ledgers, K: Looking> {
+pub struct Member<'a, 's, R: Wait, J: Identity, L: Ledgers, K: Looking> {
     rt: &'a R,
-    swarm: &'a Swarm<NoGate, J, L>,
-    pass: &'a mut Pass<J, L>,
+    swarm: &'s Swarm<NoGate, J, L>,
+    pass: &'s mut Pass<J, L>,
     looking: &'a K,
 }
 
-impl<'a, R: Wait, J: Identity, L: Ledgers, K: Looking> Member<'a, R, J, L, K> {
+impl<'a, 's, R: Wait, J: Identity, L: Ledgers, K: Looking> Member<'a, 's, R, J, L, K> {
     /// The caller of this pass.
     pub fn new(
         rt: &'a R,
-        swarm: &'a Swarm<NoGate, J, L>,
-        pass: &'a mut Pass<J, L>,
+        swarm: &'s Swarm<NoGate, J, L>,
+        pass: &'s mut Pass<J, L>,
         looking: &'a K,
-    ) -> Member<'a, R, J, L, K>
+    ) -> Member<'a, 's, R, J, L, K>
         ensures { result.pass.now ≡ pass.old }
     {
         Member {
@@ -97,7 +97,7 @@ impl<'a, R: Wait, J: Identity, L: Ledgers, K: Looking> Member<'a, R, J, L, K> {
     }
 }
 
-impl<R: Wait, J: Identity, L: Ledgers, K: Looking> Caller for Member<'_, R, J, L, K> {
+impl<R: Wait, J: Identity, L: Ledgers, K: Looking> Caller for Member<'_, '_, R, J, L, K> {
     fn dial(&mut self, peer: Option<PeerId>) -> Reply
         ensures { IsCalled J.config J.callers (call.Dial peer) self.old.pass.now result self.new.pass.now }
     {

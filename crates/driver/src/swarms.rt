@@ -17,10 +17,10 @@ pub trait SwarmUse: Drop {
     type Output: Drop;
 
     /// Uses the swarm by the passes of its callers, 1 and 2.
-    fn go<J: Identity, L: Ledgers>(
+    fn go<'s, J: Identity, L: Ledgers>(
         self,
-        swarm: &Swarm<NoGate, J, L>,
-        passes: &mut Vec<Pass<J, L>>,
+        swarm: &'s Swarm<NoGate, J, L>,
+        passes: &'s mut Vec<Pass<J, L>>,
     ) -> Self::Output;
 }
 

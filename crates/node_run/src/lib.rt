@@ -3,9 +3,9 @@
 
 mod ending;
 mod play;
-mod run;
 mod script;
 mod side;
+mod turns;
 
 pub use ending::RunEnding;
 pub use play::run;

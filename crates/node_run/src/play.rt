@@ -1,7 +1,7 @@
 //! The run of a script on two nodes, from the making of their swarms on.
 
 use crate::ending::RunEnding;
-use crate::run::Run;
+use crate::turns::Run;
 use crate::script::Name;
 use crate::side::Side;
 use driver::{Driver, Looking, Member, Setup, SwarmUse, with_swarm};
@@ -61,19 +61,24 @@ fn setup_of<R: RandomSource + AllocGlobal>(rt: &R, name: Name) -> Result<Setup, 
 
 /// What a run has.
 #[derive(Drop)]
-struct Play<'a, R, K: Looking, O: Write> {
+struct Play<'a, R, K: Looking, O: Write + Drop> {
     rt: &'a R,
     looking: &'a K,
     script: &'a [u8],
-    output: &'a mut O,
+    output: O,
 }
 
 /// Runs a script on two nodes, and prints what comes of it. By `looking` they come to see what is published.
-pub fn run<R, K, O>(rt: &R, looking: &K, script: &[u8], output: &mut O) -> Result<(), RunEnding>
+pub fn run<'a, R, K, O>(
+    rt: &'a R,
+    looking: &'a K,
+    script: &'a [u8],
+    output: O,
+) -> Result<(), RunEnding>
 where
     R: Wait + Clock + Net + RandomSource + AllocGlobal,
     K: Looking,
-    O: Write,
+    O: Write + Drop,
 {
     let play = Play {
         rt,
@@ -89,7 +94,7 @@ where
 
 /// Makes the swarm of the second node beside that of the first.
 #[derive(Drop)]
-struct First<'a, R, K: Looking, O: Write> {
+struct First<'a, R, K: Looking, O: Write + Drop> {
     play: Play<'a, R, K, O>,
 }
 
@@ -97,14 +102,14 @@ impl<R, K, O> SwarmUse for First<'_, R, K, O>
 where
     R: Wait + Clock + Net + RandomSource + AllocGlobal,
     K: Looking,
-    O: Write,
+    O: Write + Drop,
 {
     type Output = Result<(), RunEnding>;
 
-    fn go<J: Identity, L: Ledgers>(
+    fn go<'s, J: Identity, L: Ledgers>(
         self,
-        swarm: &Swarm<NoGate, J, L>,
-        passes: &mut Vec<Pass<J, L>>,
+        swarm: &'s Swarm<NoGate, J, L>,
+        passes: &'s mut Vec<Pass<J, L>>,
     ) -> Result<(), RunEnding> {
         let First { play } = self;
         let rt = play.rt;
@@ -122,26 +127,26 @@ where
 
 /// Runs the script on both nodes: the first one's swarm and passes are here.
 #[derive(Drop)]
-struct Second<'a, R, K: Looking, O: Write, J: Identity, L: Ledgers> {
+struct Second<'a, 's, R, K: Looking, O: Write + Drop, J: Identity, L: Ledgers> {
     play: Play<'a, R, K, O>,
-    swarm: &'a Swarm<NoGate, J, L>,
-    passes: &'a mut Vec<Pass<J, L>>,
+    swarm: &'s Swarm<NoGate, J, L>,
+    passes: &'s mut Vec<Pass<J, L>>,
 }
 
-impl<R, K, O, A, M> SwarmUse for Second<'_, R, K, O, A, M>
+impl<R, K, O, A, M> SwarmUse for Second<'_, '_, R, K, O, A, M>
 where
     R: Wait + Clock + Net + RandomSource + AllocGlobal,
     K: Looking,
-    O: Write,
+    O: Write + Drop,
     A: Identity,
     M: Ledgers,
 {
     type Output = Result<(), RunEnding>;
 
-    fn go<J: Identity, L: Ledgers>(
+    fn go<'s, J: Identity, L: Ledgers>(
         self,
-        swarm: &Swarm<NoGate, J, L>,
-        passes: &mut Vec<Pass<J, L>>,
+        swarm: &'s Swarm<NoGate, J, L>,
+        passes: &'s mut Vec<Pass<J, L>>,
     ) -> Result<(), RunEnding> {
         let Second {
             play,
@@ -169,14 +174,14 @@ fn ticks<R: Clock>(rt: &R, runtime: &LocalRuntime) -> Result<Interval, RunEnding
 }
 
 /// One node, before the first line.
-fn side<'a, R, J, L, K>(
+fn side<'a, 's, R, J, L, K>(
     rt: &'a R,
     runtime: &LocalRuntime,
     name: Name,
-    swarm: &'a Swarm<NoGate, J, L>,
-    passes: &'a mut Vec<Pass<J, L>>,
+    swarm: &'s Swarm<NoGate, J, L>,
+    passes: &'s mut Vec<Pass<J, L>>,
     looking: &'a K,
-) -> Result<Side<'a, R, Member<'a, R, J, L, K>>, RunEnding>
+) -> Result<Side<'a, R, Member<'a, 's, R, J, L, K>>, RunEnding>
 where
     R: Wait + Net + RandomSource + AllocGlobal,
     J: Identity,

@@ -147,7 +147,8 @@ fn eight_connections_with_sixty_streams(rt: HostRuntime) {
     let script = crowd(&rt, 60).expect(&rt, "memory");
     let (output, ending) = play(&rt, &Fresh, script.as_str());
     let text = std::str::from_utf8(&output).unwrap_or("");
-    assert!(rt; ending == Ok(()));
+    let last = text.lines().last().unwrap_or("");
+    assert!(rt; ending == Ok(()), "{ending:?} behind {last}");
     assert!(rt; text.contains("\na live 8\nb live 8\na refused 12 PeerFull\na ok\n"));
     assert!(rt; text.ends_with("\na ok\na done 2 480\n"));
     let answered = text.lines().filter(|line| *line == "a ok").count();

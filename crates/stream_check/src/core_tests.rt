@@ -1,7 +1,7 @@
 //! A dialer that knows no protocol, from its first call to its last; a listener whose handlers are never finished; and
 //! a dialer whose handlers give up.
 
-ghost use Rattle.std.specs.Prelude.{[], ◌∷◌, ⊤, false, not, codes, if◌then◌else◌};
+ghost use Rattle.std.specs.Prelude.{◌≡◌, [], ◌∷◌, ⊤, false, not, codes, if◌then◌else◌};
 
 use conn_core::*;
 use conn_log::ConnEvent;
@@ -73,6 +73,10 @@ impl Protocols for Mutes {
     ghost makes_inbound = { λ _ _ _ _. ⊤ };
 
     ghost makes_outbound = { λ _ _ _ _. ⊤ };
+
+    ghost leads_inbound = { λ old _ _ _ new. new ≡ old };
+
+    ghost leads_outbound = { λ old _ _ _ new. new ≡ old };
 
     fn names(&self) -> &[&str] {
         if self.is_known { &NAMES } else { &NO_NAMES }

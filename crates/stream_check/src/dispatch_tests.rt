@@ -1,14 +1,15 @@
 //! Streams of a connection that knows /x and /y. Its handlers note what they are handed.
 
-ghost use Rattle.std.specs.Prelude.{◌∷◌, [], codes, ⊤, false};
+ghost use Rattle.std.specs.Prelude.{◌≡◌, ◌∷◌, [], codes, ⊤, false};
 
+use crate::stopping::{Why, why_stopped};
 use dispatch::*;
 use handlers::{Handler, HandlerFault, Protocols};
 use ms_select::SelectFault;
 use peer_ids::PeerId;
 use std::alloc::{AllocError, Global};
 use std::test::*;
-use streams::{Cause, Heard, Stop, Stream};
+use streams::{Heard, Stop, Stream};
 
 /// A handler that notes what it is handed, and fails where that would be more than it holds.
 #[derive(Drop)]
@@ -92,6 +93,10 @@ impl Protocols for Two {
 
     ghost makes_outbound = { λ _ _ _ _. ⊤ };
 
+    ghost leads_inbound = { λ old _ _ _ new. new ≡ old };
+
+    ghost leads_outbound = { λ old _ _ _ new. new ≡ old };
+
     fn names(&self) -> &[&str] {
         &NAMES
     }
@@ -119,7 +124,7 @@ struct Script {
     out_of_memory: bool,
     input: &'static [u8],
     agreed: Option<usize>,
-    last: Result<Heard, Stop>,
+    last: Result<Heard, Why>,
     handed: Option<&'static [u8]>,
 }
 
@@ -162,7 +167,7 @@ static SCRIPTS: [Script; 7] = [
         out_of_memory: false,
         input: b"\x13/multistream/1.0.0\n\x03/x\n",
         agreed: None,
-        last: Err(Stop::Broken(Cause::Select(SelectFault::NotProposed))),
+        last: Err(Why::Select(SelectFault::NotProposed)),
         handed: None,
     },
     // An eager handler holds 1024 bytes, and a new one would hold none.
@@ -184,7 +189,7 @@ static SCRIPTS: [Script; 7] = [
         out_of_memory: false,
         input: b"\x13/multistream/1.0.0\n\x03/x\nP",
         agreed: Some(0),
-        last: Err(Stop::Broken(Cause::Handler(HandlerFault { number: 7 }))),
+        last: Err(Why::Handler(7)),
         handed: None,
     },
     // There is no memory for a handler.
@@ -195,7 +200,7 @@ static SCRIPTS: [Script; 7] = [
         out_of_memory: true,
         input: b"\x13/multistream/1.0.0\n\x03/x\n",
         agreed: None,
-        last: Err(Stop::OutOfMemory),
+        last: Err(Why::OutOfMemory),
         handed: None,
     },
 ];
@@ -232,7 +237,10 @@ fn hand(protocols: &mut Two, direction: Direction, came: &mut Came, piece: &[u8]
         came.agreed = Some(index);
         rest = &piece[used..];
     }
-    came.last = came.stream.take(rest).map(|()| Heard::Going);
+    came.last = match came.stream.take(rest) {
+        Ok(()) => Ok(Heard::Going),
+        Err(stop) => Err(stop),
+    };
 }
 
 /// The end comes. Whether the handler, which is handed out, is of this direction and index, and was handed this.
@@ -264,7 +272,7 @@ fn holds(alloc: Global, script: &Script, size: usize) -> Option<bool> {
     for piece in script.input.chunks(size.max(1)) {
         hand(&mut protocols, script.direction, &mut came, piece);
     }
-    let held = came.agreed == script.agreed && came.last == script.last;
+    let held = came.agreed == script.agreed && came.last.map_err(why_stopped) == script.last;
     match script.handed {
         Some(bytes) => Some(held && was_handed(came, script.direction, 1, bytes)),
         None => Some(held),

@@ -10,4 +10,6 @@ mod routing_tests;
 #[cfg(test)]
 mod serving_tests;
 #[cfg(test)]
+mod stopping;
+#[cfg(test)]
 mod stream_tests;

@@ -1,7 +1,8 @@
 //! Two sessions, one of which delivers to its stream 1 what comes. It knows /x and /y, each an echo.
 
-ghost use Rattle.std.specs.Prelude.{◌∷◌, [], codes, ⊤, ◌&&◌, ◌==◌, false, vec_len};
+ghost use Rattle.std.specs.Prelude.{◌≡◌, ◌∷◌, [], codes, ⊤, ◌&&◌, ◌==◌, false, vec_len};
 
+use crate::stopping::{Why, why_broken};
 use dispatch::Direction;
 use handlers::{Handler, HandlerFault, Protocols};
 use ms_select::SelectFault;
@@ -9,7 +10,7 @@ use peer_ids::PeerId;
 use routing::*;
 use std::alloc::{AllocError, Global};
 use std::test::*;
-use streams::{Cause, Stream};
+use streams::Stream;
 use yamux_session::{Event, Role, Session};
 
 /// What either end writes to agree on /y.
@@ -104,6 +105,10 @@ impl Protocols for Echoes {
 
     ghost makes_outbound = { λ _ _ _ _. ⊤ };
 
+    ghost leads_inbound = { λ old _ _ _ new. new ≡ old };
+
+    ghost leads_outbound = { λ old _ _ _ new. new ≡ old };
+
     fn names(&self) -> &[&str] {
         &NAMES
     }
@@ -135,7 +140,7 @@ enum Place {
     Going,
     Done,
     Refused,
-    Broken(Cause),
+    Broken(Why),
 }
 
 /// What the other end does, and what comes of it: on which protocol both agree so far, where the stream is, and what
@@ -208,11 +213,11 @@ fn begin(alloc: Global, direction: Direction, most: usize) -> Result<Pair, Fail>
 
 impl Pair {
     fn outcome(&mut self, outcome: Outcome<Echo>) {
-        self.place = match outcome {
+        self.place = match &outcome {
             Outcome::Going => Place::Going,
             Outcome::Done(_) => Place::Done,
             Outcome::Refused => Place::Refused,
-            Outcome::Broken(cause) => Place::Broken(cause),
+            Outcome::Broken(cause) => Place::Broken(why_broken(*cause)),
         };
     }
 
@@ -374,7 +379,7 @@ static SCRIPTS: [Script; 6] = [
             Step {
                 does: Does::Closes,
                 agreed: None,
-                place: Place::Broken(Cause::Ended),
+                place: Place::Broken(Why::Ended),
                 told: Some(b""),
             },
         ],
@@ -386,7 +391,7 @@ static SCRIPTS: [Script; 6] = [
         steps: &[Step {
             does: Does::Writes(b"\x01x"),
             agreed: None,
-            place: Place::Broken(Cause::Select(SelectFault::NoNewline)),
+            place: Place::Broken(Why::Select(SelectFault::NoNewline)),
             told: None,
         }],
     },
@@ -397,7 +402,7 @@ static SCRIPTS: [Script; 6] = [
         steps: &[Step {
             does: Does::Writes(b"\x13/multistream/1.0.0\n\x03/y\nh"),
             agreed: Some(1),
-            place: Place::Broken(Cause::Handler(HandlerFault { number: 7 })),
+            place: Place::Broken(Why::Handler(7)),
             told: None,
         }],
     },

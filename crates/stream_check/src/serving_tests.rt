@@ -2,11 +2,12 @@
 
 ghost use Rattle.std.specs.Prelude.{⊤, ◌&&◌, ◌==◌, vec_len};
 
+use crate::stopping::{Why, why_stopped};
 use handlers::{Handler, HandlerFault};
 use serving::*;
 use std::alloc::Global;
 use std::test::*;
-use streams::{Cause, Stop, Stream};
+use streams::{Stop, Stream};
 use yamux_session::{Event, Role, Session};
 
 /// What either end of the talk writes: the header, and the name.
@@ -80,7 +81,7 @@ enum Does {
 enum Served {
     Going,
     Done,
-    Stopped(Stop),
+    Stopped(Why),
 }
 
 /// What the client does, what serving came to, how many bytes the client is told then and whether the end came, and how
@@ -112,7 +113,9 @@ fn open(client: &mut Session, server: &mut Session) -> Result<(), Fail> {
 
 /// The stream hears what was asked, and gets its handler.
 fn agree(alloc: Global, stream: &mut Stream<Echo>, failing: bool) -> Result<(), Fail> {
-    stream.hear(M_X).ok().ok_or("an agreement")?;
+    let Ok(_) = stream.hear(M_X) else {
+        return Err("an agreement".into());
+    };
     if !stream.awaits_handler() {
         return Err("no agreement".into());
     }
@@ -162,7 +165,9 @@ impl Pair {
             Does::Takes => self.client.taken(1, usize::MAX)?,
         }
         for event in &self.server.feed(&self.client.take_output())? {
-            self.hears(event).ok().ok_or("what is told is taken")?;
+            let Ok(()) = self.hears(event) else {
+                return Err("what is told is taken".into());
+            };
         }
         Ok(())
     }
@@ -171,7 +176,7 @@ impl Pair {
         match serve(&mut self.server, 1, &mut self.stream) {
             Ok(None) => Served::Going,
             Ok(Some(_)) => Served::Done,
-            Err(stop) => Served::Stopped(stop),
+            Err(stop) => Served::Stopped(why_stopped(stop)),
         }
     }
 
@@ -254,7 +259,7 @@ static SCRIPTS: [&[Step]; 2] = [
 /// The handler gives up when it is asked: nothing is sent.
 const GIVES_UP: Step = Step {
     does: Does::Writes(5),
-    served: Served::Stopped(Stop::Broken(Cause::Handler(HandlerFault { number: 7 }))),
+    served: Served::Stopped(Why::Handler(7)),
     told: 0,
     ended: false,
     credit: Some(262144),

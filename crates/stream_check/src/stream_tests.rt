@@ -1,5 +1,6 @@
 ghost use Rattle.std.specs.Prelude.{⊤, ◌&&◌, ◌==◌, vec_len};
 
+use crate::stopping::{Why, why_stopped};
 use handlers::{Handler, HandlerFault};
 use ms_select::SelectFault;
 use std::alloc::{AllocError, Global};
@@ -124,7 +125,7 @@ struct Row {
     begins: Begins,
     input: &'static [u8],
     agreed: Option<usize>,
-    stop: Option<Stop>,
+    stop: Option<Why>,
     handed: Option<(&'static [u8], u8)>,
     output: &'static [u8],
 }
@@ -159,7 +160,7 @@ static ROWS: [Row; 7] = [
         begins: Begins::Asks,
         input: M_Y,
         agreed: None,
-        stop: Some(Stop::Broken(Cause::Select(SelectFault::NotProposed))),
+        stop: Some(Why::Select(SelectFault::NotProposed)),
         handed: None,
         output: M_X,
     },
@@ -167,7 +168,7 @@ static ROWS: [Row; 7] = [
         begins: Begins::Asks,
         input: b"\x03/x\n",
         agreed: None,
-        stop: Some(Stop::Broken(Cause::Select(SelectFault::BadHeader))),
+        stop: Some(Why::Select(SelectFault::BadHeader)),
         handed: None,
         output: M_X,
     },
@@ -175,7 +176,7 @@ static ROWS: [Row; 7] = [
         begins: Begins::Asks,
         input: b"\x13/multistream/1.0.0\n\x81\x08",
         agreed: None,
-        stop: Some(Stop::Broken(Cause::Select(SelectFault::BadLength))),
+        stop: Some(Why::Select(SelectFault::BadLength)),
         handed: None,
         output: M_X,
     },
@@ -183,7 +184,7 @@ static ROWS: [Row; 7] = [
         begins: Begins::Answers,
         input: b"\x13/multistream/1.0.0\n\x03/z\n\x00",
         agreed: None,
-        stop: Some(Stop::Broken(Cause::Select(SelectFault::BadLength))),
+        stop: Some(Why::Select(SelectFault::BadLength)),
         handed: None,
         output: M_NA,
     },
@@ -204,12 +205,17 @@ impl Came {
         if !self.stream.talks() {
             return self.stream.take(bytes);
         }
-        let Heard::Agreed { index, used } = self.stream.hear(bytes)? else {
-            return Ok(());
+        let (index, used) = match self.stream.hear(bytes) {
+            Ok(Heard::Agreed { index, used }) => (index, used),
+            Ok(_) => return Ok(()),
+            Err(stop) => return Err(stop),
         };
         self.agreed = Some(index);
         if self.stream.awaits_handler() {
-            self.stream.serve(Echo::owing(alloc, b"", 0, false)?);
+            let Ok(echo) = Echo::owing(alloc, b"", 0, false) else {
+                return Err(Stop::OutOfMemory);
+            };
+            self.stream.serve(echo);
         }
         self.stream.take(&bytes[used..])
     }
@@ -227,7 +233,9 @@ impl Came {
         if self.stop.is_some() {
             return true;
         }
-        self.stop = self.hand(alloc, piece).err();
+        if let Err(stop) = self.hand(alloc, piece) {
+            self.stop = Some(stop);
+        }
         self.stop.is_some() || self.gives(room)
     }
 
@@ -266,7 +274,7 @@ fn holds(alloc: Global, row: &Row, size: usize, room: usize) -> Result<bool, Fai
     if let Some((taken, first)) = row.handed {
         held = came.ends(taken, first) && held;
     }
-    let is_as = came.agreed == row.agreed && came.stop == row.stop;
+    let is_as = came.agreed == row.agreed && came.stop.map(why_stopped) == row.stop;
     Ok(held && is_as && came.output.as_slice() == row.output)
 }
 
@@ -302,7 +310,7 @@ enum Answer {
     Heard(Heard),
     Done,
     Gave(&'static [u8]),
-    Stopped(Stop),
+    Stopped(Why),
 }
 
 /// A call, its answer, and what the stream says then of itself: whether it talks, awaits its handler, is closed or
@@ -321,7 +329,7 @@ struct Script {
     steps: &'static [Step],
 }
 
-const FAILED: Answer = Answer::Stopped(Stop::Broken(Cause::Select(SelectFault::Failed)));
+const FAILED: Answer = Answer::Stopped(Why::Select(SelectFault::Failed));
 
 static SCRIPTS: [Script; 7] = [
     // The handler fails: what the talk wrote still waits.
@@ -338,9 +346,7 @@ static SCRIPTS: [Script; 7] = [
             },
             Step {
                 call: Call::Take(b"Next"),
-                answer: Answer::Stopped(Stop::Broken(Cause::Handler(HandlerFault {
-                    number: b't',
-                }))),
+                answer: Answer::Stopped(Why::Handler(b't')),
                 talks: false,
                 awaits: false,
                 closed: false,
@@ -393,9 +399,7 @@ static SCRIPTS: [Script; 7] = [
             },
             Step {
                 call: Call::End,
-                answer: Answer::Stopped(Stop::Broken(Cause::Handler(HandlerFault {
-                    number: b'e',
-                }))),
+                answer: Answer::Stopped(Why::Handler(b'e')),
                 talks: false,
                 awaits: false,
                 closed: false,
@@ -424,9 +428,7 @@ static SCRIPTS: [Script; 7] = [
         steps: &[
             Step {
                 call: Call::Give(7),
-                answer: Answer::Stopped(Stop::Broken(Cause::Handler(HandlerFault {
-                    number: b'g',
-                }))),
+                answer: Answer::Stopped(Why::Handler(b'g')),
                 talks: false,
                 awaits: false,
                 closed: false,
@@ -518,7 +520,7 @@ static SCRIPTS: [Script; 7] = [
             },
             Step {
                 call: Call::End,
-                answer: Answer::Stopped(Stop::Broken(Cause::Ended)),
+                answer: Answer::Stopped(Why::Ended),
                 talks: false,
                 awaits: false,
                 closed: false,
@@ -575,7 +577,7 @@ static SCRIPTS: [Script; 7] = [
 fn done(outcome: Result<(), Stop>) -> Answer {
     match outcome {
         Ok(()) => Answer::Done,
-        Err(stop) => Answer::Stopped(stop),
+        Err(stop) => Answer::Stopped(why_stopped(stop)),
     }
 }
 
@@ -584,14 +586,14 @@ fn answers(stream: &mut Stream<Echo>, step: &Step) -> bool {
     let answer = match step.call {
         Call::Hear(bytes) => match stream.hear(bytes) {
             Ok(heard) => Answer::Heard(heard),
-            Err(stop) => Answer::Stopped(stop),
+            Err(stop) => Answer::Stopped(why_stopped(stop)),
         },
         Call::Take(bytes) => done(stream.take(bytes)),
         Call::End => done(stream.end()),
         Call::Give(room) => match stream.give(room) {
             Ok(given) =>
                 return matches!(step.answer, Answer::Gave(bytes) if given.as_slice() == bytes),
-            Err(stop) => Answer::Stopped(stop),
+            Err(stop) => Answer::Stopped(why_stopped(stop)),
         },
     };
     answer == step.answer
@@ -630,7 +632,7 @@ fn names_of_bad_length(rt: HostRuntime) -> Result<(), Fail> {
     Ok(())
 }
 
-static WORDS: [(Stop, &str); 5] = [
+const WORDS: [(Stop, &str); 5] = [
     (
         Stop::Broken(Cause::Select(SelectFault::BadHeader)),
         "the stream is broken: no protocol is settled: the first message is not the header",

@@ -41,7 +41,7 @@ enum Turn {
 
 /// The run of a script on two nodes.
 #[derive(Drop)]
-pub struct Run<'a, N: Net + Clock, A: Caller, B: Caller, O: Write> {
+pub struct Run<'a, N: Net + Clock, A: Caller, B: Caller, O: Write + Drop> {
     clock: &'a N,
     a: Side<'a, N, A>,
     b: Side<'a, N, B>,
@@ -54,10 +54,10 @@ pub struct Run<'a, N: Net + Clock, A: Caller, B: Caller, O: Write> {
     /// Whether the next look waits for a tick.
     waits: bool,
     ticks: Interval,
-    output: &'a mut O,
+    output: O,
 }
 
-impl<'a, N: Net + Clock, A: Caller, B: Caller, O: Write> Run<'a, N, A, B, O> {
+impl<'a, N: Net + Clock, A: Caller, B: Caller, O: Write + Drop> Run<'a, N, A, B, O> {
     /// A run before its first line.
     pub fn new(
         clock: &'a N,
@@ -65,7 +65,7 @@ impl<'a, N: Net + Clock, A: Caller, B: Caller, O: Write> Run<'a, N, A, B, O> {
         b: Side<'a, N, B>,
         script: &'a [u8],
         ticks: Interval,
-        output: &'a mut O,
+        output: O,
     ) -> Run<'a, N, A, B, O> {
         Run {
             clock,
@@ -121,8 +121,8 @@ impl<'a, N: Net + Clock, A: Caller, B: Caller, O: Write> Run<'a, N, A, B, O> {
             return Ok(());
         }
         match name {
-            Name::A => self.a.act(act, &mut self.b, self.output),
-            Name::B => self.b.act(act, &mut self.a, self.output),
+            Name::A => self.a.act(act, &mut self.b, &mut self.output),
+            Name::B => self.b.act(act, &mut self.a, &mut self.output),
         }
     }
 
@@ -134,7 +134,7 @@ impl<'a, N: Net + Clock, A: Caller, B: Caller, O: Write> Run<'a, N, A, B, O> {
         };
         if is_shown {
             self.watch = None;
-            print_awaited(watch.name.begin(), watch.awaited, self.output)?;
+            print_awaited(watch.name.begin(), watch.awaited, &mut self.output)?;
             return Ok(Turn::On);
         }
         let looks = watch.looks.saturating_add(1);
@@ -146,7 +146,7 @@ impl<'a, N: Net + Clock, A: Caller, B: Caller, O: Write> Run<'a, N, A, B, O> {
     }
 }
 
-impl<N: Net + Clock, A: Caller, B: Caller, O: Write> Future for Run<'_, N, A, B, O> {
+impl<N: Net + Clock, A: Caller, B: Caller, O: Write + Drop> Future for Run<'_, N, A, B, O> {
     type Output = Result<(), RunEnding>;
 
     fn poll(&mut self, cx: &mut Context<'_>) -> Poll<Result<(), RunEnding>> {

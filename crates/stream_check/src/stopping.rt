@@ -1,0 +1,30 @@
+//! Why a stream stops, as the tables of the tests have it: a table can't hold a handler's fault.
+
+use ms_select::SelectFault;
+use streams::{Cause, Stop};
+
+/// Why a stream stops; of a handler's fault the number.
+#[derive(Clone, Copy, Debug, PartialEq, Eq)]
+pub(crate) enum Why {
+    Select(SelectFault),
+    Handler(u8),
+    Reset,
+    Ended,
+    OutOfMemory,
+}
+
+pub(crate) fn why_broken(cause: Cause) -> Why {
+    match cause {
+        Cause::Select(fault) => Why::Select(fault),
+        Cause::Handler(fault) => Why::Handler(fault.number),
+        Cause::Reset => Why::Reset,
+        Cause::Ended => Why::Ended,
+    }
+}
+
+pub(crate) fn why_stopped(stop: Stop) -> Why {
+    match stop {
+        Stop::Broken(cause) => why_broken(cause),
+        Stop::OutOfMemory => Why::OutOfMemory,
+    }
+}
