@@ -61,8 +61,8 @@ OnGoing Failed P = Unit {0}
 OnGoing Wait P = P
 
 module _ {L P H : Type 0} (link : LinkGhosts L) (protocols : ProtocolsGhosts P H) (handler : HandlerGhosts H) where
-  -- The connection stands with what the turn gave behind those events. No event that it gives says that a call of the
-  -- link failed, and that none comes more it doesn't give.
+  -- The connection stands with what the turn gave behind those events. The turn gives no event by which a call of the
+  -- link failed, nor that no more come.
   pub record Leads (start : P) (role : ConnRole) (own : Key) (first : L)
       (asked : List (ℕ × ℕ)) (gave : List (ConnEvent H)) (result : Turn H)
       (new : Conn L P H link protocols handler) : Type 0 where

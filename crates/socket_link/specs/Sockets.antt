@@ -1,5 +1,6 @@
 -- A link over a socket, between two of its states.
--- Source: POSIX.1-2017, `read` and `shutdown` on a socket: behind the end nothing is given, and what is shut stays so.
+-- Source: POSIX.1-2017 (the specification of `read` and `shutdown` on a socket): behind the end nothing is given, and
+-- what is shut stays so.
 use Rattle.std.specs.Prelude.{◌≡◌, refl, ℕ, true, List, [], ◌++◌}
 use Rattle.std.proofs.Common.{ap, ◌∙◌}
 use Rattle.conn_link.specs.Moving.{MovesNothing, MovesOn, StaysEnded, StaysShut}

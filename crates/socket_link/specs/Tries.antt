@@ -1,6 +1,6 @@
 -- What a try of a socket moves.
--- Source: POSIX.1-2017, `read` and `write` on a socket that doesn't block: a front part of the buffer is moved, and where
--- the call fails, also with EAGAIN, nothing is.
+-- Source: POSIX.1-2017 (the specification of `read` and `write` on a socket that doesn't block): a front part of the
+-- buffer is moved, and where the call fails, also with EAGAIN, nothing is.
 use Rattle.std.specs.Prelude.{ℕ, List, take, Result, Ok, Err}
 use Rattle.std.specs.declared.io.Error.{Error}
 
