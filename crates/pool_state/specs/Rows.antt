@@ -282,7 +282,8 @@ pub record ListRows : Type 0 where
   pub peers_alike : Play guarded
       ((Allow (0 ∷ 2 ∷ 7 ∷ 8 ∷ []), reply.Count 1) ∷ (Dial (Some (18 ∷ 2 ∷ 7 ∷ 8 ∷ [])), refused NotAllowed)
       ∷ (Dial (Some (0 ∷ 3 ∷ 7 ∷ 8 ∷ [])), refused NotAllowed) ∷ (Dial (Some (0 ∷ 2 ∷ 6 ∷ 8 ∷ [])), refused NotAllowed)
-      ∷ (Dial (Some (0 ∷ 2 ∷ 7 ∷ 9 ∷ [])), refused NotAllowed) ∷ (Dial (Some (0 ∷ 2 ∷ 7 ∷ 8 ∷ 0 ∷ [])), refused NotAllowed)
+      ∷ (Dial (Some (0 ∷ 2 ∷ 7 ∷ 9 ∷ [])), refused NotAllowed)
+      ∷ (Dial (Some (0 ∷ 2 ∷ 7 ∷ 8 ∷ 0 ∷ [])), refused NotAllowed)
       ∷ (Dial (Some (0 ∷ 2 ∷ 7 ∷ [])), refused NotAllowed) ∷ (Dial (Some (0 ∷ 2 ∷ 7 ∷ 8 ∷ [])), reply.Conn 1) ∷ [])
       (listing 8 (row 1 Dialer phase.Pending (Some (0 ∷ 2 ∷ 7 ∷ 8 ∷ [])) ∷ []) [] ((0 ∷ 2 ∷ 7 ∷ 8 ∷ []) ∷ []))
   pub two_lists : Play wide
