@@ -74,7 +74,7 @@ impl Looking for Fresh {
 pub struct Member<'a, 's, R: Wait, J: Identity, L: Ledgers, K: Looking> {
     rt: &'a R,
     swarm: &'s Swarm<NoGate, J, L>,
-    pass: &'s mut Pass<J, L>,
+    pass: Pass<J, L>,
     looking: &'a K,
 }
 
@@ -83,10 +83,10 @@ impl<'a, 's, R: Wait, J: Identity, L: Ledgers, K: Looking> Member<'a, 's, R, J, 
     pub fn new(
         rt: &'a R,
         swarm: &'s Swarm<NoGate, J, L>,
-        pass: &'s mut Pass<J, L>,
+        pass: Pass<J, L>,
         looking: &'a K,
     ) -> Member<'a, 's, R, J, L, K>
-        ensures { result.pass.now ≡ pass.old }
+        ensures { result.pass ≡ pass }
     {
         Member {
             rt,
@@ -99,75 +99,75 @@ impl<'a, 's, R: Wait, J: Identity, L: Ledgers, K: Looking> Member<'a, 's, R, J, 
 
 impl<R: Wait, J: Identity, L: Ledgers, K: Looking> Caller for Member<'_, '_, R, J, L, K> {
     fn dial(&mut self, peer: Option<PeerId>) -> Reply
-        ensures { IsCalled J.config J.callers (call.Dial peer) self.old.pass.now result self.new.pass.now }
+        ensures { IsCalled J.config J.callers (call.Dial peer) self.old.pass result self.new.pass }
     {
-        self.swarm.dial(self.rt, self.pass, peer)
+        self.swarm.dial(self.rt, &mut self.pass, peer)
     }
 
     fn accept(&mut self) -> Reply
-        ensures { IsCalled J.config J.callers call.Accept self.old.pass.now result self.new.pass.now }
+        ensures { IsCalled J.config J.callers call.Accept self.old.pass result self.new.pass }
     {
-        self.swarm.accept(self.rt, self.pass)
+        self.swarm.accept(self.rt, &mut self.pass)
     }
 
     fn settle(&mut self, conn: u32, proven: &Proven) -> Reply
-        ensures { IsCalled J.config J.callers (call.Settle conn (id_of proven.now)) self.old.pass.now result
-            self.new.pass.now }
+        ensures { IsCalled J.config J.callers (call.Settle conn (id_of proven.now)) self.old.pass result
+            self.new.pass }
     {
-        self.swarm.settle(self.rt, self.pass, conn, proven)
+        self.swarm.settle(self.rt, &mut self.pass, conn, proven)
     }
 
     fn ask(&mut self, conn: u32, index: u8) -> Reply
-        ensures { IsCalled J.config J.callers (call.Ask conn index) self.old.pass.now result self.new.pass.now }
+        ensures { IsCalled J.config J.callers (call.Ask conn index) self.old.pass result self.new.pass }
     {
-        self.swarm.ask(self.rt, self.pass, conn, index)
+        self.swarm.ask(self.rt, &mut self.pass, conn, index)
     }
 
     fn done(&mut self, conn: u32, index: u8) -> Reply
-        ensures { IsCalled J.config J.callers (call.Done conn index) self.old.pass.now result self.new.pass.now }
+        ensures { IsCalled J.config J.callers (call.Done conn index) self.old.pass result self.new.pass }
     {
-        self.swarm.done(self.rt, self.pass, conn, index)
+        self.swarm.done(self.rt, &mut self.pass, conn, index)
     }
 
     fn hang_up(&mut self, peer: PeerId) -> Reply
-        ensures { IsCalled J.config J.callers (call.HangUp peer) self.old.pass.now result self.new.pass.now }
+        ensures { IsCalled J.config J.callers (call.HangUp peer) self.old.pass result self.new.pass }
     {
-        self.swarm.hang_up(self.rt, self.pass, peer)
+        self.swarm.hang_up(self.rt, &mut self.pass, peer)
     }
 
     fn block(&mut self, peer: PeerId) -> Reply
-        ensures { IsCalled J.config J.callers (call.Block peer) self.old.pass.now result self.new.pass.now }
+        ensures { IsCalled J.config J.callers (call.Block peer) self.old.pass result self.new.pass }
     {
-        self.swarm.block(self.rt, self.pass, peer)
+        self.swarm.block(self.rt, &mut self.pass, peer)
     }
 
     fn unblock(&mut self, peer: PeerId) -> Reply
-        ensures { IsCalled J.config J.callers (call.Unblock peer) self.old.pass.now result self.new.pass.now }
+        ensures { IsCalled J.config J.callers (call.Unblock peer) self.old.pass result self.new.pass }
     {
-        self.swarm.unblock(self.rt, self.pass, peer)
+        self.swarm.unblock(self.rt, &mut self.pass, peer)
     }
 
     fn gone(&mut self, conn: u32) -> Reply
-        ensures { IsCalled J.config J.callers (call.Gone conn) self.old.pass.now result self.new.pass.now }
+        ensures { IsCalled J.config J.callers (call.Gone conn) self.old.pass result self.new.pass }
     {
-        self.swarm.gone(self.rt, self.pass, conn)
+        self.swarm.gone(self.rt, &mut self.pass, conn)
     }
 
     fn note(&mut self, conn: u32, agent: Agent) -> Reply
-        ensures { IsCalled J.config J.callers (call.Note conn agent) self.old.pass.now result self.new.pass.now }
+        ensures { IsCalled J.config J.callers (call.Note conn agent) self.old.pass result self.new.pass }
     {
-        self.swarm.note(self.rt, self.pass, conn, agent)
+        self.swarm.note(self.rt, &mut self.pass, conn, agent)
     }
 
     fn renew(&mut self)
-        ensures later { Later J.config J.callers self.old.pass.now self.new.pass.now }
-        ensures own { SameCalls self.old.pass.now self.new.pass.now }
+        ensures later { Later J.config J.callers self.old.pass self.new.pass }
+        ensures own { SameCalls self.old.pass self.new.pass }
     {
-        self.looking.renew(self.swarm, self.pass);
+        self.looking.renew(self.swarm, &mut self.pass);
     }
 
     fn listing(&self) -> &Listing
-        ensures shown { result.now ≡ Shown J.config self.now.pass.now.seen }
+        ensures shown { result.now ≡ Shown J.config self.now.pass.seen }
     {
         self.pass.listing()
     }

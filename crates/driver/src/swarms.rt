@@ -1,4 +1,4 @@
-//! A swarm, from its making to its end.
+//! A swarm that is made for a purpose.
 
 ghost use Rattle.std.specs.Prelude.{◌≡◌};
 
@@ -16,15 +16,17 @@ pub trait SwarmUse: Drop {
     /// What comes of it.
     type Output: Drop;
 
-    /// Uses the swarm by the passes of its callers, 1 and 2.
+    /// Uses the swarm by the passes of its two callers.
     fn go<'s, J: Identity, L: Ledgers>(
         self,
         swarm: &'s Swarm<NoGate, J, L>,
-        passes: &'s mut Vec<Pass<J, L>>,
+        one: Pass<J, L>,
+        other: Pass<J, L>,
     ) -> Self::Output;
 }
 
-/// Makes a swarm of two callers, uses it, and closes it.
+/// Makes a swarm of two callers and uses it. Its passes are the purpose's, so it isn't closed: what it has published when
+/// it is dropped is lost until the program ends.
 pub fn with_swarm<R, U>(rt: &R, config: Config, purpose: U) -> Result<U::Output, NewRefused>
 where
     R: Wait + AllocGlobal,
@@ -76,8 +78,9 @@ fn in_swarm<
         history,
         ledgers,
     )?;
-    let output = purpose.go(&swarm, &mut passes);
-    // Where a pass was lost the swarm can't be closed.
-    let _ = swarm.close(rt, passes);
-    Ok(output)
+    // There are two.
+    let (Some(other), Some(one)) = (passes.pop(), passes.pop()) else {
+        return Err(NewRefused::NoPlace);
+    };
+    Ok(purpose.go(&swarm, one, other))
 }

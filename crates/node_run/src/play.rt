@@ -15,6 +15,7 @@ use std::random::RandomSource;
 use std::sync::Wait;
 use std::time::{Clock, Duration};
 use swarm_calls::{Identity, Ledgers, NoGate, Pass, Swarm};
+use tokio::reactor::Handle;
 use tokio::runtime::LocalRuntime;
 use tokio::time::Interval;
 
@@ -109,14 +110,16 @@ where
     fn go<'s, J: Identity, L: Ledgers>(
         self,
         swarm: &'s Swarm<NoGate, J, L>,
-        passes: &'s mut Vec<Pass<J, L>>,
+        one: Pass<J, L>,
+        other: Pass<J, L>,
     ) -> Result<(), RunEnding> {
         let First { play } = self;
         let rt = play.rt;
         let second = Second {
             play,
             swarm,
-            passes,
+            driving: one,
+            calling: other,
         };
         match with_swarm(rt, config_of(Name::B)?, second) {
             Ok(outcome) => outcome,
@@ -130,7 +133,8 @@ where
 struct Second<'a, 's, R, K: Looking, O: Write + Drop, J: Identity, L: Ledgers> {
     play: Play<'a, R, K, O>,
     swarm: &'s Swarm<NoGate, J, L>,
-    passes: &'s mut Vec<Pass<J, L>>,
+    driving: Pass<J, L>,
+    calling: Pass<J, L>,
 }
 
 impl<R, K, O, A, M> SwarmUse for Second<'_, '_, R, K, O, A, M>
@@ -146,57 +150,91 @@ where
     fn go<'s, J: Identity, L: Ledgers>(
         self,
         swarm: &'s Swarm<NoGate, J, L>,
-        passes: &'s mut Vec<Pass<J, L>>,
+        one: Pass<J, L>,
+        other: Pass<J, L>,
     ) -> Result<(), RunEnding> {
         let Second {
             play,
             swarm: first,
-            passes: first_passes,
+            driving,
+            calling,
         } = self;
+        let begun = begin(play.rt)?;
+        play.go(begun, first, driving, calling, swarm, one, other)
+    }
+}
+
+/// What a run takes before its nodes stand.
+#[derive(Drop)]
+struct Begun {
+    runtime: LocalRuntime,
+    ticks: Interval,
+    reactors: (Handle, Handle),
+    setups: (Setup, Setup),
+}
+
+/// Takes what a run needs.
+fn begin<R>(rt: &R) -> Result<Begun, RunEnding>
+where
+    R: Clock + Net + RandomSource + AllocGlobal,
+{
+    let setups = (setup_of(rt, Name::A)?, setup_of(rt, Name::B)?);
+    let runtime = LocalRuntime::new(rt)?;
+    let handle = runtime.handle();
+    let ticks = handle.time().interval(rt, Duration::from_millis(TICK))?;
+    let reactors = (handle.reactor().clone()?, handle.reactor().clone()?);
+    Ok(Begun {
+        runtime,
+        ticks,
+        reactors,
+        setups,
+    })
+}
+
+impl<R, K, O> Play<'_, R, K, O>
+where
+    R: Wait + Clock + Net + RandomSource + AllocGlobal,
+    K: Looking,
+    O: Write + Drop,
+{
+    /// Runs the script on both nodes, each of which is a swarm and its two callers.
+    fn go<A: Identity, M: Ledgers, B: Identity, L: Ledgers>(
+        self,
+        begun: Begun,
+        first: &Swarm<NoGate, A, M>,
+        first_driving: Pass<A, M>,
+        first_calling: Pass<A, M>,
+        second: &Swarm<NoGate, B, L>,
+        second_driving: Pass<B, L>,
+        second_calling: Pass<B, L>,
+    ) -> Result<(), RunEnding> {
         let Play {
             rt,
             looking,
             script,
             output,
-        } = play;
-        let mut runtime = LocalRuntime::new(rt)?;
-        let a = side(rt, &runtime, Name::A, first, first_passes, looking)?;
-        let b = side(rt, &runtime, Name::B, swarm, passes, looking)?;
-        let ticks = ticks(rt, &runtime)?;
+        } = self;
+        let Begun {
+            mut runtime,
+            ticks,
+            reactors,
+            setups,
+        } = begun;
+        let ((first_reactor, second_reactor), (first_setup, second_setup)) = (reactors, setups);
+        let driving = Member::new(rt, first, first_driving, looking);
+        let a = Side {
+            name: Name::A,
+            peer: peer_of(Name::A),
+            driver: Driver::new(rt.alloc(), rt, first_reactor, driving, first_setup),
+            caller: Member::new(rt, first, first_calling, looking),
+        };
+        let driving = Member::new(rt, second, second_driving, looking);
+        let b = Side {
+            name: Name::B,
+            peer: peer_of(Name::B),
+            driver: Driver::new(rt.alloc(), rt, second_reactor, driving, second_setup),
+            caller: Member::new(rt, second, second_calling, looking),
+        };
         runtime.block_on(rt, Run::new(rt, a, b, script, ticks, output))?
     }
-}
-
-/// Ticks for the looks of an await.
-fn ticks<R: Clock>(rt: &R, runtime: &LocalRuntime) -> Result<Interval, RunEnding> {
-    let time = runtime.handle().time();
-    Ok(time.interval(rt, Duration::from_millis(TICK))?)
-}
-
-/// One node, before the first line.
-fn side<'a, 's, R, J, L, K>(
-    rt: &'a R,
-    runtime: &LocalRuntime,
-    name: Name,
-    swarm: &'s Swarm<NoGate, J, L>,
-    passes: &'s mut Vec<Pass<J, L>>,
-    looking: &'a K,
-) -> Result<Side<'a, R, Member<'a, 's, R, J, L, K>>, RunEnding>
-where
-    R: Wait + Net + RandomSource + AllocGlobal,
-    J: Identity,
-    L: Ledgers,
-    K: Looking,
-{
-    let setup = setup_of(rt, name)?;
-    let reactor = runtime.handle().reactor().clone()?;
-    let (first, rest) = passes.split_first_mut().ok_or(RunEnding::Failed)?;
-    let second = rest.first_mut().ok_or(RunEnding::Failed)?;
-    let driving = Member::new(rt, swarm, first, looking);
-    Ok(Side {
-        name,
-        peer: peer_of(name),
-        driver: Driver::new(rt.alloc(), rt, reactor, driving, setup),
-        caller: Member::new(rt, swarm, second, looking),
-    })
 }

@@ -197,15 +197,14 @@ where
 {
     type Output = io::Result<usize>;
 
-    fn go<J: Identity, L: Ledgers>(
+    fn go<'s, J: Identity, L: Ledgers>(
         self,
-        swarm: &Swarm<NoGate, J, L>,
-        passes: &mut Vec<Pass<J, L>>,
+        swarm: &'s Swarm<NoGate, J, L>,
+        first: Pass<J, L>,
+        second: Pass<J, L>,
     ) -> io::Result<usize> {
         let rt = self.rt;
         let mut runtime = LocalRuntime::new(rt)?;
-        let (first, rest) = passes.split_first_mut().ok_or(io::ErrorKind::Other)?;
-        let second = rest.first_mut().ok_or(io::ErrorKind::Other)?;
         let reactor = runtime.handle().reactor().clone()?;
         let driving = Member::new(rt, swarm, first, &Fresh);
         let mut driver = Driver::new(rt.alloc(), rt, reactor, driving, setup(rt)?);

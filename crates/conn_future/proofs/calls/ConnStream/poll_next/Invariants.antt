@@ -1,4 +1,4 @@
-use Rattle.std.proofs.Common.{◌≡◌, ◌≢◌, ℕ, Bool, true, List, []}
+use Rattle.std.proofs.Common.{◌≡◌, ◌≢◌, ℕ, true, List, []}
 use Rattle.futures.specs.Task.{Keeps}
 use Rattle.peer_ids.specs.Key.{Key}
 use Rattle.upgrade.specs.declared.role.ConnRole.{ConnRole}
@@ -15,7 +15,7 @@ invariant-loop g l = record {
   stage : l.self.stage ≡ l.fn.self.stage;
   none_held : l.self.held.items ≡ [];
   failures : g.L.Link.failed l.self.link ≡ g.L.Link.failed l.fn.self.link;
-  follows : (start : P) (role : ConnRole) (own : Key) (first : _) (asked : List (ℕ × ℕ)) (gave : List (ConnEvent _))
+  follows : (start : _) (role : ConnRole) (own : Key) (first : _) (asked : List (ℕ × ℕ)) (gave : List (ConnEvent _))
       → Follows g.L.Link g.P.Protocols g.P.H.Handler start role own first asked gave l.fn.self
       → Follows g.L.Link g.P.Protocols g.P.H.Handler start role own first asked gave l.self;
   unshut : l.fn.self.stage ≢ Shutting → g.L.Link.is_shut l.self.link → g.L.Link.is_shut l.fn.self.link;
