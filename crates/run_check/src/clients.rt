@@ -36,6 +36,9 @@ const UPGRADE: [&[u8]; 7] = [
 /// How many bytes a node answers until it is up.
 const ANSWERED: usize = 151;
 
+/// At how many ticks a client stays when it has said all.
+const STAYS: u32 = 20;
+
 /// A client: what it says, how many ticks it stays then, and whether the node answers all of its upgrade.
 #[derive(Drop)]
 struct Client {
@@ -67,6 +70,8 @@ struct Serving<'a, N: Net, C: Caller> {
     heard: usize,
     /// How many clients were served as they should be.
     served: usize,
+    /// How many bytes came to the last one that wasn't, and how many clients were left then, with it.
+    missed: (usize, usize),
     /// How many ticks more there are.
     left: u32,
 }
@@ -105,7 +110,11 @@ impl<N: Net, C: Caller> Serving<'_, N, C> {
                 }
                 if rest.is_empty() && client.stays == 0 {
                     let is_good = !client.is_up || self.heard >= ANSWERED;
-                    self.served = self.served.saturating_add(usize::from(is_good));
+                    if is_good {
+                        self.served = self.served.saturating_add(1);
+                    } else {
+                        self.missed = (self.heard, self.clients.len());
+                    }
                     self.step = None;
                     self.clients.pop();
                 }
@@ -122,17 +131,17 @@ fn hear(stream: &TcpStream) -> usize {
 }
 
 impl<N: Net, C: Caller> Future for Serving<'_, N, C> {
-    type Output = usize;
+    type Output = (usize, (usize, usize));
 
-    fn poll(&mut self, cx: &mut Context<'_>) -> Poll<usize> {
+    fn poll(&mut self, cx: &mut Context<'_>) -> Poll<(usize, (usize, usize))> {
         for _ in 0..16 {
             self.driver.work(cx);
             if self.left == 0 || ready!(self.ticks.poll_tick(cx)).is_err() {
-                return Poll::Ready(0);
+                return Poll::Ready((0, self.missed));
             }
             self.left -= 1;
             if self.go_on(cx) {
-                return Poll::Ready(self.served);
+                return Poll::Ready((self.served, self.missed));
             }
         }
         cx.yield_now()
@@ -168,7 +177,7 @@ fn clients(alloc: Global) -> io::Result<Vec<Client>> {
     let mut add = |says: Vec<u8>, is_up: bool| -> io::Result<()> {
         clients.push(Client {
             says,
-            stays: 4,
+            stays: STAYS,
             is_up,
         })?;
         Ok(())
@@ -195,14 +204,14 @@ impl<R> SwarmUse for Node<'_, R>
 where
     R: Wait + Clock + Net + RandomSource + AllocGlobal,
 {
-    type Output = io::Result<usize>;
+    type Output = io::Result<(usize, (usize, usize))>;
 
     fn go<'s, J: Identity, L: Ledgers>(
         self,
         swarm: &'s Swarm<NoGate, J, L>,
         first: Pass<J, L>,
         second: Pass<J, L>,
-    ) -> io::Result<usize> {
+    ) -> io::Result<(usize, (usize, usize))> {
         let rt = self.rt;
         let mut runtime = LocalRuntime::new(rt)?;
         let reactor = runtime.handle().reactor().clone()?;
@@ -220,6 +229,7 @@ where
             said: 0,
             heard: 0,
             served: 0,
+            missed: (0, 0),
             left: 2000,
         };
         runtime.block_on(rt, serving)
@@ -248,6 +258,6 @@ fn config() -> Option<Config> {
 fn each_client_ends_alone(rt: HostRuntime) {
     let config = config().expect(&rt, "limits");
     let served = with_swarm(&rt, config, Node { rt: &rt }).expect(&rt, "memory");
-    let served = served.unwrap_or(0);
-    assert!(rt; served == 12, "{served} clients were served");
+    let (served, (heard, left)) = served.unwrap_or((0, (0, 0)));
+    assert!(rt; served == 12, "{served} served; with {left} left one heard {heard} bytes");
 }

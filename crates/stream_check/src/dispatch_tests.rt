@@ -2,7 +2,7 @@
 
 ghost use Rattle.std.specs.Prelude.{◌≡◌, ◌∷◌, [], codes, ⊤, false};
 
-use crate::stopping::{Why, why_stopped};
+use crate::stopping::{Why, stop_for};
 use dispatch::*;
 use handlers::{Handler, HandlerFault, Protocols};
 use ms_select::SelectFault;
@@ -272,7 +272,11 @@ fn holds(alloc: Global, script: &Script, size: usize) -> Option<bool> {
     for piece in script.input.chunks(size.max(1)) {
         hand(&mut protocols, script.direction, &mut came, piece);
     }
-    let held = came.agreed == script.agreed && came.last.map_err(why_stopped) == script.last;
+    let last = match script.last {
+        Ok(heard) => Ok(heard),
+        Err(why) => Err(stop_for(why)),
+    };
+    let held = came.agreed == script.agreed && came.last == last;
     match script.handed {
         Some(bytes) => Some(held && was_handed(came, script.direction, 1, bytes)),
         None => Some(held),
