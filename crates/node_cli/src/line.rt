@@ -1,10 +1,10 @@
-//! Lines that call a pool: a call, or the wish for a listing.
+//! The lines of a replay: a call of the pool, or the wish for a listing.
 
 use hex::FromHex;
 use peer_ids::PeerId;
 use pool_state::{Agent, Call};
 
-/// A line that calls a pool.
+/// A line of a replay.
 #[derive(Clone, Copy, Debug, PartialEq)]
 pub enum Line {
     /// A call of the pool.
@@ -35,8 +35,8 @@ fn conn_of(word: &str) -> Option<u32> {
     digits(word)?.parse().ok()
 }
 
-/// The number of a connection and the index of a protocol, in decimal digits, with a space between them.
-pub fn stream_of(words: &str) -> Option<(u32, u8)> {
+/// The number of a connection and the index of a protocol.
+fn stream_of(words: &str) -> Option<(u32, u8)> {
     let (conn, index) = words.split_once(' ')?;
     Some((conn_of(conn)?, digits(index)?.parse().ok()?))
 }
