@@ -145,7 +145,10 @@ fn in_turn<L: Link>(alloc: Global, task: &MockTask, link: &mut L) -> Option<bool
 
 /// Reads and writes have each their own steps, and shutting takes none of them.
 fn both_ways(alloc: Global, task: &MockTask) -> Option<bool> {
-    let (reads, writes) = (steps_of(alloc, &[1, PENDING])?, steps_of(alloc, &[FAIL, 2])?);
+    let (reads, writes) = (
+        steps_of(alloc, &[1, PENDING])?,
+        steps_of(alloc, &[FAIL, 2])?,
+    );
     let mut pipe = Pipe::new(alloc, ALL.to_vec(alloc).ok()?, reads, writes);
     let was_shut = pipe.is_shut();
     let is_right = in_turn(alloc, task, &mut pipe)? && pipe.written() == ALL;

@@ -110,7 +110,13 @@ fn answers_so<L: Link>(task: &MockTask, link: &mut L, answers: &[u8], reads: boo
     is_right && link.failures() == failed
 }
 
-fn runs_so(alloc: Global, task: &MockTask, codes: &[u8], answers: &[u8], reads: bool) -> Option<bool> {
+fn runs_so(
+    alloc: Global,
+    task: &MockTask,
+    codes: &[u8],
+    answers: &[u8],
+    reads: bool,
+) -> Option<bool> {
     let codes = codes.to_vec(alloc).ok()?;
     let mut link = SocketLink::new(Scripted { codes, tries: 0 });
     Some(answers_so(task, &mut link, answers, reads))
