@@ -1,0 +1,218 @@
+//! What runs a node.
+
+ghost use Rattle.std.specs.Prelude.{◌≡◌};
+ghost use Rattle.futures.specs.Task.{Keeps};
+
+use crate::caller::Caller;
+use crate::making::Maker;
+use crate::seat::Seat;
+use futures::task::{Context, Poll};
+use identify_h::Identify;
+use pool_state::{ConnSide, Listing, Phase, Refusal, Reply, Row};
+use rand::rngs::StdRng;
+use std::alloc::Global;
+use std::io;
+use std::net::{Net, SocketAddr};
+use tokio::net::{TcpListener, TcpStream};
+use tokio::reactor::Handle;
+
+/// How many sockets are taken in a row, and how many connections are dialed in a row.
+const MOST_SOCKETS: u32 = 256;
+
+/// What a node is made with.
+#[derive(Drop)]
+pub struct Setup {
+    /// The message of its own key.
+    pub key: Vec<u8>,
+    /// The name and version of its program, as `node/0.1.0`.
+    pub agent: Vec<u8>,
+    /// Where the bytes of its pings come from.
+    pub rng: StdRng,
+}
+
+/// What runs a node: a caller of its swarm, its listener and its connections.
+#[derive(Drop)]
+pub struct Driver<'a, N: Net, C: Caller> {
+    net: &'a N,
+    reactor: Handle,
+    caller: C,
+    maker: Maker,
+    listener: Option<TcpListener>,
+    /// Where it dials.
+    place: Option<SocketAddr>,
+    seats: Vec<Seat>,
+}
+
+impl<'a, N: Net, C: Caller> Driver<'a, N, C> {
+    /// A node without listener and connections. Its sockets are the reactor's.
+    pub fn new(
+        alloc: Global,
+        net: &'a N,
+        reactor: Handle,
+        caller: C,
+        setup: Setup,
+    ) -> Driver<'a, N, C> {
+        let Setup { key, agent, rng } = setup;
+        Driver {
+            net,
+            reactor,
+            caller,
+            maker: Maker {
+                alloc,
+                key,
+                agent,
+                rng,
+            },
+            listener: None,
+            place: None,
+            seats: Vec::new(alloc),
+        }
+    }
+
+    /// Takes sockets from now on that come to this address, and tells where that is. A listener that stood is dropped.
+    pub fn listen(&mut self, addr: SocketAddr) -> io::Result<SocketAddr> {
+        let listener = TcpListener::bind(self.net, addr, &self.reactor)?;
+        let addr = listener.local_addr()?;
+        self.listener = Some(listener);
+        Ok(addr)
+    }
+
+    /// Whether it listens.
+    pub fn listens(&self) -> bool {
+        self.listener.is_some()
+    }
+
+    /// Dials there from now on.
+    pub fn dial_at(&mut self, addr: SocketAddr) {
+        self.place = Some(addr);
+    }
+
+    /// Does all that is to be done now.
+    pub fn work(&mut self, cx: &mut Context<'_>)
+        ensures { Keeps cx.old cx.new }
+    {
+        self.admit(cx);
+        self.caller.renew();
+        self.dial();
+        self.serve(cx);
+    }
+
+    /// Takes the sockets that have come.
+    fn admit(&mut self, cx: &mut Context<'_>)
+        ensures { Keeps cx.old cx.new }
+    {
+        for _ in 0..MOST_SOCKETS {
+            let Some(listener) = &mut self.listener else {
+                return;
+            };
+            match listener.poll_accept(cx) {
+                Poll::Ready(Ok((stream, _addr))) => self.seat(stream),
+                Poll::Ready(Err(_)) => break,
+                Poll::Pending => return,
+            }
+        }
+        let _again: Poll<()> = cx.yield_now();
+    }
+
+    /// Admits a socket; where the swarm refuses it, or there is no memory for it, it is dropped.
+    fn seat(&mut self, stream: TcpStream) {
+        if self.seats.reserve(1).is_err() {
+            return;
+        }
+        if let Reply::Conn(number) = self.caller.accept() {
+            let seat = Seat::accepted(&mut self.maker, number, stream);
+            let _ = self.seats.push(seat);
+        }
+    }
+
+    /// Dials each connection that the listing shows as to be dialed.
+    fn dial(&mut self) {
+        for _ in 0..MOST_SOCKETS {
+            let Some(number) = self.next_dial() else {
+                return;
+            };
+            if self.seats.reserve(1).is_err() {
+                self.caller.gone(number);
+                return;
+            }
+            let seat = self.dialing(number);
+            let _ = self.seats.push(seat);
+        }
+    }
+
+    /// A connection that is to be dialed and wasn't.
+    fn next_dial(&self) -> Option<u32> {
+        let conns = &self.caller.listing().conns;
+        let row = conns.iter().find(|row| is_due(row, &self.seats));
+        row.map(|row| row.conn)
+    }
+
+    /// The connection of this number, which is being dialed.
+    fn dialing(&self, number: u32) -> Seat {
+        match self.place {
+            Some(addr) => {
+                let connecting = TcpStream::connect(self.net, addr, &self.reactor);
+                Seat::dialing(self.maker.alloc, number, connecting)
+            }
+            None => Seat::ended(self.maker.alloc, number),
+        }
+    }
+
+    /// Goes on with each connection, and lets go of those that have ended.
+    fn serve(&mut self, cx: &mut Context<'_>)
+        ensures { Keeps cx.old cx.new }
+    {
+        let mut at = 0;
+        for _ in 0..self.seats.len() {
+            if at >= self.seats.len() {
+                return;
+            }
+            self.serve_at(at, cx);
+            if self.is_gone(at) && at < self.seats.len() {
+                self.seats.swap_remove(at);
+            } else {
+                at += 1;
+            }
+        }
+    }
+
+    /// Goes on with the connection at this place.
+    fn serve_at(&mut self, at: usize, cx: &mut Context<'_>)
+        ensures { Keeps cx.old cx.new }
+    {
+        let Some(seat) = self.seats.get_mut(at) else {
+            return;
+        };
+        if let Some(row) = row_of(self.caller.listing(), seat.number()) {
+            seat.heed(&row);
+        }
+        seat.serve(cx, &mut self.maker, &mut self.caller);
+        seat.tell(&mut self.caller);
+    }
+
+    /// Whether the connection at this place has ended, and the swarm knows it.
+    fn is_gone(&mut self, at: usize) -> bool {
+        let Some(seat) = self.seats.get(at) else {
+            return false;
+        };
+        seat.has_ended() && self.caller.gone(seat.number()) != Reply::Refused(Refusal::OutOfMemory)
+    }
+
+    /// What the peer of this connection has said of itself.
+    pub fn identify(&self, number: u32) -> Option<&Identify> {
+        let seat = self.seats.iter().find(|seat| seat.number() == number);
+        seat.and_then(|seat| seat.identify())
+    }
+}
+
+/// The listing's row of this connection.
+fn row_of(listing: &Listing, number: u32) -> Option<Row> {
+    listing.conns.iter().find(|row| row.conn == number).copied()
+}
+
+/// Whether this connection is to be dialed and wasn't.
+fn is_due(row: &Row, seats: &Vec<Seat>) -> bool {
+    row.role == ConnSide::Dialer
+        && row.phase != Phase::Live
+        && seats.iter().all(|seat| seat.number() != row.conn)
+}
