@@ -25,8 +25,8 @@ pub trait SwarmUse: Drop {
     ) -> Self::Output;
 }
 
-/// Makes a swarm of two callers and uses it. Its passes are the purpose's, so it isn't closed: what it has published when
-/// it is dropped is lost until the program ends.
+/// Makes a swarm of two callers and uses it. Its passes are the purpose's, so it isn't closed: what it has published
+/// when it is dropped is lost until the program ends.
 pub fn with_swarm<R, U>(rt: &R, config: Config, purpose: U) -> Result<U::Output, NewRefused>
 where
     R: Wait + AllocGlobal,

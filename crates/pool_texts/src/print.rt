@@ -17,8 +17,8 @@ pub fn print_reply<O: Write>(begin: &str, reply: &Reply, output: &mut O) -> io::
     }
 }
 
-/// Prints a listing in lines that each begin so: the front, the connections by their numbers, the peers that are blocked
-/// and those that are allowed, each in the order in which they came to be, and `end`.
+/// Prints a listing in lines that each begin so: the front, the connections by their numbers, the peers that are
+/// blocked and those that are allowed, each in the order in which they came to be, and `end`.
 pub fn print_listing<O: Write>(begin: &str, listing: &Listing, output: &mut O) -> io::Result<()> {
     writeln!(output, "{begin}front {}", listing.front)?;
     for row in listing.conns.as_slice() {
