@@ -17,8 +17,8 @@ MakesNone (Says e ∷ log) = MakesNone log
 MakesNone (Made n handler ∷ log) = ⊥
 MakesNone (Asks n index ∷ log) = MakesNone log
 
-module _ {P H : Type 0} (inbound_leads outbound_leads : P → ℕ → List ℕ → H → P → Type 0) (peer : List ℕ) (role : Role)
-  where
+module _ {P H : Type 0} (inbound_leads outbound_leads : P → ℕ → List ℕ → H → P → Type 0) (peer : List ℕ)
+    (role : Role) where
     -- By making this handler of a stream the protocols become these others: it is one of the protocol on which the newest
     -- entry agrees, or for which it opens the stream.
     abbrev pub Leads : List (Entry H) → ℕ → P → H → P → Type 0

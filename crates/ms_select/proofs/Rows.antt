@@ -1,7 +1,7 @@
 -- The definitions of messages and talks at worked bytes.
-use Rattle.std.proofs.Common.{◌≡◌, ◌≢◌, ℕ, zero, suc, ◌+◌, ◌<◌, ◌≤◌, List, [], ◌∷◌, ◌++◌, take, append_assoc, replicate, length, get_or, Option, Some, None, Ok, Err, refl, ap, append-nil, sym, subst, ◌∙◌, inl, inr, arith, lit<}
+use Rattle.std.proofs.Common.{◌≡◌, ◌≢◌, ℕ, zero, suc, ◌+◌, ◌*◌, ◌<◌, ◌≤◌, List, [], ◌∷◌, ◌++◌, map, take, append_assoc, replicate, length, get_or, Option, Some, None, Ok, Err, refl, ap, append-nil, sym, subst, ◌∙◌, inl, inr, arith, lit<}
 use Rattle.std.specs.Prelude.{unwrap_or}
-use Rattle.std.specs.List.{All}
+use Rattle.std.specs.List.{All, concat}
 use Rattle.std.proofs.lemmas.List.{length-append, length-replicate, nil_from_length}
 use Rattle.varint_proto.proofs.Front.{one_begins}
 use Rattle.std.proofs.lemmas.List.Elements.{All-nil, All-cons}
@@ -15,7 +15,7 @@ use Rattle.ms_select.specs.Dialing.{Dials}
 use Rattle.ms_select.specs.Sides.{EndsLength}
 use Rattle.ms_select.proofs.Reading.{one_message}
 use Rattle.ms_select.proofs.Readings.{one_listener_of, one_dialer_of}
-use Rattle.ms_select.specs.Rows.{x, y, header_bytes, x_bytes, y_bytes, MessageRows, NameRows, ChoiceRows, ListenRows, DialRows, SendRows, MemoryRows}
+use Rattle.ms_select.specs.Rows.{x, y, header_bytes, x_bytes, y_bytes, na_bytes, MessageRows, NameRows, ChoiceRows, ListenRows, DialRows, SendRows, MemoryRows}
 
 -- a length of one byte
 one_byte : (n : ℕ) (rest : List ℕ) → n < 128 → BeginsShortest (n ∷ rest) n rest
@@ -63,7 +63,7 @@ name_rows = record {
 }
 
 pub choice_rows : ChoiceRows
-choice_rows = record { least = refl; unknown = refl; no_header = refl; no_na = refl; no_ls = refl }
+choice_rows = record { least = refl; past_one_byte = refl; unknown = refl; no_header = refl; no_na = refl; no_ls = refl }
 
 nothing_came : ReadsMessage [] (Ok None)
 nothing_came = inl (tt, omega arith)
@@ -80,12 +80,55 @@ none_chosen = All-nil (λ t. choice (y ∷ []) t ≡ None)
 x_not_chosen : All (λ t. choice (y ∷ []) t ≡ None) (x ∷ [])
 x_not_chosen = All-cons (λ t. choice (y ∷ []) t ≡ None) x [] refl none_chosen
 
+-- so many texts, each the same
+same_texts : (P : List ℕ → Type 0) (n : ℕ) (text : List ℕ) → P text → All P (replicate n text)
+same_texts P zero text h = All-nil P
+same_texts P (suc n) text h = All-cons P text (replicate n text) h (same_texts P n text h)
+
+nas_spelled : (n : ℕ) → concat (replicate n na_bytes) ≡ spelled (replicate n na)
+unfolding message shortest shortest_within
+nas_spelled zero = refl
+nas_spelled (suc n) = ap (λ (rest : List ℕ). na_bytes ++ rest) (nas_spelled n)
+
+xs_spelled : (n : ℕ) → concat (replicate n x_bytes) ≡ spelled (replicate n x)
+unfolding message shortest shortest_within
+xs_spelled zero = refl
+xs_spelled (suc n) = ap (λ (rest : List ℕ). x_bytes ++ rest) (xs_spelled n)
+
+-- the answers to so many proposals
+refused_many : (n : ℕ) → concat (replicate n na_bytes) ≡ spelled (map (λ _. na) (replicate n x))
+unfolding message shortest shortest_within
+refused_many zero = refl
+refused_many (suc n) = ap (λ (rest : List ℕ). na_bytes ++ rest) (refused_many n)
+
+-- so many proposals, and one more
+proposed_many : (n : ℕ) → concat (replicate n x_bytes) ++ y_bytes ≡ spelled (take (suc n) (replicate n x ++ y ∷ []))
+unfolding message shortest shortest_within
+proposed_many zero = refl
+proposed_many (suc n) = ap (λ (rest : List ℕ). x_bytes ++ rest) (proposed_many n)
+
+joined_length : (n : ℕ) (bytes : List ℕ) → length bytes ≡ 4 → length (concat (replicate n bytes)) ≡ 4 * n
+joined_length zero bytes four = omega arith
+joined_length (suc n) bytes four = omega (arith, four, joined_length n bytes four, length-append bytes (concat (replicate n bytes)))
+
 pub listen_rows : ListenRows
 unfolding message shortest shortest_within
 listen_rows = record {
   header_at_once = ([], [], record { parts = refl; short = All-nil IsShort; undecided = tt }, nothing_came, refl, refl);
   in_a_message = (header ∷ [], 3 ∷ [], record { parts = refl; short = short_header; undecided = (refl, none_chosen) }, length_came [] (omega arith), refl, refl);
   refused = (header ∷ x ∷ [], [], record { parts = refl; short = short_both; undecided = (refl, x_not_chosen) }, nothing_came, refl, refl);
+  many_refused = (
+    header ∷ replicate 300 x,
+    [],
+    record {
+      parts = ap (λ (rest : List ℕ). header_bytes ++ rest) (xs_spelled 300) ∙ sym (append-nil (spelled (header ∷ replicate 300 x)));
+      short = All-cons IsShort header (replicate 300 x) (lit< tt) (same_texts IsShort 300 x (lit< tt));
+      undecided = (refl, same_texts (λ t. choice (y ∷ []) t ≡ None) 300 x refl);
+    },
+    nothing_came,
+    omega (arith, joined_length 300 x_bytes refl, length-append header_bytes (concat (replicate 300 x_bytes))),
+    ap (λ (rest : List ℕ). header_bytes ++ rest) (refused_many 300),
+  );
   refused_empty = (
     header ∷ [] ∷ [],
     [],
@@ -130,6 +173,20 @@ dial_rows = record {
   agreed = ([], x, 7 ∷ [], record { parts = refl; refusals = (refl, no_na) }, record { short = lit< tt; place = refl; proposed = refl; other = λ e. cc }, refl, refl);
   second = (na ∷ [], y, [], record { parts = refl; refusals = (refl, one_na) }, record { short = lit< tt; place = refl; proposed = refl; other = λ e. cc }, refl, refl);
   second_of_two_equal = (na ∷ [], x, [], record { parts = refl; refusals = (refl, one_na) }, record { short = lit< tt; place = refl; proposed = refl; other = λ e. cc }, refl, refl);
+  past_one_byte = (
+    replicate 256 na,
+    y,
+    [],
+    record { parts = ap (λ (rest : List ℕ). header_bytes ++ rest ++ y_bytes) (nas_spelled 256); refusals = (refl, same_texts (λ t. t ≡ na) 256 na refl) },
+    record { short = lit< tt; place = length-replicate 256 na; proposed = refl; other = λ e. cc },
+    omega (
+      arith,
+      joined_length 256 na_bytes refl,
+      length-append header_bytes (concat (replicate 256 na_bytes) ++ y_bytes),
+      length-append (concat (replicate 256 na_bytes)) y_bytes,
+    ),
+    ap (λ (rest : List ℕ). header_bytes ++ rest) (proposed_many 256),
+  );
   none_left = (header ∷ na ∷ na ∷ [], 7 ∷ [], record { parts = refl; refusals = (refl, two_na) }, record { all = refl; none = λ e. absurd (omega (arith, ap length e)) }, refl, refl);
   nameless = ([], 7 ∷ [], record { parts = refl; refusals = tt }, record { all = refl; none = λ e. refl }, refl, refl);
   other_header = ([], x_bytes, record { answered = record { parts = refl; refusals = tt }; left = omega arith }, inr (x, ([], record { parts = refl; short = lit< tt }), (λ e. cc), refl), refl, refl);

@@ -1,6 +1,7 @@
 -- Worked rows of messages and talks (multistream-select 1.0; lengths and the order of refusals are this project's
 -- profile).
 use Rattle.std.specs.Prelude.{◌≡◌, ℕ, List, [], ◌∷◌, ◌++◌, replicate, Some, None, Ok, Err}
+use Rattle.std.specs.List.{concat}
 use Rattle.ms_select.specs.declared.answer.Answer.TheVariants.{Going, Agreed, NoneLeft}
 use Rattle.ms_select.specs.declared.fault.SelectFault.TheVariants.{BadLength, NoNewline, BadHeader, NotProposed}
 use Rattle.ms_select.specs.declared.verdict.Role.TheVariants.{Dialer, Listener}
@@ -62,6 +63,7 @@ pub record NameRows : Type 0 where
 -- The least index of a name, which reserved texts never are
 pub record ChoiceRows : Type 0 where
   pub least : choice (x ∷ y ∷ y ∷ []) y ≡ Some 1
+  pub past_one_byte : choice (replicate 256 x ++ y ∷ []) y ≡ Some 256
   pub unknown : choice (x ∷ []) y ≡ None
   pub no_header : choice (header ∷ []) header ≡ None
   pub no_na : choice (na ∷ []) na ≡ None
@@ -72,6 +74,9 @@ pub record ListenRows : Type 0 where
   pub header_at_once : Listens (y ∷ []) [] (Ok Going) 0 header_bytes
   pub in_a_message : Listens (y ∷ []) (header_bytes ++ 3 ∷ []) (Ok Going) 21 header_bytes
   pub refused : Listens (y ∷ []) (header_bytes ++ x_bytes) (Ok Going) 24 (header_bytes ++ na_bytes)
+  -- however many it refuses, it goes on
+  pub many_refused : Listens (y ∷ []) (header_bytes ++ concat (replicate 300 x_bytes)) (Ok Going) 1220
+      (header_bytes ++ concat (replicate 300 na_bytes))
   pub refused_empty : Listens (y ∷ []) (header_bytes ++ 1 ∷ 10 ∷ []) (Ok Going) 22 (header_bytes ++ na_bytes)
   pub agreed : Listens (y ∷ []) (header_bytes ++ x_bytes ++ y_bytes ++ 7 ∷ []) (Ok (Agreed 0)) 28
       (header_bytes ++ na_bytes ++ y_bytes)
@@ -91,6 +96,9 @@ pub record DialRows : Type 0 where
   -- the index is that of the proposal, also where an earlier one names the same
   pub second_of_two_equal : Dials (x ∷ x ∷ []) (header_bytes ++ na_bytes ++ x_bytes) (Ok (Agreed 1)) 28
       (header_bytes ++ x_bytes ++ x_bytes)
+  -- and it may be past one byte
+  pub past_one_byte : Dials (replicate 256 x ++ y ∷ []) (header_bytes ++ concat (replicate 256 na_bytes) ++ y_bytes)
+      (Ok (Agreed 256)) 1048 (header_bytes ++ concat (replicate 256 x_bytes) ++ y_bytes)
   pub none_left : Dials (x ∷ y ∷ []) (header_bytes ++ na_bytes ++ na_bytes ++ 7 ∷ []) (Ok NoneLeft) 28
       (header_bytes ++ x_bytes ++ y_bytes)
   pub nameless : Dials [] (7 ∷ []) (Ok NoneLeft) 0 []

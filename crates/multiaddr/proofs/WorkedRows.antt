@@ -2,7 +2,7 @@
 use Rattle.std.proofs.Common.{◌≡◌, ◌≢◌, ◌⊎◌, ℕ, zero, suc, ◌<◌, ◌≤◌, ◌==◌, ◌&&◌, not, Bool, true, inl, inr, List, [], ◌∷◌, ◌++◌, length, map, replicate, get_or, refl, sym, ap, subst, ◌∙◌, arith, Option, Some, None, Err, false, decimal, ne_eqb, if◌then◌else◌, ◌+◌}
 use Rattle.std.specs.Prelude.{All, codes}
 use Rattle.std.proofs.lemmas.List.Elements.{All-from_recursion, All-get_or}
-use Rattle.std.specs.List.{AllByRecursion}
+use Rattle.std.specs.List.{AllByRecursion, concat, flat_map}
 use Rattle.std.proofs.lemmas.Str.Ascii.{IsAscii-from_all}
 use Rattle.std.specs.Net.Text.{dotted_text, hex_groups_text, hex}
 use Rattle.peer_ids.specs.PeerId.{IsMultihash}
@@ -18,11 +18,11 @@ use Rattle.multiaddr.specs.declared.protocol.Protocol.{Protocol}
 use Rattle.multiaddr.specs.declared.protocol.Protocol.TheVariants.{Ip4, Tcp, Ip6, Dns, Dns4, Dns6, P2p}
 use Rattle.multiaddr.specs.declared.socket.Ip.{Ip}
 use Rattle.multiaddr.specs.declared.socket.Ip.TheVariants.{V4, V6}
-use Rattle.multiaddr.specs.Part.{Part, IsName, IsOpaque, SpellsAddress, AddressFault, PartFault, code_of, part}
+use Rattle.multiaddr.specs.Part.{Part, IsValue, spelling, IsName, IsOpaque, SpellsAddress, AddressFault, PartFault, code_of, part}
 use Rattle.multiaddr.specs.declared.fault.AddrFault.{AddrFault}
 use Rattle.multiaddr.specs.declared.fault.AddrFault.TheVariants.{UnknownProtocol, Cut, BadValue}
 use Rattle.multiaddr.specs.Ip6.{SpellsGroups}
-use Rattle.multiaddr.specs.Text.{ReadsValue, LeadsParts, NoSlash, TextFault, tail_of, name_of}
+use Rattle.multiaddr.specs.Text.{ReadsValue, LeadsParts, PrintsParts, NoSlash, TextFault, tail_of, name_of}
 use Rattle.multiaddr.specs.Given.{GivesSocket, host_part, port_part}
 use Rattle.multiaddr.proofs.Ip6Text.{prints}
 use Rattle.multiaddr.proofs.Values.{decimal_first}
@@ -153,6 +153,16 @@ nine_unended = ((omega arith, (omega arith, (omega arith, (omega arith, (omega a
 at_front : (bytes : List ℕ) (fault : AddrFault) → 0 < length bytes → PartFault bytes fault → AddressFault bytes fault
 at_front bytes fault some fails = inr ([], bytes, tt, refl, some, fails)
 
+-- so many ports
+ports_spelt : (n : ℕ) → concat (replicate n (6 ∷ 15 ∷ 161 ∷ [])) ≡ flat_map spelling (replicate n port_4001) ++ []
+unfolding shortest shortest_within
+ports_spelt zero = refl
+ports_spelt (suc n) = ap (λ (rest : List ℕ). 6 ∷ 15 ∷ 161 ∷ rest) (ports_spelt n)
+
+are_ports : (n : ℕ) → AllByRecursion (λ p. IsValue p.protocol p.value) (replicate n port_4001)
+are_ports zero = tt
+are_ports (suc n) = (refl, are_ports n)
+
 pub address_rows : AddressRows
 unfolding shortest shortest_within
 address_rows = record {
@@ -164,6 +174,7 @@ address_rows = record {
   opaque_of_code_0_behind = (record { some = omega arith; parts = (refl, tt); opaque = inr (zero_is_opaque (7 ∷ [])) }, refl);
   port_0 = (record { some = omega arith; parts = (refl, tt); opaque = inl refl }, refl);
   port_65535 = (record { some = omega arith; parts = (refl, tt); opaque = inl refl }, refl);
+  many_parts = (record { some = omega (arith, length-replicate {A = Part} 300 port_4001); parts = are_ports 300; opaque = inl refl }, ports_spelt 300);
   nothing_is_no_address = λ h. omega (arith, h.0.some);
   known_is_not_opaque = λ opaque. stuck_opaque (6 ∷ 15 ∷ 161 ∷ []) opaque Tcp (15 ∷ 161 ∷ []) [] refl refl;
   memory = (address (port_4001 ∷ []) [], port_is_spelt);
@@ -177,6 +188,8 @@ address_rows = record {
   tcp_cut = at_front (6 ∷ 15 ∷ []) Cut (omega arith) (inr (Tcp, 15 ∷ [], refl, (refl, omega arith)));
   ip6_cut = at_front (41 ∷ replicate 15 7) Cut (omega arith) (inr (Ip6, replicate 15 7, refl, (refl, omega arith)));
   length_cut = at_front (53 ∷ 129 ∷ []) Cut (omega arith) (inr (Dns, 129 ∷ [], refl, inl (inl ((omega arith, tt), omega arith))));
+  largest_length_cut =
+      at_front (53 ∷ largest_code) Cut (omega arith) (inr (Dns, largest_code, refl, inl (inr (refl, 9223372036854775807, [], omega arith, refl, omega arith))));
   length_too_long =
       at_front (53 ∷ 129 ∷ 0 ∷ []) BadValue (omega arith)
       (inr (
@@ -413,6 +426,17 @@ leads_dns_a : (rest : List ℕ) → LeadsParts (codes "/dns/a" ++ rest) dns_a re
 unfolding dns_a unslashed
 leads_dns_a rest = (codes "a", rest, no_slash (codes "a") refl, (refl, letters 1 (omega arith) (omega arith)), refl, refl)
 
+-- so many names
+leads_names : (n : ℕ) → LeadsParts (concat (replicate n (codes "/dns/a"))) (replicate n (part Dns (codes "a"))) []
+unfolding unslashed
+leads_names zero = refl
+leads_names (suc n) =
+    (codes "a", concat (replicate n (codes "/dns/a")), no_slash (codes "a") refl, (refl, letters 1 (omega arith) (omega arith)), refl, leads_names n)
+
+prints_names : (n : ℕ) → PrintsParts (concat (replicate n (codes "/dns/a"))) (replicate n (part Dns (codes "a")))
+prints_names zero = refl
+prints_names (suc n) = (codes "a", concat (replicate n (codes "/dns/a")), refl, refl, prints_names n)
+
 pub text_rows : TextRows
 unfolding digits unslashed dns_a
 text_rows = record {
@@ -434,6 +458,8 @@ text_rows = record {
     refl,
     (codes "4001", [], text_value_rows.port_4001.0, refl, refl),
   );
+  many_parts = (omega (arith, length-replicate {A = Part} 300 (part Dns (codes "a"))), leads_names 300);
+  many_parts_printed = prints_names 300;
   memory = (dns_a, (omega arith, leads_dns_a []));
   empty = inl (refl, refl);
   no_slash = inr (inl (refl, (λ e. absurd (cc e)), (λ rest e. first 100 47 _ rest e (λ h. omega (arith, h)))));

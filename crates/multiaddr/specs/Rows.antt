@@ -2,6 +2,7 @@
 -- Source: multiaddr (multiformats) with its table of protocols; RFC 5952, section 4; which refusal comes is this
 -- project's profile.
 use Rattle.std.specs.Prelude.{◌≡◌, ℕ, List, [], ◌∷◌, ◌++◌, replicate, codes, Option, Some, None}
+use Rattle.std.specs.List.{concat}
 use Rattle.multiaddr.specs.declared.protocol.Protocol.{Protocol}
 use Rattle.multiaddr.specs.declared.protocol.Protocol.TheVariants.{Ip4, Tcp, Ip6, Dns, Dns4, Dns6, P2p}
 use Rattle.multiaddr.specs.declared.socket.Ip.{Ip}
@@ -104,6 +105,7 @@ pub record AddressRows : Type 0 where
   pub opaque_of_code_0_behind : SpellsAddress (4 ∷ 127 ∷ 0 ∷ 0 ∷ 1 ∷ 0 ∷ 7 ∷ []) (address (local ∷ []) (0 ∷ 7 ∷ []))
   pub port_0 : SpellsAddress (6 ∷ 0 ∷ 0 ∷ []) (address (part Tcp (0 ∷ 0 ∷ []) ∷ []) [])
   pub port_65535 : SpellsAddress (6 ∷ 255 ∷ 255 ∷ []) (address (part Tcp (255 ∷ 255 ∷ []) ∷ []) [])
+  pub many_parts : SpellsAddress (concat (replicate 300 (6 ∷ 15 ∷ 161 ∷ []))) (address (replicate 300 port_4001) [])
   pub nothing_is_no_address : ¬ SpellsAddress [] (address [] [])
   pub known_is_not_opaque : ¬ IsOpaque (6 ∷ 15 ∷ 161 ∷ [])
   pub memory : RefusesAddress (6 ∷ 15 ∷ 161 ∷ []) OutOfMemory
@@ -115,6 +117,7 @@ pub record AddressRows : Type 0 where
   pub tcp_cut : AddressFault (6 ∷ 15 ∷ []) Cut
   pub ip6_cut : AddressFault (41 ∷ replicate 15 7) Cut
   pub length_cut : AddressFault (53 ∷ 129 ∷ []) Cut
+  pub largest_length_cut : AddressFault (53 ∷ (replicate 8 255 ++ 127 ∷ [])) Cut
   pub length_too_long : AddressFault (53 ∷ 129 ∷ 0 ∷ []) BadValue
   pub length_unended : AddressFault (53 ∷ replicate 9 128) BadValue
   pub long_name_cut : AddressFault (53 ∷ 128 ∷ 2 ∷ replicate 255 97) Cut
@@ -158,6 +161,8 @@ pub record TextValueRows : Type 0 where
 pub record TextRows : Type 0 where
   pub read : ReadsParts (codes "/ip4/127.0.0.1/tcp/4001") (local ∷ port_4001 ∷ [])
   pub printed : PrintsParts (codes "/ip4/127.0.0.1/tcp/4001") (local ∷ port_4001 ∷ [])
+  pub many_parts : ReadsParts (concat (replicate 300 (codes "/dns/a"))) (replicate 300 (part Dns (codes "a")))
+  pub many_parts_printed : PrintsParts (concat (replicate 300 (codes "/dns/a"))) (replicate 300 (part Dns (codes "a")))
   pub memory : RefusesText (codes "/dns/a") OutOfMemory
   pub empty : RefusesText [] Empty
   pub no_slash : RefusesText (codes "dns/a") BadValue

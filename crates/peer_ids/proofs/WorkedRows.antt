@@ -241,6 +241,9 @@ text_rows = record {
   padded = wrong_at 2 (codes "ae=") (omega arith) (λ p q. omega (arith, p)) (λ p q. omega (arith, q));
   number_before_unused_bits = wrong_count (1 ∷ []) refl (λ h. omega (arith, only_counts 1 h));
   too_long = wrong_count (replicate 76 0) refl (λ h. omega (arith, h.0));
+  too_long_before_unused_bits = wrong_count (replicate 76 1) refl (λ h. omega (arith, h.0));
+  letters_before_too_many = wrong_at 75 (replicate 75 97 ++ 49 ∷ []) (omega arith) (λ p q. omega (arith, p)) (λ p q. omega (arith, p));
+  no_b_before_too_many = λ letters e. first 97 98 _ letters e (λ h. omega (arith, h));
   unused_bits_before_the_prefix =
       refuses_bits (codes "bab") (codes "ab") (0 ∷ 1 ∷ []) (0 ∷ []) 1 2 refl (counts 2 (omega arith) (omega arith)) (omega arith)
       (letters_are (codes "ab") (0 ∷ 1 ∷ []) refl refl) (read_as (0 ∷ 1 ∷ []) (0 ∷ []) 1 2 refl (omega arith) refl) (λ e. omega (arith, e));

@@ -1,7 +1,7 @@
 -- Worked rows of the definitions: each length and letter at its ends, and each refusal before the ones behind it.
 -- Source: libp2p peer ids, "Keys" and "Peer Ids"; RFC 4648, sections 6 and 10; which refusal comes is this project's
 -- profile.
-use Rattle.std.specs.Prelude.{◌≡◌, ℕ, List, [], ◌∷◌, replicate, codes, Ok, Err}
+use Rattle.std.specs.Prelude.{◌≡◌, ℕ, List, [], ◌∷◌, ◌++◌, replicate, codes, Ok, Err}
 use Rattle.sha2.specs.Sha256.{sha256}
 use Rattle.varint_proto.specs.Message.{Entry, entry, Varint, Bytes}
 use Rattle.peer_ids.specs.declared.kind.KeyType.{KeyType}
@@ -136,6 +136,9 @@ pub record TextRows : Type 0 where
   pub padded : ReadsId (codes "bae=") (Err NotBase32)
   pub number_before_unused_bits : ReadsId (codes "bb") (Err BadLength)
   pub too_long : ReadsId (98 ∷ replicate 76 97) (Err BadLength)
+  pub too_long_before_unused_bits : ReadsId (98 ∷ replicate 76 98) (Err BadLength)
+  pub letters_before_too_many : ReadsId (98 ∷ (replicate 75 97 ++ 49 ∷ [])) (Err NotBase32)
+  pub no_b_before_too_many : ReadsId (replicate 77 97) (Err NotB)
   pub unused_bits_before_the_prefix : ReadsId (codes "bab") (Err TrailingBits)
   pub prefix_before_the_hash : ReadsId (codes "baa") (Err BadPrefix)
   pub another_version : ReadsId (codes "babza") (Err BadPrefix)

@@ -1,5 +1,5 @@
 -- The definitions of an exchange at worked bytes.
-use Rattle.std.proofs.Common.{◌≡◌, ℕ, zero, suc, ◌+◌, ◌*◌, ◌%◌, ◌<◌, ◌≤◌, List, [], ◌∷◌, ◌++◌, length, take, None, Some, Ok, Err, refl, sym, ap, subst, inl, inr, arith}
+use Rattle.std.proofs.Common.{◌≡◌, ℕ, zero, suc, ◌+◌, ◌*◌, ◌%◌, ◌<◌, ◌≤◌, List, [], ◌∷◌, ◌++◌, length, get_or, take, None, Some, Ok, Err, refl, sym, ap, subst, ◌∙◌, inl, inr, arith}
 use Rattle.std.specs.Prelude.{IsSome}
 use Rattle.std.specs.List.{AllByRecursion, flat_map}
 use Rattle.std.proofs.lemmas.List.{length-append}
@@ -14,11 +14,13 @@ use Rattle.varint_proto.proofs.OneReading.{one_message}
 use Rattle.peer_ids.specs.declared.fault.KeyFault.TheVariants as keys
 use Rattle.peer_ids.specs.declared.kind.KeyType.TheVariants.{Secp256k1}
 use Rattle.peer_ids.specs.ReadsKey.{SpellsKey}
-use Rattle.peer_ids.proofs.Written.{canonical_spells}
+use Rattle.peer_ids.specs.PeerId.{multihash_of}
+use Rattle.peer_ids.proofs.Written.{canonical_spells, id_is_multihash}
 use Rattle.plaintext_x.specs.declared.fault.ExchangeFault.{ExchangeFault}
 use Rattle.plaintext_x.specs.declared.fault.ExchangeFault.TheVariants.{Wire, NoId, NoKey, BadKey, Differs}
-use Rattle.plaintext_x.specs.Exchange.{SpellsExchange, RefusesBody, Exchanges, AsksMemory, longest, last_id, last_key, joined_key}
-use Rattle.plaintext_x.specs.Rows.{short_key, key_bytes, id_bytes, id_field, key_field, ProofRows, WaitingRows, MemoryRows, RefusalRows}
+use Rattle.plaintext_x.specs.Exchange.{SpellsExchange, RefusesBody, Exchanges, AsksMemory, longest, last_id, last_key, joined_key, body_of, message_of}
+use Rattle.plaintext_x.proofs.Own.{own_is_proven}
+use Rattle.plaintext_x.specs.Rows.{short_key, key_bytes, id_bytes, id_field, key_field, long_key, long_bytes, long_id_field, long_key_field, ProofRows, WaitingRows, MemoryRows, RefusalRows}
 use Rattle.plaintext_x.proofs.Steps.{faulty_in}
 
 -- a length of one byte
@@ -81,11 +83,42 @@ both_writable : AllByRecursion IsWritable (id_entry ∷ key_entry ∷ [])
 unfolding id_entry key_entry
 both_writable = (((omega arith, omega arith), omega arith), (((omega arith, omega arith), omega arith), tt))
 
+-- a digest of 32 bytes is in the id of the long key
+long_id : length (multihash_of long_bytes) ≡ 34
+unfolding shortest shortest_within
+long_id = elim (id_is_multihash long_key).1 [
+  | inl p ↦ let kinds : 18 ≡ 0 = ap (λ (id : List ℕ). get_or id 0 0) p.0 in absurd (omega (arith, kinds))
+  | inr p ↦ omega (arith, ap length p.0, p.1)
+]
+
+-- what its end sends
+long_body : body_of long_key ≡ long_id_field ++ long_key_field
+unfolding shortest shortest_within
+long_body = ap (λ (n : ℕ). (10 ∷ (shortest n ++ multihash_of long_bytes)) ++ long_key_field) long_id
+
+long_length : length (long_id_field ++ long_key_field) ≡ 81
+long_length = omega (arith, length-append long_id_field long_key_field, long_id)
+
+long_sent : message_of long_key ≡ 81 ∷ (long_id_field ++ long_key_field)
+unfolding shortest shortest_within
+long_sent =
+    ap (λ (body : List ℕ). shortest (length body) ++ body) long_body
+    ∙ ap (λ (n : ℕ). shortest n ++ (long_id_field ++ long_key_field)) long_length
+
+long_is_proven : Exchanges (81 ∷ (long_id_field ++ long_key_field)) (Ok (Some long_key)) 82
+long_is_proven =
+    let length_is : length (message_of long_key) ≡ 82 = omega (arith, ap length long_sent, long_length) in
+    subst (λ (n : ℕ). Exchanges (81 ∷ (long_id_field ++ long_key_field)) (Ok (Some long_key)) n) length_is
+    (subst (λ (input : List ℕ). Exchanges input (Ok (Some long_key)) (length (message_of long_key))) long_sent
+    (own_is_proven long_key (omega arith, omega arith)))
+
 pub proof_rows : ProofRows
 unfolding id_entry key_entry longer_key shortest shortest_within
 proof_rows = record {
   id = refl;
   sent = refl;
+  sent_of_a_long_key = long_sent;
+  long_key_is_proven = long_is_proven;
   proven = exchanged (id_field ++ key_field) [] (id_entry ∷ key_entry ∷ []) (omega arith) (written (id_entry ∷ key_entry ∷ []) both_writable) refl refl;
   more_is_not_used = exchanged (id_field ++ key_field) (7 ∷ []) (id_entry ∷ key_entry ∷ []) (omega arith) (written (id_entry ∷ key_entry ∷ []) both_writable) refl refl;
   other_order = exchanged (key_field ++ id_field) [] (key_entry ∷ id_entry ∷ []) (omega arith)

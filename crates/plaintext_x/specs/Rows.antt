@@ -1,8 +1,8 @@
 -- Worked rows of an exchange (libp2p plaintext 2.0.0; lengths and refusals are this project's profile).
-use Rattle.std.specs.Prelude.{◌≡◌, ℕ, List, [], ◌∷◌, ◌++◌, Some, None, Ok, Err}
-use Rattle.peer_ids.specs.declared.kind.KeyType.TheVariants.{Secp256k1}
+use Rattle.std.specs.Prelude.{◌≡◌, ℕ, List, [], ◌∷◌, ◌++◌, replicate, Some, None, Ok, Err}
+use Rattle.peer_ids.specs.declared.kind.KeyType.TheVariants.{Rsa, Secp256k1}
 use Rattle.peer_ids.specs.Key.{Key}
-use Rattle.peer_ids.specs.PeerId.{id_of}
+use Rattle.peer_ids.specs.PeerId.{id_of, multihash_of}
 use Rattle.plaintext_x.specs.declared.fault.ExchangeFault.TheVariants.{TooLong, Wire, NoId, NoKey, BadKey, Differs}
 use Rattle.plaintext_x.specs.Exchange.{Exchanges, AsksMemory, RunsOut, message_of}
 
@@ -23,11 +23,26 @@ id_field = 10 ∷ 7 ∷ id_bytes
 abbrev pub key_field : List ℕ
 key_field = 18 ∷ 5 ∷ key_bytes
 
+-- a key whose message has 43 bytes, so that its id is their digest
+abbrev pub long_key : Key
+long_key = record { kind = Rsa; body = replicate 39 5 }
+
+abbrev pub long_bytes : List ℕ
+long_bytes = 8 ∷ 0 ∷ 18 ∷ 39 ∷ replicate 39 5
+
+abbrev pub long_id_field : List ℕ
+long_id_field = 10 ∷ 34 ∷ multihash_of long_bytes
+
+abbrev pub long_key_field : List ℕ
+long_key_field = 18 ∷ 43 ∷ long_bytes
+
 -- What an end sends, and what proves its key
 pub record ProofRows : Type 0 where
   pub id : id_of short_key ≡ id_bytes
   pub sent : message_of short_key ≡ 16 ∷ (id_field ++ key_field)
+  pub sent_of_a_long_key : message_of long_key ≡ 81 ∷ (long_id_field ++ long_key_field)
   pub proven : Exchanges (16 ∷ (id_field ++ key_field)) (Ok (Some short_key)) 17
+  pub long_key_is_proven : Exchanges (81 ∷ (long_id_field ++ long_key_field)) (Ok (Some long_key)) 82
   pub more_is_not_used : Exchanges (16 ∷ (id_field ++ key_field) ++ 7 ∷ []) (Ok (Some short_key)) 17
   pub other_order : Exchanges (16 ∷ (key_field ++ id_field)) (Ok (Some short_key)) 17
   pub last_id_counts : Exchanges (18 ∷ (10 ∷ 0 ∷ id_field ++ key_field)) (Ok (Some short_key)) 19

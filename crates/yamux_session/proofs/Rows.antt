@@ -336,6 +336,9 @@ growth_rows = record {
   ping_untold = λ more. let none : 0 < 0 = more in omega arith;
   ping_sent = let some : 0 < 12 = omega arith in some;
   unknown_unsent = λ more. let none : 0 < 0 = more in omega arith;
+  end_of_the_unknown_unsent = λ more. let none : 0 < 0 = more in omega arith;
+  data_that_ends_the_unknown_unsent = λ more. let none : 0 < 0 = more in omega arith;
+  reset_of_the_unknown_unsent = λ more. let none : 0 < 0 = more in omega arith;
   answer_unsent = λ more. let none : 0 < 0 = more in omega arith;
 }
 

@@ -580,6 +580,9 @@ pub record GrowthRows : Type 0 where
   pub ping_untold : ¬ TellsMore Server [] (bare Ping 1 0 7)
   pub ping_sent : SendsMore Server [] (bare Ping 1 0 7)
   pub unknown_unsent : ¬ SendsMore Server [] (bare Window 0 9 5)
+  pub end_of_the_unknown_unsent : ¬ SendsMore Server [] (bare Window 4 9 0)
+  pub data_that_ends_the_unknown_unsent : ¬ SendsMore Client [] (bare Payload 4 1 0)
+  pub reset_of_the_unknown_unsent : ¬ SendsMore Server [] (bare Window 8 9 0)
   pub answer_unsent : ¬ SendsMore Server [] (bare Ping 2 0 7)
 
 -- bytes that are no header
