@@ -63,7 +63,7 @@ pub record LeadsRows : Type 0 where
       → LeadsOutbound counts node 1 peer handler next ↔ (Tells node.own handler × (next ≡ node))
   pub ping_out : (own other : Message) (peer : List ℕ) (handler : NodeHandler) (next : ℕ)
       → LeadsOutbound counts (record { own = own; payloads = 4 }) 2 peer handler
-          (record { own = other; payloads = next })
+      (record { own = other; payloads = next })
       ↔ ((handler ≡ Pings (round (replicate 32 7))) × (next ≡ 5) × (other ≡ own))
   pub none_out : (node next : Node ℕ) (peer : List ℕ) (handler : NodeHandler)
       → ¬ LeadsOutbound counts node 3 peer handler next
