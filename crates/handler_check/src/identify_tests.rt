@@ -686,7 +686,7 @@ struct Push {
     merged: Said<'static>,
 }
 
-static PUSHES: [Push; 3] = [
+static PUSHES: [Push; 4] = [
     Push {
         known: Said {
             listen: &[(1, &[1])],
@@ -735,6 +735,21 @@ static PUSHES: [Push; 3] = [
             ..NOTHING
         },
     },
+    // A list that is there replaces the known one, whole, also where its one entry is empty.
+    Push {
+        known: Said {
+            protocols: &[(1, b"c"), (1, b"b")],
+            ..MOST
+        },
+        push: Said {
+            protocols: &[(1, b"")],
+            ..NOTHING
+        },
+        merged: Said {
+            protocols: &[(1, b"")],
+            ..MOST
+        },
+    },
 ];
 
 fn merged(alloc: Global, push: &Push) -> Result<Identify, Fail> {
@@ -758,29 +773,62 @@ fn a_push_leaves_what_it_does_not_name(rt: HostRuntime) -> Result<(), Fail> {
 
 // ---- faults
 
-static FAULTS: [(IdentifyFault, u8, &str); 7] = [
-    (IdentifyFault::Failed, 1, "identify failed or ended before"),
-    (IdentifyFault::TooLong, 2, "the messages are too long"),
-    (IdentifyFault::TooMany, 3, "there are too many messages"),
-    (IdentifyFault::Wire, 4, "a message is badly spelt"),
+/// A fault, its number, its name and its sentence.
+static FAULTS: [(IdentifyFault, u8, &str, &str); 7] = [
+    (
+        IdentifyFault::Failed,
+        1,
+        "Failed",
+        "identify failed or ended before",
+    ),
+    (
+        IdentifyFault::TooLong,
+        2,
+        "TooLong",
+        "the messages are too long",
+    ),
+    (
+        IdentifyFault::TooMany,
+        3,
+        "TooMany",
+        "there are too many messages",
+    ),
+    (IdentifyFault::Wire, 4, "Wire", "a message is badly spelt"),
     (
         IdentifyFault::OtherKey,
         5,
+        "OtherKey",
         "the key is not that of the peer",
     ),
-    (IdentifyFault::Cut, 6, "the stream ended within a message"),
-    (IdentifyFault::OutOfMemory, 7, "out of memory"),
+    (
+        IdentifyFault::Cut,
+        6,
+        "Cut",
+        "the stream ended within a message",
+    ),
+    (
+        IdentifyFault::OutOfMemory,
+        7,
+        "OutOfMemory",
+        "out of memory",
+    ),
 ];
 
-fn has_sentence(alloc: Global, fault: IdentifyFault, sentence: &str) -> Result<bool, AllocError> {
+fn is_told(
+    alloc: Global,
+    fault: IdentifyFault,
+    name: &str,
+    sentence: &str,
+) -> Result<bool, AllocError> {
+    let named = format!(in alloc; "{fault:?}")?;
     let told = format!(in alloc; "{fault}")?;
-    Ok(told.as_str() == sentence)
+    Ok(named.as_str() == name && told.as_str() == sentence)
 }
 
 #[test]
-fn numbers_and_sentences_of_faults(rt: HostRuntime) -> Result<(), Fail> {
-    for (fault, number, sentence) in FAULTS.iter() {
-        let held = has_sentence(rt.alloc(), *fault, *sentence)? && *fault as u8 == *number;
+fn numbers_names_and_sentences_of_faults(rt: HostRuntime) -> Result<(), Fail> {
+    for (fault, number, name, sentence) in FAULTS.iter() {
+        let held = is_told(rt.alloc(), *fault, *name, *sentence)? && *fault as u8 == *number;
         assert!(rt; held, "fault {number}");
     }
     Ok(())

@@ -106,23 +106,25 @@ fn an_echo_gives_whole_rounds_back(rt: HostRuntime) {
     }
 }
 
-/// As many bytes as a stream may bring before any is given back.
-fn is_long(alloc: Global) -> Result<bool, AllocError> {
-    let input = vec![in alloc; 7u8; 262144]?;
+/// More bytes than a stream may bring before any is given back, in pieces of this size.
+fn is_long(alloc: Global, size: usize) -> Result<bool, AllocError> {
+    let input = vec![in alloc; 7u8; 1048576]?;
     let mut echo = PingEcho::new(alloc);
     let mut held = true;
-    for piece in input.chunks(131072) {
+    for piece in input.chunks(size.max(1)) {
         held = echo.take(piece) == Ok(()) && held;
     }
     held = echo.end() == Ok(()) && held;
     let front = echo.give(2000).map(|given| given.len());
     let rest = echo.give(usize::MAX).map(|given| given.len());
-    Ok(held && front == Ok(2000) && rest == Ok(260144) && echo.finished())
+    Ok(held && front == Ok(2000) && rest == Ok(1046576) && echo.finished())
 }
 
 #[test]
 fn a_long_input_is_echoed(rt: HostRuntime) {
-    assert!(rt; is_long(rt.alloc()) == Ok(true));
+    for size in [131072, 1048576] {
+        assert!(rt; is_long(rt.alloc(), size) == Ok(true), "pieces of {size}");
+    }
 }
 
 fn is_cut(alloc: Global, size: usize) -> bool {
@@ -259,22 +261,40 @@ fn an_echo_that_differs_in_one_byte(rt: HostRuntime) {
 
 // ---- faults
 
-static FAULTS: [(PingFault, u8, &str); 4] = [
-    (PingFault::Failed, 1, "the ping failed or ended before"),
-    (PingFault::WrongEcho, 2, "the echo differs from the ping"),
-    (PingFault::Cut, 3, "the stream ended within a round"),
-    (PingFault::OutOfMemory, 4, "out of memory"),
+/// A fault, its number, its name and its sentence.
+static FAULTS: [(PingFault, u8, &str, &str); 4] = [
+    (
+        PingFault::Failed,
+        1,
+        "Failed",
+        "the ping failed or ended before",
+    ),
+    (
+        PingFault::WrongEcho,
+        2,
+        "WrongEcho",
+        "the echo differs from the ping",
+    ),
+    (PingFault::Cut, 3, "Cut", "the stream ended within a round"),
+    (PingFault::OutOfMemory, 4, "OutOfMemory", "out of memory"),
 ];
 
-fn has_sentence(alloc: Global, fault: PingFault, sentence: &str) -> Result<bool, AllocError> {
+fn is_told(
+    alloc: Global,
+    fault: PingFault,
+    name: &str,
+    sentence: &str,
+) -> Result<bool, AllocError> {
+    let named = format!(in alloc; "{fault:?}")?;
     let told = format!(in alloc; "{fault}")?;
-    Ok(told.as_str() == sentence)
+    Ok(named.as_str() == name && told.as_str() == sentence)
 }
 
 #[test]
-fn numbers_and_sentences_of_faults(rt: HostRuntime) {
-    for (fault, number, sentence) in FAULTS.iter() {
-        let is_told = has_sentence(rt.alloc(), *fault, *sentence) == Ok(true);
-        assert!(rt; is_told && *fault as u8 == *number, "fault {number}");
+fn numbers_names_and_sentences_of_faults(rt: HostRuntime) -> Result<(), Fail> {
+    for (fault, number, name, sentence) in FAULTS.iter() {
+        let held = is_told(rt.alloc(), *fault, *name, *sentence)? && *fault as u8 == *number;
+        assert!(rt; held, "fault {number}");
     }
+    Ok(())
 }

@@ -313,10 +313,14 @@ fn a_node_says_16384_bytes_at_most(rt: HostRuntime) {
 }
 
 #[test]
-fn what_differs_is_told_apart(rt: HostRuntime) {
-    let fault = HandlerFault { number: 1 };
-    assert!(rt; fault == HandlerFault { number: 1 } && fault != HandlerFault { number: 2 });
-    let payloads = FixedPayload { payload: [1; 32] };
-    assert!(rt; payloads == FixedPayload { payload: [1; 32] });
-    assert!(rt; payloads != FixedPayload { payload: [2; 32] });
+fn payloads_that_differ_are_told_apart(rt: HostRuntime) {
+    let payloads = FixedPayload { payload: PAYLOAD };
+    assert!(rt; payloads == FixedPayload { payload: PAYLOAD });
+    for place in 0..32usize {
+        let mut payload = PAYLOAD;
+        if let Some(byte) = payload.get_mut(place) {
+            *byte ^= 0x40;
+        }
+        assert!(rt; payloads != FixedPayload { payload }, "byte {place}");
+    }
 }

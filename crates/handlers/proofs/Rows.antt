@@ -1,10 +1,13 @@
 -- The worked rows of calls.
-use Rattle.std.proofs.Common.{◌≡◌, ◌≢◌, ◌⊎◌, ◌↔◌, inl, inr, ℕ, Bool, true, List, [], ◌∷◌, ◌++◌, refl, sym, ◌∙◌, ap, subst, append_assoc}
+use Rattle.std.proofs.Common.{◌≡◌, ◌≢◌, ◌↔◌, inl, inr, ℕ, Bool, true, List, [], ◌∷◌, ◌++◌, refl, sym, ◌∙◌, ap, subst, append_assoc}
 use Rattle.std.proofs.lemmas.List.{append-nil}
-use Rattle.handlers.specs.Calls.{HandlerCall, Take, Give, End, Asked, ToTake, ToGive, ToEnd}
-use Rattle.handlers.specs.Calls.{Arises, WasHanded, EndsAs, HasFailed, HasEnded, taken}
-use Rattle.handlers.specs.Rows.{Noting, noted, EndRows, HandedRows, Answers, Refuses, RefusesOthers, RefusesTwice, StopRows}
+use Rattle.handlers.specs.Calls.{HandlerCall, Asked, ToTake, ToGive, ToEnd}
+use Rattle.handlers.specs.Calls.{Arises, WasHanded, EndsAs, taken}
+use Rattle.handlers.specs.Rows.{AnyBytes, Noting, noted, EndRows, HandedRows, Answers, RefusesOthers, RefusesTwice, StopRows}
 use Rattle.handlers.proofs.Handing.{one_end}
+
+pub any_bytes : AnyBytes
+any_bytes name = (λ is. (is.some, is.short), λ h. record { some = h.0; short = h.1 })
 
 pub end_rows : EndRows
 end_rows = record {

@@ -1,7 +1,12 @@
--- Worked rows of lists of calls (this project's profile).
-use Rattle.std.specs.Prelude.{◌≡◌, ◌≢◌, ◌⊎◌, ◌↔◌, ℕ, ◌+◌, Bool, List, [], ◌∷◌, ◌++◌, true, false}
+-- Worked rows of names and of lists of calls (this project's profile).
+use Rattle.std.specs.Prelude.{◌≡◌, ◌≢◌, ◌⊎◌, ◌↔◌, ℕ, ◌+◌, ◌<◌, Bool, List, [], ◌∷◌, ◌++◌, length, true, false}
+use Rattle.handlers.specs.Names.{IsName}
 use Rattle.handlers.specs.Calls.{HandlerCall, Take, Give, End, Asked, ToTake, ToGive, ToEnd}
 use Rattle.handlers.specs.Calls.{taken, given, EndsAs, Arises, WasHanded, HasFailed, HasEnded}
+
+-- any bytes are a name: what counts is how many there are
+abbrev pub AnyBytes : Type 0
+AnyBytes = (name : List ℕ) → IsName name ↔ ((0 < length name) × (length name < 1024))
 
 -- calls of each kind, on both sides of the end
 abbrev pub mixed : List HandlerCall

@@ -5,13 +5,14 @@ ghost use Rattle.handlers.specs.Calls.{HandlerCall, Take, Give, End, Arises, End
 ghost use Rattle.handlers.specs.contracts.handler.HandlerFault.{the_view};
 ghost use Rattle.handlers.specs.declared.handler.HandlerFault.TheInside.{Inside as Fields};
 ghost use Rattle.handlers.specs.Names.{NameRows};
-ghost use Rattle.handlers.specs.Rows.{JoinedRows, EndRows, HandedRows, StopRows};
+ghost use Rattle.handlers.specs.Rows.{AnyBytes, JoinedRows, EndRows, HandedRows, StopRows};
 
 use crate::handler::Handler;
 
 /// The definitions say of worked names and calls what they are to say.
 pub fn worked_rows()
     ensures names { NameRows }
+    ensures any_bytes { AnyBytes }
     ensures joined { JoinedRows }
     ensures ends { EndRows }
     ensures handed { HandedRows }

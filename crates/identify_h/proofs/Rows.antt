@@ -1,6 +1,7 @@
 -- The definitions at worked bytes.
-use Rattle.std.proofs.Common.{◌≡◌, ℕ, ◌+◌, ◌*◌, ◌<◌, ◌≤◌, zero, suc, List, [], ◌∷◌, ◌++◌, length, replicate, Some, None, true, false, refl, sym, ap, ◌∙◌, subst, inl, inr, arith}
+use Rattle.std.proofs.Common.{◌≡◌, ℕ, ◌+◌, ◌-◌, ◌*◌, ◌<◌, ◌≤◌, zero, suc, List, [], ◌∷◌, ◌++◌, length, replicate, Option, Some, None, true, false, refl, sym, ap, ◌∙◌, subst, inl, inr, arith}
 use Rattle.std.specs.Prelude.{IsSome, is_some, slice_index}
+use Rattle.std.specs.List.{concat}
 use Rattle.std.proofs.lemmas.List.{length-append}
 use Rattle.varint_proto.specs.Varint.{shortest, shortest_within}
 use Rattle.varint_proto.specs.Varint.{BeginsShortest, BeginsWide}
@@ -16,10 +17,10 @@ use Rattle.varint_proto.specs.declared.fault.WireFault.TheVariants as wire
 use Rattle.varint_proto.specs.Incoming.{Frames}
 use Rattle.peer_ids.specs.declared.fault.KeyFault.TheVariants as keys
 use Rattle.identify_h.specs.declared.fault.IdentifyFault.TheVariants.{TooMany, OutOfMemory}
-use Rattle.identify_h.specs.Messages.{IsKeySpelt, HasText, HasField, Refuses, SaysSomething}
+use Rattle.identify_h.specs.Messages.{IsKeyOf, IsKeySpelt, HasText, HasField, Refuses, SaysSomething}
 use Rattle.identify_h.specs.Streams.{Lead, Begins as BeginsWith, HasFault, left_behind}
 use Rattle.identify_h.proofs.Messages.{not_spelt}
-use Rattle.identify_h.specs.Rows.{key_field, key_id, nothing, texts_and_none, MessageRows, FieldRows, MemoryRows, BadKeyRows, MergeRows, StreamRows, FaultRows}
+use Rattle.identify_h.specs.Rows.{key_field, key_id, nothing, nine, texts_and_none, MessageRows, FieldRows, MemoryRows, BadKeyRows, MergeRows, StreamRows, FaultRows}
 
 one_wide : (n : ℕ) (rest : List ℕ) → n < 128 → BeginsWide (n ∷ rest) n rest
 one_wide n rest lt = (n ∷ [], record { ends = lt; within = omega arith; fits = omega arith; value = omega arith }, refl)
@@ -32,7 +33,20 @@ pub framed_row : (limit : ℕ) (body rest : List ℕ) → length body ≤ limit 
 framed_row limit body rest le lt = record { begins = one_short (length body) (body ++ rest) lt; allowed = le }
 
 pub merge_rows : MergeRows
-merge_rows = record { agent_alone = refl; empty_entry = refl; all_of_it = refl; nothing_of_it = refl; each_of_the_push = refl; empty_observed = refl }
+merge_rows = record {
+  agent_alone = refl;
+  empty_entry = refl;
+  all_of_it = refl;
+  nothing_of_it = refl;
+  each_of_the_push = refl;
+  empty_observed = refl;
+  key = λ known key. refl;
+  listen = λ known x list. refl;
+  protocols = λ known x list. refl;
+  observed = λ known bytes. refl;
+  version = λ known bytes. refl;
+  agent = λ known bytes. refl;
+}
 
 abc : List ℕ
 abc = 97 ∷ 98 ∷ 99 ∷ []
@@ -278,6 +292,11 @@ field_rows = record {
     ([], whole_key_field, refl),
     (key_message, refl, inr (the_key, spells_key, λ e. let seventh : 7 ≡ 9 = ap (λ (t : List ℕ). slice_index t 6) (sym id_is ∙ e) in cc)),
   );
+  any_fields = λ peer bytes fields message none. (
+    fields,
+    message,
+    record { key = subst (λ (t : Option (List ℕ)). IsKeyOf peer t None) (sym none) tt; listen = refl; protocols = refl; observed = refl; version = refl; agent = refl },
+  );
 }
   where
     id_is : id_of the_key ≡ key_id
@@ -381,6 +400,13 @@ memory_rows = record {
       let spelt = (memory_at [] (10 ∷ 0 ∷ 42 ∷ 1 ∷ 97 ∷ []) (entry 1 (Bytes []) ∷ entry 5 (Bytes (97 ∷ [])) ∷ [])
       (42 ∷ 1 ∷ 97 ∷ [], empty_field 1 10 _ refl (omega arith) (omega arith), ([], short_field 5 42 97 [] refl (omega arith) (omega arith), refl)) refused).0 in
       key_or_fault [] spelt.0 keys.NoType (λ e. cc) spelt.1 ([], refl, refl);
+  badly_spelt = λ refused.
+      message_or_fault (42 ∷ 1 ∷ 97 ∷ 8 ∷ []) refused.0 wire.Cut refused.1 (
+        entry 5 (Bytes (97 ∷ [])) ∷ [],
+        8 ∷ [],
+        (8 ∷ [], short_field 5 42 97 _ refl (omega arith) (omega arith), refl),
+        inr (8, [], one_wide 8 _ (omega arith), ((omega arith, omega arith), inl (inl refl, (tt, omega arith)))),
+      );
   nothing_written = says_nothing;
   key_written = inl refl;
   entry_written = inr (inl (λ e. absurd (cc e)));
@@ -482,6 +508,26 @@ longest body rest is = record {
 none_left : (body : List ℕ) → length body ≡ 16384 → left_behind (body ∷ []) ≡ 0
 none_left body is = omega (arith, is, length-append body [])
 
+-- messages of one byte each, and then these bytes
+ones : (n left : ℕ) (rest : List ℕ) → n ≤ left → Lead left (concat (replicate n (1 ∷ 8 ∷ [])) ++ rest) (replicate n (8 ∷ [])) rest
+ones zero left rest le = refl
+ones (suc n) left rest le = (
+  concat (replicate n (1 ∷ 8 ∷ [])) ++ rest,
+  framed_row left (8 ∷ []) (concat (replicate n (1 ∷ 8 ∷ [])) ++ rest) (omega arith) (omega arith),
+  ones n (left - 1) rest (omega arith),
+)
+
+behind_nine : (rest : List ℕ) → BeginsWith (nine ++ rest) (replicate 9 (8 ∷ [])) rest
+behind_nine rest = record { few = omega arith; lead = ones 9 16384 rest (omega arith) }
+
+-- a length of two bytes, the second 127
+of_two : (b : ℕ) → 128 ≤ b → b < 256 → BeginsShortest (b ∷ 127 ∷ []) (b - 128 + 16256) []
+of_two b least lt = (
+  b ∷ 127 ∷ [],
+  record { ends = (omega arith, omega arith); within = omega arith; shortest = λ _. omega arith; value = omega arith },
+  refl,
+)
+
 pub fault_rows : FaultRows
 fault_rows = record {
   cut_behind_bad = (
@@ -520,6 +566,18 @@ fault_rows = record {
     1 ∷ [],
     record { few = omega arith; lead = (1 ∷ [], longest body (1 ∷ []) is, refl) },
     (omega arith, (1, [], one_short 1 [] (omega arith), omega (arith, none_left body is))),
+  );
+  tenth = record {
+    bodies = replicate 9 (8 ∷ []);
+    rest = 247 ∷ 127 ∷ [];
+    begins = behind_nine (247 ∷ 127 ∷ []);
+    part = inr (omega arith, inr (16375, [], record { begins = of_two 247 (omega arith) (omega arith); allowed = omega arith }, omega arith));
+  };
+  tenth_too_long = (
+    replicate 9 (8 ∷ []),
+    248 ∷ 127 ∷ [],
+    behind_nine (248 ∷ 127 ∷ []),
+    (omega arith, (16376, [], of_two 248 (omega arith) (omega arith), omega arith)),
   );
 }
 

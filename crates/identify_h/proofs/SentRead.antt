@@ -1,5 +1,5 @@
 -- A message that is sent behind its length is read, and a fault stays.
-use Rattle.std.proofs.Common.{◌≡◌, ℕ, ◌+◌, ◌<◌, ◌≤◌, List, [], ◌∷◌, ◌++◌, length, Ok, Err, refl, sym, subst, arith}
+use Rattle.std.proofs.Common.{ℕ, ◌≤◌, List, [], ◌∷◌, ◌++◌, length, refl, sym, subst, arith}
 use Rattle.std.proofs.lemmas.List.{append-nil, length-append}
 use Rattle.varint_proto.specs.Varint.{shortest}
 use Rattle.varint_proto.specs.declared.fault.IncomingRefused.TheVariants as incoming
@@ -8,7 +8,7 @@ use Rattle.varint_proto.proofs.Framed.{framed_is_read, fault_more}
 use Rattle.identify_h.specs.declared.fault.IdentifyFault.{IdentifyFault}
 use Rattle.identify_h.specs.declared.fault.IdentifyFault.TheVariants.{Failed, TooLong, TooMany, Wire, OtherKey, Cut, OutOfMemory}
 use Rattle.identify_h.specs.Sending.{most_bytes, framed}
-use Rattle.identify_h.specs.Messages.{Message, Spells, HasKeyOf, written}
+use Rattle.identify_h.specs.Messages.{Spells, written}
 use Rattle.identify_h.specs.Streams.{NextFault, left_behind, Begins, FaultsStay, SentIsRead}
 use Rattle.identify_h.proofs.Streaming.{begins_on}
 use Rattle.identify_h.proofs.Written.{read_back}

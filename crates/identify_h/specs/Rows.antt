@@ -1,8 +1,11 @@
 -- Worked rows of the definitions (libp2p identify 1.0.0; the limits are this project's profile).
 use Rattle.std.specs.Prelude.{◌≡◌, ◌↔◌, ℕ, List, [], ◌∷◌, ◌++◌, length, Some, None, true, false, replicate, take, drop}
+use Rattle.std.specs.List.{concat}
 use Rattle.handlers.specs.Calls.{Take, Give, End, ToTake, ToGive, ToEnd}
 use Rattle.peer_ids.specs.declared.kind.KeyType.TheVariants.{Ed25519}
+use Rattle.peer_ids.specs.Key.{Key}
 use Rattle.peer_ids.specs.PeerId.{id_of}
+use Rattle.varint_proto.specs.Message.{Entry, IsMessage, all_bodies, last_body}
 use Rattle.identify_h.specs.Messages.{Message, Spells, Refuses, HasBadKey, SaysSomething, written, merged}
 use Rattle.identify_h.specs.declared.fault.IdentifyFault.TheVariants.{Failed, TooLong, TooMany, Wire, OtherKey, Cut}
 use Rattle.identify_h.specs.declared.fault.IdentifyFault.TheVariants.{OutOfMemory}
@@ -86,6 +89,19 @@ pub record MergeRows : Type 0 where
   pub each_of_the_push : merged full other ≡ other
   -- an empty text that is there counts
   pub empty_observed : merged full (record nothing { observed = Some [] }) ≡ record full { observed = Some [] }
+  -- whatever is known, a part of a push replaces its own, whole, and nothing else: be it empty or a list of any length
+  pub key : (known : Message) (key : Key)
+      → merged known (record nothing { key = Some key }) ≡ record known { key = Some key }
+  pub listen : (known : Message) (x : List ℕ) (list : List (List ℕ))
+      → merged known (record nothing { listen = x ∷ list }) ≡ record known { listen = x ∷ list }
+  pub protocols : (known : Message) (x : List ℕ) (list : List (List ℕ))
+      → merged known (record nothing { protocols = x ∷ list }) ≡ record known { protocols = x ∷ list }
+  pub observed : (known : Message) (bytes : List ℕ)
+      → merged known (record nothing { observed = Some bytes }) ≡ record known { observed = Some bytes }
+  pub version : (known : Message) (bytes : List ℕ)
+      → merged known (record nothing { version = Some bytes }) ≡ record known { version = Some bytes }
+  pub agent : (known : Message) (bytes : List ℕ)
+      → merged known (record nothing { agent = Some bytes }) ≡ record known { agent = Some bytes }
 
 -- Which fields are read, in which order
 pub record FieldRows : Type 0 where
@@ -108,6 +124,16 @@ pub record FieldRows : Type 0 where
   -- of two texts the last counts, though it is empty
   pub empty_behind_a_text : Spells [] texts_and_none
       (record nothing { observed = Some []; version = Some []; agent = Some [] })
+  -- whatever fields a message has, of any number and wire type: where no key stands among them it says what they do
+  pub any_fields : (peer bytes : List ℕ) (fields : List Entry) → IsMessage bytes fields → last_body 1 fields ≡ None
+      → Spells peer bytes (record {
+        key = None;
+        listen = all_bodies 2 fields;
+        protocols = all_bodies 3 fields;
+        observed = last_body 4 fields;
+        version = last_body 5 fields;
+        agent = last_body 6 fields;
+      })
   -- that key, read of a peer whose key has another byte
   pub key_of_another : Refuses (0 ∷ 36 ∷ 8 ∷ 1 ∷ 18 ∷ 32 ∷ replicate 32 9) key_field OtherKey
 
@@ -131,6 +157,8 @@ pub record MemoryRows : Type 0 where
   pub text_behind_an_empty : Refuses [] (42 ∷ 0 ∷ 42 ∷ 1 ∷ 97 ∷ []) OutOfMemory
   -- a key that isn't well spelt, and a version behind it
   pub bad_key : ¬ Refuses [] (10 ∷ 0 ∷ 42 ∷ 1 ∷ 97 ∷ []) OutOfMemory
+  -- a version, and behind it a field that is cut
+  pub badly_spelt : ¬ Refuses [] (42 ∷ 1 ∷ 97 ∷ 8 ∷ []) OutOfMemory
   -- and where a message is written: for each field, be it empty
   pub nothing_written : ¬ SaysSomething nothing
   pub key_written : SaysSomething keyed
@@ -165,6 +193,10 @@ pub record StreamRows : Type 0 where
   pub within_one : EndFails [] (5 ∷ 42 ∷ []) Cut
   pub joined_badly : EndFails [] (1 ∷ 8 ∷ []) Wire
 
+-- nine messages of one byte each
+abbrev pub nine : List ℕ
+nine = concat (replicate 9 (1 ∷ 8 ∷ []))
+
 -- Which fault comes first
 pub record FaultRows : Type 0 where
   -- a stream that ends within its second message is cut, whatever the first says
@@ -183,6 +215,9 @@ pub record FaultRows : Type 0 where
   pub empty_behind_the_longest : (body : List ℕ) → length body ≡ 16384 → GoesOn (128 ∷ 128 ∷ 1 ∷ body ++ 0 ∷ [])
   pub one_behind_the_longest : (body : List ℕ) → length body ≡ 16384
       → HasFault (128 ∷ 128 ∷ 1 ∷ body ++ 1 ∷ []) TooLong
+  -- behind nine of a byte each a tenth may have 16375 bytes, and no more
+  pub tenth : GoesOn (nine ++ 247 ∷ 127 ∷ [])
+  pub tenth_too_long : HasFault (nine ++ 248 ∷ 127 ∷ []) TooLong
 
 -- Where a stream asks for memory: at the last byte of a length, once for each body that isn't empty
 pub record RoomRows : Type 0 where

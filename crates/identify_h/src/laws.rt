@@ -19,8 +19,8 @@ ghost use Rattle.identify_h.specs.declared.identify.Identify.TheInside.{Inside a
 ghost use Rattle.identify_h.specs.Parts.{texts, text};
 ghost use Rattle.identify_h.specs.Messages.{KeyIsThePeers, OneMessage, WrittenIsRead};
 ghost use Rattle.identify_h.specs.Streams.{Reads, OneOutcome, SomeOutcome, FaultsStay, AskingGoesOn, SentIsRead};
-ghost use Rattle.identify_h.specs.Reading.{Reader, Stands, IsFresh, Alike, ReadFails};
-ghost use Rattle.identify_h.specs.Sending.{Sending, sending, most_bytes};
+ghost use Rattle.identify_h.specs.Reading.{Reader, Stands, IsFresh, Alike, ReadStep, ReadFails};
+ghost use Rattle.identify_h.specs.Sending.{Sending, SendStep, SendFails, sending, most_bytes};
 ghost use Rattle.identify_h.specs.Rows.{MessageRows, FieldRows, MemoryRows, BadKeyRows, MergeRows, StreamRows};
 ghost use Rattle.identify_h.specs.Rows.{FaultRows, RoomRows, NumberRows, SendRows, ReadRows};
 
@@ -166,6 +166,21 @@ pub fn reading_refuses()
 pub fn reading_fails()
     ensures { (reader : Reader) (asked : Asked) (n : ℕ)
         → ⟦<IdentifyIn as Handler>⟧.fails reader asked n ↔ ReadFails reader asked n }
+{}
+
+/// A reader answers a call where its stream lets it, and that leads to where the stream leaves the reader, and to
+/// nothing else.
+pub fn reading_steps()
+    ensures { (old new : Reader) (call : HandlerCall)
+        → ⟦<IdentifyIn as Handler>⟧.steps old call new ↔ ReadStep old call new }
+{}
+
+/// A sender answers and refuses a call as the definitions say, and in no other way.
+pub fn sending_calls()
+    ensures steps { (old new : Sending) (call : HandlerCall)
+        → ⟦<IdentifyOut as Handler>⟧.steps old call new ↔ SendStep old call new }
+    ensures fails { (out : Sending) (asked : Asked) (n : ℕ)
+        → ⟦<IdentifyOut as Handler>⟧.fails out asked n ↔ SendFails out asked n }
 {}
 
 /// What a call of a reader leads to is determined: behind the same bytes two readers are alike, the end reads one

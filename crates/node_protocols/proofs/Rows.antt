@@ -17,7 +17,7 @@ use Rattle.node_protocols.specs.Rows.{OwnRows, MakesRows, LeadsRows, HandlerRows
 
 pub own : OwnRows
 unfolding shortest shortest_within
-own = record { body = refl }
+own = record { key = λ key agent. refl; agent = λ key agent. refl; body = refl }
 
 pub makes : MakesRows
 makes = record {

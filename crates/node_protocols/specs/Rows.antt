@@ -23,6 +23,9 @@ zero_key = record { kind = Ed25519; body = replicate 32 0 }
 
 -- the body that a node of this key sends: its key, the three names, the version, and the agent
 pub record OwnRows : Type 0 where
+  -- any key and any agent are said whole
+  pub key : (key : Key) (agent : List ℕ) → (own_message key agent).key ≡ Some key
+  pub agent : (key : Key) (agent : List ℕ) → (own_message key agent).agent ≡ Some agent
   pub body : written (own_message zero_key (codes "x"))
       ≡ (10 ∷ 36 ∷ 8 ∷ 1 ∷ 18 ∷ 32 ∷ replicate 32 0) ++ ((26 ∷ 14 ∷ codes "/ipfs/id/1.0.0")
       ++ ((26 ∷ 19 ∷ codes "/ipfs/id/push/1.0.0") ++ ((26 ∷ 16 ∷ codes "/ipfs/ping/1.0.0")

@@ -12,7 +12,7 @@ use Rattle.ping_h.specs.Rounds.{Round, RoundStep, RoundFails, round}
 use Rattle.ping_h.specs.Rounds as rounds
 use Rattle.ping_h.proofs.Echoing as echoing
 use Rattle.ping_h.proofs.Rounding as rounding
-use Rattle.ping_h.proofs.Stopping.{neither, echo_ends, round_takes, round_ends}
+use Rattle.ping_h.proofs.Stopping.{neither, round_takes}
 
 -- what goes on is refused by that fault alone
 going_refuses : {P : Type 0} (over : Bool) (fault : PingFault) (n : ℕ) → over ≡ false → P

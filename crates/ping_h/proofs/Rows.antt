@@ -1,6 +1,18 @@
 -- The worked rows.
-use Rattle.std.proofs.Common.{[], ◌∷◌, ◌<◌, refl, arith}
-use Rattle.ping_h.specs.Rows.{EchoStepRows, EchoFaultRows, RoundStepRows, RoundFaultRows}
+use Rattle.std.proofs.Common.{[], ◌∷◌, ◌<◌, ◌*◌, ◌/◌, length, drop, refl, arith}
+use Rattle.std.proofs.lemmas.List.{length-take, take-append-drop}
+use Rattle.ping_h.specs.Rows.{RoundRows, EchoStepRows, EchoFaultRows, RoundStepRows, RoundFaultRows}
+
+pub rounds : RoundRows
+rounds = record {
+  none = refl;
+  one = refl;
+  more = refl;
+  two = refl;
+  part = λ input. (drop (length input / 32 * 32) input, take-append-drop (length input / 32 * 32) input);
+  whole = λ input. omega (arith, length-take (length input / 32 * 32) input);
+  longest = λ input. omega (arith, length-take (length input / 32 * 32) input);
+}
 
 pub echo_steps : EchoStepRows
 echo_steps = record { empty = (refl, refl); round = (refl, refl); end = (refl, refl, refl); given = (refl, refl, refl) }

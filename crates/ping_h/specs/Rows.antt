@@ -1,6 +1,7 @@
 -- Worked rows of the definitions (libp2p ping 1.0.0; what stands behind the end and the numbers of faults are this
 -- project's profile).
-use Rattle.std.specs.Prelude.{◌≡◌, ◌↔◌, ℕ, [], ◌∷◌, ◌++◌, Bool, true, false, replicate}
+use Rattle.std.specs.Prelude.{◌≡◌, ◌↔◌, ℕ, ◌+◌, ◌%◌, ◌<◌, List, [], ◌∷◌, ◌++◌, length, Bool, true, false, replicate}
+use mathlib.Core.List.{IsPrefix}
 use Rattle.handlers.specs.Calls.{Take, Give, End, ToTake, ToGive, ToEnd}
 use Rattle.ping_h.specs.Echoes.{Echo, EchoStep, EchoFails, fresh, whole_rounds, whole}
 use Rattle.ping_h.specs.Rounds.{Round, RoundStep, RoundFails, round}
@@ -11,6 +12,10 @@ pub record RoundRows : Type 0 where
   pub one : whole_rounds (replicate 32 7) ≡ replicate 32 7
   pub more : whole_rounds (replicate 32 7 ++ 8 ∷ []) ≡ replicate 32 7
   pub two : whole_rounds (replicate 64 7) ≡ replicate 64 7
+  -- of any input they are a first part, of whole rounds, and what is left of it is less than a round
+  pub part : (input : List ℕ) → IsPrefix (whole_rounds input) input
+  pub whole : (input : List ℕ) → length (whole_rounds input) % 32 ≡ 0
+  pub longest : (input : List ℕ) → length input < length (whole_rounds input) + 32
 
 -- of 40 bytes that are owed, 8 of them of a round that has begun, 32 may be given back
 pub record OwedRows : Type 0 where

@@ -4,11 +4,11 @@ ghost use Rattle.std.specs.Prelude.{◌≡◌, ◌≢◌, ◌↔◌, ◌<◌, �
 ghost use Rattle.ping_h.specs.declared.fault.PingFault.TheVariants.{Failed, WrongEcho, Cut, OutOfMemory};
 ghost use Rattle.ping_h.specs.Faults.{number_of};
 ghost use mathlib.Core.List.{IsPrefix};
-ghost use Rattle.handlers.specs.Calls.{HandlerCall, Take, Give, End, ToTake};
+ghost use Rattle.handlers.specs.Calls.{HandlerCall, Take, Give, End, Asked, ToTake};
 ghost use Rattle.handlers.specs.Calls.{ToGive, ToEnd, Arises, EndsAs, taken, given};
 ghost use Rattle.handlers.specs.Calls.{HasFailed, HasEnded};
-ghost use Rattle.ping_h.specs.Echoes.{Echo, fresh, whole_rounds};
-ghost use Rattle.ping_h.specs.Rounds.{Round, round};
+ghost use Rattle.ping_h.specs.Echoes.{Echo, EchoStep, EchoFails, fresh, whole_rounds};
+ghost use Rattle.ping_h.specs.Rounds.{Round, RoundStep, RoundFails, round};
 ghost use Rattle.ping_h.specs.Rows.{OwedRows, RoundRows, EchoStepRows, EchoFaultRows, RoundStepRows, RoundFaultRows};
 
 use crate::echo::PingEcho;
@@ -23,6 +23,14 @@ pub fn worked_rows()
     ensures echo_faults { EchoFaultRows }
     ensures round_steps { RoundStepRows }
     ensures round_faults { RoundFaultRows }
+{}
+
+/// An echo answers and refuses a call as the definitions say, and in no other way.
+pub fn echo_calls()
+    ensures steps { (old new : Echo) (call : HandlerCall)
+        → ⟦<PingEcho as Handler>⟧.steps old call new ↔ EchoStep old call new }
+    ensures fails { (echo : Echo) (asked : Asked) (n : ℕ)
+        → ⟦<PingEcho as Handler>⟧.fails echo asked n ↔ EchoFails echo asked n }
 {}
 
 /// What an echo gave is a first part of the whole rounds that it was handed.
@@ -105,6 +113,14 @@ pub fn echo_stops()
         ≡ ⟦<PingEcho as Handler>⟧.is_closed echo }
     ensures finished { (echo : Echo) → ⟦<PingEcho as Handler>⟧.is_finished (record echo { failed = true })
         ≡ ⟦<PingEcho as Handler>⟧.is_finished echo }
+{}
+
+/// A round answers and refuses a call as the definitions say, and in no other way.
+pub fn ping_calls()
+    ensures steps { (old new : Round) (call : HandlerCall)
+        → ⟦<PingOut as Handler>⟧.steps old call new ↔ RoundStep old call new }
+    ensures fails { (out : Round) (asked : Asked) (n : ℕ)
+        → ⟦<PingOut as Handler>⟧.fails out asked n ↔ RoundFails out asked n }
 {}
 
 /// What a round sent is a first part of the ping, and all of it where the last call left room.

@@ -1,5 +1,8 @@
-use Rattle.handlers.proofs.Rows.{end_rows, handed_rows, stop_rows}
+use Rattle.handlers.proofs.Rows.{any_bytes, end_rows, handed_rows, stop_rows}
 use Rattle.handlers.proofs.laws.worked_rows.Goals as goal
+
+pub returns-clause-any_bytes : goal.returns-clause-any_bytes
+returns-clause-any_bytes c = any_bytes
 
 pub returns-clause-ends : goal.returns-clause-ends
 returns-clause-ends c = end_rows

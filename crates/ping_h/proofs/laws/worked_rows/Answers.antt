@@ -1,6 +1,9 @@
 use Rattle.ping_h.proofs.Rows as rows
 use Rattle.ping_h.proofs.laws.worked_rows.Goals as goal
 
+pub returns-clause-rounds : goal.returns-clause-rounds
+returns-clause-rounds c = rows.rounds
+
 pub returns-clause-echo_steps : goal.returns-clause-echo_steps
 returns-clause-echo_steps c = rows.echo_steps
 
