@@ -21,7 +21,7 @@ use peer_ids::PeerId;
 use std::alloc::{AllocError, Global};
 use std::collections::BTreeMap;
 use yamux_session::laws::{credit_is_told, ends_are_last, events_tell, openings_are_told};
-use yamux_session::{Role, Session};
+use yamux_session::{Event, Role, Session};
 
 /// The session of a connection that is up, with its streams.
 #[derive(Drop)]
@@ -58,12 +58,14 @@ impl<P: Protocols> Mux<P> {
 
     /// Takes one frame's head, or one part of its payload, from this place of the piece on, routes what it told, and
     /// answers how many bytes were used. Where the other end broke the rules of the session, the session has failed.
+    /// What the session tells is written over `events`, whose room is used again by the next frame.
     ///
     /// Its only error is want of memory, and ends the connection.
     fn feed_frame(
         &mut self,
         piece: &Bytes,
         at: usize,
+        events: &mut Vec<Event>,
         told: &mut Vec<ConnEvent<P::H>>,
     ) -> Result<usize, AllocError>
         ensures keeps { Keeps P.listed P.is_eager self.old.board self.new.board }
@@ -93,15 +95,15 @@ impl<P: Protocols> Mux<P> {
         credit_is_told();
         openings_are_told();
         ends_are_last();
-        let mut events = Vec::new(self.alloc);
-        let Ok(used) = self.session.feed_frame(piece, at, &mut events) else {
+        events.clear();
+        let Ok(used) = self.session.feed_frame(piece, at, events) else {
             return Err(AllocError);
         };
         if self.session.has_failed() {
             return Ok(used);
         }
         self.board
-            .route(self.alloc, &mut self.session, &events, told)?;
+            .route(self.alloc, &mut self.session, events, told)?;
         Ok(used)
     }
 
@@ -131,9 +133,10 @@ impl<P: Protocols> Mux<P> {
             self.old.board.role (MakesOnBoard P.leads_inbound P.leads_outbound self.old.board self.new.board) log []
             told.old.items told.new.items fed piece.now sent self.new.session.pending) }
     {
+        let mut events = Vec::new(self.alloc);
         let mut at = 0;
         while at < piece.len() && !self.session.has_failed() {
-            at += self.feed_frame(piece, at, told)?;
+            at += self.feed_frame(piece, at, &mut events, told)?;
         }
         Ok(())
     }

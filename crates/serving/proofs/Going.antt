@@ -1,11 +1,12 @@
 -- Serving a stream: what was asked, written, handed out, closed and taken leaves the stream settled.
-use Rattle.std.proofs.Common.{◌≡◌, ◌≢◌, ◌⊎◌, inl, inr, ℕ, ◌-◌, ◌<◌, ◌==◌, Bool, true, false, ◌&&◌, List, [], ◌∷◌, ◌++◌, length, Option, Some, None, refl, sym, ap, ◌∙◌, subst, arith}
+use Rattle.std.proofs.Common.{◌≡◌, ◌≢◌, ◌⊎◌, inl, inr, ℕ, ◌-◌, ◌<◌, ◌==◌, Bool, true, false, ◌&&◌, List, [], ◌∷◌, ◌++◌, length, map, Option, Some, None, refl, sym, ap, ◌∙◌, subst, arith}
 use Rattle.std.specs.Prelude.{IfSome, IfNone}
 use Rattle.std.specs.List.{concat}
 use Rattle.std.proofs.lemmas.Bool.Decides.{nat_tests}
+use Rattle.std.proofs.lemmas.List.{append-nil}
 use Rattle.handlers.specs.Calls.{HandlerCall}
 use Rattle.yamux_session.specs.declared.event.Role.{Role}
-use Rattle.yamux_session.specs.History.{Item}
+use Rattle.yamux_session.specs.History.{Item, Act}
 use Rattle.yamux_session.specs.History.Item.{Did}
 use Rattle.yamux_session.specs.History.Act.{Write, Taken, Close}
 use Rattle.yamux_session.specs.Openings.{is_live, closed}
@@ -21,7 +22,7 @@ use Rattle.streams.specs.State.{Streaming, Stands, StandsAt, is_open, has_closed
 use Rattle.serving.specs.Served.{Goes, HasGiven, HandsOut, Serves, with_sent}
 use Rattle.serving.specs.Steps.{Sends, WasAsked, WasClosed, Closes, Counts}
 use Rattle.serving.proofs.Acts.{taken_keeps, none_left, has_written, is_closed_then, closing_writes_nothing}
-use Rattle.serving.proofs.Refusals.{open_with, not_open, some_left, nothing_left}
+use Rattle.serving.proofs.Refusals.{open_with, not_open, not_used_up, some_left, nothing_left}
 
 empty_or : (xs : List ℕ) → (xs ≢ [] → ⊥) → xs ≡ []
 empty_or [] h = refl
@@ -56,11 +57,10 @@ module _ {H : Type 0} (step : H → HandlerCall → H → Type 0) (is_closed is_
   }
 
   module _ (acts_do : ActsDo) (acts_move : ActsMove) where
-    -- what the stream gave was written
-    pub was_asked : (role : Role) (past : List Item) (fed sent : List ℕ) (n amount : ℕ) (so_far : Past H) (session : State) (x : Streaming H)
-        → Sends step is_closed role past fed sent n amount so_far session x → so_far.sent ≡ written role past n → open_credit role past n ≡ Some amount
-        → WasAsked step is_closed is_finished role past fed sent n so_far session x
-    was_asked role past fed sent n amount so_far session x s e is_open =
+    asked_by : (role : Role) (past : List Item) (fed sent : List ℕ) (n amount : ℕ) (so_far : Past H) (session : State) (x : Streaming H)
+        → (s : Sends step is_closed role past fed sent n amount so_far session x) → so_far.sent ≡ written role past n → open_credit role past n ≡ Some amount
+        → (s.acts ≡ Write n s.pieces ∷ []) ⊎ ((s.acts ≡ []) × (s.pieces ≡ [])) → WasAsked step is_closed is_finished role past fed sent n so_far session x
+    asked_by role past fed sent n amount so_far session x s e is_open (inl are) =
         let w = has_written acts_do acts_move role past n s.pieces in
         let before = (open_with role past n amount is_open).credit_is in
         let there : Stands step x (with_sent role (Did (Write n s.pieces) ∷ past) n so_far s.left) =
@@ -72,13 +72,38 @@ module _ {H : Type 0} (step : H → HandlerCall → H → Type 0) (is_closed is_
             now = Did (Write n s.pieces) ∷ past;
             now_is = refl;
             due = ((refl, record { stream = x; left = s.left; stands = there }), tt);
-            session_stands = s.session_stands;
+            session_stands = subst (λ (t : List Act). SessionStands role (map Did t ++ past) fed sent session) are s.session_stands;
             left = s.left;
             stream_stands = there;
           };
           asked = λ live unclosed is. s.asked is ∙ ap Some (sym left);
           none_waits = λ live unclosed some. empty_or x.waiting (λ waits. let all = s.full waits in omega (arith, all, left));
         }
+    asked_by role past fed sent n amount so_far session x s e is_open (inr (none, nothing)) =
+        let before = (open_with role past n amount is_open).credit_is in
+        let no_bytes : concat s.pieces ≡ [] = ap concat nothing in
+        let same : so_far.sent ++ concat s.pieces ≡ written role past n = ap (λ t. so_far.sent ++ t) no_bytes ∙ append-nil so_far.sent ∙ e in
+        let there : Stands step x (with_sent role past n so_far s.left) = subst (λ t. Stands step x (record so_far { sent = t; left = s.left })) same s.stream_stands in
+        let left : credit role past n ≡ amount - length (concat s.pieces) = (let size = ap length no_bytes in omega (arith, before, size)) in
+        record {
+          goes = record {
+            acts = [];
+            now = past;
+            now_is = refl;
+            due = tt;
+            session_stands = subst (λ (t : List Act). SessionStands role (map Did t ++ past) fed sent session) none s.session_stands;
+            left = s.left;
+            stream_stands = there;
+          };
+          asked = λ live unclosed is. s.asked is ∙ ap Some (sym left);
+          none_waits = λ live unclosed some. empty_or x.waiting (λ waits. let all = s.full waits in omega (arith, all, left));
+        }
+
+    -- what the stream gave was written, where it gave anything
+    pub was_asked : (role : Role) (past : List Item) (fed sent : List ℕ) (n amount : ℕ) (so_far : Past H) (session : State) (x : Streaming H)
+        → Sends step is_closed role past fed sent n amount so_far session x → so_far.sent ≡ written role past n → open_credit role past n ≡ Some amount
+        → WasAsked step is_closed is_finished role past fed sent n so_far session x
+    was_asked role past fed sent n amount so_far session x s e is_open = asked_by role past fed sent n amount so_far session x s e is_open s.acts_are
 
     -- a handler that is finished is handed out
     pub record HasFinished (role : Role) (past : List Item) (fed sent : List ℕ) (n : ℕ) (so_far : Past H)
@@ -143,7 +168,7 @@ module _ {H : Type 0} (step : H → HandlerCall → H → Type 0) (is_closed is_
     is_empty [] e = refl
     is_empty (x ∷ waiting) e = absurd (grind (arith, e, nat_tests))
 
-    both : (waiting : List ℕ) (stage : Bool) → (length waiting == 0) && stage ≡ true → (waiting ≡ []) × (stage ≡ true)
+    pub both : (waiting : List ℕ) (stage : Bool) → (length waiting == 0) && stage ≡ true → (waiting ≡ []) × (stage ≡ true)
     both waiting stage e = let it = both_by (length waiting == 0) stage e in (is_empty waiting it.0, it.1)
 
     pub was_closed : (role : Role) (past : List Item) (fed sent : List ℕ) (n : ℕ) (so_far : Past H) (handler : Option H) (before session : State) (x : Streaming H)
@@ -196,6 +221,17 @@ module _ {H : Type 0} (step : H → HandlerCall → H → Type 0) (is_closed is_
           handed_out = subst (λ t. HandsOut step is_closed is_finished (record so_far { sent = t; left = a.goes.left }) handler x) (sym (closing_writes_nothing acts_do acts_move role a.goes.now n)) out;
           over = λ live on none. shut;
         }
+
+    -- credit that was left before is left still, or this direction is closed
+    pub left_on : (role : Role) (past : List Item) (fed sent : List ℕ) (n : ℕ) (so_far : Past H) (handler : Option H) (before session : State) (now : List Item) (x : Streaming H)
+        → Closes role now fed sent n ((length x.waiting == 0) && has_closed is_closed x.stage) before session
+        → ((role : Role) (past : List Item) (fed sent : List ℕ) → SessionStands role past fed sent before → open_credit role past n ≢ Some 0)
+        → (w : WasClosed step is_closed is_finished role past fed sent n so_far handler session x) → open_credit role w.goes.now n ≢ Some 0
+    left_on role past fed sent n so_far handler before session now x (inl (same, why)) still w =
+        still role w.goes.now fed sent (subst (λ (s : State). SessionStands role w.goes.now fed sent s) same w.goes.session_stands)
+    left_on role past fed sent n so_far handler before session now x (inr (over, stands)) still w =
+        let it = both x.waiting (has_closed is_closed x.stage) over in
+        not_used_up role w.goes.now n (λ live. w.over live it.1 it.0)
 
     -- and what came was counted as taken
     pub was_settled : (role : Role) (past : List Item) (fed sent : List ℕ) (n : ℕ) (so_far : Past H) (handler : Option H) (before session : State) (x : Streaming H)

@@ -52,6 +52,12 @@ pub nothing_left : (role : Role) (past : List Item) (n : ℕ) → open_credit ro
 nothing_left role past n e (inl some) = let it = (open_with role past n 0 e).credit_is in omega (arith, it)
 nothing_left role past n e (inr over) = let it = (open_with role past n 0 e).unclosed in absurd (let f : true ≡ false = sym over ∙ it in cc f)
 
+-- where a direction is closed it has no credit that could be used up
+pub not_used_up : (role : Role) (past : List Item) (n : ℕ) → (is_live role past n ≡ true → closed role past n ≡ true) → open_credit role past n ≢ Some 0
+not_used_up role past n shut e =
+    let it = open_with role past n 0 e in
+    absurd (let both : true ≡ false = sym (shut it.is_live) ∙ it.unclosed in cc both)
+
 dead_by : (live : Bool) → cond live None (Some NoStream) ≡ Some NoStream → live ≡ false
 dead_by true e = absurd (cc e)
 dead_by false e = refl

@@ -12,7 +12,6 @@ use Rattle.streams.specs.declared.stage.Stage.{Stage}
 use Rattle.streams.specs.declared.stage.Stage.TheVariants as stages
 use Rattle.streams.specs.Streams.{Past, HasAgreed}
 use Rattle.streams.specs.State.{StandsAt, has_closed}
-use Rattle.streams.specs.Rows.{came}
 use Rattle.talks.proofs.Rows.{answer_rows}
 use Rattle.streams.proofs.Rows.{something_waits, sends_its_talk}
 use Rattle.serving.specs.Served.{MayGrow, with_sent}

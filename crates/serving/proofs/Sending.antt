@@ -1,11 +1,11 @@
 -- What a stream gave was written.
-use Rattle.std.proofs.Common.{◌≡◌, ◌≢◌, ℕ, ◌≤◌, ◌-◌, min, Bool, true, false, List, [], ◌∷◌, ◌++◌, length, take, Some, Result, Ok, Err, refl, sym, ap, ◌∙◌, subst, arith}
+use Rattle.std.proofs.Common.{◌≡◌, ◌≢◌, ℕ, ◌≤◌, ◌-◌, min, Bool, true, false, List, [], ◌∷◌, ◌++◌, length, map, take, ◌⊎◌, inl, inr, Some, Result, Ok, Err, refl, sym, ap, ◌∙◌, subst, arith}
 use Rattle.std.specs.Prelude.{OnOk}
 use Rattle.std.specs.List.{concat}
 use Rattle.std.proofs.lemmas.List.{take_all}
 use Rattle.handlers.specs.Calls.{HandlerCall}
 use Rattle.yamux_session.specs.declared.event.Role.{Role}
-use Rattle.yamux_session.specs.History.{Item}
+use Rattle.yamux_session.specs.History.{Item, Act}
 use Rattle.yamux_session.specs.History.Item.{Did}
 use Rattle.yamux_session.specs.History.Act.{Write}
 use Rattle.yamux_session.specs.State.{State, Stands as SessionStands}
@@ -23,6 +23,10 @@ pub whole : (bytes given : List ℕ) (count amount credit : ℕ) → given ≡ b
 whole bytes given count amount credit e is same short =
     take_all count given (let size = ap length e in omega (arith, is, same, short, size)) ∙ e
 
+pub none_of : (xs : List ℕ) → length xs ≡ 0 → xs ≡ []
+none_of [] e = refl
+none_of (x ∷ xs) e = absurd (cc e)
+
 module _ {H : Type 0} (step : H → HandlerCall → H → Type 0) (closed : H → Bool) where
   -- where the stream stands behind what it gave
   pub record Given (so_far : Past H) (amount : ℕ) (old new : Streaming H) (bytes : List ℕ) : Type 0 where
@@ -31,19 +35,23 @@ module _ {H : Type 0} (step : H → HandlerCall → H → Type 0) (closed : H �
     pub same : is_open closed old.stage ≡ false → new.stage ≡ old.stage
     pub full : new.waiting ≢ [] → length bytes ≡ amount
 
-  gave_by : (role : Role) (past : List Item) (fed sent : List ℕ) (n amount : ℕ) (so_far : Past H) (session : State) (old new : Streaming H) (pieces : List (List ℕ))
-      → SessionStands role (Did (Write n pieces) ∷ past) fed sent session → Given so_far amount old new (concat pieces)
+  gave_by : (role : Role) (past : List Item) (fed sent : List ℕ) (n amount : ℕ) (so_far : Past H) (session : State) (old new : Streaming H) (pieces : List (List ℕ)) (acts : List Act)
+      → (acts ≡ Write n pieces ∷ []) ⊎ ((acts ≡ []) × (pieces ≡ [])) → SessionStands role (map Did acts ++ past) fed sent session → Given so_far amount old new (concat pieces)
       → (b : Bool) → is_open closed old.stage ≡ b → Sends step closed role past fed sent n amount so_far session new
-  gave_by role past fed sent n amount so_far session old new pieces at g true e = record {
+  gave_by role past fed sent n amount so_far session old new pieces acts are at g true e = record {
     pieces = pieces;
+    acts = acts;
+    acts_are = are;
     left = Some (amount - length (concat pieces));
     session_stands = at;
     stream_stands = g.asked e;
     asked = λ is. refl;
     full = g.full;
   }
-  gave_by role past fed sent n amount so_far session old new pieces at g false e = record {
+  gave_by role past fed sent n amount so_far session old new pieces acts are at g false e = record {
     pieces = pieces;
+    acts = acts;
+    acts_are = are;
     left = so_far.left;
     session_stands = at;
     stream_stands = g.not_asked e;
@@ -55,4 +63,11 @@ module _ {H : Type 0} (step : H → HandlerCall → H → Type 0) (closed : H �
       → concat pieces ≡ bytes → SessionStands role (Did (Write n pieces) ∷ past) fed sent session → Given so_far amount old new bytes
       → Sends step closed role past fed sent n amount so_far session new
   gave role past fed sent n amount so_far session old new bytes pieces e at g =
-      gave_by role past fed sent n amount so_far session old new pieces at (subst (λ t. Given so_far amount old new t) (sym e) g) (is_open closed old.stage) refl
+      gave_by role past fed sent n amount so_far session old new pieces (Write n pieces ∷ []) (inl refl) at (subst (λ t. Given so_far amount old new t) (sym e) g) (is_open closed old.stage) refl
+
+  -- one that gave nothing
+  pub gave_none : (role : Role) (past : List Item) (fed sent : List ℕ) (n amount : ℕ) (so_far : Past H) (session : State) (old new : Streaming H) (bytes : List ℕ)
+      → bytes ≡ [] → SessionStands role past fed sent session → Given so_far amount old new bytes
+      → Sends step closed role past fed sent n amount so_far session new
+  gave_none role past fed sent n amount so_far session old new bytes e at g =
+      gave_by role past fed sent n amount so_far session old new [] [] (inr (refl, refl)) at (subst (λ t. Given so_far amount old new t) e g) (is_open closed old.stage) refl

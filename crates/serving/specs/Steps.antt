@@ -1,10 +1,10 @@
 -- The parts of serving a stream. Inside: no public clause cites it.
-use Rattle.std.specs.Prelude.{◌≡◌, ◌≢◌, ◌⊎◌, ℕ, ◌<◌, ◌-◌, Bool, true, false, List, [], ◌∷◌, ◌++◌, length}
+use Rattle.std.specs.Prelude.{◌≡◌, ◌≢◌, ◌⊎◌, ℕ, ◌<◌, ◌-◌, Bool, true, false, List, [], ◌∷◌, ◌++◌, length, map}
 use Rattle.std.specs.Prelude.{Option, Some, None}
 use Rattle.std.specs.List.{concat}
 use Rattle.handlers.specs.Calls.{HandlerCall}
 use Rattle.yamux_session.specs.declared.event.Role.{Role}
-use Rattle.yamux_session.specs.History.{Item}
+use Rattle.yamux_session.specs.History.{Item, Act}
 use Rattle.yamux_session.specs.History.Item.{Did}
 use Rattle.yamux_session.specs.History.Act.{Write, Taken, Close}
 use Rattle.yamux_session.specs.Openings.{is_live, closed}
@@ -15,13 +15,15 @@ use Rattle.streams.specs.Streams.{Past}
 use Rattle.streams.specs.State.{Streaming, Stands, is_open, has_closed}
 use Rattle.serving.specs.Served.{Goes, HandsOut, with_sent}
 
--- the stream was asked with this much credit, and what it gave was written
+-- the stream was asked with this much credit, and what it gave was written, where it gave anything
 pub record Sends {H : Type 0} (step : H → HandlerCall → H → Type 0) (is_closed : H → Bool) (role : Role)
     (past : List Item) (fed sent : List ℕ) (n amount : ℕ) (so_far : Past H) (session : State) (stream : Streaming H)
     : Type 0 where
   pub pieces : List (List ℕ)
+  pub acts : List Act
+  pub acts_are : (acts ≡ Write n pieces ∷ []) ⊎ ((acts ≡ []) × (pieces ≡ []))
   pub left : Option ℕ
-  pub session_stands : SessionStands role (Did (Write n pieces) ∷ past) fed sent session
+  pub session_stands : SessionStands role (map Did acts ++ past) fed sent session
   pub stream_stands : Stands step stream (record so_far { sent = so_far.sent ++ concat pieces; left = left })
   pub asked : is_open is_closed stream.stage ≡ true → left ≡ Some (amount - length (concat pieces))
   pub full : stream.waiting ≢ [] → length (concat pieces) ≡ amount

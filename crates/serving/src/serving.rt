@@ -18,34 +18,41 @@ use streams::{Stop, Stream};
 use yamux_session::laws::{acts_tell, untaken_limit};
 use yamux_session::{ActRefused, Session};
 
-/// Asks a stream for as many bytes as there is credit, and writes them.
+/// Asks a stream for as many bytes as there is credit, and writes what it gives, if anything: it answers whether it did.
 fn send<H: Handler>(
     session: &mut Session,
     number: u32,
     stream: &mut Stream<H>,
     credit: u32,
-) -> Result<(), Stop>
+) -> Result<bool, Stop>
     ensures sends { (role : Role) (past : List Item) (fed sent : List ℕ) (so_far : Past H)
         → SessionStands role past fed sent session.old → open_credit role past number ≡ Some credit
         → Stands H.steps stream.old so_far → OnOk result
         (Sends H.steps H.is_closed role past fed sent number credit so_far session.new stream.new) }
+    ensures silent { IfOk result (λ wrote. wrote ≡ false → session.new ≡ session.old) }
     ensures fault { IfErr result (λ stop. stop ≢ Stop.OutOfMemory → (session.new ≡ session.old)
         × ((stream.new ≡ record stream.old { stage = Over }) × GivesUp H.fails H.is_closed stream.old credit stop)) }
     ensures kind { OnOk result (kind_of stream.new.stage ≡ kind_of stream.old.stage) }
 {
     let bytes = stream.give(credit as usize)?;
+    if bytes.is_empty() {
+        return Ok(false);
+    }
     match session.write(number, &bytes) {
-        Ok(_) => Ok(()),
+        Ok(_) => Ok(true),
         Err(_) => Err(Stop::OutOfMemory),
     }
 }
 
-/// Asks a stream for as many bytes as there is credit, and writes them, where this end's direction is open.
-fn ask<H: Handler>(session: &mut Session, number: u32, stream: &mut Stream<H>) -> Result<(), Stop>
+/// Asks a stream for as many bytes as there is credit, and writes them, where this end's direction is open. It answers
+/// whether it is sure that the credit isn't used up.
+fn ask<H: Handler>(session: &mut Session, number: u32, stream: &mut Stream<H>) -> Result<bool, Stop>
     ensures asks { (role : Role) (past : List Item) (fed sent : List ℕ) (so_far : Past H)
         → SessionStands role past fed sent session.old → Stands H.steps stream.old so_far
         → so_far.sent ≡ written role past number → OnOk result
         (WasAsked H.steps H.is_closed H.is_finished role past fed sent number so_far session.new stream.new) }
+    ensures left { IfOk result (λ is_left. is_left ≡ true
+        → Whenever session.new (λ role past. open_credit role past number ≢ Some 0)) }
     ensures kind { OnOk result (kind_of stream.new.stage ≡ kind_of stream.old.stage) }
     ensures kept { Whenever session.old (λ role past. open_credit role past number ≡ None
         → IsOk result × (session.new ≡ session.old)) }
@@ -56,9 +63,13 @@ fn ask<H: Handler>(session: &mut Session, number: u32, stream: &mut Stream<H>) -
 {
     acts_tell();
     let Some(credit) = session.credit(number) else {
-        return Ok(());
+        return Ok(true);
     };
-    send(session, number, stream, credit)
+    match send(session, number, stream, credit) {
+        Ok(true) => Ok(false),
+        Ok(false) => Ok(credit > 0),
+        Err(stop) => Err(stop),
+    }
 }
 
 /// Closes this end's direction, where it is open and the stream gives no more.
@@ -103,15 +114,17 @@ fn unless_gone(refused: ActRefused) -> Result<(), Stop>
     }
 }
 
-/// Counts all that came of a stream as taken, unless its credit is used up.
-fn count_taken(session: &mut Session, number: u32) -> Result<(), Stop>
+/// Counts all that came of a stream as taken, unless its credit is used up. Where it is known to be left it isn't
+/// looked up.
+fn count_taken(session: &mut Session, number: u32, is_left: bool) -> Result<(), Stop>
     ensures counts { (role : Role) (past : List Item) (fed sent : List ℕ) → SessionStands role past fed sent session.old
+        → (is_left ≡ true → open_credit role past number ≢ Some 0)
         → OnOk result (Counts role past fed sent number session.old session.new) }
     ensures memory { IfErr result (λ stop. (stop ≡ Stop.OutOfMemory)
         × Whenever session.old (λ role past. MayGrow role past number)) }
 {
     untaken_limit();
-    if !may_take(session, number) {
+    if !is_left && !may_take(session, number) {
         return Ok(());
     }
     match session.taken(number, usize::MAX) {
@@ -145,9 +158,9 @@ pub fn serve<H: Handler>(
     ensures memory { result ≡ Err Stop.OutOfMemory → Whenever session.old (λ role past. MayGrow role past number) }
 {
     acts_tell();
-    ask(session, number, stream)?;
+    let is_left = ask(session, number, stream)?;
     let handler = stream.finish();
     close(session, number, stream.closed())?;
-    count_taken(session, number)?;
+    count_taken(session, number, is_left)?;
     Ok(handler)
 }

@@ -15,8 +15,39 @@ use Rattle.talks.proofs.Rows.{ask_rows, answer_rows}
 use Rattle.streams.specs.Handled.{AskedLast}
 use Rattle.streams.specs.Streams.{Past, HasAgreed, IsEarly, IsServed, IsDone, fresh}
 use Rattle.streams.specs.Hearing.{HasNoRoom}
-use Rattle.streams.specs.Rows.{AskedRows, HearsRows, EarlyRows, RoomRows, StreamRows, came, calls, served_past, done_past}
+use Rattle.streams.specs.Rows.{StageRows, AskedRows, HearsRows, EarlyRows, RoomRows, StreamRows, came, calls, served_past, done_past}
 use Rattle.streams.proofs.Deciding.{one_talk, one_split}
+
+-- ---- where a stream is
+
+pub stage_rows : StageRows
+stage_rows = record {
+  early_is_held = λ talk. refl;
+  none_is_held_early = λ talk. refl;
+  serving_is_held = refl;
+  none_is_held = (refl, refl, refl);
+  early_is_open = λ talk. refl;
+  early_is_not_open = λ talk. refl;
+  none_is_open_early = λ talk. refl;
+  serving_is_open = (refl, refl);
+  none_is_open = (refl, refl, refl);
+  early_has_closed = λ talk. refl;
+  early_has_not_closed = λ talk. refl;
+  none_has_closed_early = λ talk. refl;
+  serving_has_closed = (refl, refl);
+  awaiting_has_not_closed = refl;
+  none_has_closed = (refl, refl);
+  early_has_not_finished = λ talk. refl;
+  none_has_finished_early = λ talk. refl;
+  serving_has_finished = (refl, refl);
+  none_has_finished = (refl, refl, refl);
+  talks = λ talk. (refl, refl);
+  talks_no_more = (refl, refl, refl, refl);
+  awaits = (refl, refl, refl, refl);
+  talking_awaits_none = λ talk. refl;
+  was_done = (refl, refl, refl, refl);
+  talking_was_not_done = λ talk. refl;
+}
 
 -- ---- the last call
 

@@ -1,17 +1,77 @@
 -- Worked rows of streams (multistream-select 1.0; that a handler is asked with a room is this project's profile): of a
 -- stream that asks for x, which has the index 2, and of one that answers with x and y.
-use Rattle.std.specs.Prelude.{◌≡◌, ◌↔◌, ℕ, true, false, List, [], ◌∷◌, ◌++◌, Some, None, Ok, Err}
+use Rattle.std.specs.Prelude.{◌≡◌, ◌↔◌, ℕ, ◌==◌, Bool, true, false, List, [], ◌∷◌, ◌++◌, Option, Some, None, Ok, Err}
 use Rattle.ms_select.specs.declared.fault.SelectFault.TheVariants.{NotProposed}
 use Rattle.ms_select.specs.Rows.{header_bytes, x_bytes, y_bytes, na_bytes}
 use Rattle.handlers.specs.Calls.{HandlerCall, Take, Give, End}
 use Rattle.handlers.specs.Rows.{Noting}
 use Rattle.talks.specs.Rows.{asks, answers, question, z_bytes}
+use Rattle.talks.specs.State.{Talking}
 use Rattle.streams.specs.declared.heard.Heard.TheVariants.{Going, Agreed, Refused}
+use Rattle.streams.specs.declared.stage.Stage.{Stage}
+use Rattle.streams.specs.declared.stage.Stage.TheVariants as stages
 use Rattle.streams.specs.declared.stop.Cause.TheVariants.{Select}
 use Rattle.streams.specs.declared.stop.Stop.TheVariants.{Broken}
 use Rattle.streams.specs.Handled.{AskedLast, Handled}
 use Rattle.streams.specs.Streams.{Past, IsEarly, IsServed, IsDone, fresh}
+use Rattle.streams.specs.State.{is_talking, awaits_handler, handler_of, is_open, has_closed, has_finished}
+use Rattle.streams.specs.State.{was_handed_out}
 use Rattle.streams.specs.Hearing.{Hears, HasNoRoom}
+
+-- the stages of a stream whose handlers are numbers, and one of which is closed or finished where it is 0
+abbrev pub is_0 : ℕ → Bool
+is_0 handler = handler == 0
+
+abbrev pub talking : Talking → Option ℕ → Stage ℕ
+talking talk handler = stages.Talking talk handler
+
+abbrev pub serving : ℕ → Stage ℕ
+serving handler = stages.Serving handler
+
+abbrev pub awaiting : Stage ℕ
+awaiting = stages.Agreed 2
+
+abbrev pub handed_out : Stage ℕ
+handed_out = stages.Done
+
+abbrev pub over : Stage ℕ
+over = stages.Over
+
+-- What is asked of a stream, by where it is: while it talks it may hold the handler of an eager protocol
+pub record StageRows : Type 0 where
+  pub early_is_held : (talk : Talking) → handler_of (talking talk (Some 7)) ≡ Some 7
+  pub none_is_held_early : (talk : Talking) → handler_of (talking talk None) ≡ None
+  pub serving_is_held : handler_of (serving 7) ≡ Some 7
+  pub none_is_held : (handler_of awaiting ≡ None) × (handler_of handed_out ≡ None) × (handler_of over ≡ None)
+  -- it is asked for bytes where it holds one that isn't closed, also while it talks
+  pub early_is_open : (talk : Talking) → is_open is_0 (talking talk (Some 7)) ≡ true
+  pub early_is_not_open : (talk : Talking) → is_open is_0 (talking talk (Some 0)) ≡ false
+  pub none_is_open_early : (talk : Talking) → is_open is_0 (talking talk None) ≡ false
+  pub serving_is_open : (is_open is_0 (serving 7) ≡ true) × (is_open is_0 (serving 0) ≡ false)
+  pub none_is_open : (is_open is_0 awaiting ≡ false) × (is_open is_0 handed_out ≡ false) × (is_open is_0 over ≡ false)
+  -- it gives no more where its handler is closed, also while it talks, and where none will be held again
+  pub early_has_closed : (talk : Talking) → has_closed is_0 (talking talk (Some 0)) ≡ true
+  pub early_has_not_closed : (talk : Talking) → has_closed is_0 (talking talk (Some 7)) ≡ false
+  pub none_has_closed_early : (talk : Talking) → has_closed is_0 (talking talk None) ≡ false
+  pub serving_has_closed : (has_closed is_0 (serving 0) ≡ true) × (has_closed is_0 (serving 7) ≡ false)
+  pub awaiting_has_not_closed : has_closed is_0 awaiting ≡ false
+  pub none_has_closed : (has_closed is_0 handed_out ≡ true) × (has_closed is_0 over ≡ true)
+  -- a handler that is finished is handed out only behind the talk
+  pub early_has_not_finished : (talk : Talking) → has_finished is_0 (talking talk (Some 0)) ≡ false
+  pub none_has_finished_early : (talk : Talking) → has_finished is_0 (talking talk None) ≡ false
+  pub serving_has_finished : (has_finished is_0 (serving 0) ≡ true) × (has_finished is_0 (serving 7) ≡ false)
+  pub none_has_finished : (has_finished is_0 awaiting ≡ false) × (has_finished is_0 handed_out ≡ false)
+      × (has_finished is_0 over ≡ false)
+  -- where it is
+  pub talks : (talk : Talking) → (is_talking (talking talk None) ≡ true) × (is_talking (talking talk (Some 7)) ≡ true)
+  pub talks_no_more : (is_talking awaiting ≡ false) × (is_talking (serving 7) ≡ false)
+      × (is_talking handed_out ≡ false) × (is_talking over ≡ false)
+  pub awaits : (awaits_handler awaiting ≡ true) × (awaits_handler (serving 7) ≡ false)
+      × (awaits_handler handed_out ≡ false) × (awaits_handler over ≡ false)
+  pub talking_awaits_none : (talk : Talking) → awaits_handler (talking talk None) ≡ false
+  pub was_done : (was_handed_out handed_out ≡ true) × (was_handed_out (serving 0) ≡ false)
+      × (was_handed_out awaiting ≡ false) × (was_handed_out over ≡ false)
+  pub talking_was_not_done : (talk : Talking) → was_handed_out (talking talk (Some 0)) ≡ false
 
 -- the last call was a give, and it left what its room had more than it gave
 pub record AskedRows : Type 0 where

@@ -2,12 +2,13 @@
 
 ghost use Rattle.streams.specs.Streams.{Past};
 ghost use Rattle.streams.specs.Laws.{OneAnswer, AnswerStays, CutAnywhere, OneSplit};
-ghost use Rattle.streams.specs.Rows.{AskedRows, HearsRows, EarlyRows, RoomRows, StreamRows};
+ghost use Rattle.streams.specs.Rows.{StageRows, AskedRows, HearsRows, EarlyRows, RoomRows, StreamRows};
 
 use handlers::Handler;
 
 /// The definitions say of worked bytes and calls what they are to say.
 pub fn worked_rows()
+    ensures stages { StageRows }
     ensures asked { AskedRows }
     ensures hears { HearsRows }
     ensures early { EarlyRows }

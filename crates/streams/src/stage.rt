@@ -100,29 +100,19 @@ impl<H: Handler> Stage<H> {
     }
 
     /// Asks the handler that it holds for bytes.
-    pub(crate) fn ask(self, alloc: Global, room: usize) -> Result<(Stage<H>, Vec<u8>), HandlerFault>
-        ensures gives { IfOk result (λ given. StageGives H.steps H.is_closed self room given.0 given.1.items) }
-        ensures kind { IfOk result (λ given. kind_of given.0 ≡ kind_of self) }
-        ensures fault { IfErr result (λ fault. (handler : H) × (handler_of self ≡ Some handler)
+    pub(crate) fn ask(&mut self, alloc: Global, room: usize) -> Result<Vec<u8>, HandlerFault>
+        ensures gives { IfOk result (λ bytes. StageGives H.steps H.is_closed self.old room self.new bytes.items) }
+        ensures kind { OnOk result (kind_of self.new ≡ kind_of self.old) }
+        ensures fault { IfErr result (λ fault. (handler : H) × (handler_of self.old ≡ Some handler)
             × (H.is_closed handler ≡ false) × H.fails handler (ToGive room) fault.number) }
     {
         match self {
-            Stage::Talking(talk, handler) => match handler {
-                Some(handler) => {
-                    let mut handler = handler;
-                    let bytes = ask_handler(alloc, &mut handler, room)?;
-                    Ok((Stage::Talking(talk, Some(handler)), bytes))
-                }
-                None => Ok((Stage::Talking(talk, None), Vec::new(alloc))),
+            Stage::Talking(_, early) => match early {
+                Some(handler) => ask_handler(alloc, handler, room),
+                None => Ok(Vec::new(alloc)),
             },
-            Stage::Serving(handler) => {
-                let mut handler = handler;
-                let bytes = ask_handler(alloc, &mut handler, room)?;
-                Ok((Stage::Serving(handler), bytes))
-            }
-            Stage::Agreed(index) => Ok((Stage::Agreed(index), Vec::new(alloc))),
-            Stage::Done => Ok((Stage::Done, Vec::new(alloc))),
-            Stage::Over => Ok((Stage::Over, Vec::new(alloc))),
+            Stage::Serving(handler) => ask_handler(alloc, handler, room),
+            Stage::Agreed(_) | Stage::Done | Stage::Over => Ok(Vec::new(alloc)),
         }
     }
 }

@@ -14,6 +14,7 @@ ghost use Rattle.streams.specs.Streams.{Past, IsEarly, fresh};
 ghost use Rattle.streams.specs.Stops.{FailsBy, not_now};
 ghost use Rattle.streams.specs.State.{Stands, is_talking, awaits_handler};
 ghost use Rattle.streams.specs.State.{handler_of, is_open, has_closed, has_finished, was_handed_out, kind_of};
+ghost use Rattle.streams.specs.Giving.{StageGives};
 ghost use Rattle.streams.specs.Hearing.{HasHeard, Moves, RunsOut, used_of};
 
 use crate::heard::Heard;
@@ -197,22 +198,16 @@ impl<H: Handler> Stream<H> {
         ensures stands { (past : Past H) → Stands H.steps self.old past → past.ended ≡ false
             → OnOk result (Stands H.steps self.new (record past { got = past.got ++ bytes.now; left = None })) }
     {
-        match mem::replace(&mut self.stage, Stage::Over) {
-            Stage::Serving(handler) => {
-                let mut handler = handler;
-                handler.take(bytes)?;
-                self.stage = Stage::Serving(handler);
-                Ok(())
-            }
-            Stage::Done => {
-                self.stage = Stage::Done;
-                Ok(())
-            }
-            stage => {
-                self.stage = stage;
-                Err(out_of_turn())
-            }
+        let taken = match &mut self.stage {
+            Stage::Serving(handler) => handler.take(bytes),
+            Stage::Done => return Ok(()),
+            _ => return Err(out_of_turn()),
+        };
+        if let Err(fault) = taken {
+            self.stage = Stage::Over;
+            return Err(Stop::from(fault));
         }
+        Ok(())
     }
 
     /// Says that no more data comes: to the handler, in one call. An end within the talk breaks the stream.
@@ -232,23 +227,37 @@ impl<H: Handler> Stream<H> {
         ensures stands { (past : Past H) → Stands H.steps self.old past → past.ended ≡ false
             → OnOk result (Stands H.steps self.new (record past { ended = true; left = None })) }
     {
-        match mem::replace(&mut self.stage, Stage::Over) {
-            Stage::Serving(handler) => {
-                let mut handler = handler;
-                handler.end()?;
-                self.stage = Stage::Serving(handler);
-                Ok(())
+        let ended = match &mut self.stage {
+            Stage::Serving(handler) => handler.end(),
+            Stage::Done => return Ok(()),
+            Stage::Talking(_, _) => {
+                self.stage = Stage::Over;
+                return Err(Stop::Broken(Cause::Ended));
             }
-            Stage::Done => {
-                self.stage = Stage::Done;
-                Ok(())
-            }
-            Stage::Talking(_, _) => Err(Stop::Broken(Cause::Ended)),
-            stage => {
-                self.stage = stage;
-                Err(out_of_turn())
-            }
+            _ => return Err(out_of_turn()),
+        };
+        if let Err(fault) = ended {
+            self.stage = Stage::Over;
+            return Err(Stop::from(fault));
         }
+        Ok(())
+    }
+
+    /// So many bytes of what waits, and behind them what the handler gives with this room.
+    fn gather(&mut self, count: usize, room: usize) -> Result<Vec<u8>, Stop>
+        requires { count ≤ length self.old.waiting }
+        ensures kept { self.new.waiting ≡ self.old.waiting }
+        ensures gives { IfOk result (λ bytes. (given : List ℕ) × (bytes.items ≡ take count self.old.waiting ++ given)
+            × StageGives H.steps H.is_closed self.old.stage room self.new.stage given) }
+        ensures kind { OnOk result (kind_of self.new.stage ≡ kind_of self.old.stage) }
+        ensures fault { IfErr result (λ stop. stop ≢ Stop.OutOfMemory → (handler : H)
+            × (handler_of self.old.stage ≡ Some handler) × (H.is_closed handler ≡ false)
+            × FailsBy H.fails handler (ToGive room) stop) }
+        ensures memory { result ≡ Err Stop.OutOfMemory → (0 < count) × (count ≤ length self.old.waiting) }
+    {
+        let front = front_of(self.alloc, &self.waiting, count)?;
+        let given = self.stage.ask(self.alloc, room)?;
+        Ok(joined(front, given)?)
     }
 
     /// What is sent next, at most so many bytes: first what waits of the talk, and then what the handler gives with the
@@ -279,13 +288,16 @@ impl<H: Handler> Stream<H> {
         ensures ends { OnErr result (self.new ≡ record self.old { stage = Stage.Over }) }
     {
         let count = room.min(self.waiting.len());
-        let stage = mem::replace(&mut self.stage, Stage::Over);
-        let front = front_of(self.alloc, &self.waiting, count)?;
-        let (stage, given) = stage.ask(self.alloc, room - count)?;
-        let bytes = joined(front, given)?;
-        drop_front(&mut self.waiting, count);
-        self.stage = stage;
-        Ok(bytes)
+        match self.gather(count, room - count) {
+            Ok(bytes) => {
+                drop_front(&mut self.waiting, count);
+                Ok(bytes)
+            }
+            Err(stop) => {
+                self.stage = Stage::Over;
+                Err(stop)
+            }
+        }
     }
 
     /// Hands the handler out, where it is finished. Then the stream gives what waits, and drops what comes.
@@ -295,14 +307,11 @@ impl<H: Handler> Stream<H> {
         ensures none { IfNone result ((has_finished H.is_finished self.old.stage ≡ false) × (self.new ≡ self.old)) }
         ensures stands { (past : Past H) → Stands H.steps self.old past → Stands H.steps self.new past }
     {
+        if !self.stage.finished() {
+            return None;
+        }
         match mem::replace(&mut self.stage, Stage::Done) {
-            Stage::Serving(handler) => {
-                if handler.finished() {
-                    return Some(handler);
-                }
-                self.stage = Stage::Serving(handler);
-                None
-            }
+            Stage::Serving(handler) => Some(handler),
             stage => {
                 self.stage = stage;
                 None

@@ -1,27 +1,32 @@
-use Rattle.std.proofs.Common.{◌≡◌, ◌≢◌, inl, inr, ℕ, ◌<◌, ◌∷◌, refl, subst}
+use Rattle.std.proofs.Common.{◌≡◌, ◌≢◌, inl, inr, ℕ, ◌<◌, ◌∷◌, Some, refl, subst}
 use Rattle.std.proofs.lemmas.Result.{IfErr-weaker}
 use Rattle.yamux_session.specs.declared.event.ActRefused.{ActRefused}
 use Rattle.yamux_session.specs.History.Item.{Did}
 use Rattle.yamux_session.specs.History.Act.{Taken}
 use Rattle.yamux_session.specs.Windows.{given_back}
-use Rattle.yamux_session.specs.Acts.{stream_refusal, IsRefusedFor}
+use Rattle.yamux_session.specs.Acts.{open_credit, stream_refusal, IsRefusedFor}
 use Rattle.yamux_session.specs.State.{Stands as SessionStands}
 use Rattle.streams.specs.declared.stop.Stop.{Stop}
 use Rattle.serving.proofs.Refusals.{all_of, is_live_by, not_live, for_memory}
 use Rattle.serving.proofs.Sending.{on_ok}
 use Rattle.serving.proofs.serving.count_taken.Goals as goal
+use Rattle.serving.proofs.serving.count_taken.Goals.{else-not-is_left-via-then-not-is_left+else-not-may_take, else-not-is_left-via-else-not-is_left}
 
 pub returns-then-not-may_take-clause-counts : goal.returns-then-not-may_take-clause-counts
-returns-then-not-may_take-clause-counts c = λ role past fed sent at. inl (refl, inl (c.if-not-may_take.ensures.not_due role past fed sent at refl))
+returns-then-not-may_take-clause-counts c = λ role past fed sent at left. inl (refl, inl (c.if-not-may_take.ensures.not_due role past fed sent at refl))
 
 pub returns-in-Ok-clause-counts : goal.returns-in-Ok-clause-counts
-returns-in-Ok-clause-counts c = λ role past fed sent at.
+returns-in-Ok-clause-counts c = λ role past fed sent at left.
     let all = all_of (c.untaken_limit.ensures role past c.args.number at.answered at.no_fault at.frames.reads.frames_are) in
     let stands = subst (λ (k : ℕ). SessionStands role (Did (Taken c.args.number k) ∷ past) fed sent c.taken.new.self) all (c.in-Ok.ensures.ok role past fed sent at) in
-    inr (c.if-not-may_take.ensures.due role past fed sent at refl, is_live_by role past c.args.number stands.answered.0.0, stands)
+    let due : open_credit role past c.args.number ≢ Some 0 = elim c.else-not-is_left.branch [
+      | else-not-is_left-via-then-not-is_left+else-not-may_take w ↦ w.if-not-may_take.ensures.due role past fed sent at refl
+      | else-not-is_left-via-else-not-is_left w ↦ left w.if-not-is_left.false
+    ] in
+    inr (due, is_live_by role past c.args.number stands.answered.0.0, stands)
 
 pub returns-in-Err-clause-counts : goal.returns-in-Err-clause-counts
-returns-in-Err-clause-counts c = λ role past fed sent at.
+returns-in-Err-clause-counts c = λ role past fed sent at left.
     on_ok c.unless_gone.result
     (λ gone. inl (
       c.in-Err.ensures.err,

@@ -1,5 +1,6 @@
-use Rattle.std.proofs.Common.{◌∙◌}
-use Rattle.serving.proofs.Sending.{whole, gave}
+use Rattle.std.proofs.Common.{◌≡◌, [], sym, ◌∙◌}
+use Rattle.std.proofs.lemmas.Bool.{eqb-true}
+use Rattle.serving.proofs.Sending.{whole, gave, gave_none, none_of}
 use Rattle.serving.proofs.Refusals.{open_with}
 use Rattle.serving.proofs.serving.send.Goals as goal
 
@@ -10,6 +11,18 @@ returns-in-Ok-clause-sends g c = λ role past fed sent so_far at is_open stands.
     (open_with role past c.args.number c.args.credit is_open).credit_is c.in_ok-bytes.ensures.room in
     gave g.H.Handler.steps g.H.Handler.is_closed role past fed sent c.args.number c.args.credit so_far c.write.new.self c.args.stream.now c.give.new.self c.in_ok-bytes.bytes.items it.0
     (it.1 ∙ all) it.2 (record {
+      asked = c.in_ok-bytes.ensures.asked so_far stands;
+      not_asked = c.in_ok-bytes.ensures.not_asked so_far stands;
+      same = λ shut. (c.in_ok-bytes.ensures.same shut).0;
+      full = c.in_ok-bytes.ensures.full;
+    })
+
+pub returns-then-is_empty-clause-sends : goal.returns-then-is_empty-clause-sends
+returns-then-is_empty-clause-sends g c = λ role past fed sent so_far at is_open stands.
+    let size : c.in_ok-bytes.bytes.len ≡ 0 = eqb-true c.in_ok-bytes.bytes.len 0 (sym c.is_empty.ensures ∙ c.if-is_empty.true) in
+    let none : c.in_ok-bytes.bytes.items ≡ [] = none_of c.in_ok-bytes.bytes.items (sym c.in_ok-bytes.bytes.ok.0 ∙ size) in
+    gave_none g.H.Handler.steps g.H.Handler.is_closed role past fed sent c.args.number c.args.credit so_far c.args.session.now c.args.stream.now c.give.new.self c.in_ok-bytes.bytes.items
+    none at (record {
       asked = c.in_ok-bytes.ensures.asked so_far stands;
       not_asked = c.in_ok-bytes.ensures.not_asked so_far stands;
       same = λ shut. (c.in_ok-bytes.ensures.same shut).0;

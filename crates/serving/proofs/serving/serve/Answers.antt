@@ -1,25 +1,26 @@
-use Rattle.std.proofs.Common.{Bool, sym, subst}
+use Rattle.std.proofs.Common.{◌≡◌, ◌≢◌, Bool, true, Some, sym, subst}
+use Rattle.yamux_session.specs.Acts.{open_credit}
 use Rattle.yamux_session.specs.State.{State, Stands as SessionStands}
 use Rattle.serving.specs.Steps.{Closes}
-use Rattle.serving.proofs.Going.{has_finished_on, was_closed, was_settled}
+use Rattle.serving.proofs.Going.{has_finished_on, was_closed, left_on, was_settled}
 use Rattle.serving.proofs.Refusals.{grows_unless}
 use Rattle.serving.proofs.serving.serve.Goals as goal
 
-pub returns-in_err-ask-clause-memory : goal.returns-in_err-ask-clause-memory
-returns-in_err-ask-clause-memory g c = λ e role past fed sent at.
-    grows_unless role past c.args.number (λ none. absurd (let it = (c.in_err-ask.ensures.kept role past fed sent at none).0 in cc it))
+pub returns-in_err-is_left-clause-memory : goal.returns-in_err-is_left-clause-memory
+returns-in_err-is_left-clause-memory g c = λ e role past fed sent at.
+    grows_unless role past c.args.number (λ none. absurd (let it = (c.in_err-is_left.ensures.kept role past fed sent at none).0 in cc it))
 
 pub returns-in_err-close-clause-memory : goal.returns-in_err-close-clause-memory
 returns-in_err-close-clause-memory g c = λ e role past fed sent at.
     grows_unless role past c.args.number (λ none.
-    let same = (c.in_ok-ask.ensures.kept role past fed sent at none).1 in
+    let same = (c.in_ok-is_left.ensures.kept role past fed sent at none).1 in
     let there = subst (λ (s : State). SessionStands role past fed sent s) (sym same) at in
     absurd (let it = (c.in_err-close.ensures.kept role past fed sent there none).0 in cc it))
 
 pub returns-in_err-count_taken-clause-memory : goal.returns-in_err-count_taken-clause-memory
 returns-in_err-count_taken-clause-memory g c = λ e role past fed sent at.
     grows_unless role past c.args.number (λ none.
-    let same = (c.in_ok-ask.ensures.kept role past fed sent at none).1 in
+    let same = (c.in_ok-is_left.ensures.kept role past fed sent at none).1 in
     let there = subst (λ (s : State). SessionStands role past fed sent s) (sym same) at in
     let also = (c.in_ok-close.ensures.kept role past fed sent there none).1 in
     c.in_err-count_taken.ensures.memory.1 role past fed sent (subst (λ (s : State). SessionStands role past fed sent s) (sym also) there))
@@ -29,7 +30,7 @@ returns-clause-serves g c = λ role past fed sent so_far at stands e.
     let n = c.args.number in
     let seen = c.acts_tell.ensures.seen in
     let windows = c.acts_tell.ensures.windows in
-    let a = c.in_ok-ask.ensures.asks role past fed sent so_far at stands e in
+    let a = c.in_ok-is_left.ensures.asks role past fed sent so_far at stands e in
     let h = has_finished_on g.H.Handler.steps g.H.Handler.is_closed g.H.Handler.is_finished seen windows role past fed sent n so_far c.ask.new.session c.finish-handler.result
     c.ask.new.stream c.finish-handler.new.self a c.finish-handler.ensures.handed_out c.finish-handler.ensures.none c.finish-handler.ensures.stands in
     let now = h.was_asked.goes.now in
@@ -37,5 +38,7 @@ returns-clause-serves g c = λ role past fed sent so_far at stands e.
     (c.in_ok-close.ensures.closes role now fed sent h.was_asked.goes.session_stands) in
     let w = was_closed g.H.Handler.steps g.H.Handler.is_closed g.H.Handler.is_finished seen windows role past fed sent n so_far c.finish-handler.result
     c.ask.new.session c.close.new.session c.finish-handler.new.self h.was_asked h.handed_out closes in
+    let left : c.in_ok-is_left.is_left ≡ true → open_credit role w.goes.now n ≢ Some 0 = λ is_left. left_on g.H.Handler.steps g.H.Handler.is_closed g.H.Handler.is_finished seen windows role past fed sent n so_far c.finish-handler.result
+    c.ask.new.session c.close.new.session now c.finish-handler.new.self closes (c.in_ok-is_left.ensures.left is_left) w in
     was_settled g.H.Handler.steps g.H.Handler.is_closed g.H.Handler.is_finished seen windows role past fed sent n so_far c.finish-handler.result
-    c.close.new.session c.count_taken.new.session c.finish-handler.new.self w (c.in_ok-count_taken.ensures.counts role w.goes.now fed sent w.goes.session_stands)
+    c.close.new.session c.count_taken.new.session c.finish-handler.new.self w (c.in_ok-count_taken.ensures.counts role w.goes.now fed sent w.goes.session_stands left)

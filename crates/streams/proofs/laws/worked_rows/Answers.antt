@@ -1,5 +1,8 @@
-use Rattle.streams.proofs.Rows.{asked_rows, hears_rows, early_rows, room_rows, stream_rows}
+use Rattle.streams.proofs.Rows.{stage_rows, asked_rows, hears_rows, early_rows, room_rows, stream_rows}
 use Rattle.streams.proofs.laws.worked_rows.Goals as goal
+
+pub returns-clause-stages : goal.returns-clause-stages
+returns-clause-stages c = stage_rows
 
 pub returns-clause-asked : goal.returns-clause-asked
 returns-clause-asked c = asked_rows

@@ -1,4 +1,4 @@
-use Rattle.std.proofs.Common.{◌≡◌, ℕ, ◌+◌, true, false, List, [], ◌++◌, take, drop, sym, ap, ◌∙◌, subst, arith}
+use Rattle.std.proofs.Common.{◌≡◌, ℕ, ◌+◌, true, false, List, [], ◌++◌, length, ◌≤◌, take, drop, sym, ap, ◌∙◌, subst, arith}
 use Rattle.std.proofs.lemmas.List.{append_assoc, take_all, take-append-drop}
 use Rattle.std.specs.Ordering.{nat_cmp}
 use Rattle.std.specs.BTreeMap as tree
@@ -10,6 +10,7 @@ use Rattle.board.proofs.Stepping.{keeps_on, kept_on}
 use Rattle.mux.specs.Faults.{Faults}
 use Rattle.mux.proofs.Framing.{grows_on, faults_behind, faults_before}
 use Rattle.mux.proofs.mux.Mux.feed.Goals as goal
+use Rattle.mux.proofs.mux.Mux.feed.Goals.{then-loop-at-test+else-not-has_failed, else-loop-at-test}
 
 pub loop-at-preserved : goal.loop-at-preserved
 loop-at-preserved g c =
@@ -61,8 +62,8 @@ loop-at-preserved g c =
           (MakesOn makes.leads_inbound makes.leads_outbound board.peer board.role c.loop-at.self.board.protocols c.feed_frame.new.self.board.protocols) (λ longer last made one first was. one first (made first was)) before (frame before.at_rest failed));
     }
 
-pub returns-else-not-has_failed-clause-faults : goal.returns-else-not-has_failed-clause-faults
-returns-else-not-has_failed-clause-faults g c = λ log fed sent rests failed.
+pub returns-clause-faults : goal.returns-clause-faults
+returns-clause-faults g c = λ log fed sent rests failed.
     let H = g.P.H.Handler in
     let makes = g.P.Protocols in
     let board = c.args.self.now.board in
@@ -73,22 +74,19 @@ returns-else-not-has_failed-clause-faults g c = λ log fed sent rests failed.
     (MakesOnBoard makes.leads_inbound makes.leads_outbound board c.loop-at.self.board) log c.args.told.now.items c.loop-at.told.items fed (take c.loop-at.at piece) (drop c.loop-at.at piece) sent c.loop-at.self.session.pending
     (c.loop-at.invariant.faults log fed sent rests failed))
 
-pub returns-after-loop-at-clause-goes : goal.returns-after-loop-at-clause-goes
-returns-after-loop-at-clause-goes g c = λ log fed sent rests still.
+-- a loop that ended in no fault has read the whole piece
+read_all : (g : Rattle.mux.proofs.mux.Mux.feed.Given.Over) (c : goal.After-drop-events-2 g) → c.loop-at.self.session.failed ≡ false → length c.args.piece.now ≤ c.loop-at.at
+read_all g c still = elim c.loop-at-test.branch [
+  | then-loop-at-test+else-not-has_failed w ↦ absurd (let both : true ≡ false = sym w.if-not-has_failed.false ∙ w.has_failed.ensures ∙ still in cc both)
+  | else-loop-at-test w ↦ (let all = w.loop-at-test in let size = c.len.ensures.value in omega arith)
+]
+
+pub returns-clause-goes : goal.returns-clause-goes
+returns-clause-goes g c = λ log fed sent rests still.
     let H = g.P.H.Handler in
     let makes = g.P.Protocols in
     let board = c.args.self.now.board in
     subst (λ (t : List ℕ). Grows H.steps H.fails H.is_closed H.is_finished makes.makes_inbound makes.makes_outbound (makes.is_eager board.protocols) (makes.listed board.protocols) board.peer
     board.role (MakesOnBoard makes.leads_inbound makes.leads_outbound board c.loop-at.self.board) log c.args.told.now.items c.loop-at.told.items (fed ++ t) sent c.loop-at.self.session (tree.get nat_cmp c.loop-at.self.board.streams) c.loop-at.self.board.past.items)
-    (take_all c.loop-at.at c.args.piece.now (let all = c.loop-at-test.false in let size = c.len.ensures.value in omega arith))
+    (take_all c.loop-at.at c.args.piece.now (read_all g c still))
     (c.loop-at.invariant.goes log fed sent rests still)
-
-pub returns-after-loop-at-clause-faults : goal.returns-after-loop-at-clause-faults
-returns-after-loop-at-clause-faults g c = λ log fed sent rests failed.
-    let H = g.P.H.Handler in
-    let makes = g.P.Protocols in
-    let board = c.args.self.now.board in
-    subst (λ (t : List ℕ). Faults H.steps H.fails H.is_closed H.is_finished makes.makes_inbound makes.makes_outbound (makes.is_eager board.protocols) (makes.listed board.protocols) board.peer
-    board.role (MakesOnBoard makes.leads_inbound makes.leads_outbound board c.loop-at.self.board) log [] c.args.told.now.items c.loop-at.told.items fed t sent c.loop-at.self.session.pending)
-    (take_all c.loop-at.at c.args.piece.now (let all = c.loop-at-test.false in let size = c.len.ensures.value in omega arith))
-    (c.loop-at.invariant.faults log fed sent rests failed)

@@ -24,11 +24,11 @@ returns-then-has_failed-clause-faults g c = λ log fed sent rests failed.
     let led = c.in-Ok.ensures.fed board.role (items log) fed sent rests.session_stands in
     faulted H.steps H.fails H.is_closed H.is_finished makes.makes_inbound makes.makes_outbound (makes.is_eager board.protocols) (makes.listed board.protocols) board.peer board.role
     log fed bytes sent c.args.self.now.session c.feed_frame.new.self (tree.get nat_cmp board.streams) board.past.items rests led.0
-    (added c.new-events.result.items c.feed_frame.new.told.items) led.1
+    (added c.clear.new.self.items c.feed_frame.new.told.items) led.1
     (MakesOn makes.leads_inbound makes.leads_outbound board.peer board.role board.protocols board.protocols) (λ first was. was) c.args.told.now.items failed (c.in-Ok.ensures.fault_alone rests.session_stands.going failed)
 
 -- what the frame told was routed
-went : (g : Rattle.mux.proofs.mux.Mux.feed_frame.Given.Over) (c : goal.After-drop-events-2 g) (log : List (Entry g.row.P-H.Denot)) (fed sent : List ℕ)
+went : (g : Rattle.mux.proofs.mux.Mux.feed_frame.Given.Over) (c : goal.In_ok-route g) (log : List (Entry g.row.P-H.Denot)) (fed sent : List ℕ)
     → AreAtRest {P = g.row.P.Denot} {H = g.row.P-H.Denot} g.P.H.Handler.steps g.P.H.Handler.fails g.P.H.Handler.is_closed g.P.H.Handler.is_finished g.P.Protocols.makes_inbound
     g.P.Protocols.makes_outbound (g.P.Protocols.is_eager c.args.self.now.board.protocols) (g.P.Protocols.listed c.args.self.now.board.protocols) c.args.self.now.board.peer
     c.args.self.now.board.role log fed sent c.args.self.now.session (tree.get nat_cmp c.args.self.now.board.streams) c.args.self.now.board.past.items
@@ -42,10 +42,10 @@ went g c log fed sent rests =
     let makes = g.P.Protocols in
     let board = c.args.self.now.board in
     let bytes = take c.in-Ok.used (drop c.args.at c.args.piece.now) in
-    let old = c.new-events.result.items in
+    let old = c.clear.new.self.items in
     let told = added old c.feed_frame.new.told.items in
     let told_is : told ≡ c.deref.result.now =
-    sym (c.in-Ok.ensures.kept ∙ ap (λ (t : List Event). t ++ told) c.new-events.ensures.items) ∙ sym c.deref.ensures.value in
+    sym (c.in-Ok.ensures.kept ∙ ap (λ (t : List Event). t ++ told) c.clear.ensures.items) ∙ sym c.deref.ensures.value in
     let laws : SessionLaws = record {
       events_tell = c.events_tell.ensures;
       credit_is_told = c.credit_is_told.ensures;

@@ -4,8 +4,8 @@ use Rattle.streams.specs.declared.stage.Stage.TheVariants as stages
 use Rattle.streams.proofs.Moving.{has_ended, served_as}
 use Rattle.streams.proofs.stream.Stream.end.Goals as goal
 
-pub returns-in_ok-end-in-Serving-clause-stands : goal.returns-in_ok-end-in-Serving-clause-stands
-returns-in_ok-end-in-Serving-clause-stands g c = λ past s unended.
+pub returns-clause-stands : goal.returns-clause-stands
+returns-clause-stands g c = λ past s unended.
     let is : c.args.self.now ≡ record { waiting = c.self.inside.waiting.items; stage = stages.Serving c.in-Serving.handler } = cc in
-    has_ended g.H.Handler.steps past c.in-Serving.handler c.end.new.self c.self.inside.waiting.items unended
-    (served_as g.H.Handler.steps c.args.self.now past c.in-Serving.handler c.self.inside.waiting.items is s) c.in_ok-end-in-Serving.ensures.step
+    has_ended g.H.Handler.steps past c.in-Serving.handler c.end-ended.new.self c.self.inside.waiting.items unended
+    (served_as g.H.Handler.steps c.args.self.now past c.in-Serving.handler c.self.inside.waiting.items is s) c.in_default-ended.ensures.step
