@@ -63,6 +63,7 @@ module _ {P H : Type 0} (step : H → HandlerCall → H → Type 0) (fails : H �
     others_kept = r.around.others_kept;
     resets_told = r.around.resets_told;
     reset_came = r.around.reset_came;
+    end_came = r.around.end_came;
     heard = r.around.heard;
     opens_none = r.around.opens_none.1;
     ends_last = r.around.ends_last;

@@ -1,5 +1,5 @@
 -- The list has grown by entries about one stream: all others are at rest as before.
-use Rattle.std.proofs.Common.{◌≡◌, ◌⊎◌, inl, inr, ℕ, ◌==◌, Bool, true, false, List, [], ◌++◌, Option, Some, None, refl, sym, ap, ◌∙◌, subst}
+use Rattle.std.proofs.Common.{◌≡◌, ◌⊎◌, inl, inr, ℕ, ◌==◌, ◌||◌, Bool, true, false, List, [], ◌++◌, Option, Some, None, refl, sym, ap, ◌∙◌, subst}
 use Rattle.std.specs.Prelude.{IfSome, IsSome}
 use Rattle.handlers.specs.Calls.{HandlerCall, Asked}
 use Rattle.yamux_session.specs.declared.event.Role.{Role}
@@ -9,7 +9,7 @@ use Rattle.yamux_session.specs.State.{State, Stands as SessionStands}
 use Rattle.streams.specs.State.{Streaming}
 use Rattle.conn_log.specs.declared.earlier.Earlier.{Earlier}
 use Rattle.conn_log.specs.Entries.{Entry, items, is_over, left_behind}
-use Rattle.conn_log.specs.Due.{AllDue, told_reset, was_reset}
+use Rattle.conn_log.specs.Due.{AllDue, told_reset, was_reset, told_end, end_was_told}
 use Rattle.conn_log.specs.Held.{IsAtRest, earlier_of}
 use Rattle.conn_log.specs.Routes.{EndsLast, Around}
 use Rattle.conn_log.proofs.Same.{Same, same_refl, at_rest_same, left_same}
@@ -29,9 +29,10 @@ module _ {P H : Type 0} (step : H → HandlerCall → H → Type 0) (fails : H �
       → ((m : ℕ) → (n == m) ≡ false → now m ≡ streams m)
       → AgreesOn (seen role (items (newer ++ log)) n) (all_heard n later rest) → later.ended ≡ view.ended
       → ((m : ℕ) → left_behind role (newer ++ log) m ≡ left_behind role log m)
-      → ((m : ℕ) → was_reset role (items (newer ++ log)) m ≡ was_reset role (items log) m) → ((m : ℕ) → is_over role log m ≡ true → is_over role (newer ++ log) m ≡ true)
+      → ((m : ℕ) → was_reset role (items (newer ++ log)) m ≡ was_reset role (items log) m)
+      → end_was_told role (items (newer ++ log)) n ≡ end_was_told role (items log) n → ((m : ℕ) → is_over role log m ≡ true → is_over role (newer ++ log) m ≡ true)
       → Around step fails is_closed is_finished inbound_makes outbound_makes eager names peer role (newer ++ log) fed sent after now past n later rest
-  grown log newer fed sent before after streams now past n view later rest a due others there elsewhere heard ended behind resets over = record {
+  grown log newer fed sent before after streams now past n view later rest a due others there elsewhere heard ended behind resets ends over = record {
     session_stands = there;
     due = due;
     others = λ m apart. subst (λ (t : Option (Streaming H)). IfSome t (λ it. IsAtRest step is_closed is_finished names role (newer ++ log) m it)) (sym (elsewhere m apart))
@@ -42,6 +43,7 @@ module _ {P H : Type 0} (step : H → HandlerCall → H → Type 0) (fails : H �
         (let s = others m apart in a.others_kept m apart (λ none. made (s.made_is ∙ none)) (sym s.over_is ∙ going));
     resets_told = λ m was. by_over m (a.resets_told m (sym (resets m) ∙ was));
     reset_came = λ told. resets n ∙ a.reset_came told;
+    end_came = λ told. ap (λ b. b || told_end n rest) ended ∙ a.end_came told ∙ sym ends;
     heard = heard;
     opens_none = a.opens_none;
     ends_last = subst (λ b. EndsLast b rest) (sym ended) a.ends_last;
@@ -58,4 +60,4 @@ module _ {P H : Type 0} (step : H → HandlerCall → H → Type 0) (fails : H �
       → Around step fails is_closed is_finished inbound_makes outbound_makes eager names peer role log fed sent after now past n view rest
   still log fed sent before after streams now past n view rest same_session elsewhere a =
       grown log [] fed sent before after streams now past n view view rest a a.due (λ m apart. same_refl role log m)
-      (subst (λ (t : State). SessionStands role (items log) fed sent t) (sym same_session) a.session_stands) elsewhere a.heard refl (λ m. refl) (λ m. refl) (λ m was. was)
+      (subst (λ (t : State). SessionStands role (items log) fed sent t) (sym same_session) a.session_stands) elsewhere a.heard refl (λ m. refl) (λ m. refl) refl (λ m was. was)

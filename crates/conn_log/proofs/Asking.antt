@@ -177,6 +177,7 @@ module _ {P H : Type 0} (step : H → HandlerCall → H → Type 0) (fails : H �
           (let s = same_by_first acts_do acts_move role log n index m handler apart in r.made_held m (λ none. made (s.made_is ∙ none)) (sym s.over_is ∙ going));
       resets_told = λ m was. inl (over_at m (eqb_tells n m) (sym (ap (λ (t : List Item). was_reset role t m) (items_first handler)) ∙ was));
       reset_came = λ told. absurd (cc told);
+      end_came = λ told. absurd (cc told);
       heard = subst (λ (t : List Item). AgreesOn (seen role t n) just_opened) (sym (items_first handler)) (subst (λ (x : Seen). AgreesOn x just_opened) (sym seen_is)
           (record { live = refl; closed = refl; came = refl; sent = refl; ended = λ on. on; live_ended = λ on. refl }));
       opens_none = tt;

@@ -53,7 +53,7 @@ module _ {P H : Type 0} (step : H → HandlerCall → H → Type 0) (fails : H �
       → Around step fails is_closed is_finished inbound_makes outbound_makes eager names peer role (Says told ∷ log) fed sent session streams past n view rest
   around_event log fed sent session streams past n view rest told of is_due a =
       grown step fails is_closed is_finished inbound_makes outbound_makes eager names peer role log (Says told ∷ []) fed sent session session streams streams past n view view rest a
-      (is_due, a.due) (λ m apart. same_by_event role log n m told of apart) a.session_stands (λ m apart. refl) a.heard refl (λ m. refl) (λ m. refl)
+      (is_due, a.due) (λ m apart. same_by_event role log n m told of apart) a.session_stands (λ m apart. refl) a.heard refl (λ m. refl) (λ m. refl) refl
       (λ m over. ap (λ b. is_last m told || b) over ∙ or_on (is_last m told))
 
   -- ---- a stream that was served

@@ -1,5 +1,5 @@
 -- Where the streams stand once data of one of them was told.
-use Rattle.std.proofs.Common.{◌≡◌, ◌≢◌, ◌⊎◌, inl, inr, ℕ, ◌==◌, Bool, true, false, cond, List, [], ◌∷◌, ◌++◌, map, Option, Some, None, refl, sym, ap, ◌∙◌, subst}
+use Rattle.std.proofs.Common.{◌≡◌, ◌≢◌, ◌⊎◌, inl, inr, ℕ, ◌==◌, ◌||◌, Bool, true, false, cond, List, [], ◌∷◌, ◌++◌, map, Option, Some, None, refl, sym, ap, ◌∙◌, subst}
 use Rattle.std.specs.List.{AllByRecursion}
 use Rattle.std.proofs.lemmas.List.{append-nil, append_assoc}
 use Rattle.handlers.specs.Calls.{HandlerCall, Asked, ToTake}
@@ -24,7 +24,7 @@ use Rattle.conn_log.specs.declared.event.ConnEvent.{ConnEvent}
 use Rattle.conn_log.specs.declared.event.ConnEvent.TheVariants as event
 use Rattle.conn_log.specs.Entries.{Entry, items, said, asks, agreed, is_over, made_of, agreement}
 use Rattle.conn_log.specs.Entries.Entry.{Says, Made}
-use Rattle.conn_log.specs.Due.{direction_of, IsDue, told_reset, was_reset}
+use Rattle.conn_log.specs.Due.{direction_of, IsDue, told_reset, was_reset, told_end}
 use Rattle.conn_log.specs.Making.{MakesNone, MakesOn}
 use Rattle.conn_log.specs.Held.{IsSide, IsHeld}
 use Rattle.conn_log.specs.Routes.{IsNoOpening, EndsLast, Around, Comes}
@@ -60,6 +60,10 @@ pub bytes_reset : (m n : ℕ) (bytes : List ℕ) (rest : List Told) → told_res
 bytes_reset m n [] rest = refl
 bytes_reset m n (b ∷ bytes) rest = bytes_reset m n bytes rest
 
+bytes_end : (m n : ℕ) (bytes : List ℕ) (rest : List Told) → told_end m (map (Told.Payload n) bytes ++ rest) ≡ told_end m rest
+bytes_end m n [] rest = refl
+bytes_end m n (b ∷ bytes) rest = bytes_end m n bytes rest
+
 -- data comes before the end
 pub before_the_end : (ended : Bool) (n : ℕ) (bytes : List ℕ) (rest : List Told) → bytes ≢ [] → EndsLast ended (map (Told.Payload n) bytes ++ rest) → ended ≡ false
 before_the_end ended n [] rest some last = absurd (some refl)
@@ -85,6 +89,7 @@ module _ {P H : Type 0} (step : H → HandlerCall → H → Type 0) (fails : H �
     others_kept = a.others_kept;
     resets_told = λ m. subst (λ b. was_reset role (items log) m ≡ true → (is_over role log m ≡ true) ⊎ (b ≡ true)) (bytes_reset m n bytes rest) (a.resets_told m);
     reset_came = subst (λ b. b ≡ true → was_reset role (items log) n ≡ true) (bytes_reset n n bytes rest) a.reset_came;
+    end_came = λ reset. ap (λ b. view.ended || b) (sym (bytes_end n n bytes rest)) ∙ a.end_came (bytes_reset n n bytes rest ∙ reset);
     heard = subst (λ (x : Seen). AgreesOn (seen role (items log) n) x) (heard_bytes n view bytes rest) a.heard;
     opens_none = none_opened n bytes rest a.opens_none;
     ends_last = still_last view.ended n bytes rest a.ends_last;
@@ -98,7 +103,7 @@ module _ {P H : Type 0} (step : H → HandlerCall → H → Type 0) (fails : H �
       → Around step fails is_closed is_finished inbound_makes outbound_makes eager names peer role (Made n made ∷ log) fed sent session streams past n view rest
   around_making log fed sent session streams past n view rest made is_due a =
       grown step fails is_closed is_finished inbound_makes outbound_makes eager names peer role log (Made n made ∷ []) fed sent session session streams streams past n view view rest a
-      (is_due, a.due) (λ m apart. same_by_making role log n m made apart) a.session_stands (λ m apart. refl) a.heard refl (λ m. refl) (λ m. refl) (λ m over. over)
+      (is_due, a.due) (λ m apart. same_by_making role log n m made apart) a.session_stands (λ m apart. refl) a.heard refl (λ m. refl) (λ m. refl) refl (λ m over. over)
 
   -- What data came to: by these entries, that tell this, and whose handlers were made so.
   pub record Went (making : List (Entry H) → List (Entry H) → Type 0) (log : List (Entry H)) (told : List (ConnEvent H)) (fed sent : List ℕ) (session : State) (streams : ℕ → Option (Streaming H)) (past : List (Earlier H)) (n : ℕ) (rest : List Told)

@@ -1,5 +1,5 @@
 -- Where the streams stand once the end of one of them was told.
-use Rattle.std.proofs.Common.{◌≡◌, inl, inr, ℕ, ◌==◌, Bool, true, false, not, ◌&&◌, cond, List, [], ◌∷◌, ◌++◌, Option, Some, None, refl, sym, ap, ◌∙◌, subst}
+use Rattle.std.proofs.Common.{◌≡◌, inl, inr, ℕ, ◌==◌, Bool, true, false, not, ◌&&◌, ◌||◌, cond, List, [], ◌∷◌, ◌++◌, Option, Some, None, refl, sym, ap, ◌∙◌, subst}
 use Rattle.std.proofs.lemmas.List.{append-nil}
 use Rattle.handlers.specs.Calls.{HandlerCall, Asked, ToEnd}
 use Rattle.handlers.specs.declared.handler.HandlerFault.{HandlerFault}
@@ -31,7 +31,7 @@ use Rattle.conn_log.proofs.Around.{still}
 use Rattle.conn_log.proofs.Views.{same, none_behind}
 use Rattle.conn_log.proofs.StageKinds.{same_talking, same_awaiting, same_handed}
 use Rattle.conn_log.proofs.Served.{ended_stays}
-use Rattle.conn_log.proofs.Comes.{went, around_event}
+use Rattle.conn_log.proofs.Comes.{went, around_event, or_on}
 
 -- what is seen of a stream that has ended
 abbrev pub ended_view : Seen → Seen
@@ -72,6 +72,7 @@ module _ {P H : Type 0} (step : H → HandlerCall → H → Type 0) (fails : H �
     others_kept = a.others_kept;
     resets_told = a.resets_told;
     reset_came = a.reset_came;
+    end_came = λ reset. sym (ap (λ b. view.ended || (b || Rattle.conn_log.specs.Due.told_end n rest)) (same n) ∙ or_on view.ended) ∙ a.end_came reset;
     heard = subst (λ (x : Seen). AgreesOn (seen role (items log) n) (all_heard n x rest)) (heard_end n view) a.heard;
     opens_none = a.opens_none.1;
     ends_last = a.ends_last.1;

@@ -1,6 +1,6 @@
 -- A frame arrived at streams that are at rest: what it told is to be routed.
 use Rattle.std.proofs.Common.{◌≡◌, ◌≢◌, ◌⊎◌, inl, inr, ℕ, suc, ◌==◌, ◌||◌, ◌&&◌, Bool, true, false, cond, List, [], ◌∷◌, ◌++◌, map, Option, refl, sym, ap, ◌∙◌, subst}
-use Rattle.std.specs.Prelude.{IfSome, IsSome, drop}
+use Rattle.std.specs.Prelude.{IfSome, drop}
 use Rattle.std.specs.List.{AllByRecursion}
 use Rattle.std.proofs.lemmas.Bool.Decides.{eqb_tells}
 use Rattle.handlers.specs.Calls.{HandlerCall, Asked}
@@ -20,7 +20,7 @@ use Rattle.yamux_session.specs.State.{State, Stands as SessionStands}
 use Rattle.streams.specs.State.{Streaming}
 use Rattle.conn_log.specs.declared.earlier.Earlier.{Earlier}
 use Rattle.conn_log.specs.Entries.{Entry, items, since, agreed_in, over_in, made_in, is_over, is_kept, left_behind}
-use Rattle.conn_log.specs.Due.{told_reset, was_reset}
+use Rattle.conn_log.specs.Due.{told_reset, was_reset, told_end, end_was_told}
 use Rattle.conn_log.specs.Held.{IsAtRest, AreLeft, earlier_of}
 use Rattle.conn_log.specs.Rests.{AreAtRest}
 use Rattle.conn_log.specs.Routes.{IsStill, IsFor, IsNoOpening, IsMoving, Around, Opening, Routes, Awaits, set_aside}
@@ -31,7 +31,9 @@ use Rattle.conn_log.proofs.Opening.{sent_stays}
 use Rattle.conn_log.proofs.Leaving.{earlier_other, are_left}
 use Rattle.conn_log.proofs.Rested.{end_agrees}
 use Rattle.conn_log.proofs.Arriving.{arrived, items_arrived, asked_arrived, since_arrived, left_arrived, IsNamed, named, opens_none, not_heard, not_opened, quiet, unopened, still_quiet, still_heard}
-use Rattle.conn_log.proofs.Resets.{either_true, reset_after, reset_unopened, reset_other, reset_told, AreAlive, alive_told, none_reset, ends_last, told_is_by, FirstOpens, first_opens, due_arrived}
+use Rattle.std.proofs.Math.Bool.{or_comm}
+use Rattle.conn_log.proofs.Ends.{ends_unopened, ends_opened, live_ends}
+use Rattle.conn_log.proofs.Resets.{either_true, reset_after, reset_unopened, reset_other, reset_told, AreAlive, alive_told, none_reset, ends_last, told_by, told_is_by, FirstOpens, first_opens, due_arrived}
 
 -- what holds of every session
 pub record SessionLaws : Type 0 where
@@ -126,14 +128,17 @@ module _ {P H : Type 0} (step : H → HandlerCall → H → Type 0) (fails : H �
       ∙ reset_other n m (was_reset role (items log) m) (tellings told) apart about
 
   -- where of the one that is named its last event was told before, or a reset is to be routed
+  first_told : FirstOpens (told_by role (items log) came)
+  first_told = subst FirstOpens (sym (told_is_by role (items log) came (tellings told) tells)) (first_opens told one.opened_first)
+
   around : (aside : List (Earlier H)) (view : Seen) (rest : List Told) (before : Bool) → was_reset role (items then) n ≡ told_reset n rest || before
       → (before ≡ true → is_over role then n ≡ true) → AgreesOn (seen role (items then) n) (all_heard n view rest) → AllByRecursion (IsNoOpening n) rest
-      → Rattle.conn_log.specs.Routes.EndsLast view.ended rest → ((m : ℕ) → AreLeft step is_closed is_finished names role then m 0 (earlier_of m aside))
+      → Rattle.conn_log.specs.Routes.EndsLast view.ended rest → (told_reset n rest ≡ true → view.ended || told_end n rest ≡ end_was_told role (items then) n) → ((m : ℕ) → AreLeft step is_closed is_finished names role then m 0 (earlier_of m aside))
       → Around step fails is_closed is_finished inbound_makes outbound_makes eager names peer role then later sent now streams aside n view rest
-  around aside view rest before reset_is told_before heard none last left = record {
+  around aside view rest before reset_is told_before heard none last end_is left = record {
     session_stands = subst (λ (t : List Item). SessionStands role t later sent now) (sym items_are) there;
     due = due_arrived step fails is_closed is_finished inbound_makes outbound_makes eager names peer role laws.openings_are_told log rests.resets_told came tells.no_fault
-        (subst FirstOpens (sym (told_is_by role (items log) came (tellings told) tells)) (first_opens told one.opened_first)) rests.due;
+        first_told rests.due;
     others = others;
     others_held = λ m apart live. rests.live_held m (sym (other_agrees m apart).live ∙ live);
     others_kept = λ m apart made going.
@@ -141,6 +146,7 @@ module _ {P H : Type 0} (step : H → HandlerCall → H → Type 0) (fails : H �
         rests.made_held m (λ none_made. made (ap (made_in m) (since_same m off) ∙ none_made)) (sym (ap (over_in m) (since_same m off)) ∙ going);
     resets_told = λ m was. over_at m (eqb_tells n m) was;
     reset_came = λ reset. reset_is ∙ ap (λ b. b || before) reset;
+    end_came = end_is;
     heard = heard;
     opens_none = none;
     ends_last = last;
@@ -216,20 +222,32 @@ module _ {P H : Type 0} (step : H → HandlerCall → H → Type 0) (fails : H �
                 (ap (λ (t : List Item). was_reset role t n) items_are ∙ reset_told role (items log) came (tellings told) n tells ∙ reset_unopened n was (tellings told) none)
                 (λ is. ap (over_in n) (since_same n off) ∙ rests.resets_told n is)
                 (agrees n) none (ends_last n view.ended view (tellings told) about none (laws.ends_are_last role (items log) came (tellings told) n tells) alive)
+                (λ reset. ends_now none (was_live none alive reset))
                 (λ m. left_by m none (eqb_tells n m));
             own = if_some (streams n) (λ it r. moving it none r) (rests.each n);
             own_held = rests.live_held n;
-            own_to_reset = λ reset going. by_live none alive reset view.live refl;
+            own_to_reset = λ reset going. rests.live_held n (was_live none alive reset);
             own_kept = λ made going.
                 rests.made_held n (λ none_made. made (ap (made_in n) (since_same n off) ∙ none_made)) (sym (ap (over_in n) (since_same n off)) ∙ going);
           },
         );
       } where
-        by_live : AllByRecursion (IsNoOpening n) (tellings told) → AreAlive n (seen role (items log) n) (tellings told) → told_reset n (tellings told) ≡ true
-            → (b : Bool) → is_live role (items log) n ≡ b → IsSome (streams n)
-        by_live none alive reset true live = rests.live_held n live
-        by_live none alive reset false dead =
-            absurd (let e : true ≡ false = sym reset ∙ none_reset n (seen role (items log) n) (tellings told) dead about none alive in cc e)
+        -- one whose reset is told was live, and of it the end was told where it came
+        was_live : AllByRecursion (IsNoOpening n) (tellings told) → AreAlive n (seen role (items log) n) (tellings told) → told_reset n (tellings told) ≡ true
+            → is_live role (items log) n ≡ true
+        was_live none alive reset = by_live (is_live role (items log) n) refl where
+          by_live : (b : Bool) → is_live role (items log) n ≡ b → b ≡ true
+          by_live true live = refl
+          by_live false dead = absurd (let e : true ≡ false = sym reset ∙ none_reset n (seen role (items log) n) (tellings told) dead about none alive in cc e)
+
+        ends_now : AllByRecursion (IsNoOpening n) (tellings told) → is_live role (items log) n ≡ true
+            → finished role (items log) n || told_end n (tellings told) ≡ end_was_told role (items then) n
+        ends_now none live =
+            or_comm (finished role (items log) n) (told_end n (tellings told))
+            ∙ ap (λ b. told_end n (tellings told) || b) (live_ends role (items log) n rests.session_stands.no_fault live)
+            ∙ sym (ap (λ (t : List Item). end_was_told role t n) items_are
+            ∙ ends_unopened role (items log) came n (laws.openings_are_told role (items log) came (tellings told) n tells ∙ unopened n (tellings told) none)
+            ∙ ap (λ t. told_end n t || end_was_told role (items log) n) (told_is_by role (items log) came (tellings told) tells))
 
         left_by : (m : ℕ) → AllByRecursion (IsNoOpening n) (tellings told) → (((n == m) ≡ true) × (n ≡ m)) ⊎ (((n == m) ≡ false) × (n ≢ m))
             → AreLeft step is_closed is_finished names role then m 0 (earlier_of m past)
@@ -263,7 +281,9 @@ module _ {P H : Type 0} (step : H → HandlerCall → H → Type 0) (fails : H �
                 (λ is. absurd (cc is))
                 (subst (λ (b : Bool). AgreesOn (seen role (items then) n) (all_heard n (cond b just_opened view) (tellings rest))) (same n)
                 (subst (λ (t : List Told). AgreesOn (seen role (items then) n) (all_heard n view t)) told_is (agrees n)))
-                none (ends_last n false (hears n view (Told.Opened n)) (tellings rest) (named n rest rest_about) none once alive.1) (λ m. left_by m opened tells_it (eqb_tells n m));
+                none (ends_last n false (hears n view (Told.Opened n)) (tellings rest) (named n rest rest_about) none once alive.1)
+                (λ reset. sym (ap (λ (t : List Item). end_was_told role t n) items_are ∙ ends_opened laws.openings_are_told role (items log) came n tells.no_fault first_told opened
+                ∙ ap (told_end n) (told_is_by role (items log) came (Told.Opened n ∷ tellings rest) tells_it))) (λ m. left_by m opened tells_it (eqb_tells n m));
             fresh = since_arrived role came log n ∙ ap (λ b. cond b [] (since role log n)) opened;
             theirs = laws.opened_by_the_other role (items log) came n opened;
           },

@@ -13,8 +13,11 @@ pub mod Opening
 pub mod Rested
 pub mod Arriving
 pub mod Resets
+pub mod Ends
 pub mod Facing
 pub mod Asking
 pub mod Leaving
 pub mod Early
 pub mod MadeRows
+pub mod ListRows
+pub mod Placed

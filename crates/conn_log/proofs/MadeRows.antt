@@ -1,5 +1,5 @@
 -- The worked rows of handlers that are made in turn.
-use Rattle.std.proofs.Common.{◌≡◌, ℕ, ◌+◌, List, [], ◌∷◌, refl, sym, ap, ◌∙◌, arith}
+use Rattle.std.proofs.Common.{◌≡◌, ℕ, ◌+◌, refl, ap, ◌∙◌}
 use Rattle.conn_log.specs.MakingRows.{MakingRows, in_turn, one_inbound, three}
 
 inbound_is : (handler now : ℕ) → in_turn (one_inbound handler) now → (handler ≡ 5) × (now ≡ 6)

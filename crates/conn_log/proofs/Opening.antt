@@ -51,6 +51,7 @@ module _ {P H : Type 0} (step : H → HandlerCall → H → Type 0) (fails : H �
     others_kept = λ m apart made going. subst (λ (t : Option (Streaming H)). IsSome t) (sym (elsewhere m apart)) (a.others_kept m apart made going);
     resets_told = a.resets_told;
     reset_came = a.reset_came;
+    end_came = a.end_came;
     heard = a.heard;
     opens_none = a.opens_none;
     ends_last = a.ends_last;

@@ -358,31 +358,31 @@ opened_front n (Told.Credit m ∷ told) more is = opened_front n told more is
 opened_front n (Told.GoAway code ∷ told) more is = opened_front n told more is
 opened_front n (Told.Fault fault ∷ told) more is = opened_front n told more is
 
-first_front : (told more : List Told) → FirstOpens (told ++ more) → FirstOpens told
+pub first_front : (told more : List Told) → FirstOpens (told ++ more) → FirstOpens told
 first_front [] more first = λ n is. absurd (cc is)
 first_front (t ∷ told) more first = λ n is. first n (opened_front n told more is)
+
+-- what opens a stream comes first: nothing was told before it
+pub opens_first : OpeningsAreTold → (role : Role) (past : List Item) (x : Arrival) (came : List Arrival) → HasNoFault role (map Came (x ∷ came) ++ past) → FirstOpens (told_by role past (x ∷ came)) → (n : ℕ)
+    → opens role (map Came came ++ past) (Came x) n ≡ true → told_by role past came ≡ []
+opens_first openings role past x came none first n opened = by_told (told_by role past came) first where
+  told : told_opened n (events_at role (map Came came ++ past) (Came x)) ≡ true
+  told = sym (openings role (map Came came ++ past) (x ∷ []) (events_at role (map Came came ++ past) (Came x)) n (record { no_fault = none; told_is = refl }))
+      ∙ ap (λ b. b || false) opened
+
+  by_told : (front : List Told) → FirstOpens (front ++ events_at role (map Came came ++ past) (Came x)) → front ≡ []
+  by_told [] first = refl
+  by_told (t ∷ front) first = absurd (first n (opened_append n front (events_at role (map Came came ++ past) (Came x)) told))
 
 module _ {P H : Type 0} (step : H → HandlerCall → H → Type 0) (fails : H → Asked → ℕ → Type 0)
     (is_closed is_finished : H → Bool) (inbound_makes outbound_makes : P → ℕ → List ℕ → H → Type 0)
     (eager : ℕ → Bool) (names : List (List ℕ)) (peer : List ℕ) (role : Role) (openings : OpeningsAreTold) (log : List (Entry H))
     (over : (n : ℕ) → was_reset role (items log) n ≡ true → is_over role log n ≡ true) where
-  -- what opens a stream comes first: nothing was told before it
-  opens_first : (x : Arrival) (came : List Arrival) → HasNoFault role (map Came (x ∷ came) ++ items log) → FirstOpens (told_by role (items log) (x ∷ came)) → (n : ℕ)
-      → opens role (map Came came ++ items log) (Came x) n ≡ true → told_by role (items log) came ≡ []
-  opens_first x came none first n opened = by_told (told_by role (items log) came) first where
-    told : told_opened n (events_at role (map Came came ++ items log) (Came x)) ≡ true
-    told = sym (openings role (map Came came ++ items log) (x ∷ []) (events_at role (map Came came ++ items log) (Came x)) n (record { no_fault = none; told_is = refl }))
-        ∙ ap (λ b. b || false) opened
-
-    by_told : (front : List Told) → FirstOpens (front ++ events_at role (map Came came ++ items log) (Came x)) → front ≡ []
-    by_told [] first = refl
-    by_told (t ∷ front) first = absurd (first n (opened_append n front (events_at role (map Came came ++ items log) (Came x)) told))
-
   reset_first : (x : Arrival) (came : List Arrival) → HasNoFault role (map Came (x ∷ came) ++ items log) → FirstOpens (told_by role (items log) (x ∷ came)) → (n : ℕ)
       → opens role (items (arrived came ++ log)) (Came x) n ≡ true → was_reset role (items (arrived came ++ log)) n ≡ true → is_over role (arrived came ++ log) n ≡ true
   reset_first x came none first n opened was =
       let is = items_arrived came log in
-      let nothing = opens_first x came none first n (sym (ap (λ (t : List Item). opens role t (Came x) n) is) ∙ opened) in
+      let nothing = opens_first openings role (items log) x came none first n (sym (ap (λ (t : List Item). opens role t (Came x) n) is) ∙ opened) in
       let unopened : opened_in role (items log) came n ≡ false =
       openings role (items log) came (told_by role (items log) came) n (record { no_fault = none.1; told_is = events_by role (items log) came }) ∙ ap (told_opened n) nothing in
       let was_before : was_reset role (items log) n ≡ true =

@@ -8,17 +8,19 @@ use Rattle.yamux_session.specs.Data.{inbound}
 use Rattle.yamux_session.specs.Events.{Told}
 use Rattle.yamux_session.specs.Seen.{Seen, seen, hears, all_heard, AgreesOn}
 use Rattle.yamux_session.specs.State.{State}
+use Rattle.yamux_session.proofs.Hearing.{or_none}
 use Rattle.streams.specs.declared.stop.Cause.TheVariants as causes
 use Rattle.streams.specs.State.{Streaming, was_handed_out}
 use Rattle.conn_log.specs.declared.earlier.Earlier.{Earlier}
 use Rattle.conn_log.specs.declared.event.ConnEvent.TheVariants as event
 use Rattle.conn_log.specs.Entries.{Entry, items, is_over}
 use Rattle.conn_log.specs.Entries.Entry.{Says}
-use Rattle.conn_log.specs.Due.{IsDue, told_reset}
+use Rattle.conn_log.specs.Due.{IsDue, told_reset, end_was_told}
 use Rattle.conn_log.specs.Held.{IsHeld, IsAtRest}
 use Rattle.conn_log.specs.Routes.{EndsLast, IsMoving, Around, Routes}
 use Rattle.conn_log.proofs.Views.{same, gone, none_behind}
 use Rattle.conn_log.proofs.Comes.{around_event}
+use Rattle.conn_log.proofs.Ends.{none_ends}
 
 -- what ends last behind the end does so before it
 last_first : (ended : Bool) (rest : List Told) → EndsLast true rest → EndsLast ended rest
@@ -51,6 +53,7 @@ module _ {P H : Type 0} (step : H → HandlerCall → H → Type 0) (fails : H �
     others_kept = λ m apart made going. subst (λ (t : Option (Streaming H)). IsSome t) (sym (elsewhere m apart)) (a.others_kept m apart made going);
     resets_told = λ m was. by_number m (eqb_tells n m) (a.resets_told m was);
     reset_came = λ told. a.reset_came (ap (λ b. b || told_reset n rest) (same n));
+    end_came = λ told. a.end_came (ap (λ b. b || told_reset n rest) (same n));
     heard = subst (λ (x : Seen). AgreesOn (seen role (items log) n) (all_heard n x rest)) (heard_reset n view) a.heard;
     opens_none = a.opens_none.1;
     ends_last = last_first view.ended rest a.ends_last;
@@ -84,7 +87,11 @@ module _ {P H : Type 0} (step : H → HandlerCall → H → Type 0) (fails : H �
   all_came : inbound role (items log) n ≡ view.came
   all_came = a.heard.came ∙ none_behind n (hears n view (Told.Reset n)) rest a.opens_none.1 a.ends_last ∙ ap (λ (x : Seen). x.came) (heard_reset n view)
 
-  -- one that is held stood by all that came
+  -- nor is the end told behind it
+  end_seen : view.ended ≡ end_was_told role (items log) n
+  end_seen = sym (ap (λ b. view.ended || b) (none_ends n rest a.ends_last) ∙ or_none view.ended) ∙ a.end_came (ap (λ b. b || told_reset n rest) (same n))
+
+  -- one that is held stood by all that came, and by its end
   broken_due : (old : Streaming H) → IsMoving step fails is_closed is_finished inbound_makes outbound_makes eager names peer role log n view (Told.Reset n ∷ rest) old
       → was_handed_out old.stage ≡ false → IsDue step fails is_closed is_finished inbound_makes outbound_makes eager names peer role log (Says (event.Broken n causes.Reset))
   broken_due old moving held = (
@@ -92,9 +99,9 @@ module _ {P H : Type 0} (step : H → HandlerCall → H → Type 0) (fails : H �
     (
       a.reset_came (ap (λ b. b || told_reset n rest) (same n)),
       record {
-        ended = view.ended;
         stream = old;
-        held = subst (λ (t : List ℕ). IsHeld step is_closed is_finished names role log n t view.ended old) (sym all_came) moving.held;
+        held = subst (λ (b : Bool). IsHeld step is_closed is_finished names role log n (inbound role (items log) n) b old) end_seen
+            (subst (λ (t : List ℕ). IsHeld step is_closed is_finished names role log n t view.ended old) (sym all_came) moving.held);
         unfinished = moving.unfinished;
       },
     ),

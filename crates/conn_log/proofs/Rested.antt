@@ -1,5 +1,5 @@
 -- What a frame told was routed: all streams are at rest again.
-use Rattle.std.proofs.Common.{◌≡◌, ◌≢◌, ◌⊎◌, inl, inr, ℕ, ◌==◌, Bool, true, false, List, [], ◌∷◌, ◌++◌, Option, Some, None, refl, sym, ap, ◌∙◌, subst}
+use Rattle.std.proofs.Common.{◌≡◌, ◌≢◌, ◌⊎◌, inl, inr, ℕ, ◌==◌, ◌||◌, Bool, true, false, List, [], ◌∷◌, ◌++◌, Option, Some, None, refl, sym, ap, ◌∙◌, subst}
 use Rattle.std.specs.Prelude.{IfSome, IsSome}
 use Rattle.std.proofs.lemmas.List.{append-nil}
 use Rattle.std.proofs.lemmas.Bool.Decides.{eqb_tells}
@@ -13,7 +13,7 @@ use Rattle.streams.specs.State.{Streaming}
 use Rattle.conn_log.specs.declared.earlier.Earlier.{Earlier}
 use Rattle.conn_log.specs.declared.event.ConnEvent.{ConnEvent}
 use Rattle.conn_log.specs.Entries.{Entry, items, said, is_over, made_of}
-use Rattle.conn_log.specs.Due.{told_reset, was_reset}
+use Rattle.conn_log.specs.Due.{told_reset, was_reset, told_end}
 use Rattle.conn_log.specs.Held.{IsAtRest}
 use Rattle.conn_log.specs.Rests.{AreAtRest, Grows}
 use Rattle.conn_log.specs.Routes.{IsStill, EndsLast, IsMoving, Routes, Routed, Awaits, IsUnderWay}
@@ -46,6 +46,16 @@ still_reset m (Told.Ended k) rest is = absurd is
 still_reset m (Told.Reset k) rest is = absurd is
 still_reset m (Told.Credit k) rest is = absurd is
 
+still_end : (m : ℕ) (t : Told) (rest : List Told) → IsStill t → told_end m (t ∷ rest) ≡ told_end m rest
+still_end m (Told.Accepted k) rest is = refl
+still_end m (Told.GoAway code) rest is = refl
+still_end m (Told.Fault fault) rest is = refl
+still_end m (Told.Opened k) rest is = absurd is
+still_end m (Told.Payload k b) rest is = absurd is
+still_end m (Told.Ended k) rest is = absurd is
+still_end m (Told.Reset k) rest is = absurd is
+still_end m (Told.Credit k) rest is = absurd is
+
 still_ends : (ended : Bool) (t : Told) (rest : List Told) → IsStill t → EndsLast ended (t ∷ rest) → EndsLast ended rest
 still_ends ended (Told.Accepted m) rest is last = last
 still_ends ended (Told.GoAway code) rest is last = last
@@ -73,6 +83,7 @@ module _ {P H : Type 0} (step : H → HandlerCall → H → Type 0) (fails : H �
       others_kept = r.around.others_kept;
       resets_told = λ m. subst (λ b. was_reset role (items log) m ≡ true → (is_over role log m ≡ true) ⊎ (b ≡ true)) (still_reset m t rest is) (r.around.resets_told m);
       reset_came = subst (λ b. b ≡ true → was_reset role (items log) n ≡ true) (still_reset n t rest is) r.around.reset_came;
+      end_came = λ reset. ap (λ b. view.ended || b) (sym (still_end n t rest is)) ∙ r.around.end_came (still_reset n t rest is ∙ reset);
       heard = subst (λ (x : Seen). AgreesOn (seen role (items log) n) (all_heard n x rest)) (still_hears n view t is) r.around.heard;
       opens_none = r.around.opens_none.1;
       ends_last = still_ends view.ended t rest is r.around.ends_last;

@@ -19,7 +19,7 @@ use Rattle.serving.specs.Served.{IsDue as ActIsDue, AreDue, with_sent}
 use Rattle.conn_log.specs.declared.earlier.Earlier.{Earlier}
 use Rattle.conn_log.specs.Entries.{Entry, items, said, asks, agreed, is_over, made_of, asked, left_behind}
 use Rattle.conn_log.specs.Entries.Entry.{Of}
-use Rattle.conn_log.specs.Due.{HasCome, IsThere, HasGiven, IsDue, AllDue, was_reset}
+use Rattle.conn_log.specs.Due.{HasCome, IsThere, HasGiven, IsDue, AllDue, was_reset, end_was_told}
 use Rattle.conn_log.specs.Held.{IsSide}
 use Rattle.conn_log.specs.Routes.{IsNoOpening, EndsLast, Around}
 use Rattle.conn_log.proofs.Same.{Same, same_refl, same_trans, same_by_act, IsOn, side_same}
@@ -138,6 +138,17 @@ module _ {P H : Type 0} (step : H → HandlerCall → H → Type 0) (fails : H �
   did_resets log n [] on m = refl
   did_resets log n (act ∷ acts) on m = by_act act on.0 ∙ did_resets log n acts on.1 m where
     by_act : (act : Act) → IsOn n act → was_reset role (items (did (act ∷ acts) ++ log)) m ≡ was_reset role (items (did acts ++ log)) m
+    by_act (Write k pieces) on = refl
+    by_act (Taken k count) on = refl
+    by_act (Close k) on = refl
+    by_act (Reset k) on = refl
+    by_act (Start k) on = absurd on
+    by_act (Act.GoAway code) on = absurd on
+
+  did_ends : (log : List (Entry H)) (n : ℕ) (acts : List Act) → AllOn n acts → (m : ℕ) → end_was_told role (items (did acts ++ log)) m ≡ end_was_told role (items log) m
+  did_ends log n [] on m = refl
+  did_ends log n (act ∷ acts) on m = by_act act on.0 ∙ did_ends log n acts on.1 m where
+    by_act : (act : Act) → IsOn n act → end_was_told role (items (did (act ∷ acts) ++ log)) m ≡ end_was_told role (items (did acts ++ log)) m
     by_act (Write k pieces) on = refl
     by_act (Taken k count) on = refl
     by_act (Close k) on = refl
@@ -320,4 +331,4 @@ module _ {P H : Type 0} (step : H → HandlerCall → H → Type 0) (fails : H �
       (did_due log n so_far acts c due a.due) (λ m apart. did_same log n m acts apart on)
       (subst (λ (t : List Item). SessionStands role t fed sent after) (sym (items_did acts log)) there) elsewhere
       (did_heard log n view rest acts on a.opens_none a.heard) (view_ended n acts view on) (did_left log n acts on)
-      (did_resets log n acts on) (λ m over. did_over log n acts on m ∙ over)
+      (did_resets log n acts on) (did_ends log n acts on n) (λ m over. did_over log n acts on m ∙ over)

@@ -101,7 +101,7 @@ module _ {P H : Type 0} (step : H → HandlerCall → H → Type 0) (fails : H �
         → Routes step fails is_closed is_finished inbound_makes outbound_makes eager names peer role (Of (Did (Reset n)) ∷ log) fed sent after now past n (gone view) rest
     was_reset there = record {
       around = grown step fails is_closed is_finished inbound_makes outbound_makes eager names peer role log (Of (Did (Reset n)) ∷ []) fed sent before after streams now past n view (gone view) rest a
-          (given_up, a.due) apart there elsewhere (moves_on acts_do role (items log) n view rest (Reset n) refl a.opens_none a.heard) refl (λ m. refl) (λ m. refl) (λ m over. over);
+          (given_up, a.due) apart there elsewhere (moves_on acts_do role (items log) n view rest (Reset n) refl a.opens_none a.heard) refl (λ m. refl) (λ m. refl) refl (λ m over. over);
       own = subst (λ (t : Option (Streaming H)). IfSome t (λ it. IsMoving step fails is_closed is_finished inbound_makes outbound_makes eager names peer role
           (Of (Did (Reset n)) ∷ log) n (gone view) rest it)) (sym none_here) tt;
       own_held = λ live. absurd (cc live);
@@ -116,7 +116,7 @@ module _ {P H : Type 0} (step : H → HandlerCall → H → Type 0) (fails : H �
       around = grown step fails is_closed is_finished inbound_makes outbound_makes eager names peer role log [] fed sent before after streams now past n view (gone view) rest a a.due
           (λ m e. same_refl role log m) (subst (λ (t : State). SessionStands role (items log) fed sent t) (sym same_session) a.session_stands) elsewhere
           (subst (λ (x : Seen). AgreesOn (seen role (items log) n) x) (sym (gone_first_all n view rest a.opens_none))
-          (agrees_gone (seen role (items log) n) (all_heard n view rest) off a.heard)) refl (λ m. refl) (λ m. refl) (λ m over. over);
+          (agrees_gone (seen role (items log) n) (all_heard n view rest) off a.heard)) refl (λ m. refl) (λ m. refl) refl (λ m over. over);
       own = subst (λ (t : Option (Streaming H)). IfSome t (λ it. IsMoving step fails is_closed is_finished inbound_makes outbound_makes eager names peer role log n (gone view) rest it)) (sym none_here) tt;
       own_held = λ live. absurd (cc live);
       own_kept = λ made going. absurd (not_going log given_up going);

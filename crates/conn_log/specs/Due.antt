@@ -42,6 +42,18 @@ was_reset role [] n = false
 was_reset role (x ∷ past) n =
     if opens role past x n then false else told_reset n (events_at role past x) || was_reset role past n
 
+-- whether one of these events tells that the other end has ended its direction of the stream
+abbrev pub told_end : ℕ → List Told → Bool
+told_end n [] = false
+told_end n (Told.Ended m ∷ told) = m == n || told_end n told
+told_end n (other ∷ told) = told_end n told
+
+-- that was told since its opening. It isn't told where the end came with a reset, in one frame
+abbrev pub end_was_told : Role → List Item → ℕ → Bool
+end_was_told role [] n = false
+end_was_told role (x ∷ past) n =
+    if opens role past x n then false else told_end n (events_at role past x) || end_was_told role past n
+
 -- the newest entry gives the stream up, and the other end didn't reset it
 abbrev pub IsGivenUp : {H : Type 0} → ℕ → List (Entry H) → Type 0
 IsGivenUp n (Says (event.Refused m) ∷ log) = m ≡ n
@@ -102,11 +114,12 @@ module _ {P H : Type 0} (step : H → HandlerCall → H → Type 0) (fails : H �
     pub asked_for : IsAskedFor log n there.so_far there.stream.waiting request
     pub fails_by : fails handler request number
 
-  -- A stream stands by all of its data: its talk and its handler were handed what came, and what they led to was told.
+  -- A stream stands by all of its data, and by its end where that was told: its talk and its handler were handed what
+  -- came, and what they led to was told.
   pub record HasHeard (log : List (Entry H)) (n : ℕ) : Type 0 where
-    pub ended : Bool
     pub stream : Streaming H
-    pub held : IsHeld step is_closed is_finished names role log n (inbound role (items log) n) ended stream
+    pub held : IsHeld step is_closed is_finished names role log n (inbound role (items log) n)
+        (end_was_told role (items log) n) stream
     pub unfinished : has_finished is_finished stream.stage ≡ false
 
   -- why a stream is given up; one that was reset stood by all that came before

@@ -3,6 +3,10 @@ pub mod Entries
 pub mod Due
 pub mod Making
 pub mod MakingRows
+pub mod EntryRows
+pub mod DueRows
+pub mod AskedRows
+pub mod PlaceRows
 pub mod Held
 pub mod Rests
 pub mod Asked

@@ -1,6 +1,6 @@
 -- Where the streams of a connection stand while what a frame told is routed to the one that it names.
 -- Inside: no public clause of a connection cites it.
-use Rattle.std.specs.Prelude.{◌≡◌, ◌≢◌, ◌⊎◌, ℕ, ◌==◌, Bool, true, false, if◌then◌else◌, List, [], ◌∷◌, ◌++◌}
+use Rattle.std.specs.Prelude.{◌≡◌, ◌≢◌, ◌⊎◌, ℕ, ◌==◌, ◌||◌, Bool, true, false, if◌then◌else◌, List, [], ◌∷◌, ◌++◌}
 use Rattle.std.specs.Prelude.{Option, Some, None, IfSome, IsSome}
 use Rattle.std.specs.List.{AllByRecursion}
 use Rattle.handlers.specs.Calls.{HandlerCall, Asked}
@@ -24,7 +24,7 @@ use Rattle.routing.specs.declared.delivered.Outcome.TheVariants.{Going, Done, Re
 use Rattle.conn_log.specs.declared.event.ConnEvent.TheVariants as event
 use Rattle.conn_log.specs.Entries.{Entry, items, said, asks, since, is_over, made_of}
 use Rattle.conn_log.specs.Entries.Entry.{Says}
-use Rattle.conn_log.specs.Due.{AllDue, told_reset, was_reset}
+use Rattle.conn_log.specs.Due.{AllDue, told_reset, was_reset, told_end, end_was_told}
 use Rattle.conn_log.specs.Held.{IsHeld, IsAtRest, AreLeft, earlier_of}
 
 -- it asks nothing of the stream
@@ -95,6 +95,8 @@ module _ {P H : Type 0} (step : H → HandlerCall → H → Type 0) (fails : H �
     pub resets_told : (m : ℕ) → was_reset role (items log) m ≡ true
         → (is_over role log m ≡ true) ⊎ (told_reset m rest ≡ true)
     pub reset_came : told_reset n rest ≡ true → was_reset role (items log) n ≡ true
+    -- before a reset the end was seen, or is still to be routed, where it was told
+    pub end_came : told_reset n rest ≡ true → view.ended || told_end n rest ≡ end_was_told role (items log) n
     pub heard : AgreesOn (seen role (items log) n) (all_heard n view rest)
     pub opens_none : AllByRecursion (IsNoOpening n) rest
     pub ends_last : EndsLast view.ended rest

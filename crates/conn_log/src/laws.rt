@@ -1,8 +1,33 @@
 //! What the definitions come to.
 
 ghost use Rattle.conn_log.specs.MakingRows.{MakingRows};
+ghost use Rattle.conn_log.specs.EntryRows.{ListRows, SinceRows, AgreedRows, OverRows, HandlerRows, LeftRows};
+ghost use Rattle.conn_log.specs.EntryRows.{AskedForRows};
+ghost use Rattle.conn_log.specs.DueRows.{DirectionRows, ResetRows, EndRows, GivenUpRows, MayBeMadeRows};
+ghost use Rattle.conn_log.specs.PlaceRows.{TalkPlaceRows, LastPlaceRows, ActPlaceRows};
+ghost use Rattle.conn_log.specs.AskedRows.{RefusedAsRows, EarlyRows, ToldOfRows, MadeEarlyRows, BrokenOfRows};
 
 /// The definitions say of worked lists what they are to say.
 pub fn worked_rows()
     ensures making { MakingRows }
+    ensures list { ListRows }
+    ensures since { SinceRows }
+    ensures agreed { AgreedRows }
+    ensures over { OverRows }
+    ensures handlers { HandlerRows }
+    ensures left { LeftRows }
+    ensures asked_for { AskedForRows }
+    ensures directions { DirectionRows }
+    ensures resets { ResetRows }
+    ensures ends { EndRows }
+    ensures given_up { GivenUpRows }
+    ensures may_be_made { MayBeMadeRows }
+    ensures talk_places { TalkPlaceRows }
+    ensures last_places { LastPlaceRows }
+    ensures act_places { ActPlaceRows }
+    ensures refused_as { RefusedAsRows }
+    ensures early { EarlyRows }
+    ensures told_of { ToldOfRows }
+    ensures made_early { MadeEarlyRows }
+    ensures broken_of { BrokenOfRows }
 {}

@@ -1,0 +1,112 @@
+-- The worked rows of which entries may stand where.
+use Rattle.std.proofs.Common.{◌≡◌, ◌≢◌, ◌⊎◌, inl, inr, ℕ, ◌==◌, ◌||◌, true, false, List, [], ◌∷◌, ◌++◌, Some, None, Result, Ok, refl, sym, ap, ◌∙◌, subst, arith}
+use Rattle.std.proofs.lemmas.Bool.Decides.{eqb_tells}
+use Rattle.ms_select.specs.declared.answer.Answer.{Answer}
+use Rattle.ms_select.specs.declared.answer.Answer.TheVariants.{Going, Agreed, NoneLeft}
+use Rattle.ms_select.specs.declared.fault.SelectFault.{SelectFault}
+use Rattle.ms_select.specs.Rows.{x, y, header_bytes}
+use Rattle.talks.specs.Talks.{Side, Asks, Answers, Talks}
+use Rattle.talks.specs.Rows.{answers}
+use Rattle.talks.proofs.Outcomes.{one_outcome, by_all}
+use Rattle.talks.proofs.Rows.{answer_rows}
+use Rattle.yamux_frames.specs.declared.header.FrameKind.TheVariants.{Window}
+use Rattle.yamux_session.specs.declared.event.Role.TheVariants.{Client}
+use Rattle.yamux_session.specs.History.Item.{Came}
+use Rattle.yamux_session.specs.Rows.{header}
+use Rattle.yamux_session.proofs.Hearing.{or_none}
+use Rattle.conn_log.specs.Entries.{items, since, over_in}
+use Rattle.conn_log.specs.Entries.Entry.{Of}
+use Rattle.conn_log.specs.Due.{was_reset}
+use Rattle.conn_log.specs.Held.{IsSide}
+use Rattle.conn_log.specs.EntryRows.{opened, agrees, refuses}
+use Rattle.conn_log.specs.PlaceRows as rows
+use Rattle.conn_log.specs.PlaceRows.{TalkPlaceRows, LastPlaceRows, ActPlaceRows, is_due, opens_it}
+
+front_nil : (first rest : List ℕ) → [] ≡ first ++ rest → first ≡ []
+front_nil [] rest e = refl
+front_nil (b ∷ first) rest e = absurd (cc e)
+
+-- nothing is decided where nothing came
+undecided : (side : Side) → IsSide Client (x ∷ y ∷ []) (opened 2) 2 side → (standing : Result Answer SelectFault) (output : List ℕ) → Talks side [] standing output → standing ≡ Ok Going
+undecided (Asks name index) s standing output talks = absurd (let e : false ≡ true = s.0 in cc e)
+undecided (Answers known) s standing output talks =
+    let talks_so : Talks answers [] standing output = subst (λ (t : List (List ℕ)). Talks (Answers t) [] standing output) s.1 talks in
+    (one_outcome answers [] [] [] standing (Ok Going) output header_bytes (by_all answers [] standing output talks_so) (by_all answers [] (Ok Going) header_bytes answer_rows.at_once)).1
+
+agreed_by_nothing : (index : ℕ) → ¬ is_due (opened 2) (agrees 2 index)
+agreed_by_nothing index h =
+    let it = h.2 in
+    let none : it.first ≡ [] = front_nil it.first it.rest it.data_is in
+    let e : Ok (Agreed index) ≡ Ok Going =
+    undecided it.side it.side_is (Ok (Agreed index)) it.output (subst (λ (t : List ℕ). Talks it.side t (Ok (Agreed index)) it.output) none it.comes_to) in
+    absurd (cc e)
+
+refused_by_nothing : ¬ is_due (opened 2) (refuses 2)
+refused_by_nothing h =
+    let it = h.2 in
+    let none : it.first ≡ [] = front_nil it.first it.rest it.data_is in
+    let e : Ok NoneLeft ≡ Ok Going =
+    undecided it.side it.side_is (Ok NoneLeft) it.output (subst (λ (t : List ℕ). Talks it.side t (Ok NoneLeft) it.output) none it.comes_to) in
+    absurd (cc e)
+
+on_is_off : true ≡ false → ⊥
+on_is_off e = cc e
+
+off_is_on : false ≡ true → ⊥
+off_is_on e = cc e
+
+some_is_none : (n : ℕ) → Some n ≡ None → ⊥
+some_is_none n e = cc e
+
+pub talk_place_rows : TalkPlaceRows
+talk_place_rows = record {
+  agreed_by_nothing = agreed_by_nothing;
+  agreed_twice = λ h. some_is_none 1 h.0;
+  agreed_when_over = λ h. on_is_off h.1;
+  refused_by_nothing = refused_by_nothing;
+  refused_behind_an_agreement = λ h. some_is_none 1 h.0;
+  refused_twice = λ h. on_is_off h.1;
+}
+
+pub last_place_rows : LastPlaceRows
+last_place_rows = record {
+  done_before_an_agreement = λ h. h.0 refl;
+  done_twice = λ h. on_is_off h.1;
+  broken_when_over = λ h. on_is_off h.0;
+  not_reset = λ h. off_is_on h.1.0;
+  not_ended = λ h. off_is_on h.1.0;
+  ended_behind_an_agreement = λ h. some_is_none 1 h.1.1;
+  reset_behind_data = λ h. h.held.got_is;
+  reset_behind_its_end = λ h. h.held.ended_is;
+  reset_with_its_end = λ h. h.held.ended_is;
+  fault_of_memory = λ h. h.1.0 refl;
+  fault_behind_an_agreement = λ h. some_is_none 1 h.1.1;
+  of_none = λ key. (λ h. h, λ h. h, λ h. h);
+}
+
+-- stream 4 wasn't reset
+comes : is_due rows.was_reset (Of (Came (header Window 1 4 0)))
+comes n opened was = by_number (eqb_tells 4 n) where
+  by_number : (((4 == n) ≡ true) × (4 ≡ n)) ⊎ (((4 == n) ≡ false) × (4 ≢ n)) → over_in n (since Client rows.was_reset n) ≡ true
+  by_number (inl it) = absurd (off_is_on (ap (was_reset Client (items rows.was_reset)) it.1 ∙ was))
+  by_number (inr it) = absurd (off_is_on (sym it.0 ∙ sym (or_none (4 == n)) ∙ opened))
+
+pub act_place_rows : ActPlaceRows
+act_place_rows = record {
+  starts = λ h. h;
+  goes_away = λ h. h;
+  takes_all = (refl, inl (omega arith));
+  takes_more = λ h. let e : ◌≡◌ {A = ℕ} 2 1 = h.0 in absurd (cc e);
+  takes_none = λ h. let e : ◌≡◌ {A = ℕ} 0 1 = h.0 in absurd (cc e);
+  resets = refl;
+  resets_unbroken = λ h. h;
+  asks = omega arith;
+  asks_for_none = λ h. omega (arith, h);
+  opens_anew = λ n opened was. ap (λ b. b || over_in n (since Client rows.was_reset n)) (sym (or_none (2 == n)) ∙ opened);
+  opens_untold = λ h. off_is_on (h 2 refl refl);
+  comes = comes;
+  all_of_none = tt;
+  all = (omega arith, (omega arith, tt));
+  newest_not = λ h. omega (arith, h.0);
+  oldest_not = λ h. omega (arith, h.1.0);
+}

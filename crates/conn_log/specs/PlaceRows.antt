@@ -1,0 +1,96 @@
+-- Worked rows of which entries may stand where (multistream-select 1.0, "Protocol Negotiation"; hashicorp yamux, "Flag
+-- Field"; what a connection tells is this project's profile): of a client's connection whose protocols are called x and
+-- y, and on which the other end has opened stream 2. Lists have the newest first.
+use Rattle.std.specs.Prelude.{◌≡◌, ℕ, true, false, List, [], ◌∷◌, ◌++◌}
+use Rattle.peer_ids.specs.Key.{Key}
+use Rattle.ms_select.specs.declared.fault.SelectFault.TheVariants.{NotProposed, OutOfMemory}
+use Rattle.ms_select.specs.Rows.{x, y}
+use Rattle.yamux_frames.specs.declared.header.FrameKind.TheVariants.{Payload, Window}
+use Rattle.yamux_frames.specs.Frames.Arrival.{Byte, Tail}
+use Rattle.yamux_session.specs.declared.event.Role.TheVariants.{Client}
+use Rattle.yamux_session.specs.History.{Act}
+use Rattle.yamux_session.specs.History.Item.{Came, Did}
+use Rattle.yamux_session.specs.History.Act.{Start, Taken, Reset}
+use Rattle.yamux_session.specs.Rows.{header}
+use Rattle.streams.specs.declared.stop.Cause.TheVariants as causes
+use Rattle.conn_log.specs.declared.event.ConnFault.TheVariants as faults
+use Rattle.conn_log.specs.declared.event.ConnEvent.TheVariants as event
+use Rattle.conn_log.specs.Entries.{Entry}
+use Rattle.conn_log.specs.Entries.Entry.{Of, Says, Asks}
+use Rattle.conn_log.specs.EntryRows.{frame, opened, agrees, refuses, done, breaks}
+use Rattle.conn_log.specs.AskedRows.{is_1}
+use Rattle.conn_log.specs.DueRows.{inbound, outbound}
+use Rattle.conn_log.specs.Due.{HasHeard, IsDue, AllDue}
+
+abbrev pub is_due : List (Entry ℕ) → Entry ℕ → Type 0
+is_due = IsDue (λ before call now. ⊥) (λ handler request number. ⊥) (λ handler. false) (λ handler. false)
+    inbound outbound is_1 (x ∷ y ∷ []) (9 ∷ []) Client
+
+abbrev pub all_due : List (Entry ℕ) → Type 0
+all_due = AllDue (λ before call now. ⊥) (λ handler request number. ⊥) (λ handler. false) (λ handler. false)
+    inbound outbound is_1 (x ∷ y ∷ []) (9 ∷ []) Client
+
+-- stream 2 stood by all that came when it was reset
+abbrev pub has_heard : List (Entry ℕ) → Type 0
+has_heard log = HasHeard (λ before call now. ⊥) (λ handler request number. ⊥) (λ handler. false) (λ handler. false)
+    inbound outbound is_1 (x ∷ y ∷ []) (9 ∷ []) Client log 2
+
+-- the other end has reset it, and has sent one byte on it
+abbrev pub was_reset : List (Entry ℕ)
+was_reset = frame 8 2 ++ opened 2
+
+abbrev pub has_come : List (Entry ℕ)
+has_come = Of (Came Tail) ∷ Of (Came (Byte 99)) ∷ Of (Came (header Payload 0 2 1)) ∷ opened 2
+
+abbrev pub opens_it : Entry ℕ
+opens_it = Of (Came (header Window 1 2 0))
+
+-- what is told of the talk
+pub record TalkPlaceRows : Type 0 where
+  pub agreed_by_nothing : (index : ℕ) → ¬ is_due (opened 2) (agrees 2 index)
+  pub agreed_twice : ¬ is_due (agrees 2 1 ∷ opened 2) (agrees 2 1)
+  pub agreed_when_over : ¬ is_due (refuses 2 ∷ opened 2) (agrees 2 1)
+  pub refused_by_nothing : ¬ is_due (opened 2) (refuses 2)
+  pub refused_behind_an_agreement : ¬ is_due (agrees 2 1 ∷ opened 2) (refuses 2)
+  pub refused_twice : ¬ is_due (refuses 2 ∷ opened 2) (refuses 2)
+
+-- what is told last of a stream
+pub record LastPlaceRows : Type 0 where
+  pub done_before_an_agreement : ¬ is_due (opened 2) (done 2 7)
+  pub done_twice : ¬ is_due (done 2 7 ∷ agrees 2 1 ∷ opened 2) (done 2 7)
+  pub broken_when_over : ¬ is_due (refuses 2 ∷ frame 4 2 ++ opened 2) (breaks 2)
+  -- no reset came, or no end, or the end came behind an agreement
+  pub not_reset : ¬ is_due (frame 4 2 ++ opened 2) (Says (event.Broken 2 causes.Reset))
+  pub not_ended : ¬ is_due (opened 2) (breaks 2)
+  pub ended_behind_an_agreement : ¬ is_due (frame 4 2 ++ agrees 2 1 ∷ opened 2) (breaks 2)
+  -- one that was reset stood by its data, and by its end where that was told, which isn't where both came in one frame
+  pub reset_behind_data : (h : has_heard (frame 8 2 ++ has_come)) → h.held.so_far.got ≡ 99 ∷ []
+  pub reset_behind_its_end : (h : has_heard (frame 8 2 ++ frame 4 2 ++ opened 2)) → h.held.so_far.ended ≡ true
+  pub reset_with_its_end : (h : has_heard (frame 12 2 ++ opened 2)) → h.held.so_far.ended ≡ false
+  -- want of memory breaks no stream, and behind an agreement no talk does
+  pub fault_of_memory : ¬ is_due (opened 2) (Says (event.Broken 2 (causes.Select OutOfMemory)))
+  pub fault_behind_an_agreement : ¬ is_due (agrees 2 1 ∷ opened 2) (Says (event.Broken 2 (causes.Select NotProposed)))
+  -- nor is anything told of no stream
+  pub of_none : (key : Key) → ¬ is_due [] (Says (event.Upgraded key)) × ¬ is_due [] (Says (event.Fault faults.Link))
+      × ¬ is_due [] (Says event.Shut)
+
+-- what comes and is done
+pub record ActPlaceRows : Type 0 where
+  pub starts : ¬ is_due [] (Of (Did (Start 1)))
+  pub goes_away : ¬ is_due [] (Of (Did (Act.GoAway 0)))
+  pub takes_all : is_due has_come (Of (Did (Taken 2 1)))
+  pub takes_more : ¬ is_due has_come (Of (Did (Taken 2 2)))
+  pub takes_none : ¬ is_due has_come (Of (Did (Taken 2 0)))
+  pub resets : is_due (refuses 2 ∷ opened 2) (Of (Did (Reset 2)))
+  pub resets_unbroken : ¬ is_due (opened 2) (Of (Did (Reset 2)))
+  pub asks : is_due [] (Asks 1 1)
+  pub asks_for_none : ¬ is_due [] (Asks 1 2)
+  -- a reset stream is opened anew once its reset was told; anything else may come
+  pub opens_anew : is_due (Says (event.Broken 2 causes.Reset) ∷ was_reset) opens_it
+  pub opens_untold : ¬ is_due was_reset opens_it
+  pub comes : is_due was_reset (Of (Came (header Window 1 4 0)))
+  -- each entry is due where it stands
+  pub all_of_none : all_due []
+  pub all : all_due (Asks 3 0 ∷ Asks 1 1 ∷ [])
+  pub newest_not : ¬ all_due (Asks 3 2 ∷ Asks 1 1 ∷ [])
+  pub oldest_not : ¬ all_due (Asks 3 0 ∷ Asks 1 2 ∷ [])
