@@ -3,8 +3,8 @@
 ghost use Rattle.std.specs.Prelude.{◌≡◌, ◌≤◌, ◌<◌, ◌^◌, IfSome};
 ghost use mathlib.Core.List.{IsPrefix};
 ghost use Rattle.pool_state.specs.History.{front_of};
-ghost use Rattle.pool_state.specs.Shown.{Shown};
-ghost use Rattle.swarm_calls.specs.History.{mine};
+ghost use Rattle.pool_state.specs.Shown.{Shown, IsLegal};
+ghost use Rattle.swarm_calls.specs.History.{mine, IsOf};
 ghost use Rattle.swarm_calls.specs.Snapshots.{IsShown};
 ghost use Rattle.swarm_calls.specs.Calls.{Later, SameCalls};
 
@@ -28,7 +28,7 @@ impl<J: Identity, L: Ledgers> Model for Pass<J, L> {
     ghost use Rattle.std.specs.Prelude.{◌≡◌, ◌≤◌, length};
     ghost use Rattle.swarm_calls.specs.Ledgers.{caller_of, amount_of};
     ghost use Rattle.swarm_calls.specs.Calls.{Past, past};
-    ghost use Rattle.swarm_calls.specs.History.{mine};
+    ghost use Rattle.swarm_calls.specs.History.{mine, IsOf};
     ghost use Rattle.swarm_calls.specs.Snapshots.{IsShown};
 
     ghost Value = { Past };
@@ -93,6 +93,9 @@ impl<J: Identity, L: Ledgers> Pass<J, L> {
     /// The listing of what the caller has seen. The pass stays borrowed while it is looked at.
     pub fn listing(&self) -> &Listing
         ensures shown { result.now ≡ Shown J.config self.now.seen }
+        // Of a pass that nothing else is known of: it has seen a legal history of the swarm's callers.
+        ensures legal { IsLegal J.config self.now.seen }
+        ensures callers { IsOf J.callers self.now.seen }
     {
         &self.kept.listing
     }
