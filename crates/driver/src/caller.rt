@@ -38,6 +38,9 @@ pub trait Caller: Drop {
     /// Lets a blocked peer in again.
     fn unblock(&mut self, peer: PeerId) -> Reply;
 
+    /// Lets a peer in where only allowed peers may connect.
+    fn allow(&mut self, peer: PeerId) -> Reply;
+
     /// The connection of this number has ended.
     fn gone(&mut self, conn: u32) -> Reply;
 
@@ -74,7 +77,7 @@ impl Looking for Fresh {
 pub struct Member<'a, 's, R: Wait, J: Identity, L: Ledgers, K: Looking> {
     rt: &'a R,
     swarm: &'s Swarm<NoGate, J, L>,
-    pass: Pass<J, L>,
+    pass: Box<Pass<J, L>>,
     looking: &'a K,
 }
 
@@ -83,7 +86,7 @@ impl<'a, 's, R: Wait, J: Identity, L: Ledgers, K: Looking> Member<'a, 's, R, J, 
     pub fn new(
         rt: &'a R,
         swarm: &'s Swarm<NoGate, J, L>,
-        pass: Pass<J, L>,
+        pass: Box<Pass<J, L>>,
         looking: &'a K,
     ) -> Member<'a, 's, R, J, L, K>
         ensures { result.pass ≡ pass }
@@ -99,75 +102,81 @@ impl<'a, 's, R: Wait, J: Identity, L: Ledgers, K: Looking> Member<'a, 's, R, J, 
 
 impl<R: Wait, J: Identity, L: Ledgers, K: Looking> Caller for Member<'_, '_, R, J, L, K> {
     fn dial(&mut self, peer: Option<PeerId>) -> Reply
-        ensures { IsCalled J.config J.callers (call.Dial peer) self.old.pass result self.new.pass }
+        ensures { IsCalled J.config J.callers (call.Dial peer) self.old.pass.value result self.new.pass.value }
     {
         self.swarm.dial(self.rt, &mut self.pass, peer)
     }
 
     fn accept(&mut self) -> Reply
-        ensures { IsCalled J.config J.callers call.Accept self.old.pass result self.new.pass }
+        ensures { IsCalled J.config J.callers call.Accept self.old.pass.value result self.new.pass.value }
     {
         self.swarm.accept(self.rt, &mut self.pass)
     }
 
     fn settle(&mut self, conn: u32, proven: &Proven) -> Reply
-        ensures { IsCalled J.config J.callers (call.Settle conn (id_of proven.now)) self.old.pass result
-            self.new.pass }
+        ensures { IsCalled J.config J.callers (call.Settle conn (id_of proven.now)) self.old.pass.value result
+            self.new.pass.value }
     {
         self.swarm.settle(self.rt, &mut self.pass, conn, proven)
     }
 
     fn ask(&mut self, conn: u32, index: u8) -> Reply
-        ensures { IsCalled J.config J.callers (call.Ask conn index) self.old.pass result self.new.pass }
+        ensures { IsCalled J.config J.callers (call.Ask conn index) self.old.pass.value result self.new.pass.value }
     {
         self.swarm.ask(self.rt, &mut self.pass, conn, index)
     }
 
     fn done(&mut self, conn: u32, index: u8) -> Reply
-        ensures { IsCalled J.config J.callers (call.Done conn index) self.old.pass result self.new.pass }
+        ensures { IsCalled J.config J.callers (call.Done conn index) self.old.pass.value result self.new.pass.value }
     {
         self.swarm.done(self.rt, &mut self.pass, conn, index)
     }
 
     fn hang_up(&mut self, peer: PeerId) -> Reply
-        ensures { IsCalled J.config J.callers (call.HangUp peer) self.old.pass result self.new.pass }
+        ensures { IsCalled J.config J.callers (call.HangUp peer) self.old.pass.value result self.new.pass.value }
     {
         self.swarm.hang_up(self.rt, &mut self.pass, peer)
     }
 
     fn block(&mut self, peer: PeerId) -> Reply
-        ensures { IsCalled J.config J.callers (call.Block peer) self.old.pass result self.new.pass }
+        ensures { IsCalled J.config J.callers (call.Block peer) self.old.pass.value result self.new.pass.value }
     {
         self.swarm.block(self.rt, &mut self.pass, peer)
     }
 
     fn unblock(&mut self, peer: PeerId) -> Reply
-        ensures { IsCalled J.config J.callers (call.Unblock peer) self.old.pass result self.new.pass }
+        ensures { IsCalled J.config J.callers (call.Unblock peer) self.old.pass.value result self.new.pass.value }
     {
         self.swarm.unblock(self.rt, &mut self.pass, peer)
     }
 
+    fn allow(&mut self, peer: PeerId) -> Reply
+        ensures { IsCalled J.config J.callers (call.Allow peer) self.old.pass.value result self.new.pass.value }
+    {
+        self.swarm.allow(self.rt, &mut self.pass, peer)
+    }
+
     fn gone(&mut self, conn: u32) -> Reply
-        ensures { IsCalled J.config J.callers (call.Gone conn) self.old.pass result self.new.pass }
+        ensures { IsCalled J.config J.callers (call.Gone conn) self.old.pass.value result self.new.pass.value }
     {
         self.swarm.gone(self.rt, &mut self.pass, conn)
     }
 
     fn note(&mut self, conn: u32, agent: Agent) -> Reply
-        ensures { IsCalled J.config J.callers (call.Note conn agent) self.old.pass result self.new.pass }
+        ensures { IsCalled J.config J.callers (call.Note conn agent) self.old.pass.value result self.new.pass.value }
     {
         self.swarm.note(self.rt, &mut self.pass, conn, agent)
     }
 
     fn renew(&mut self)
-        ensures later { Later J.config J.callers self.old.pass self.new.pass }
-        ensures own { SameCalls self.old.pass self.new.pass }
+        ensures later { Later J.config J.callers self.old.pass.value self.new.pass.value }
+        ensures own { SameCalls self.old.pass.value self.new.pass.value }
     {
         self.looking.renew(self.swarm, &mut self.pass);
     }
 
     fn listing(&self) -> &Listing
-        ensures shown { result.now ≡ Shown J.config self.now.pass.seen }
+        ensures shown { result.now ≡ Shown J.config self.now.pass.value.seen }
     {
         self.pass.listing()
     }

@@ -1,11 +1,13 @@
 //! What runs a node.
 
-ghost use Rattle.std.specs.Prelude.{◌≡◌};
+ghost use Rattle.std.specs.Prelude.{◌≡◌, ◌≤◌, IfSome};
 ghost use Rattle.futures.specs.Task.{Keeps};
 
 use crate::caller::Caller;
 use crate::making::Maker;
+use crate::reports::{ConnEnd, Report, Reports};
 use crate::seat::Seat;
+use conn_log::ConnFault;
 use futures::task::{Context, Poll};
 use identify_h::Identify;
 use pool_state::{ConnSide, Listing, Phase, Refusal, Reply, Row};
@@ -41,6 +43,7 @@ pub struct Driver<'a, N: Net, C: Caller> {
     /// Where it dials.
     place: Option<SocketAddr>,
     seats: Vec<Seat>,
+    reports: Reports,
 }
 
 impl<'a, N: Net, C: Caller> Driver<'a, N, C> {
@@ -66,6 +69,7 @@ impl<'a, N: Net, C: Caller> Driver<'a, N, C> {
             listener: None,
             place: None,
             seats: Vec::new(alloc),
+            reports: Reports::new(alloc),
         }
     }
 
@@ -87,7 +91,21 @@ impl<'a, N: Net, C: Caller> Driver<'a, N, C> {
         self.place = Some(addr);
     }
 
-    /// Does all that is to be done now.
+    /// Takes no more sockets, and shuts each connection.
+    pub fn close(&mut self) {
+        self.listener = None;
+        for seat in self.seats.iter_mut() {
+            seat.shut(ConnEnd::Closed);
+        }
+    }
+
+    /// Hands out what came first of a connection or of a stream that was asked for, where that wasn't handed out yet.
+    pub fn take_report(&mut self) -> Option<Report> {
+        self.reports.take()
+    }
+
+    /// Does all that is to be done now, but for what its owner is to see first: behind a connection that became live, and
+    /// behind what a peer said of itself, it goes on in the next call.
     pub fn work(&mut self, cx: &mut Context<'_>)
         ensures { Keeps cx.old cx.new }
     {
@@ -132,12 +150,19 @@ impl<'a, N: Net, C: Caller> Driver<'a, N, C> {
                 return;
             };
             if self.seats.reserve(1).is_err() {
-                self.caller.gone(number);
+                self.starve(number);
                 return;
             }
             let seat = self.dialing(number);
             let _ = self.seats.push(seat);
         }
+    }
+
+    /// The connection of this number, which isn't dialed yet, ends for want of memory.
+    fn starve(&mut self, number: u32) {
+        self.caller.gone(number);
+        let end = ConnEnd::Fault(ConnFault::OutOfMemory);
+        self.reports.add(Report::Conn(number, end));
     }
 
     /// A connection that is to be dialed and wasn't.
@@ -154,7 +179,7 @@ impl<'a, N: Net, C: Caller> Driver<'a, N, C> {
                 let connecting = TcpStream::connect(self.net, addr, &self.reactor);
                 Seat::dialing(self.maker.alloc, number, connecting)
             }
-            None => Seat::ended(self.maker.alloc, number),
+            None => Seat::unconnected(self.maker.alloc, number),
         }
     }
 
@@ -169,7 +194,8 @@ impl<'a, N: Net, C: Caller> Driver<'a, N, C> {
             }
             self.serve_at(at, cx);
             if self.is_gone(at) && at < self.seats.len() {
-                self.seats.swap_remove(at);
+                let seat = self.seats.swap_remove(at);
+                self.reports.add(seat.report());
             } else {
                 at += 1;
             }
@@ -184,9 +210,9 @@ impl<'a, N: Net, C: Caller> Driver<'a, N, C> {
             return;
         };
         if let Some(row) = row_of(self.caller.listing(), seat.number()) {
-            seat.heed(&row);
+            seat.heed(&row, &mut self.reports);
         }
-        seat.serve(cx, &mut self.maker, &mut self.caller);
+        seat.serve(cx, &mut self.maker, &mut self.caller, &mut self.reports);
         seat.tell(&mut self.caller);
     }
 
@@ -196,6 +222,18 @@ impl<'a, N: Net, C: Caller> Driver<'a, N, C> {
             return false;
         };
         seat.has_ended() && self.caller.gone(seat.number()) != Reply::Refused(Refusal::OutOfMemory)
+    }
+
+    /// How much output of this connection waits that its peer doesn't take. Between the calls of a driver it is never
+    /// more than [`crate::MOST_WAITING`] says.
+    pub fn waiting(&self, number: u32) -> Option<usize>
+        ensures bounded { IfSome result (λ count. count ≤ 4194304) }
+    {
+        let seat = self.seats.iter().find(|seat| seat.number() == number);
+        match seat {
+            Some(seat) => Some(seat.waiting()),
+            None => None,
+        }
     }
 
     /// What the peer of this connection has said of itself.

@@ -1,11 +1,13 @@
 //! One connection of a node.
 
-ghost use Rattle.std.specs.Prelude.{◌≡◌, ◌<◌};
+ghost use Rattle.std.specs.Prelude.{◌≡◌, ◌<◌, ◌≤◌};
 ghost use Rattle.futures.specs.Task.{Keeps};
+ghost use Rattle.driver.specs.Bounds.{waiting_of};
 
 use crate::caller::Caller;
 use crate::making::{Maker, Socketed};
-use conn_log::ConnEvent;
+use crate::reports::{ConnEnd, Report, Reports, StreamEnd};
+use conn_log::{ConnEvent, ConnFault, ConnRefused};
 use futures::task::{Context, Poll};
 use futures::{Future, Stream, ready};
 use identify_h::Identify;
@@ -22,8 +24,9 @@ const MOST_EVENTS: u32 = 64;
 /// How many asks are taken up in a row. No listing shows more that are open.
 const MOST_ASKS: u32 = 64;
 
-/// How many bytes of output a connection may hold that the other end doesn't take: 4 MiB. One that holds more is
-/// dropped.
+/// How many bytes of output a connection may hold that the other end doesn't take: 4 MiB. One that holds more behind an
+/// event, or where it waits, is dropped, and isn't shut before. Between two looks it makes at most 32 calls of its
+/// socket, each of which reads at most 8,192 bytes: that bounds what it holds above these.
 pub const MOST_WAITING: usize = 4_194_304;
 
 /// How far a connection is.
@@ -33,8 +36,8 @@ enum Way {
     Connecting(ConnectFuture),
     /// It stands.
     Up(Socketed),
-    /// It has ended, and the swarm isn't told yet.
-    Ended,
+    /// It has ended for this, and the swarm isn't told yet.
+    Ended(ConnEnd),
 }
 
 /// A stream that was asked for and isn't over.
@@ -57,11 +60,16 @@ pub struct Seat {
     streams: Vec<AskedStream>,
     /// What the peer has said of itself.
     identify: Option<Identify>,
-    is_shut: bool,
+    /// Why it is shut, where it is.
+    shut: Option<ConnEnd>,
+    // No more of its output waits than may.
+    ghost bounded: { waiting_of way ≤ 4194304 },
 }
 
 impl Seat {
-    fn new(alloc: Global, number: u32, way: Way) -> Seat {
+    fn new(alloc: Global, number: u32, way: Way) -> Seat
+        requires { waiting_of way ≤ 4194304 }
+    {
         Seat {
             number,
             way,
@@ -69,7 +77,7 @@ impl Seat {
             over: [0; 3],
             streams: Vec::new(alloc),
             identify: None,
-            is_shut: false,
+            shut: None,
         }
     }
 
@@ -85,8 +93,8 @@ impl Seat {
     }
 
     /// A connection that has ended before it had a socket.
-    pub fn ended(alloc: Global, number: u32) -> Seat {
-        Seat::new(alloc, number, Way::Ended)
+    pub fn unconnected(alloc: Global, number: u32) -> Seat {
+        Seat::new(alloc, number, Way::Ended(ConnEnd::NoConnection))
     }
 
     /// The connection's number in the swarm.
@@ -98,36 +106,51 @@ impl Seat {
 
     /// Whether it has ended.
     pub fn has_ended(&self) -> bool {
-        matches!(self.way, Way::Ended)
+        matches!(self.way, Way::Ended(_))
     }
 
-    /// Shuts it; what isn't connected yet ends.
-    fn shut(&mut self) {
-        if self.is_shut {
+    /// What its owner is told at its end.
+    pub fn report(&self) -> Report {
+        let end = match self.way {
+            Way::Ended(end) => end,
+            Way::Connecting(_) | Way::Up(_) => ConnEnd::Closed,
+        };
+        Report::Conn(self.number, end)
+    }
+
+    /// It ends, for what it was shut for or else for this.
+    fn end(&mut self, end: ConnEnd) {
+        self.way = Way::Ended(self.shut.unwrap_or(end));
+    }
+
+    /// Shuts it for this, where it isn't shut; what isn't connected yet ends.
+    pub fn shut(&mut self, end: ConnEnd) {
+        if self.shut.is_some() {
             return;
         }
-        self.is_shut = true;
+        self.shut = Some(end);
         match &mut self.way {
             Way::Up(conn) => conn.shut(),
-            Way::Connecting(_) | Way::Ended => self.way = Way::Ended,
+            Way::Connecting(_) => self.way = Way::Ended(end),
+            Way::Ended(_) => {}
         }
     }
 
     /// Does what the listing's row of this connection asks for.
-    pub fn heed(&mut self, row: &Row) {
+    pub fn heed(&mut self, row: &Row, reports: &mut Reports) {
         match row.phase {
             Phase::Pending => {}
             Phase::Live => {
                 for index in 0..3 {
-                    self.take_up(index, row.asked[index as usize]);
+                    self.take_up(index, row.asked[index as usize], reports);
                 }
             }
-            Phase::Closing => self.shut(),
+            Phase::Closing => self.shut(ConnEnd::Closed),
         }
     }
 
     /// Opens a stream for each ask of this protocol that wasn't taken up.
-    fn take_up(&mut self, index: u8, asked: u64)
+    fn take_up(&mut self, index: u8, asked: u64, reports: &mut Reports)
         requires { index < 3 }
     {
         for _ in 0..MOST_ASKS {
@@ -135,42 +158,49 @@ impl Seat {
                 return;
             }
             self.taken[index as usize] += 1;
-            if !self.open(index) {
-                self.count_over(index);
+            if let Err(refused) = self.open(index) {
+                self.count_over(index, StreamEnd::Unopened(refused), reports);
             }
         }
     }
 
-    /// Opens a stream, and answers whether it could.
-    fn open(&mut self, index: u8) -> bool {
+    /// Opens a stream.
+    fn open(&mut self, index: u8) -> Result<(), ConnRefused> {
         if self.streams.reserve(1).is_err() {
-            return false;
+            return Err(ConnRefused::OutOfMemory);
         }
         let Way::Up(conn) = &mut self.way else {
-            return false;
+            return Err(ConnRefused::NotUp);
         };
-        match conn.ask(index as usize) {
-            Ok(number) => self.streams.push(AskedStream { number, index }).is_ok(),
-            Err(_) => false,
+        let asked = conn.ask(index as usize);
+        if conn.waiting() > MOST_WAITING {
+            self.way = Way::Ended(self.shut.unwrap_or(ConnEnd::Untaken));
+            return Err(ConnRefused::Failed);
         }
+        let _ = self.streams.push(AskedStream {
+            number: asked?,
+            index,
+        });
+        Ok(())
     }
 
     /// A stream of this protocol that was asked for is over.
-    fn count_over(&mut self, index: u8) {
+    fn count_over(&mut self, index: u8, end: StreamEnd, reports: &mut Reports) {
+        reports.add(Report::Stream(self.number, index, end));
         if let Some(count) = self.over.get_mut(index as usize) {
             *count = count.saturating_add(1);
         }
     }
 
     /// This stream is over.
-    fn finish(&mut self, number: u32) {
+    fn finish(&mut self, number: u32, end: StreamEnd, reports: &mut Reports) {
         let at = self
             .streams
             .iter()
             .position(|stream| stream.number == number);
         if let Some(at) = at {
             let stream = self.streams.swap_remove(at);
-            self.count_over(stream.index);
+            self.count_over(stream.index, end, reports);
         }
     }
 
@@ -189,15 +219,21 @@ impl Seat {
         }
     }
 
-    /// Goes on as far as it can now.
-    pub fn serve<C: Caller>(&mut self, cx: &mut Context<'_>, maker: &mut Maker, caller: &mut C)
+    /// Goes on as far as it can now, or until its owner is to see what came.
+    pub fn serve<C: Caller>(
+        &mut self,
+        cx: &mut Context<'_>,
+        maker: &mut Maker,
+        caller: &mut C,
+        reports: &mut Reports,
+    )
         ensures { Keeps cx.old cx.new }
     {
         if let Poll::Ready(connected) = self.poll_connected(cx) {
             if let Some(stream) = connected {
                 self.way = way_of(maker, stream, ConnRole::Dialer);
             }
-            self.hear_all(cx, caller);
+            self.hear_all(cx, caller, reports);
         }
     }
 
@@ -211,55 +247,83 @@ impl Seat {
         match ready!(connecting.poll(cx)) {
             Ok(stream) => Poll::Ready(Some(stream)),
             Err(_) => {
-                self.way = Way::Ended;
+                self.end(ConnEnd::NoConnection);
                 Poll::Ready(None)
             }
         }
     }
 
-    /// Hears what the connection tells, until it waits.
-    fn hear_all<C: Caller>(&mut self, cx: &mut Context<'_>, caller: &mut C)
+    /// Hears what the connection tells, until it waits, or its owner is to see what came.
+    fn hear_all<C: Caller>(&mut self, cx: &mut Context<'_>, caller: &mut C, reports: &mut Reports)
         ensures { Keeps cx.old cx.new }
     {
         for _ in 0..MOST_EVENTS {
             let Way::Up(conn) = &mut self.way else {
                 return;
             };
-            match conn.poll_next(cx) {
-                Poll::Ready(Some(event)) => self.hear(event, caller),
-                Poll::Ready(None) => self.way = Way::Ended,
-                Poll::Pending => {
-                    if conn.waiting() > MOST_WAITING {
-                        self.way = Way::Ended;
+            let (polled, waiting) = (conn.poll_next(cx), conn.waiting());
+            if waiting > MOST_WAITING {
+                self.way = Way::Ended(self.shut.unwrap_or(ConnEnd::Untaken));
+                return;
+            }
+            match polled {
+                Poll::Ready(Some(event)) => {
+                    if self.hear(event, caller, reports) {
+                        break;
                     }
-                    return;
                 }
+                Poll::Ready(None) => self.end(ConnEnd::Shut),
+                Poll::Pending => return,
             }
         }
         let _again: Poll<()> = cx.yield_now();
     }
 
-    /// Hears one event of the connection.
-    fn hear<C: Caller>(&mut self, event: ConnEvent<NodeHandler>, caller: &mut C) {
+    /// Hears one event of the connection, and answers whether the owner is to see what came of it before the next one.
+    fn hear<C: Caller>(
+        &mut self,
+        event: ConnEvent<NodeHandler>,
+        caller: &mut C,
+        reports: &mut Reports,
+    ) -> bool {
         match event {
-            ConnEvent::Upgraded(proven) => self.settle(&proven, caller),
-            ConnEvent::Agreed(..) => {}
-            ConnEvent::Refused(stream) | ConnEvent::Broken(stream, _) => self.finish(stream),
-            ConnEvent::Done(stream, handler) => {
-                if let Ok(message) = handler.into_message() {
-                    self.note(&message, caller);
-                    self.keep(stream, message);
-                }
-                self.finish(stream);
+            ConnEvent::Upgraded(proven) => {
+                self.settle(&proven, caller);
+                return true;
             }
-            ConnEvent::Fault(_) | ConnEvent::Shut => self.way = Way::Ended,
+            ConnEvent::Agreed(..) => {}
+            ConnEvent::Refused(stream) => self.finish(stream, StreamEnd::Refused, reports),
+            ConnEvent::Broken(stream, cause) => {
+                self.finish(stream, StreamEnd::Broken(cause), reports);
+            }
+            ConnEvent::Done(stream, handler) => {
+                let is_said = self.take_in(stream, handler, caller);
+                self.finish(stream, StreamEnd::Done, reports);
+                return is_said;
+            }
+            ConnEvent::Fault(fault) => self.end(ConnEnd::Fault(fault)),
+            ConnEvent::Shut => self.end(ConnEnd::Shut),
+        }
+        false
+    }
+
+    /// Takes in what the peer said of itself on this stream, and answers whether it did.
+    fn take_in<C: Caller>(&mut self, stream: u32, handler: NodeHandler, caller: &mut C) -> bool {
+        match handler.into_message() {
+            Ok(message) => {
+                self.note(&message, caller);
+                self.keep(stream, message);
+                true
+            }
+            Err(_) => false,
         }
     }
 
     /// The other end has proven its key.
     fn settle<C: Caller>(&mut self, proven: &Proven, caller: &mut C) {
-        if caller.settle(self.number, proven) != Reply::Done {
-            self.shut();
+        match caller.settle(self.number, proven) {
+            Reply::Refused(refusal) => self.shut(ConnEnd::Refused(refusal)),
+            Reply::Done | Reply::Conn(_) | Reply::Count(_) => {}
         }
     }
 
@@ -271,7 +335,7 @@ impl Seat {
             .and_then(|agent| Agent::from_bytes(agent.as_slice()));
         if let Some(agent) = agent {
             if caller.note(self.number, agent) == Reply::Refused(Refusal::OutOfMemory) {
-                self.shut();
+                self.shut(ConnEnd::Fault(ConnFault::OutOfMemory));
             }
         }
     }
@@ -287,6 +351,16 @@ impl Seat {
         self.identify = Some(merged(kept, message));
     }
 
+    /// How much of its output waits.
+    pub fn waiting(&self) -> usize
+        ensures { (result ≡ waiting_of self.now.way) × (result ≤ 4194304) }
+    {
+        match &self.way {
+            Way::Up(conn) => conn.waiting(),
+            Way::Connecting(_) | Way::Ended(_) => 0,
+        }
+    }
+
     /// What the peer has said of itself.
     pub fn identify(&self) -> Option<&Identify> {
         self.identify.as_ref()
@@ -294,10 +368,14 @@ impl Seat {
 }
 
 /// A connection over a socket that is connected, or the end where memory was refused.
-fn way_of(maker: &mut Maker, stream: TcpStream, role: ConnRole) -> Way {
+fn way_of(maker: &mut Maker, stream: TcpStream, role: ConnRole) -> Way
+    ensures { waiting_of result ≤ 4194304 }
+{
     match maker.conn(stream, role) {
+        // It has less to say before it is up.
+        Ok(conn) if conn.waiting() > MOST_WAITING => Way::Ended(ConnEnd::Untaken),
         Ok(conn) => Way::Up(conn),
-        Err(_) => Way::Ended,
+        Err(_) => Way::Ended(ConnEnd::Fault(ConnFault::OutOfMemory)),
     }
 }
 

@@ -20,8 +20,8 @@ pub trait SwarmUse: Drop {
     fn go<'s, J: Identity, L: Ledgers>(
         self,
         swarm: &'s Swarm<NoGate, J, L>,
-        one: Pass<J, L>,
-        other: Pass<J, L>,
+        one: Box<Pass<J, L>>,
+        other: Box<Pass<J, L>>,
     ) -> Self::Output;
 }
 
@@ -81,6 +81,10 @@ fn in_swarm<
     // There are two.
     let (Some(other), Some(one)) = (passes.pop(), passes.pop()) else {
         return Err(NewRefused::NoPlace);
+    };
+    // A pass holds a listing of some 50 kB, so what owns it is moved without it.
+    let (Ok(one), Ok(other)) = (Box::new(rt.alloc(), one), Box::new(rt.alloc(), other)) else {
+        return Err(NewRefused::OutOfMemory);
     };
     Ok(purpose.go(&swarm, one, other))
 }

@@ -4,7 +4,11 @@ use node_texts::{HashRefused, IdRefused};
 use std::alloc::{AllocError, AllocGlobal, Global};
 use std::io;
 use std::io::Write;
+use std::net::Net;
+use std::random::RandomSource;
+use std::sync::Wait;
 use std::test::*;
+use std::time::Clock;
 
 const ZERO_KEY: &str = "080112200000000000000000000000000000000000000000000000000000000000000000";
 
@@ -388,7 +392,11 @@ struct Ran {
     faults: Vec<u8>,
 }
 
-fn run<R: AllocGlobal>(rt: &R, words: &[&str], mut input: &[u8]) -> Ran {
+fn run<R: AllocGlobal + Wait + Clock + Net + RandomSource>(
+    rt: &R,
+    words: &[&str],
+    mut input: &[u8],
+) -> Ran {
     let mut ran = Ran {
         status: 0,
         output: Vec::new(rt.alloc()),
@@ -411,7 +419,7 @@ impl Ran {
     }
 }
 
-fn goes<R: AllocGlobal>(rt: &R, row: &Row) -> bool {
+fn goes<R: AllocGlobal + Wait + Clock + Net + RandomSource>(rt: &R, row: &Row) -> bool {
     run(rt, row.words, row.input).is_as(row.status, row.output, row.faults)
 }
 
@@ -430,7 +438,7 @@ fn replays(rt: HostRuntime) {
 }
 
 /// As many connections are accepted as the table holds, and one is refused.
-fn fills<R: AllocGlobal>(
+fn fills<R: AllocGlobal + Wait + Clock + Net + RandomSource>(
     rt: &R,
     script: &mut String,
     lines: &mut String,
@@ -455,7 +463,7 @@ fn replay_of_a_table_that_fills(rt: HostRuntime) -> Result<(), Fail> {
 }
 
 /// Whether a script of so many empty lines is replayed, or is refused whole.
-fn is_replayed<R: AllocGlobal>(
+fn is_replayed<R: AllocGlobal + Wait + Clock + Net + RandomSource>(
     rt: &R,
     len: usize,
     status: u8,

@@ -21,6 +21,8 @@ pub enum Asked<'a> {
     Replay(Config),
     /// A script of what comes to an end of a connection, and what it is asked for.
     Trace(Traced<'a>),
+    /// A script on two nodes.
+    Run,
 }
 
 /// Why a command line asks for nothing.
@@ -82,13 +84,20 @@ fn node<'a>(alloc: Global) -> Result<Command<'a>, AllocError> {
     Ok(node)
 }
 
+fn run_command<'a>(alloc: Global) -> Command<'a> {
+    Command::new(alloc, "run").about(
+        "Runs a script from standard input on two nodes that talk over 127.0.0.1",
+    )
+}
+
 fn command<'a>(alloc: Global) -> Result<Command<'a>, AllocError> {
     let mut command = node(alloc)?;
     for it in &WORDED {
         command = command.subcommand(with_word(alloc, it)?)?;
     }
     command = command.subcommand(replay_command(alloc)?)?;
-    command.subcommand(trace_command(alloc)?)
+    command = command.subcommand(trace_command(alloc)?)?;
+    command.subcommand(run_command(alloc))
 }
 
 /// What the words ask for, where they are a good command line.
@@ -101,6 +110,7 @@ fn parse<'a>(alloc: Global, words: &'a [&'a str]) -> Result<Result<Asked<'a>, Ba
         Some(("replay", found)) => {
             return Ok(config_of(found).map(|config| Asked::Replay(config)));
         }
+        Some(("run", _)) => return Ok(Ok(Asked::Run)),
         Some(("trace", found)) => {
             return Ok(traced_of(alloc, found).map(|traced| Asked::Trace(traced)));
         }

@@ -1,6 +1,7 @@
 //! Why a run of `node` ends early, and the line that tells it.
 
 use multiaddr::AddrFault;
+use node_run::RunEnding;
 use node_texts::{HashRefused, IdRefused};
 use std::io;
 use thiserror::Error;
@@ -23,7 +24,10 @@ pub enum Ending {
     /// The input is too long, or it can't be read or held.
     #[error("refused input")]
     Input,
-    /// A write failed.
+    /// An await gave up.
+    #[error("await gave up")]
+    GaveUp,
+    /// A write failed, or a growth of the program's own or a socket was refused.
     #[error("a write failed")]
     Unwritten,
 }
@@ -49,5 +53,16 @@ impl From<AddrFault> for Ending {
 impl From<io::Error> for Ending {
     fn from(_error: io::Error) -> Ending {
         Ending::Unwritten
+    }
+}
+
+impl From<RunEnding> for Ending {
+    fn from(ending: RunEnding) -> Ending {
+        match ending {
+            RunEnding::Line(number) => Ending::Line(number),
+            RunEnding::Input => Ending::Input,
+            RunEnding::GaveUp => Ending::GaveUp,
+            RunEnding::Failed => Ending::Unwritten,
+        }
     }
 }

@@ -6,9 +6,9 @@ ghost use Rattle.std.specs.Prelude.{◌≤◌};
 mod command;
 mod ending;
 mod input;
-mod line;
 mod options;
 mod replay;
+mod run;
 mod trace;
 mod trace_line;
 mod trace_options;
@@ -17,26 +17,34 @@ use command::{Asked, Unasked, read};
 pub use ending::Ending;
 use node_texts::{addr_lines, hash_hex, id_text};
 use replay::replay;
+use run::run;
 use std::alloc::{AllocGlobal, Global};
 use std::io;
 use std::io::{Read, Write};
+use std::net::Net;
+use std::random::RandomSource;
+use std::sync::Wait;
+use std::time::Clock;
 use trace::trace;
 
 /// Does a whole run of the words behind the program's name, and gives its status: 0 good, 1 refused input or a
-/// failing write, 2 a bad command line. What it writes to `output` is flushed before it ends, and before a refusal is
-/// told.
+/// failing write, 2 a bad command line, 3 an await that gave up. What it writes to `output` is flushed before it ends,
+/// and before a refusal is told.
 pub fn node<R, I, O, E>(rt: &R, words: &[&str], input: &mut I, output: &mut O, faults: &mut E) -> u8
 where
-    R: AllocGlobal,
+    R: AllocGlobal + Wait + Clock + Net + RandomSource,
     I: Read,
     O: Write,
     E: Write,
-    ensures { result ≤ 2 }
+    ensures { result ≤ 3 }
 {
     let alloc = rt.alloc();
     match read(alloc, words) {
         Ok(asked) => {
-            let answered = answer(alloc, &asked, input, output);
+            let answered = match &asked {
+                Asked::Run => run(rt, input, output),
+                asked => answer(alloc, asked, input, output),
+            };
             let flushed = output.flush();
             status(answered.and(flushed.map_err(Ending::from)), faults)
         }
@@ -64,7 +72,7 @@ fn written(outcome: io::Result<()>, good: u8) -> u8
 
 /// The status of a run. What ended it is told in a line, but for a write that failed.
 fn status<E: Write>(outcome: Result<(), Ending>, faults: &mut E) -> u8
-    ensures { result ≤ 1 }
+    ensures { result ≤ 3 }
 {
     let Err(ending) = outcome else {
         return 0;
@@ -72,10 +80,13 @@ fn status<E: Write>(outcome: Result<(), Ending>, faults: &mut E) -> u8
     if !matches!(ending, Ending::Unwritten) {
         let _ = writeln!(faults, "{ending}");
     }
-    1
+    match ending {
+        Ending::GaveUp => 3,
+        _ => 1,
+    }
 }
 
-/// Prints what was asked for.
+/// Prints what was asked for, but for a run of two nodes.
 fn answer<I: Read, O: Write>(
     alloc: Global,
     asked: &Asked<'_>,
@@ -92,6 +103,8 @@ fn answer<I: Read, O: Write>(
         }
         Asked::Replay(config) => replay(alloc, *config, input, output)?,
         Asked::Trace(traced) => trace(alloc, traced, input, output)?,
+        // It needs more than memory, and isn't answered here.
+        Asked::Run => {}
     }
     Ok(())
 }

@@ -1,8 +1,8 @@
 //! The options of a replay, and the pool that they ask for.
 
-use crate::line::peer_of;
 use clap::{Arg, ArgAction, ArgMatches, Command, value_parser};
 use pool_state::{Config, Limits};
+use pool_texts::peer_of;
 use std::alloc::{AllocError, Global};
 use thiserror::Error;
 

@@ -1,7 +1,7 @@
 //! The lines of a trace: what comes to an end of a connection, and what it is asked for.
 
-use crate::line::digits;
 use hex::FromHexError;
+use pool_texts::digits;
 use std::alloc::{AllocError, Global};
 
 /// A line of a trace.
