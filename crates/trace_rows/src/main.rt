@@ -8,13 +8,21 @@ mod rows;
 
 use play::{Feeds, bytes_of, play, play_text, upgrade};
 use rows::{Row, asks, comes_to_a_listener, cut_rows, ends, messages, streams};
-use std::io;
+use std::alloc::AllocGlobal;
+use std::io::{self, Print};
+use std::net::Net;
+use std::random::RandomSource;
+use std::sync::Wait;
+use std::time::Clock;
 
 /// Rows that are cut, each in pieces of these sizes.
 const SIZES: [u32; 3] = [1, 7, 13];
 
 /// Plays a row whole, and cut in pieces of each size.
-fn play_cut(rt: &HostRuntime, row: &Row) -> io::Result<()> {
+fn play_cut<R>(rt: &R, row: &Row) -> io::Result<()>
+where
+    R: AllocGlobal + Print + Wait + Clock + Net + RandomSource,
+{
     play(rt, row, Feeds::Whole)?;
     for size in SIZES {
         play(rt, row, Feeds::Cut(size))?;
@@ -23,7 +31,10 @@ fn play_cut(rt: &HostRuntime, row: &Row) -> io::Result<()> {
 }
 
 /// Ends the input of a listener behind each front of what comes to it, and prints what is told last, where it changes.
-fn play_ends(rt: &HostRuntime) -> io::Result<()> {
+fn play_ends<R>(rt: &R) -> io::Result<()>
+where
+    R: AllocGlobal + Print + Wait + Clock + Net + RandomSource,
+{
     let mut bytes = upgrade(rt.alloc())?;
     bytes.extend_from_slice(&bytes_of(rt.alloc(), comes_to_a_listener())?)?;
     let mut last = String::new(rt.alloc());
@@ -39,7 +50,10 @@ fn play_ends(rt: &HostRuntime) -> io::Result<()> {
 }
 
 /// Plays rows whole.
-fn play_whole(rt: &HostRuntime, rows: &[Row]) -> io::Result<()> {
+fn play_whole<R>(rt: &R, rows: &[Row]) -> io::Result<()>
+where
+    R: AllocGlobal + Print + Wait + Clock + Net + RandomSource,
+{
     for row in rows {
         play(rt, row, Feeds::Whole)?;
     }
@@ -47,7 +61,10 @@ fn play_whole(rt: &HostRuntime, rows: &[Row]) -> io::Result<()> {
 }
 
 /// Plays all rows.
-fn play_all(rt: &HostRuntime) -> io::Result<()> {
+fn play_all<R>(rt: &R) -> io::Result<()>
+where
+    R: AllocGlobal + Print + Wait + Clock + Net + RandomSource,
+{
     for row in cut_rows() {
         play_cut(rt, row)?;
     }

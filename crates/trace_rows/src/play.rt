@@ -2,9 +2,13 @@
 
 use crate::parts;
 use crate::rows::{Line, Part, Piece, Row};
-use std::alloc::{AllocError, Global};
+use std::alloc::{AllocError, AllocGlobal, Global};
 use std::fmt::Write;
-use std::io;
+use std::io::{self, Print};
+use std::net::Net;
+use std::random::RandomSource;
+use std::sync::Wait;
+use std::time::Clock;
 use yamux_frames::{FrameKind, Header};
 
 /// How bytes come.
@@ -102,7 +106,12 @@ pub fn upgrade(alloc: Global) -> Result<Vec<u8>, AllocError> {
 }
 
 /// What is printed for a script that feeds these bytes, and then has these lines.
-pub fn play_text(rt: &HostRuntime, role: &str, bytes: &[u8], lines: &str) -> io::Result<String> {
+pub fn play_text<R: AllocGlobal + Wait + Clock + Net + RandomSource>(
+    rt: &R,
+    role: &str,
+    bytes: &[u8],
+    lines: &str,
+) -> io::Result<String> {
     let mut script = String::new(rt.alloc());
     writeln!(&mut script, "feed {}", hex::encode(rt.alloc(), bytes)?)?;
     script.push_str(lines)?;
@@ -152,13 +161,16 @@ fn script_of(alloc: Global, row: &Row, feeds: Feeds) -> io::Result<String> {
 }
 
 /// Plays a row, and prints what it prints.
-pub fn play(rt: &HostRuntime, row: &Row, feeds: Feeds) -> io::Result<()> {
+pub fn play<R>(rt: &R, row: &Row, feeds: Feeds) -> io::Result<()>
+where
+    R: AllocGlobal + Print + Wait + Clock + Net + RandomSource,
+{
     match feeds {
         Feeds::Whole => println!(rt; "== {}", row.name)?,
         Feeds::Cut(size) => println!(rt; "== {}, cut in pieces of {size}", row.name)?,
     }
     let script = script_of(rt.alloc(), row, feeds)?;
-    let (mut output, mut faults) = (rt.stdout(), Vec::new(rt.alloc()));
+    let (mut output, mut faults) = (Vec::new(rt.alloc()), Vec::new(rt.alloc()));
     node_cli::node(
         rt,
         &["trace", row.role],
@@ -166,5 +178,6 @@ pub fn play(rt: &HostRuntime, row: &Row, feeds: Feeds) -> io::Result<()> {
         &mut output,
         &mut faults,
     );
+    print!(rt; "{}", String::from_utf8_lossy(rt.alloc(), &output)?)?;
     print!(rt; "{}", String::from_utf8_lossy(rt.alloc(), &faults)?)
 }
