@@ -7,7 +7,7 @@ use Rattle.yamux_session.specs.History.{Item, arrivals}
 use Rattle.yamux_session.specs.History.Item.{Came}
 use Rattle.yamux_session.specs.Events.{Told, events}
 use Rattle.yamux_session.specs.declared.event.Event.{Event}
-use Rattle.yamux_session.specs.State.{State, Stands, EndsWith, Led, Steps, Feeds, HasCome}
+use Rattle.yamux_session.specs.State.{State, Stands, EndsWith, Led, IsOneFrame, Steps, FeedsFrame, HasCome}
 use Rattle.yamux_session.specs.Arrives.{telling, tellings, HasData, added}
 use Rattle.yamux_session.proofs.Pieces.{take_over, take_on}
 use Rattle.yamux_session.proofs.Telling.{all_both}
@@ -47,13 +47,12 @@ added_more before more after is = ap (added before) is ∙ drop-append_seam befo
 
 pub step_feeds : (old new : State) (bytes : List ℕ) (before after : List Event)
     → ((role : Role) (past : List Item) (fed sent : List ℕ) → Stands role past fed sent old → Steps role past fed bytes sent before after new)
-    → Feeds old bytes (added before after) new
+    → FeedsFrame old bytes (added before after) new
 step_feeds old new bytes before after steps = λ role past fed sent stands.
-    let step = steps role past fed sent stands in (
-      step.now,
-      subst (λ (xs : List Told). Led role past step.now fed bytes sent xs new)
-          (sym (ap tellings (added_more before step.tells.more after step.tells.added) ∙ step.tells.telling)) step.led,
-    )
+    let step = steps role past fed sent stands in
+    let fed_on = subst (λ (xs : List Told). (led : Led role past step.now fed bytes sent xs new) × IsOneFrame led.came.0)
+    (sym (ap tellings (added_more before step.tells.more after step.tells.added) ∙ step.tells.telling)) (step.led, step.one_frame) in
+    (step.now, fed_on.0, fed_on.1)
 
 -- what holds of the events of one answer holds of those that were put behind
 pub step_added : (P : List Event → Type 0) (role : Role) (past : List Item) (fed bytes sent : List ℕ) (before after : List Event) (new : State)
@@ -64,7 +63,7 @@ step_added P role past fed bytes sent before after new holds step = subst P (sym
 pub frame_led : (role : Role) (past : List Item) (fed bytes sent : List ℕ) (at used : ℕ) (before after : List Event) (s t : State)
     → at ≤ length bytes → s.failed ≡ false → after ≡ before ++ added before after
     → ((mid : List Item) × Led role past mid fed (take at bytes) sent (tellings before) s)
-    → Feeds s (take used (drop at bytes)) (added before after) t
+    → FeedsFrame s (take used (drop at bytes)) (added before after) t
     → (now : List Item) × Led role past now fed (take (at + used) bytes) sent (tellings after) t
 frame_led role past fed bytes sent at used before after s t within going kept led feeds =
     let mid : List Item = led.0 in
@@ -90,6 +89,20 @@ nothing_led role past fed sent s stands = record {
   goes_on = λ _. subst (λ (t : List ℕ). Stands role past t sent s) (sym (append-nil fed)) stands;
   fails = λ bad. absurd (let e : true ≡ false = sym bad ∙ stands.going in cc);
 }
+
+pub nothing_fed : (role : Role) (past : List Item) (fed sent : List ℕ) (told : List Event) (s : State) → Stands role past fed sent s
+    → (now : List Item) × (led : Led role past now fed [] sent (tellings (added told told)) s) × IsOneFrame led.came.0
+nothing_fed role past fed sent told s stands =
+    let none = subst (λ (xs : List Event). (led : Led role past past fed [] sent (tellings xs) s) × IsOneFrame led.came.0) (sym (added_more told [] told (sym (append-nil told)))) (
+      record {
+        came = ([], refl);
+        told_is = sym (append-nil (events role past));
+        goes_on = λ _. subst (λ (t : List ℕ). Stands role past t sent s) (sym (append-nil fed)) stands;
+        fails = λ bad. absurd (let e : true ≡ false = sym bad ∙ stands.going in cc);
+      },
+      tt,
+    ) in
+    (past, none.0, none.1)
 
 -- memory was wanting before the first byte
 pub none_led : (role : Role) (past : List Item) (fed bytes sent pending : List ℕ) (s : State) → Stands role past fed sent s → pending ≡ s.pending

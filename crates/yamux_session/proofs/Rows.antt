@@ -4,7 +4,7 @@ use Rattle.yamux_session.specs.declared.event.Fault.TheVariants.{BadFrame}
 use Rattle.yamux_session.specs.History.Item.{Did}
 use Rattle.yamux_session.specs.History.Act.{Start, Close}
 use Rattle.yamux_session.specs.Runs.Point.{At}
-use Rattle.yamux_session.specs.Rows.{OpeningRows, EarlyRows, LeavingRows, EndingRows, AnsweredRows, WindowRows, OtherRows, AnswerRows, FlagRows, NamingRows, GrowthRows, FirstFaultRows, RunRows}
+use Rattle.yamux_session.specs.Rows.{OpeningRows, EarlyRows, LeavingRows, EndingRows, AnsweredRows, WindowRows, OtherRows, AnswerRows, FlagRows, NamingRows, FrameRows, GrowthRows, FirstFaultRows, RunRows}
 
 pub opening_rows : OpeningRows
 opening_rows = record {
@@ -85,6 +85,17 @@ leaving_rows = record {
   written_behind_the_other = refl;
   taken_behind_the_other = refl;
   opened_behind_the_other = refl;
+}
+
+pub frame_rows : FrameRows
+frame_rows = record {
+  whole = tt;
+  part = tt;
+  two_headers = λ one. absurd one;
+  behind_an_end = λ one. absurd one;
+  behind_a_byte = λ one. absurd one;
+  garbled_first = tt;
+  garbled_behind = λ one. absurd one;
 }
 
 pub naming_rows : NamingRows

@@ -25,7 +25,7 @@ use Rattle.yamux_session.specs.Table.{Table}
 use Rattle.yamux_session.specs.Acts.{AreAnswered}
 use Rattle.yamux_session.specs.Keeps.{Keeps}
 use Rattle.yamux_session.specs.Arrives.{Tells, Arrives}
-use Rattle.yamux_session.specs.State.{State, Stands, EndsWith, Steps}
+use Rattle.yamux_session.specs.State.{State, Stands, EndsWith, IsOneFrame, Steps}
 use Rattle.yamux_session.proofs.Telling.{tells_nothing, arrives_then}
 use Rattle.yamux_session.proofs.Naming.{TellsOne, names_one, tells_fault, head_tells_one, frame_tells_one, part_tells_one, last_tells_one}
 
@@ -62,13 +62,27 @@ arrivals_of_bytes (b ∷ bytes) past = arrivals_of_bytes bytes (Came (Byte b) �
 pub rest_of : (xs piece : List ℕ) (at : ℕ) → xs ≡ piece → take (length xs - at) (drop at xs) ≡ drop at piece
 rest_of xs piece at same = take_rest xs at ∙ ap (drop at) same
 
+-- ---- of one frame
+
+byte_behind : (b : ℕ) (came : List Arrival) → IsOneFrame came → IsOneFrame (Byte b ∷ came)
+byte_behind b [] one = tt
+byte_behind b (x ∷ came) one = one
+
+tail_behind : (came : List Arrival) → IsOneFrame came → IsOneFrame (Tail ∷ came)
+tail_behind [] one = tt
+tail_behind (x ∷ came) one = one
+
+bytes_behind : (bytes : List ℕ) (came : List Arrival) → IsOneFrame came → IsOneFrame (with_bytes bytes came)
+bytes_behind [] came one = one
+bytes_behind (b ∷ bytes) came one = bytes_behind bytes (Byte b ∷ came) (byte_behind b came one)
+
 -- ---- the session goes on
 
 pub went : (role : Role) (past now : List Item) (fed bytes sent : List ℕ) (before after : List Event) (old new : State) (came : List Arrival)
-    → Stands role past fed sent old → now ≡ map Came came ++ past → wire.Stands (fed ++ bytes) (arrivals now) new.place
+    → IsOneFrame came → Stands role past fed sent old → now ≡ map Came came ++ past → wire.Stands (fed ++ bytes) (arrivals now) new.place
     → Arrives role past now new.table before after old.pending new.pending → new.failed ≡ false
     → ((told : List Told) → events role now ≡ events role past ++ told → TellsOne told) → Steps role past fed bytes sent before after new
-went role past now fed bytes sent before after old new came stands came_is frames arrives going one = record {
+went role past now fed bytes sent before after old new came of_one stands came_is frames arrives going one = record {
   now = now;
   told = arrives.told.0;
   tells = arrives.told.1;
@@ -87,6 +101,7 @@ went role past now fed bytes sent before after old new came stands came_is frame
     };
     fails = λ bad. absurd (let e : true ≡ false = sym bad ∙ going in cc);
   };
+  one_frame = of_one;
 }
 
 -- ---- the session ends
@@ -110,6 +125,7 @@ fell role past fed bytes sent before after old new x fault used stands faulty wi
       (used, within, ends),
     );
   };
+  one_frame = tt;
 }
 
 -- the bytes up to a head
@@ -164,10 +180,10 @@ pub frame_went : (role : Role) (past : List Item) (fed bytes sent : List ℕ) (b
     → Arrives role past (cond b (Came (Head h) ∷ past) (Came Tail ∷ Came (Head h) ∷ past)) new.table before after old.pending (old.pending ++ answer)
     → new.pending ≡ old.pending ++ answer → new.failed ≡ false → Steps role past fed bytes sent before after new
 frame_went role past fed bytes sent before after old new h answer true is stands frames arrives pending going =
-    went role past (Came (Head h) ∷ past) fed bytes sent before after old new (Head h ∷ []) stands refl frames
+    went role past (Came (Head h) ∷ past) fed bytes sent before after old new (Head h ∷ []) tt stands refl frames
     (subst (λ (t : List ℕ). Arrives role past (Came (Head h) ∷ past) new.table before after old.pending t) (sym pending) arrives) going (head_tells_one role past h)
 frame_went role past fed bytes sent before after old new h answer false is stands frames arrives pending going =
-    went role past (Came Tail ∷ Came (Head h) ∷ past) fed bytes sent before after old new (Tail ∷ Head h ∷ []) stands refl frames
+    went role past (Came Tail ∷ Came (Head h) ∷ past) fed bytes sent before after old new (Tail ∷ Head h ∷ []) tt stands refl frames
     (subst (λ (t : List ℕ). Arrives role past (Came Tail ∷ Came (Head h) ∷ past) new.table before after old.pending t) (sym pending) arrives) going
     (frame_tells_one role past h)
 
@@ -180,7 +196,7 @@ pub part_went : (role : Role) (past : List Item) (fed bytes sent : List ℕ) (be
     → Stands role past fed sent old → wire.Stands (fed ++ bytes) (cond last (Tail ∷ with_bytes bytes (arrivals past)) (with_bytes bytes (arrivals past))) new.place
     → last ≡ false → Arrives role past (came_bytes bytes past) new.table before after old.pending new.pending → new.failed ≡ false → Steps role past fed bytes sent before after new
 part_went role past fed bytes sent before after old new last stands frames more arrives going =
-    went role past (came_bytes bytes past) fed bytes sent before after old new (with_bytes bytes []) stands (came_are bytes past)
+    went role past (came_bytes bytes past) fed bytes sent before after old new (with_bytes bytes []) (bytes_behind bytes [] tt) stands (came_are bytes past)
     (subst (λ (xs : List Arrival). wire.Stands (fed ++ bytes) xs new.place) (ap (λ b. cond b (Tail ∷ with_bytes bytes (arrivals past)) (with_bytes bytes (arrivals past))) more ∙ sym (arrivals_of_bytes bytes past)) frames)
     arrives going (part_tells_one role past bytes)
 
@@ -196,7 +212,7 @@ pub last_went : (role : Role) (past : List Item) (fed bytes sent : List ℕ) (be
     → (AreAnswered role (came_bytes bytes past) → bytes_left (arrivals (came_bytes bytes past)) ≡ 0 → Keeps role (came_bytes bytes past) table → Arrives role (came_bytes bytes past) (Came Tail ∷ came_bytes bytes past) new.table mid after old.pending old.pending)
     → new.pending ≡ old.pending → new.failed ≡ false → Steps role past fed bytes sent before after new
 last_went role past fed bytes sent before mid after old new table last stands frames ends arrives tail pending going =
-    went role past (Came Tail ∷ came_bytes bytes past) fed bytes sent before after old new (Tail ∷ with_bytes bytes []) stands (ap (λ (xs : List Item). Came Tail ∷ xs) (came_are bytes past))
+    went role past (Came Tail ∷ came_bytes bytes past) fed bytes sent before after old new (Tail ∷ with_bytes bytes []) (tail_behind (with_bytes bytes []) (bytes_behind bytes [] tt)) stands (ap (λ (xs : List Item). Came Tail ∷ xs) (came_are bytes past))
     (subst (λ (xs : List Arrival). wire.Stands (fed ++ bytes) xs new.place)
     (ap (λ b. cond b (Tail ∷ with_bytes bytes (arrivals past)) (with_bytes bytes (arrivals past))) ends ∙ ap (λ (xs : List Arrival). Tail ∷ xs) (sym (arrivals_of_bytes bytes past))) frames)
     (subst (λ (t : List ℕ). Arrives role past (Came Tail ∷ came_bytes bytes past) new.table before after old.pending t) (sym pending)

@@ -27,7 +27,7 @@ use Rattle.yamux_session.specs.Seen.{IsQuiet}
 use Rattle.yamux_session.specs.Endings.{opened_in, told_opened, EndsOnce, IsUntold}
 use Rattle.yamux_session.specs.Naming.{NamesOne}
 use Rattle.yamux_session.specs.Faults.{HasNoFault}
-use Rattle.yamux_session.specs.State.{FirstFaults}
+use Rattle.yamux_session.specs.State.{FirstFaults, IsOneFrame}
 use Rattle.yamux_session.specs.declared.calls.Act.TheVariants as call
 use Rattle.yamux_session.specs.declared.calls.ActAnswer.TheVariants.{Stream, Done, Refused}
 use Rattle.yamux_session.specs.Runs.{Point, Answers, AnswersAll, output_at_point}
@@ -572,6 +572,16 @@ pub record NamingRows : Type 0 where
   pub reset : ¬ NamesOne (event.Reset 1 ∷ event.Ended 3 ∷ [])
   pub credit : ¬ NamesOne (event.Credit 1 ∷ event.Ended 3 ∷ [])
   pub no_empty_data : ¬ HasData (event.Payload 1 [])
+
+-- What one call takes at most: a part of one frame, with its header first
+pub record FrameRows : Type 0 where
+  pub whole : IsOneFrame (Tail ∷ Byte 8 ∷ Byte 7 ∷ header Payload 0 1 2 ∷ [])
+  pub part : IsOneFrame (Tail ∷ Byte 8 ∷ Byte 7 ∷ [])
+  pub two_headers : ¬ IsOneFrame (header Ping 1 0 7 ∷ Tail ∷ header Window 1 1 0 ∷ [])
+  pub behind_an_end : ¬ IsOneFrame (Tail ∷ header Ping 1 0 7 ∷ Tail ∷ [])
+  pub behind_a_byte : ¬ IsOneFrame (Byte 7 ∷ header Payload 0 1 1 ∷ Byte 9 ∷ [])
+  pub garbled_first : IsOneFrame (Garbled (1 ∷ []) ∷ [])
+  pub garbled_behind : ¬ IsOneFrame (Garbled (1 ∷ []) ∷ Tail ∷ [])
 
 -- What tells and sends more than was told and sent before: nothing else can want memory
 pub record GrowthRows : Type 0 where

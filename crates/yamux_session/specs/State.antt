@@ -7,6 +7,7 @@ use Rattle.std.specs.Vec.{vec_capacity}
 use Rattle.std.specs.List.{concat}
 use Rattle.yamux_frames.specs.Frames as wire
 use Rattle.yamux_frames.specs.Frames.{Arrival, spelled, AreFrames, Reads}
+use Rattle.yamux_frames.specs.Frames.Arrival.{Head, Garbled}
 use Rattle.yamux_frames.specs.Place.{Place}
 use Rattle.yamux_session.specs.declared.event.Role.{Role}
 use Rattle.yamux_session.specs.declared.event.Fault.{Fault}
@@ -81,7 +82,15 @@ pub record Led (role : Role) (past now : List Item) (fed bytes sent : List ℕ) 
     pub fails : s.failed ≡ true → FirstFaults role now × (sent ++ s.pending ≡ output role now)
         × ((used : ℕ) × (used ≤ length bytes) × EndsWith (fed ++ take used bytes) (arrivals now))
 
--- what one answer of the cutter does: it leads on, and its events name one stream at most
+-- at most one header came, or what is none, and before all else
+abbrev pub IsOneFrame : List Arrival → Type 0
+IsOneFrame [] = Unit {0}
+IsOneFrame (x ∷ []) = Unit {0}
+IsOneFrame (Head h ∷ y ∷ past) = ⊥
+IsOneFrame (Garbled bytes ∷ y ∷ past) = ⊥
+IsOneFrame (x ∷ y ∷ past) = IsOneFrame (y ∷ past)
+
+-- what one answer of the cutter does: it leads on by a part of one frame, and its events name one stream at most
 pub record Steps (role : Role) (past : List Item) (fed bytes sent : List ℕ) (before after : List Event) (new : State)
     : Type 0 where
   pub now : List Item
@@ -89,12 +98,19 @@ pub record Steps (role : Role) (past : List Item) (fed bytes sent : List ℕ) (b
   pub tells : Tells before after told
   pub names_one : NamesOne tells.more
   pub led : Led role past now fed bytes sent told new
+  pub one_frame : IsOneFrame led.came.0
 
 -- what a call of feed does
 abbrev pub Feeds : State → List ℕ → List Event → State → Type 0
 Feeds old bytes told new =
     (role : Role) (past : List Item) (fed sent : List ℕ) → Stands role past fed sent old
     → (now : List Item) × Led role past now fed bytes sent (tellings told) new
+
+-- what a call of feed_frame does: it leads on by a part of one frame
+abbrev pub FeedsFrame : State → List ℕ → List Event → State → Type 0
+FeedsFrame old bytes told new =
+    (role : Role) (past : List Item) (fed sent : List ℕ) → Stands role past fed sent old
+    → (now : List Item) × (led : Led role past now fed bytes sent (tellings told) new) × IsOneFrame led.came.0
 
 -- a list that the bytes led to, and the output that it makes
 pub record HasCome (role : Role) (past : List Item) (fed bytes sent : List ℕ) (now : List Item) (pending : List ℕ) :

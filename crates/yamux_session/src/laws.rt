@@ -12,7 +12,7 @@ ghost use Rattle.yamux_session.specs.OneOutcome.{OneOutcome};
 ghost use Rattle.yamux_session.specs.Runs.{OneCall, RunIsLegal};
 ghost use Rattle.yamux_session.specs.Tied.{ActGoesOn, FeedGoesOn, WantOfMemoryStops};
 ghost use Rattle.yamux_session.specs.Rows.{AnswerRows, AnsweredRows, EarlyRows, EndingRows, FirstFaultRows};
-ghost use Rattle.yamux_session.specs.Rows.{FlagRows, GrowthRows, LeavingRows, NamingRows, OpeningRows, OtherRows};
+ghost use Rattle.yamux_session.specs.Rows.{FlagRows, GrowthRows, LeavingRows, NamingRows, FrameRows, OpeningRows, OtherRows};
 ghost use Rattle.yamux_session.specs.Rows.{RunRows, WindowRows};
 
 /// The definitions say of worked histories what the specification says.
@@ -27,6 +27,7 @@ pub fn worked_rows()
     ensures answers { AnswerRows }
     ensures flags { FlagRows }
     ensures naming { NamingRows }
+    ensures frames { FrameRows }
     ensures growth { GrowthRows }
     ensures first_faults { FirstFaultRows }
     ensures runs { RunRows }

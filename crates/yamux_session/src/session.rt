@@ -15,7 +15,7 @@ ghost use Rattle.yamux_frames.specs.Frames.{EndsWithin};
 ghost use Rattle.yamux_session.specs.Arrives.{Tells, HasData, Extends, added};
 ghost use Rattle.yamux_session.specs.Naming.{NamesOne};
 ghost use Rattle.yamux_session.specs.Events.{Told};
-ghost use Rattle.yamux_session.specs.State.{Stands, Whenever, Adds, AddsWrite, Steps, Feeds, RunsOut, BringsMore};
+ghost use Rattle.yamux_session.specs.State.{Stands, Whenever, Adds, AddsWrite, Steps, Feeds, FeedsFrame, RunsOut, BringsMore};
 ghost use Rattle.yamux_session.specs.State.{room_of};
 
 use crate::arrivals::{append_header, take_frame, take_payload, take_tail};
@@ -381,7 +381,7 @@ impl Session {
     ) -> Result<usize, ActRefused>
         ensures kept { OnOk result (told.new.items ≡ told.old.items ++ added told.old.items told.new.items) }
         ensures fed { IfOk result (λ used.
-            Feeds self.old (take used (drop at piece.now)) (added told.old.items told.new.items) self.new) }
+            FeedsFrame self.old (take used (drop at piece.now)) (added told.old.items told.new.items) self.new) }
         ensures filled { OnOk result (Whenever self.old (λ role past.
             AllByRecursion HasData (added told.old.items told.new.items))) }
         ensures one_stream { OnOk result (Whenever self.old (λ role past.

@@ -1,4 +1,4 @@
-use Rattle.yamux_session.proofs.Rows.{opening_rows, early_rows, leaving_rows, naming_rows, ending_rows, answered_rows, window_rows, answer_rows, flag_rows, growth_rows, first_fault_rows, other_rows, run_rows}
+use Rattle.yamux_session.proofs.Rows.{opening_rows, early_rows, leaving_rows, naming_rows, ending_rows, answered_rows, window_rows, answer_rows, flag_rows, frame_rows, growth_rows, first_fault_rows, other_rows, run_rows}
 use Rattle.yamux_session.proofs.laws.worked_rows.Goals as goal
 
 pub returns-clause-openings : goal.returns-clause-openings
@@ -15,6 +15,9 @@ returns-clause-answers c = answer_rows
 
 pub returns-clause-flags : goal.returns-clause-flags
 returns-clause-flags c = flag_rows
+
+pub returns-clause-frames : goal.returns-clause-frames
+returns-clause-frames c = frame_rows
 
 pub returns-clause-growth : goal.returns-clause-growth
 returns-clause-growth c = growth_rows

@@ -21,7 +21,7 @@ returns-in-Ok-default-More-clause-led c = λ role past fed sent stands.
     let at = subst (λ (s : State). Stands role past fed sent s) (sym c.self.view_is) stands in
     let rest = rest_of c.deref.result.now c.args.piece.now c.args.at c.deref.ensures in
     let used : ℕ = c.in-Ok-default-More.used in
-    went role past past fed (take used (drop c.args.at c.args.piece.now)) sent _ _ _ _ [] at refl
+    went role past past fed (take used (drop c.args.at c.args.piece.now)) sent _ _ _ _ [] tt at refl
     (framed fed _ _ used _ _ (arrivals past) _ c.in-Ok-default-More.field-0-1-is rest (c.in-Ok-default-More.ensures.frames fed (arrivals past) at.frames))
     (arrives_nothing role past (table_of c.self.inside.streams) c.args.told.now.items c.self.inside.output.items at.table)
     at.going (nothing_tells_one role past)
