@@ -104,8 +104,8 @@ impl<'a, N: Net, C: Caller> Driver<'a, N, C> {
         self.reports.take()
     }
 
-    /// Does all that is to be done now, but for what its owner is to see first: behind a connection that became live, and
-    /// behind what a peer said of itself, it goes on in the next call.
+    /// Does all that is to be done now, but for what its owner is to see first: behind a connection that became live,
+    /// and behind what a peer said of itself, it goes on in the next call.
     pub fn work(&mut self, cx: &mut Context<'_>)
         ensures { Keeps cx.old cx.new }
     {

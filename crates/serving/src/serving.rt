@@ -18,7 +18,7 @@ use streams::{Stop, Stream};
 use yamux_session::laws::{acts_tell, untaken_limit};
 use yamux_session::{ActRefused, Session};
 
-/// Asks a stream for as many bytes as there is credit, and writes what it gives, if anything: it answers whether it did.
+/// Asks a stream for as many bytes as there is credit, and writes what it gives, if anything. Answers whether it did.
 fn send<H: Handler>(
     session: &mut Session,
     number: u32,

@@ -12,7 +12,8 @@ ghost use Rattle.yamux_session.specs.OneOutcome.{OneOutcome};
 ghost use Rattle.yamux_session.specs.Runs.{OneCall, RunIsLegal};
 ghost use Rattle.yamux_session.specs.Tied.{ActGoesOn, FeedGoesOn, WantOfMemoryStops};
 ghost use Rattle.yamux_session.specs.Rows.{AnswerRows, AnsweredRows, EarlyRows, EndingRows, FirstFaultRows};
-ghost use Rattle.yamux_session.specs.Rows.{FlagRows, GrowthRows, LeavingRows, NamingRows, FrameRows, OpeningRows, OtherRows};
+ghost use Rattle.yamux_session.specs.Rows.{FlagRows, FrameRows, GrowthRows, LeavingRows, NamingRows, OpeningRows};
+ghost use Rattle.yamux_session.specs.Rows.{OtherRows};
 ghost use Rattle.yamux_session.specs.Rows.{RunRows, WindowRows};
 
 /// The definitions say of worked histories what the specification says.

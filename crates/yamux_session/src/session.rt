@@ -15,7 +15,8 @@ ghost use Rattle.yamux_frames.specs.Frames.{EndsWithin};
 ghost use Rattle.yamux_session.specs.Arrives.{Tells, HasData, Extends, added};
 ghost use Rattle.yamux_session.specs.Naming.{NamesOne};
 ghost use Rattle.yamux_session.specs.Events.{Told};
-ghost use Rattle.yamux_session.specs.State.{Stands, Whenever, Adds, AddsWrite, Steps, Feeds, FeedsFrame, RunsOut, BringsMore};
+ghost use Rattle.yamux_session.specs.State.{Stands, Whenever, Adds, AddsWrite, Steps, Feeds, FeedsFrame, RunsOut};
+ghost use Rattle.yamux_session.specs.State.{BringsMore};
 ghost use Rattle.yamux_session.specs.State.{room_of};
 
 use crate::arrivals::{append_header, take_frame, take_payload, take_tail};
