@@ -1,5 +1,8 @@
 -- cited by public clauses
 pub mod Moving
 pub mod Piping
+-- cited by laws
+pub mod MovingRows
+pub mod PipingRows
 -- inside
 pub mod PipeLaws

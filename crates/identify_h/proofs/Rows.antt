@@ -358,6 +358,12 @@ memory_rows = record {
     (the_key, spells_key),
     inl (1, omega arith, omega arith, refl),
   );
+  key_of_another = (
+    entry 1 (Bytes key_message) ∷ [],
+    ([], whole_key_field, refl),
+    (the_key, spells_key),
+    inl (1, omega arith, omega arith, refl),
+  );
   protocol = (entry 3 (Bytes []) ∷ [], ([], empty_field 3 26 [] refl (omega arith) (omega arith), refl), tt, inl (3, omega arith, omega arith, refl));
   observed = (
     entry 4 (Bytes (97 ∷ [])) ∷ [],

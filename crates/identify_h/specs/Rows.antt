@@ -13,7 +13,7 @@ use Rattle.varint_proto.specs.declared.fault.IncomingRefused.TheVariants as inco
 use Rattle.peer_ids.specs.declared.fault.KeyFault.TheVariants as keys
 use Rattle.identify_h.specs.Faults.{number_of, of_key_fault, of_incoming}
 use Rattle.identify_h.specs.Sending.{framed, sending, SendStep, SendFails}
-use Rattle.identify_h.specs.Reading.{Reader, ReadStep, ReadFails}
+use Rattle.identify_h.specs.Reading.{Reader, IsFresh, ReadStep, ReadFails}
 use Rattle.identify_h.specs.Streams.{GoesOn, HasFault, TakeFails, EndFails, Reads}
 
 -- a message that says nothing, and one with a version `abc` and an agent `x`
@@ -142,6 +142,7 @@ pub record MemoryRows : Type 0 where
   pub version : Refuses [] (42 ∷ 1 ∷ 97 ∷ []) OutOfMemory
   pub empty_entry : Refuses [] (18 ∷ 0 ∷ []) OutOfMemory
   pub key : Refuses key_id key_field OutOfMemory
+  pub key_of_another : Refuses [] key_field OutOfMemory
   pub protocol : Refuses [] (26 ∷ 0 ∷ []) OutOfMemory
   pub observed : Refuses [] (34 ∷ 1 ∷ 97 ∷ []) OutOfMemory
   pub agent : Refuses [] (50 ∷ 1 ∷ 97 ∷ []) OutOfMemory
@@ -233,6 +234,12 @@ pub record RoomRows : Type 0 where
   pub too_long_together : ¬ TakeFails (1 ∷ 8 ∷ 128 ∷ 128 ∷ []) (1 ∷ []) OutOfMemory
   pub eleventh : ¬ TakeFails (replicate 10 0) (1 ∷ []) OutOfMemory
 
+-- Why bytes behind an input aren't taken: the first fault of all of it
+pub record TakeRows : Type 0 where
+  pub too_long : TakeFails (129 ∷ []) (128 ∷ 1 ∷ []) TooLong
+  pub badly_spelt : TakeFails (128 ∷ []) (0 ∷ []) Wire
+  pub too_many : TakeFails (replicate 10 0) (0 ∷ []) TooMany
+
 pub record NumberRows : Type 0 where
   pub failed : number_of Failed ≡ 1
   pub too_long : number_of TooLong ≡ 2
@@ -285,8 +292,20 @@ at_end = record {
   failed = false;
 }
 
--- The end that reads, behind its end
+-- and one that has read nothing yet
+abbrev pub at_first : Reader
+at_first = record at_end { count = 0; message = None }
+
+-- The end that reads, at its end and behind it
 pub record ReadRows : Type 0 where
+  -- at the end what was read is the message, and nothing else of the reader is another
+  pub ends : ReadStep (record at_end { message = None }) End at_end
+  -- and before it
+  pub fresh : IsFresh [] at_first
+  pub of_another_peer : ¬ IsFresh (1 ∷ []) at_first
+  pub read_already : ¬ IsFresh [] at_end
+  pub cut : (n : ℕ) → ReadFails at_first ToEnd n ↔ (n ≡ 6)
+  pub too_long : (n : ℕ) → ReadFails at_first (ToTake (129 ∷ 128 ∷ 1 ∷ [])) n ↔ (n ≡ 2)
   pub takes_nothing : ReadStep (record at_end { message = None }) (Take []) (record at_end { message = None })
   pub take_behind_the_end : (n : ℕ) → ReadFails at_end (ToTake (0 ∷ [])) n ↔ (n ≡ 1)
   pub second_end : (n : ℕ) → ReadFails at_end ToEnd n ↔ (n ≡ 1)

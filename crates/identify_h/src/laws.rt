@@ -22,7 +22,7 @@ ghost use Rattle.identify_h.specs.Streams.{Reads, OneOutcome, SomeOutcome, Fault
 ghost use Rattle.identify_h.specs.Reading.{Reader, Stands, IsFresh, Alike, ReadStep, ReadFails};
 ghost use Rattle.identify_h.specs.Sending.{Sending, SendStep, SendFails, sending, most_bytes};
 ghost use Rattle.identify_h.specs.Rows.{MessageRows, FieldRows, MemoryRows, BadKeyRows, MergeRows, StreamRows};
-ghost use Rattle.identify_h.specs.Rows.{FaultRows, RoomRows, NumberRows, SendRows, ReadRows};
+ghost use Rattle.identify_h.specs.Rows.{FaultRows, RoomRows, TakeRows, NumberRows, SendRows, ReadRows};
 
 use crate::fault::IdentifyFault;
 use crate::reader::IdentifyIn;
@@ -42,6 +42,7 @@ pub fn worked_rows()
     ensures streams { StreamRows }
     ensures faults { FaultRows }
     ensures room { RoomRows }
+    ensures taking { TakeRows }
     ensures numbers { NumberRows }
     ensures sending { SendRows }
     ensures reading { ReadRows }

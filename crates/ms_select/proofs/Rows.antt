@@ -34,6 +34,10 @@ length_came rest lt = inr (3, rest, one_byte 3 rest (omega arith), (omega arith,
 pub message_rows : MessageRows
 unfolding message shortest shortest_within
 message_rows = record {
+  failed_before = refl;
+  bad_length = refl;
+  long_length = refl;
+  no_room = refl;
   header_is = refl;
   na_is = refl;
   length_of_two_bytes = refl;

@@ -3,9 +3,11 @@
 use Rattle.std.specs.Prelude.{◌≡◌, ℕ, List, [], ◌∷◌, ◌++◌, replicate, Some, None, Ok, Err}
 use Rattle.std.specs.List.{concat}
 use Rattle.ms_select.specs.declared.answer.Answer.TheVariants.{Going, Agreed, NoneLeft}
-use Rattle.ms_select.specs.declared.fault.SelectFault.TheVariants.{BadLength, NoNewline, BadHeader, NotProposed}
+use Rattle.varint_proto.specs.declared.fault.IncomingRefused.TheVariants as framing
+use Rattle.ms_select.specs.declared.fault.SelectFault.TheVariants.{Failed, BadLength, NoNewline, BadHeader, NotProposed}
+use Rattle.ms_select.specs.declared.fault.SelectFault.TheVariants.{OutOfMemory}
 use Rattle.ms_select.specs.declared.verdict.Role.TheVariants.{Dialer, Listener}
-use Rattle.ms_select.specs.Messages.{header, na, ls, message, ReadsMessage}
+use Rattle.ms_select.specs.Messages.{header, na, ls, message, ReadsMessage, of_refused}
 use Rattle.ms_select.specs.Listening.{IsName, choice, Listens}
 use Rattle.ms_select.specs.Dialing.{Dials, MaySend}
 use Rattle.ms_select.specs.Sides.{EndsLength, RunsOut}
@@ -50,6 +52,11 @@ pub record MessageRows : Type 0 where
   pub length_1025 : ReadsMessage (129 ∷ 8 ∷ []) (Err BadLength)
   pub badly_spelt : ReadsMessage (131 ∷ 0 ∷ []) (Err BadLength)
   pub no_newline : ReadsMessage (2 ∷ 97 ∷ 98 ∷ []) (Err NoNewline)
+  -- what a message that isn't read is called
+  pub failed_before : of_refused framing.Failed ≡ Failed
+  pub bad_length : of_refused framing.BadLength ≡ BadLength
+  pub long_length : of_refused framing.TooLong ≡ BadLength
+  pub no_room : of_refused framing.OutOfMemory ≡ OutOfMemory
 
 -- A name that a side may have: from 1 to 1023 bytes, of any value
 pub record NameRows : Type 0 where

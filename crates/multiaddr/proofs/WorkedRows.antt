@@ -6,6 +6,7 @@ use Rattle.std.specs.List.{AllByRecursion, concat, flat_map}
 use Rattle.std.proofs.lemmas.Str.Ascii.{IsAscii-from_all}
 use Rattle.std.specs.Net.Text.{dotted_text, hex_groups_text, hex}
 use Rattle.peer_ids.specs.PeerId.{IsMultihash}
+use Rattle.peer_ids.proofs.WorkedRows as ids
 use Rattle.std.proofs.lemmas.List.{append-nil, get_or-append-add, length-append, length-replicate}
 use Rattle.std.proofs.lemmas.Bool.{and_parts, cases_eq}
 use Rattle.std.proofs.lemmas.Bool.Decides.{nat_tests}
@@ -18,19 +19,21 @@ use Rattle.multiaddr.specs.declared.protocol.Protocol.{Protocol}
 use Rattle.multiaddr.specs.declared.protocol.Protocol.TheVariants.{Ip4, Tcp, Ip6, Dns, Dns4, Dns6, P2p}
 use Rattle.multiaddr.specs.declared.socket.Ip.{Ip}
 use Rattle.multiaddr.specs.declared.socket.Ip.TheVariants.{V4, V6}
-use Rattle.multiaddr.specs.Part.{Part, IsValue, spelling, IsName, IsOpaque, SpellsAddress, AddressFault, PartFault, code_of, part}
+use Rattle.multiaddr.specs.Part.{Part, Address, IsValue, spelling, IsName, IsOpaque, SpellsAddress, AddressFault, PartFault, code_of, part}
 use Rattle.multiaddr.specs.declared.fault.AddrFault.{AddrFault}
-use Rattle.multiaddr.specs.declared.fault.AddrFault.TheVariants.{UnknownProtocol, Cut, BadValue}
+use Rattle.multiaddr.specs.declared.fault.AddrFault.TheVariants.{Empty, UnknownProtocol, Cut, BadValue}
 use Rattle.multiaddr.specs.Ip6.{SpellsGroups}
 use Rattle.multiaddr.specs.Text.{ReadsValue, LeadsParts, PrintsParts, NoSlash, TextFault, tail_of, name_of}
-use Rattle.multiaddr.specs.Given.{GivesSocket, host_part, port_part}
+use Rattle.multiaddr.specs.Given.{GivesSocket, GivesPeer, host_part, port_part}
 use Rattle.multiaddr.proofs.Ip6Text.{prints}
 use Rattle.multiaddr.proofs.Values.{decimal_first}
 use Rattle.std.proofs.lemmas.Fmt.{decimal_injective}
 use Rattle.std.specs.Str.Parse.{AllDigits, digits_value}
 use Rattle.std.specs.Char.{digit_value}
 use Rattle.std.specs.Net.Grammar.{IsGroupsAfter}
-use Rattle.multiaddr.proofs.OneAddress.{stuck_opaque}
+use Rattle.multiaddr.proofs.OneAddress.{stuck_opaque, one_address, address_or_fault}
+use Rattle.multiaddr.proofs.OneText.{text_or_fault}
+use Rattle.multiaddr.proofs.Parts.{some_code}
 use Rattle.std.specs.Fmt.{digits}
 use Rattle.multiaddr.specs.Rows.{address, groups, local, peer, port_4001, udp, least_code, largest_code, ProtocolRows, ValueRows, SpellingRows, AddressRows, Ip6Rows, TextValueRows, TextRows, GivenRows}
 
@@ -178,6 +181,8 @@ address_rows = record {
   nothing_is_no_address = λ h. omega (arith, h.0.some);
   known_is_not_opaque = λ opaque. stuck_opaque (6 ∷ 15 ∷ 161 ∷ []) opaque Tcp (15 ∷ 161 ∷ []) [] refl refl;
   memory = (address (port_4001 ∷ []) [], port_is_spelt);
+  no_memory_for_nothing = λ r. address_or_fault [] r.0 Empty r.1 (inl (refl, refl));
+  no_memory_for_a_part_that_is_cut = λ r. address_or_fault (6 ∷ 15 ∷ []) r.0 Cut r.1 (at_front (6 ∷ 15 ∷ []) Cut (omega arith) (inr (Tcp, 15 ∷ [], refl, (refl, omega arith))));
   empty = inl (refl, refl);
   code_cut = at_front (132 ∷ []) Cut (omega arith) (inl ((omega arith, tt), omega arith));
   code_too_long =
@@ -366,6 +371,8 @@ pub text_value_rows : TextValueRows
 unfolding digits
 text_value_rows = record {
   ip4 = dotted 127 0 0 255 (omega arith) (omega arith) (omega arith) (omega arith);
+  ip6 = ((1 ∷ 2 ∷ 3 ∷ 4 ∷ 5 ∷ 6 ∷ 7 ∷ 65535 ∷ [], ip6_rows.eight_groups, refl), refl);
+  p2p = ids.text_rows.read;
   port_0 = ((0, omega arith, refl, refl), refl);
   port_4001 = ((4001, omega arith, refl, refl), refl);
   port_65535 = ((65535, omega arith, refl, refl), refl);
@@ -437,6 +444,11 @@ prints_names : (n : ℕ) → PrintsParts (concat (replicate n (codes "/dns/a")))
 prints_names zero = refl
 prints_names (suc n) = (codes "a", concat (replicate n (codes "/dns/a")), refl, refl, prints_names n)
 
+none_is_opaque : IsOpaque [] → ⊥
+none_is_opaque o =
+    let lengths : 0 ≡ length (shortest o.0) + length o.1 = ap length o.3 ∙ length-append (shortest o.0) o.1 in
+    omega (arith, lengths, some_code o.0)
+
 pub text_rows : TextRows
 unfolding digits unslashed dns_a
 text_rows = record {
@@ -461,6 +473,9 @@ text_rows = record {
   many_parts = (omega (arith, length-replicate {A = Part} 300 (part Dns (codes "a"))), leads_names 300);
   many_parts_printed = prints_names 300;
   memory = (dns_a, (omega arith, leads_dns_a []));
+  no_memory_for_nothing = λ r. text_or_fault [] r.0 Empty r.1 (inl (refl, refl));
+  no_memory_for_an_unknown_name = λ r. text_or_fault (codes "/quic") r.0 UnknownProtocol r.1
+      (unknown_name [] (codes "/quic") (codes "quic") None refl refl (λ e. omega (arith, e)) (λ e. omega (arith, e)) (λ e. omega (arith, e)) (λ e. omega (arith, e)));
   empty = inl (refl, refl);
   no_slash = inr (inl (refl, (λ e. absurd (cc e)), (λ rest e. first 100 47 _ rest e (λ h. omega (arith, h)))));
   slash_alone = unknown_name [] (codes "/") [] None refl refl (λ e. omega (arith, e)) (λ e. omega (arith, e)) (λ e. omega (arith, e)) (λ e. omega (arith, e));
@@ -473,12 +488,21 @@ text_rows = record {
   bad_value = inr (inr ([], codes "dns/", refl, inr (refl, Dns, [], None, no_slash [] refl, refl, text_value_rows.no_name)));
   the_first_decides = inr (inr ([], codes "dns//quic", refl, inr (refl, Dns, [], Some (codes "quic"), no_slash [] refl, refl, text_value_rows.no_name)));
   slash_at_the_end = unknown_name dns_a (codes "/dns/a/") [] None (leads_dns_a (codes "/")) refl (λ e. omega (arith, e)) (λ e. omega (arith, e)) (λ e. omega (arith, e)) (λ e. omega (arith, e));
+  printed_ip6 = (codes "1:0:0:1::1", [], (1 ∷ 0 ∷ 0 ∷ 1 ∷ 0 ∷ 0 ∷ 0 ∷ 1 ∷ [], ip6_rows.longest_run, refl), refl, refl);
+  printed_peer = (codes "bafzaaaa", [], ids.text_rows.read.0, refl, refl);
   printed_port_0 = (codes "0", [], text_value_rows.port_0.0, refl, refl);
   printed_port_65535 = (codes "65535", [], text_value_rows.port_65535.0, refl, refl);
   code_0_is_not_printed = (address [] least_code, address_rows.opaque_of_code_0, zero_is_opaque []);
   the_largest_code_is_not_printed = (address [] largest_code, address_rows.opaque_of_the_largest_code, largest_is_opaque);
   opaque_is_not_printed = (address [] udp, address_rows.opaque_alone, udp_is_opaque);
   printing_takes_memory = (address (port_4001 ∷ []) [], port_is_spelt, refl);
+  refusing_takes_none = λ r.
+      let same : r.0 ≡ address [] udp = one_address udp r.0 (address [] udp) r.1 address_rows.opaque_alone in
+      absurd (let e : udp ≡ [] = sym (ap (λ (a : Address). a.opaque) same) ∙ r.2 in cc e);
+  known_is_printed = λ r.
+      let same : r.0 ≡ address (port_4001 ∷ []) [] = one_address (6 ∷ 15 ∷ 161 ∷ []) r.0 (address (port_4001 ∷ []) []) r.1 port_is_spelt in
+      none_is_opaque (subst (λ (a : Address). IsOpaque a.opaque) same r.2);
+  no_other_refusal = λ r. r;
 }
   where
     first : (b x : ℕ) (rest others : List ℕ) → b ∷ rest ≡ x ∷ others → ¬ (b ≡ x) → ⊥
@@ -503,6 +527,14 @@ no_end p q tail opaque some other ip port h =
     behind_two : (a b c d : Part) (x y : List Part) → a ∷ b ∷ x ≡ c ∷ d ∷ y → x ≡ y
     behind_two a b c d x y e = cc e
 
+peer_hidden : GivesPeer (address (part P2p peer ∷ []) []) None → ⊥
+peer_hidden (inl h) = absurd (let e : None ≡ Some peer = h.1 in cc e)
+peer_hidden (inr h) = none_is_opaque h.0
+
+peer_before_opaque : GivesPeer (address (part P2p peer ∷ []) udp) (Some peer) → ⊥
+peer_before_opaque (inl h) = absurd (let e : udp ≡ [] = h.0 in cc e)
+peer_before_opaque (inr h) = absurd (let e : Some peer ≡ None = h.1 in cc e)
+
 pub given_rows : GivenRows
 given_rows = record {
   ports = (refl, refl);
@@ -522,6 +554,9 @@ given_rows = record {
   last_is_a_peer = refl;
   last_of_two = refl;
   last_is_no_peer = refl;
+  no_socket_hidden = λ h. h (V4 (127 ∷ 0 ∷ 0 ∷ 1 ∷ [])) 4001 (record { tail = []; parts = refl; opaque = refl; peer = inl refl });
+  no_peer_hidden = peer_hidden;
+  no_peer_before_an_opaque_part = peer_before_opaque;
   named_peer = inl (refl, refl);
   opaque_names_no_peer = inr (udp_is_opaque, refl);
 }

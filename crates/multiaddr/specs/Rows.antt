@@ -109,6 +109,9 @@ pub record AddressRows : Type 0 where
   pub nothing_is_no_address : ¬ SpellsAddress [] (address [] [])
   pub known_is_not_opaque : ¬ IsOpaque (6 ∷ 15 ∷ 161 ∷ [])
   pub memory : RefusesAddress (6 ∷ 15 ∷ 161 ∷ []) OutOfMemory
+  -- and only where the bytes are an address
+  pub no_memory_for_nothing : ¬ RefusesAddress [] OutOfMemory
+  pub no_memory_for_a_part_that_is_cut : ¬ RefusesAddress (6 ∷ 15 ∷ []) OutOfMemory
   pub empty : RefusesAddress [] Empty
   pub code_cut : RefusesAddress (132 ∷ []) Cut
   pub code_too_long : RefusesAddress (132 ∷ 0 ∷ []) BadValue
@@ -150,6 +153,9 @@ pub record Ip6Rows : Type 0 where
 
 pub record TextValueRows : Type 0 where
   pub ip4 : ReadsValue Ip4 (codes "127.0.0.255") (127 ∷ 0 ∷ 0 ∷ 255 ∷ [])
+  pub ip6 : ReadsValue Ip6 (codes "0001:2:3:4:5:6:7:FfFf")
+      (0 ∷ 1 ∷ 0 ∷ 2 ∷ 0 ∷ 3 ∷ 0 ∷ 4 ∷ 0 ∷ 5 ∷ 0 ∷ 6 ∷ 0 ∷ 7 ∷ 255 ∷ 255 ∷ [])
+  pub p2p : ReadsValue P2p (codes "bafzaaaa") peer
   pub port_0 : ReadsValue Tcp (codes "0") (0 ∷ 0 ∷ [])
   pub port_4001 : ReadsValue Tcp (codes "4001") (15 ∷ 161 ∷ [])
   pub port_65535 : ReadsValue Tcp (codes "65535") (255 ∷ 255 ∷ [])
@@ -164,6 +170,8 @@ pub record TextRows : Type 0 where
   pub many_parts : ReadsParts (concat (replicate 300 (codes "/dns/a"))) (replicate 300 (part Dns (codes "a")))
   pub many_parts_printed : PrintsParts (concat (replicate 300 (codes "/dns/a"))) (replicate 300 (part Dns (codes "a")))
   pub memory : RefusesText (codes "/dns/a") OutOfMemory
+  pub no_memory_for_nothing : ¬ RefusesText [] OutOfMemory
+  pub no_memory_for_an_unknown_name : ¬ RefusesText (codes "/quic") OutOfMemory
   pub empty : RefusesText [] Empty
   pub no_slash : RefusesText (codes "dns/a") BadValue
   pub slash_alone : RefusesText (codes "/") UnknownProtocol
@@ -176,12 +184,18 @@ pub record TextRows : Type 0 where
   pub bad_value : TextFault (codes "/dns/") BadValue
   pub the_first_decides : TextFault (codes "/dns//quic") BadValue
   pub slash_at_the_end : TextFault (codes "/dns/a/") UnknownProtocol
+  pub printed_ip6 : PrintsParts (codes "/ip6/1:0:0:1::1")
+      (part Ip6 (0 ∷ 1 ∷ 0 ∷ 0 ∷ 0 ∷ 0 ∷ 0 ∷ 1 ∷ 0 ∷ 0 ∷ 0 ∷ 0 ∷ 0 ∷ 0 ∷ 0 ∷ 1 ∷ []) ∷ [])
+  pub printed_peer : PrintsParts (codes "/p2p/bafzaaaa") (part P2p peer ∷ [])
   pub printed_port_0 : PrintsParts (codes "/tcp/0") (part Tcp (0 ∷ 0 ∷ []) ∷ [])
   pub printed_port_65535 : PrintsParts (codes "/tcp/65535") (part Tcp (255 ∷ 255 ∷ []) ∷ [])
   pub opaque_is_not_printed : RefusesPrint udp UnknownProtocol
   pub code_0_is_not_printed : RefusesPrint least_code UnknownProtocol
   pub the_largest_code_is_not_printed : RefusesPrint largest_code UnknownProtocol
   pub printing_takes_memory : RefusesPrint (6 ∷ 15 ∷ 161 ∷ []) OutOfMemory
+  pub refusing_takes_none : ¬ RefusesPrint udp OutOfMemory
+  pub known_is_printed : ¬ RefusesPrint (6 ∷ 15 ∷ 161 ∷ []) UnknownProtocol
+  pub no_other_refusal : ¬ RefusesPrint udp Cut
 
 -- ---- what an address gives
 
@@ -210,5 +224,8 @@ pub record GivenRows : Type 0 where
   pub last_is_a_peer : last_peer (local ∷ part P2p peer ∷ []) ≡ Some peer
   pub last_of_two : last_peer (part P2p (0 ∷ 1 ∷ 7 ∷ []) ∷ part P2p peer ∷ []) ≡ Some peer
   pub last_is_no_peer : last_peer (part P2p peer ∷ port_4001 ∷ []) ≡ None
+  pub no_socket_hidden : ¬ GivesSocket (address (local ∷ port_4001 ∷ []) []) None
+  pub no_peer_hidden : ¬ GivesPeer (address (part P2p peer ∷ []) []) None
+  pub no_peer_before_an_opaque_part : ¬ GivesPeer (address (part P2p peer ∷ []) udp) (Some peer)
   pub named_peer : GivesPeer (address (part P2p peer ∷ []) []) (Some peer)
   pub opaque_names_no_peer : GivesPeer (address (part P2p peer ∷ []) udp) None

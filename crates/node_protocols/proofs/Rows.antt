@@ -20,7 +20,9 @@ unfolding shortest shortest_within
 own = record { key = λ key agent. refl; agent = λ key agent. refl; body = refl }
 
 pub makes : MakesRows
+unfolding shortest shortest_within
 makes = record {
+  tells = λ handler. (λ e. e, λ e. e);
   identify_in = λ own peer handler. (elim [ inl h ↦ h.1 | inr h ↦ elim h [ inl g ↦ cc g.0 | inr g ↦ cc g.0 ] ], λ h. inl (refl, h));
   push_in = λ own peer handler. (elim [ inl h ↦ cc h.0 | inr h ↦ elim h [ inl g ↦ g.1 | inr g ↦ cc g.0 ] ], λ h. inr (inl (refl, h)));
   ping_in = λ own peer handler. (elim [ inl h ↦ cc h.0 | inr h ↦ elim h [ inl g ↦ cc g.0 | inr g ↦ g.1 ] ], λ h. inr (inr (refl, h)));
@@ -64,6 +66,8 @@ handlers = record {
   over = refl;
   read = refl;
   no_reader = refl;
+  no_sender = refl;
+  no_echo = refl;
   closed = refl;
   unfinished = refl;
   finished = refl;
@@ -123,4 +127,7 @@ stops = record {
   ended_ping_over = refl;
   ended_echo_over = refl;
   going_over = refl;
+  going_sender_over = refl;
+  going_ping_over = refl;
+  going_echo_over = refl;
 }

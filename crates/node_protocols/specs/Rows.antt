@@ -7,7 +7,7 @@ use Rattle.peer_ids.specs.Key.{Key}
 use Rattle.identify_h.specs.Messages.{Message, written}
 use Rattle.identify_h.specs.Reading.{Reader}
 use Rattle.identify_h.specs.Sending.{sending}
-use Rattle.identify_h.specs.Rows.{at_end, nothing}
+use Rattle.identify_h.specs.Rows.{at_end, nothing, named}
 use Rattle.ping_h.specs.Echoes.{Echo, fresh}
 use Rattle.ping_h.specs.Rounds.{Round, round}
 use Rattle.node_protocols.specs.declared.handler.NodeHandler.{NodeHandler}
@@ -37,6 +37,9 @@ Sevens payload = payload ≡ replicate 32 7
 
 -- who tells and who hears, by index; there is no fourth protocol
 pub record MakesRows : Type 0 where
+  -- who tells sends its message behind its length, from the first byte on
+  pub tells : (handler : NodeHandler) → Tells named handler
+      ↔ (handler ≡ Sends (sending (8 ∷ 42 ∷ 3 ∷ 97 ∷ 98 ∷ 99 ∷ 50 ∷ 1 ∷ 120 ∷ [])))
   pub identify_in : (own : Message) (peer : List ℕ) (handler : NodeHandler)
       → MakesInbound own 0 peer handler ↔ Tells own handler
   pub push_in : (own : Message) (peer : List ℕ) (handler : NodeHandler)
@@ -89,6 +92,8 @@ pub record HandlerRows : Type 0 where
   pub over : is_over (Reads at_end) ≡ true
   pub read : message_of (Reads at_end) ≡ Some nothing
   pub no_reader : message_of (Pings back) ≡ None
+  pub no_sender : message_of (Sends (sending [])) ≡ None
+  pub no_echo : message_of (Echoes (record fresh { ended = true })) ≡ None
   -- a ping that has come back is closed, and is finished by the end alone
   pub closed : is_closed (Pings back) ≡ true
   pub unfinished : is_finished (Pings back) ≡ false
@@ -135,3 +140,6 @@ pub record StopRows : Type 0 where
   pub ended_ping_over : is_over (Pings (record back { ended = true })) ≡ true
   pub ended_echo_over : is_over (Echoes (record fresh { ended = true })) ≡ true
   pub going_over : is_over (Reads unread) ≡ false
+  pub going_sender_over : is_over (Sends (sending [])) ≡ false
+  pub going_ping_over : is_over (Pings back) ≡ false
+  pub going_echo_over : is_over (Echoes fresh) ≡ false

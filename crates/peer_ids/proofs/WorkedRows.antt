@@ -1,5 +1,5 @@
 -- Worked rows of keys and ids.
-use Rattle.std.proofs.Common.{◌≡◌, ℕ, ◌<◌, ◌≤◌, ◌*◌, ◌%◌, ◌^◌, nat_lt, ◌&&◌, Bool, true, inl, inr, List, [], ◌∷◌, ◌++◌, map, length, replicate, get_or, refl, ap, arith, Result, Ok, Err, ◌∙◌, ◌+◌}
+use Rattle.std.proofs.Common.{◌≡◌, ℕ, suc, ◌<◌, ◌≤◌, ◌*◌, ◌%◌, ◌^◌, nat_lt, ◌&&◌, Bool, true, inl, inr, List, [], ◌∷◌, ◌++◌, map, length, replicate, get_or, refl, ap, subst, arith, Result, Ok, Err, ◌∙◌, ◌+◌}
 use Rattle.std.specs.Prelude.{All, IfOk, IfErr, codes}
 use Rattle.std.specs.List.{flat_map, AllByRecursion}
 use Rattle.std.proofs.lemmas.Bool.{ltb-true, and_parts}
@@ -225,6 +225,14 @@ bytes_behind values ys count r five eight le lt few bits =
     reads_behind (98 ∷ letters) letters values ys 0 count r refl (counts (length letters) le lt) few (letters_are letters values five refl)
     (read_as values ys 0 count eight (pow_pos count) bits) refl
 
+-- one letter is no count
+bad_number : (letters values : List ℕ) → codes "bb" ≡ 98 ∷ letters → letters ≡ map letter_of values → IsCount (length values) → ⊥
+bad_number letters values text are h =
+    let letters_are : ◌≡◌ {A = ℕ} 2 (suc (length letters)) = ap length text in
+    let one : length values ≡ 1 = omega (arith, letters_are, ap length are, length-map values letter_of) in
+    let count : IsCount 1 = subst (λ (n : ℕ). IsCount n) one h in
+    omega (arith, only_counts 1 count)
+
 pub text_rows : TextRows
 unfolding bits_of below
 text_rows = record {
@@ -240,6 +248,7 @@ text_rows = record {
   eight = wrong_at 1 (codes "a8") (omega arith) (λ p q. omega (arith, p)) (λ p q. omega (arith, q));
   padded = wrong_at 2 (codes "ae=") (omega arith) (λ p q. omega (arith, p)) (λ p q. omega (arith, q));
   number_before_unused_bits = wrong_count (1 ∷ []) refl (λ h. omega (arith, only_counts 1 h));
+  no_unused_bits_of_a_bad_number = λ h. bad_number h.0 h.2.0 h.1 h.2.1.1 h.2.2.0;
   too_long = wrong_count (replicate 76 0) refl (λ h. omega (arith, h.0));
   too_long_before_unused_bits = wrong_count (replicate 76 1) refl (λ h. omega (arith, h.0));
   letters_before_too_many = wrong_at 75 (replicate 75 97 ++ 49 ∷ []) (omega arith) (λ p q. omega (arith, p)) (λ p q. omega (arith, p));
@@ -257,6 +266,7 @@ text_rows = record {
       (λ m e. second 112 m e (λ h. omega (arith, h)));
   no_multihash =
       bytes_behind (0 ∷ 5 ∷ 25 ∷ 0 ∷ []) (1 ∷ 114 ∷ []) 4 (Err BadHash) refl refl (omega arith) (omega arith) (omega arith) refl tt ([], refl, multihash_rows.none);
+  no_id_without_one = λ h. multihash_rows.none h.1;
   another_hash =
       bytes_behind (0 ∷ 5 ∷ 25 ∷ 1 ∷ 6 ∷ 0 ∷ 0 ∷ []) (1 ∷ 114 ∷ 19 ∷ 0 ∷ []) 3 (Err BadHash) refl refl (omega arith) (omega arith) (omega arith) refl tt
       (19 ∷ 0 ∷ [], refl, not_multihash 19 0 [] (λ x y z. omega (arith, x)) (λ x y z. omega (arith, x)));

@@ -135,6 +135,7 @@ pub record TextRows : Type 0 where
   pub eight : ReadsId (codes "ba8") (Err NotBase32)
   pub padded : ReadsId (codes "bae=") (Err NotBase32)
   pub number_before_unused_bits : ReadsId (codes "bb") (Err BadLength)
+  pub no_unused_bits_of_a_bad_number : ¬ ReadsId (codes "bb") (Err TrailingBits)
   pub too_long : ReadsId (98 ∷ replicate 76 97) (Err BadLength)
   pub too_long_before_unused_bits : ReadsId (98 ∷ replicate 76 98) (Err BadLength)
   pub letters_before_too_many : ReadsId (98 ∷ (replicate 75 97 ++ 49 ∷ [])) (Err NotBase32)
@@ -144,4 +145,5 @@ pub record TextRows : Type 0 where
   pub another_version : ReadsId (codes "babza") (Err BadPrefix)
   pub another_codec : ReadsId (codes "bafya") (Err BadPrefix)
   pub no_multihash : ReadsId (codes "bafza") (Err BadHash)
+  pub no_id_without_one : ¬ ReadsId (codes "bafza") (Ok [])
   pub another_hash : ReadsId (codes "bafzbgaa") (Err BadHash)

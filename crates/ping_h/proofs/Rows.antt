@@ -19,6 +19,7 @@ echo_steps = record { empty = (refl, refl); round = (refl, refl); end = (refl, r
 
 pub echo_faults : EchoFaultRows
 echo_faults = record {
+  memory_beside = λ owed begun b bytes n. (λ h. h.0, λ e. (e, λ _. omega arith));
   cut = λ n. (λ h. h.0, λ e. (e, λ going. omega arith));
   none_between = λ n h. let some : 0 < 0 = h.1 refl in omega arith;
   memory = λ n. (λ h. h.0, λ e. (e, λ going. omega arith));

@@ -47,6 +47,10 @@ pub record EchoFaultRows : Type 0 where
   pub none_between : (n : ℕ) → ¬ EchoFails (echo_of_one false) ToEnd n
   pub memory : (n : ℕ) → EchoFails fresh (ToTake (7 ∷ [])) n ↔ (n ≡ 4)
   pub no_memory : (n : ℕ) → ¬ EchoFails fresh (ToTake []) n
+  -- whatever is owed already
+  pub memory_beside : (owed : List ℕ) (begun b : ℕ) (bytes : List ℕ) (n : ℕ)
+      → EchoFails (record { owed = owed; begun = begun; ended = false; failed = false }) (ToTake (b ∷ bytes)) n
+      ↔ (n ≡ 4)
   pub memory_to_give : (n : ℕ) → EchoFails (echo_of_one true) (ToGive 1) n ↔ (n ≡ 4)
   pub no_room : (n : ℕ) → ¬ EchoFails (echo_of_one false) (ToGive 0) n
   pub no_whole_round : (n : ℕ) → ¬ EchoFails echo_within (ToGive 64) n

@@ -1,5 +1,5 @@
 -- The definitions of an exchange at worked bytes.
-use Rattle.std.proofs.Common.{◌≡◌, ℕ, zero, suc, ◌+◌, ◌*◌, ◌%◌, ◌<◌, ◌≤◌, List, [], ◌∷◌, ◌++◌, length, get_or, take, None, Some, Ok, Err, refl, sym, ap, subst, ◌∙◌, inl, inr, arith}
+use Rattle.std.proofs.Common.{◌≡◌, ℕ, zero, suc, ◌+◌, ◌*◌, ◌%◌, ◌<◌, ◌≤◌, List, [], ◌∷◌, ◌++◌, length, get_or, take, Option, None, Some, Ok, Err, refl, sym, ap, subst, ◌∙◌, inl, inr, arith}
 use Rattle.std.specs.Prelude.{IsSome}
 use Rattle.std.specs.List.{AllByRecursion, flat_map}
 use Rattle.std.proofs.lemmas.List.{length-append}
@@ -13,14 +13,15 @@ use Rattle.varint_proto.proofs.Writing.{written_is_read}
 use Rattle.varint_proto.proofs.OneReading.{one_message}
 use Rattle.peer_ids.specs.declared.fault.KeyFault.TheVariants as keys
 use Rattle.peer_ids.specs.declared.kind.KeyType.TheVariants.{Secp256k1}
+use Rattle.peer_ids.specs.Key.{Key}
 use Rattle.peer_ids.specs.ReadsKey.{SpellsKey}
 use Rattle.peer_ids.specs.PeerId.{multihash_of}
 use Rattle.peer_ids.proofs.Written.{canonical_spells, id_is_multihash}
 use Rattle.plaintext_x.specs.declared.fault.ExchangeFault.{ExchangeFault}
 use Rattle.plaintext_x.specs.declared.fault.ExchangeFault.TheVariants.{Wire, NoId, NoKey, BadKey, Differs}
-use Rattle.plaintext_x.specs.Exchange.{SpellsExchange, RefusesBody, Exchanges, AsksMemory, longest, last_id, last_key, joined_key, body_of, message_of}
+use Rattle.plaintext_x.specs.Exchange.{SpellsExchange, RefusesBody, HasRead, Exchanging, Exchanges, AsksMemory, longest, last_id, last_key, joined_key, body_of, message_of}
 use Rattle.plaintext_x.proofs.Own.{own_is_proven}
-use Rattle.plaintext_x.specs.Rows.{short_key, key_bytes, id_bytes, id_field, key_field, long_key, long_bytes, long_id_field, long_key_field, ProofRows, WaitingRows, MemoryRows, RefusalRows}
+use Rattle.plaintext_x.specs.Rows.{short_key, key_bytes, id_bytes, id_field, key_field, long_key, long_bytes, long_id_field, long_key_field, ProofRows, WaitingRows, MemoryRows, RefusalRows, FaultRows, StandRows}
 use Rattle.plaintext_x.proofs.Steps.{faulty_in}
 
 -- a length of one byte
@@ -307,4 +308,36 @@ refusal_rows = record {
     written (entry 1 (Bytes []) ∷ key_entry ∷ []) (((omega arith, omega arith), omega arith), both_writable.1),
     ([], short_key, refl, spells_key, (λ e. cc)),
   );
+}
+
+pub fault_rows : FaultRows
+fault_rows = record {
+  failed_before = refl;
+  bad_length = refl;
+  long_length = refl;
+  no_room = refl;
+  badly_spelt_key = refl;
+  key_without_a_type = refl;
+  key_without_data = refl;
+  key_of_an_unknown_type = refl;
+  key_of_a_bad_length = refl;
+  no_room_for_a_key = refl;
+}
+
+-- an answer is what was read
+answer_read : (answer : Option Key) (x : Exchanging) (input : List ℕ) (used : ℕ) → HasRead (Some answer) x input used → Exchanges input (Ok answer) used
+answer_read None x input used read = read.2
+answer_read (Some key) x input used read = read
+
+another : message_of long_key ≡ message_of short_key → ⊥
+another e = absurd (cc (sym proof_rows.sent_of_a_long_key ∙ e ∙ proof_rows.sent))
+
+pub stand_rows : StandRows
+stand_rows = record {
+  proven = refl;
+  waiting = refl;
+  failed = refl;
+  answered = λ own x input used taken answer stands e. answer_read answer x input used (subst (λ (o : Option (Option Key)). HasRead o x input used) e stands.read);
+  unwritten = λ x input used none stands. absurd (cc (sym none ∙ stands.written ∙ proof_rows.sent));
+  wrote_another = λ x input used other stands. another (sym other ∙ stands.written);
 }

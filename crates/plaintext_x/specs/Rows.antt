@@ -1,10 +1,14 @@
 -- Worked rows of an exchange (libp2p plaintext 2.0.0; lengths and refusals are this project's profile).
-use Rattle.std.specs.Prelude.{◌≡◌, ℕ, List, [], ◌∷◌, ◌++◌, replicate, Some, None, Ok, Err}
+use Rattle.std.specs.Prelude.{◌≡◌, ℕ, List, [], ◌∷◌, ◌++◌, replicate, Option, Some, None, Ok, Err, true, false}
+use Rattle.varint_proto.specs.declared.fault.IncomingRefused.TheVariants as framing
+use Rattle.peer_ids.specs.declared.fault.KeyFault.TheVariants as keys
 use Rattle.peer_ids.specs.declared.kind.KeyType.TheVariants.{Rsa, Secp256k1}
 use Rattle.peer_ids.specs.Key.{Key}
 use Rattle.peer_ids.specs.PeerId.{id_of, multihash_of}
-use Rattle.plaintext_x.specs.declared.fault.ExchangeFault.TheVariants.{TooLong, Wire, NoId, NoKey, BadKey, Differs}
-use Rattle.plaintext_x.specs.Exchange.{Exchanges, AsksMemory, RunsOut, message_of}
+use Rattle.plaintext_x.specs.declared.fault.ExchangeFault.TheVariants.{Failed, TooLong, Wire, NoId, NoKey, BadKey}
+use Rattle.plaintext_x.specs.declared.fault.ExchangeFault.TheVariants.{Differs, OutOfMemory}
+use Rattle.plaintext_x.specs.Exchange.{Exchanging, Stands, Exchanges, AsksMemory, RunsOut, message_of, is_proven}
+use Rattle.plaintext_x.specs.Exchange.{of_refused, of_key_fault}
 
 -- a key of one byte, the message that spells it, and its peer id
 abbrev pub short_key : Key
@@ -99,3 +103,29 @@ pub record RefusalRows : Type 0 where
   pub data_of_no_bytes : Exchanges (8 ∷ 10 ∷ 0 ∷ 18 ∷ 4 ∷ 8 ∷ 2 ∷ 18 ∷ 0 ∷ []) (Err BadKey) 9
   pub last_id_is_another : Exchanges (18 ∷ (id_field ++ 10 ∷ 0 ∷ key_field)) (Err Differs) 19
   pub other_id : Exchanges (9 ∷ 10 ∷ 0 ∷ key_field) (Err Differs) 10
+
+-- What a message and a key that aren't read are called
+pub record FaultRows : Type 0 where
+  pub failed_before : of_refused framing.Failed ≡ Failed
+  pub bad_length : of_refused framing.BadLength ≡ Wire
+  pub long_length : of_refused framing.TooLong ≡ TooLong
+  pub no_room : of_refused framing.OutOfMemory ≡ OutOfMemory
+  pub badly_spelt_key : of_key_fault keys.Wire ≡ BadKey
+  pub key_without_a_type : of_key_fault keys.NoType ≡ BadKey
+  pub key_without_data : of_key_fault keys.NoData ≡ BadKey
+  pub key_of_an_unknown_type : of_key_fault keys.UnknownType ≡ BadKey
+  pub key_of_a_bad_length : of_key_fault keys.BadLength ≡ BadKey
+  pub no_room_for_a_key : of_key_fault keys.OutOfMemory ≡ OutOfMemory
+
+-- What an exchange that stands has answered and written
+pub record StandRows : Type 0 where
+  pub proven : is_proven (Some (Some short_key)) ≡ true
+  pub waiting : is_proven (Some None) ≡ false
+  pub failed : is_proven None ≡ false
+  -- an answer is what the whole input comes to
+  pub answered : (own : Key) (x : Exchanging) (input : List ℕ) (used : ℕ) (taken : List ℕ) (answer : Option Key)
+      → Stands own x input used taken → x.answer ≡ Some answer → Exchanges input (Ok answer) used
+  -- an end that has written another message, or none, stands nowhere
+  pub unwritten : (x : Exchanging) (input : List ℕ) (used : ℕ) → x.pending ≡ [] → ¬ Stands short_key x input used []
+  pub wrote_another : (x : Exchanging) (input : List ℕ) (used : ℕ) → x.pending ≡ message_of long_key
+      → ¬ Stands short_key x input used []

@@ -1,10 +1,13 @@
 -- Worked rows of pools, computed by the definitions.
-use Rattle.std.proofs.Common.{ℕ, ◌≤◌, List, [], ◌∷◌, refl, arith}
+use Rattle.std.proofs.Common.{◌≡◌, sym, ap, ◌∙◌, ℕ, ◌≤◌, List, [], ◌∷◌, refl, arith}
 use Rattle.std.specs.List.{All}
 use Rattle.std.proofs.lemmas.List.{length-replicate}
 use Rattle.std.proofs.lemmas.List.Elements.{All-nil, All-cons, All-head, All-tail, All-replicate}
+use Rattle.pool_state.specs.declared.call.Reply.TheVariants as reply
+use Rattle.pool_state.specs.declared.limits.Config.{Config}
+use Rattle.pool_state.specs.declared.listing.Listing.{Listing}
 use Rattle.pool_state.specs.AgentName.{IsAgentName}
-use Rattle.pool_state.specs.Rows.{ConnectionRows, StreamRows, ListRows, RefusalRows, LimitRows, RangeRows, AddedRows, AgentRows}
+use Rattle.pool_state.specs.Rows.{ConnectionRows, StreamRows, ListRows, RefusalRows, LimitRows, RangeRows, AddedRows, AgentRows, NumberRows, PoolRows}
 
 pub connection_rows : ConnectionRows
 connection_rows = record {
@@ -79,6 +82,7 @@ limit_rows = record {
 
 pub range_rows : RangeRows
 range_rows = record {
+  commonly = λ limits h. (h.conns, h.per_peer, h.streams, h.blocked, h.inbound, h.outbound, h.allowed);
   least = record {
     some_conns = (omega arith, omega arith);
     some_per_peer = (omega arith, omega arith);
@@ -191,4 +195,18 @@ agent_rows = record {
   no_ascii = λ name. omega (arith, (first_of 195 (169 ∷ []) name).1);
   second = λ name. omega (arith, (second_of 97 31 [] name).0);
   second_above = λ name. omega (arith, (second_of 97 128 [] name).1);
+}
+
+pub number_rows : NumberRows
+number_rows = record { numbers = refl }
+
+pub pool_rows : PoolRows
+pool_rows = record {
+  at_first = λ pool c l n. record { legal = tt; config_is = c; listing_is = l; next_is = n };
+  behind_one = λ pool c l n. record { legal = ((refl, λ e. absurd (cc e)), tt); config_is = c; listing_is = l; next_is = n };
+  of_another_config = λ pool c h. let conns : 3 ≡ 256 = ap (λ (c : Config). c.limits.conns) (sym c ∙ h.config_is) in omega (arith, conns);
+  of_another_listing = λ pool l h. let front : 1 ≡ 0 = ap (λ (l : Listing). l.front) (sym l ∙ h.listing_is) in omega (arith, front);
+  of_another_number = λ pool n h. let next : 2 ≡ 1 = sym n ∙ h.next_is in omega (arith, next);
+  illegal = λ pool h. absurd (let e : reply.Conn 2 ≡ reply.Conn 1 = h.legal.0.0 in cc e);
+  follows = λ pool. refl;
 }

@@ -24,6 +24,7 @@ use Rattle.pool_state.specs.declared.call.Reply.TheVariants as reply
 use Rattle.pool_state.specs.declared.call.Refusal.{Refusal}
 use Rattle.pool_state.specs.declared.call.Refusal.TheVariants.{
   Spent,
+  OutOfMemory,
   NoConn,
   Closing,
   NotPending,
@@ -54,9 +55,10 @@ use Rattle.pool_state.specs.declared.row.Phase.TheVariants as phase
 use Rattle.pool_state.specs.AgentName.{IsAgentName}
 use Rattle.pool_state.specs.Parts.{Peer, listing}
 use Rattle.pool_state.specs.History.{Entry, entry}
-use Rattle.pool_state.specs.Table.{may_refuse}
+use Rattle.pool_state.specs.declared.pool.Pool.{Pool}
+use Rattle.pool_state.specs.Table.{may_refuse, number_of}
 use Rattle.pool_state.specs.Shown.{Shown, reply_after}
-use Rattle.pool_state.specs.At.{number_after}
+use Rattle.pool_state.specs.At.{Stands, followed, number_after}
 use Rattle.pool_state.specs.Added.{more, more_at, with_row, with_peer, row_after, rows_after, added}
 use Rattle.pool_state.specs.Limits.{AreCommon}
 use Rattle.pool_state.specs.Ranges.{AreInRange}
@@ -419,6 +421,10 @@ pub record RangeRows : Type 0 where
   pub common : (limits : Limits) → AreCommon limits
       → AreInRange limits.conns limits.per_peer limits.streams limits.blocked limits.inbound limits.outbound
       limits.allowed
+  -- and these are they
+  pub commonly : (limits : Limits) → AreCommon limits
+      → (limits.conns ≡ 64) × (limits.per_peer ≡ 8) × (limits.streams ≡ 64) × (limits.blocked ≡ 64)
+      × (limits.inbound ≡ 256) × (limits.outbound ≡ 256) × (limits.allowed ≡ 64)
   pub no_connection : ¬ AreInRange 0 1 1 0 0 0 0
   pub none_of_a_peer : ¬ AreInRange 1 0 1 0 0 0 0
   pub no_stream : ¬ AreInRange 1 1 0 0 0 0 0
@@ -522,3 +528,26 @@ pub record AgentRows : Type 0 where
   pub no_ascii : ¬ IsAgentName (195 ∷ 169 ∷ [])
   pub second : ¬ IsAgentName (97 ∷ 31 ∷ [])
   pub second_above : ¬ IsAgentName (97 ∷ 128 ∷ [])
+
+-- The numbers of the refusals
+pub record NumberRows : Type 0 where
+  pub numbers : map number_of (Spent ∷ OutOfMemory ∷ NoConn ∷ Closing ∷ NotPending ∷ NotLive ∷ BadProtocol ∷ SelfPeer
+      ∷ Mismatch ∷ Blocked ∷ Full ∷ PeerFull ∷ StreamsFull ∷ NothingAsked ∷ BlockFull ∷ IdsExhausted ∷ SideFull
+      ∷ NotAllowed ∷ AllowFull ∷ []) ≡ range_with_len 1 19
+
+-- Where a pool stands, and what it becomes by a call and its reply
+pub record PoolRows : Type 0 where
+  pub at_first : (pool : Pool) → pool.config ≡ wide → pool.listing ≡ listing 0 [] [] [] → pool.next ≡ 1
+      → Stands wide [] pool
+  pub behind_one : (pool : Pool) → pool.config ≡ wide
+      → pool.listing ≡ listing 1 (row 1 Listener phase.Pending None ∷ []) [] [] → pool.next ≡ 2
+      → Stands wide (entry 1 Accept (reply.Conn 1) ∷ []) pool
+  pub of_another_config : (pool : Pool) → pool.config ≡ narrow → ¬ Stands wide [] pool
+  pub of_another_listing : (pool : Pool) → pool.listing ≡ listing 1 [] [] [] → ¬ Stands wide [] pool
+  pub of_another_number : (pool : Pool) → pool.next ≡ 2 → ¬ Stands wide [] pool
+  pub illegal : (pool : Pool) → ¬ Stands wide (entry 1 Accept (reply.Conn 2) ∷ []) pool
+  pub follows : (pool : Pool) → followed (record pool { next = 3; listing = stood }) Accept (reply.Conn 3)
+      ≡ record pool {
+        next = 4;
+        listing = listing 7 (dialing ∷ living ∷ row 3 Listener phase.Pending None ∷ []) (third ∷ []) (second ∷ []);
+      }

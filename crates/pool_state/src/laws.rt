@@ -15,7 +15,7 @@ ghost use Rattle.pool_state.specs.Added.{added};
 ghost use Rattle.pool_state.specs.Bounded.{IsBounded, refusal_numbers};
 ghost use Rattle.pool_state.specs.Ordered.{IsEachOnce, KeepsOrder};
 ghost use Rattle.pool_state.specs.Rows.{AddedRows, AgentRows, ConnectionRows, LimitRows, ListRows};
-ghost use Rattle.pool_state.specs.Rows.{RangeRows, RefusalRows, StreamRows};
+ghost use Rattle.pool_state.specs.Rows.{NumberRows, PoolRows, RangeRows, RefusalRows, StreamRows};
 
 /// What a legal history shows keeps to the limits.
 pub fn bounded()
@@ -81,4 +81,6 @@ pub fn worked_rows()
     ensures ranges { RangeRows }
     ensures added { AddedRows }
     ensures agents { AgentRows }
+    ensures numbers { NumberRows }
+    ensures pools { PoolRows }
 {}

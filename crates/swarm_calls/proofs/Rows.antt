@@ -8,10 +8,10 @@ use Rattle.pool_state.specs.declared.call.Reply.TheVariants.{Conn, Refused}
 use Rattle.pool_state.specs.declared.call.Refusal.TheVariants.{Spent, OutOfMemory, Full}
 use Rattle.pool_state.specs.History.{Entry, entry}
 use Rattle.pool_state.specs.Shown.{IsLegal}
-use Rattle.pool_state.specs.Rows.{wide}
+use Rattle.pool_state.specs.Rows.{wide, ending}
 use Rattle.swarm_calls.specs.History.{IsOf, mine}
 use Rattle.swarm_calls.specs.Calls.{Past, past, IsTurnedAway}
-use Rattle.swarm_calls.specs.Rows.{one, two, CallerRows, SeenRows, WholeRows}
+use Rattle.swarm_calls.specs.Rows.{one, two, blocking, CallerRows, SeenRows, WholeRows}
 
 both_here : (caller : ℕ) → 1 ≤ caller → caller ≤ 2 → list_any (λ (p : Past). p.number == caller) (past 2 [] ∷ past 1 [] ∷ []) ≡ true
 both_here zero some most = absurd (omega arith)
@@ -72,6 +72,19 @@ abbrev second_caller : List Entry → ℕ
 second_caller (a ∷ b ∷ rest) = b.caller
 second_caller other = 0
 
+abbrev first_caller : List Entry → ℕ
+first_caller (a ∷ rest) = a.caller
+first_caller other = 0
+
+legal_one : IsLegal wide (one ∷ [])
+legal_one = ((refl, λ e. absurd (cc e)), tt)
+
+legal_ending : IsLegal ending (one ∷ [])
+legal_ending = ((refl, λ e. absurd (cc e)), tt)
+
+of_one : IsOf 2 (one ∷ [])
+of_one = All-cons (Of 2) one [] (omega arith, omega arith) (All-nil (Of 2))
+
 not_last : (before : List Entry) → one ∷ two ∷ [] ≡ before ++ one ∷ [] → ⊥
 not_last [] e = absurd (cc e)
 not_last (x ∷ []) e = let callers : 2 ≡ 1 = ap second_caller e in omega (arith, callers)
@@ -90,6 +103,27 @@ seen_rows = record {
   made_twice = λ m. let e : 2 ≡ 1 = ap length m.own in omega (arith, e);
   not_the_last = λ m. not_last m.before m.last;
   made_by_another = λ m. let e : 1 ≡ 2 = ap length m.own in omega (arith, e);
+  called = record {
+    later = record { number = refl; legal = legal_one; begins = (one ∷ [], refl); callers_are = of_one };
+    made = λ _. record { before = []; last = refl; own = refl };
+    unmade = λ away. absurd (answered away);
+    spent = λ away. absurd (answered away);
+  };
+  answered_and_not_made = λ c. let e : 0 ≡ 1 = ap length (c.made answered).own in omega (arith, e);
+  made_and_forgotten = λ c. let callers : 2 ≡ 1 = ap second_caller c.later.begins.1 in omega (arith, callers);
+  spent = record {
+    later = record { number = refl; legal = legal_ending; begins = ([], refl); callers_are = of_one };
+    made = λ made. absurd (made (inl refl));
+    unmade = λ away. refl;
+    spent = λ away. (λ e. refl, λ e. refl);
+  };
+  no_memory = record {
+    later = record { number = refl; legal = tt; begins = ([], refl); callers_are = All-nil (Of 2) };
+    made = λ made. absurd (made (inr refl));
+    unmade = λ away. refl;
+    spent = λ away. (λ e. absurd (cc e), λ e. absurd (let f : 0 ≡ 18446744073709551615 = e in omega (arith, f)));
+  };
+  turned_away_and_made = λ c. let e : 1 ≡ 0 = ap length (c.unmade (inl refl)) in omega (arith, e);
   spent_early = λ c. let e : 0 ≡ 18446744073709551615 = (c.spent (inl refl)).0 refl in omega (arith, e);
   not_spent = λ c. absurd (let e : Refused OutOfMemory ≡ Refused Spent = (c.spent (inr refl)).1 refl in cc e);
 }
@@ -106,4 +140,9 @@ whole_rows = record {
   lost = λ w. no_prefix (one ∷ two ∷ []) (one ∷ []) (omega arith) (All-head (Begins (one ∷ [])) (past 2 (one ∷ two ∷ [])) (past 1 (one ∷ []) ∷ []) w.begins);
   invented = λ w.
       let own : (one ∷ []) ≡ [] = All-head (HasOwn (one ∷ [])) (past 1 []) [] (All-tail (HasOwn (one ∷ [])) (past 2 []) (past 1 [] ∷ []) w.own) in absurd (cc own);
+  reordered = λ w.
+      let begins = All-head (Begins (blocking ∷ one ∷ [])) (past 1 (one ∷ [])) (past 2 (blocking ∷ []) ∷ []) w.begins in
+      let callers : 1 ≡ 2 = ap first_caller begins.1 in omega (arith, callers);
+  of_a_stranger = λ w. let e : 1 ≡ 0 = w.sum in omega (arith, e);
+  illegal = λ w. absurd (let e : Conn 2 ≡ Conn 1 = w.legal.0.0 in cc e);
 }

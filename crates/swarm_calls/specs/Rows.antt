@@ -1,8 +1,8 @@
 -- Worked rows of a shared swarm's histories: whose calls they have, and what a caller has seen of them.
 -- Source: This project's profile of a swarm that threads share.
 use Rattle.std.specs.Prelude.{◌≡◌, [], ◌∷◌, None}
-use Rattle.pool_state.specs.declared.call.Call.TheVariants.{Dial, Accept}
-use Rattle.pool_state.specs.declared.call.Reply.TheVariants.{Conn, Refused}
+use Rattle.pool_state.specs.declared.call.Call.TheVariants.{Dial, Accept, Block}
+use Rattle.pool_state.specs.declared.call.Reply.TheVariants.{Conn, Count, Refused}
 use Rattle.pool_state.specs.declared.call.Refusal.TheVariants.{Spent, OutOfMemory, Full}
 use Rattle.pool_state.specs.History.{Entry, entry}
 use Rattle.pool_state.specs.Rows.{wide, ending}
@@ -18,6 +18,10 @@ two = entry 2 (Dial None) (Conn 2)
 
 abbrev pub three : Entry
 three = entry 1 Accept (Conn 3)
+
+-- caller 2 blocks a peer
+abbrev pub blocking : Entry
+blocking = entry 2 (Block (1 ∷ [])) (Count 0)
 
 -- Whose calls a history has, and which callers there are
 pub record CallerRows : Type 0 where
@@ -50,11 +54,22 @@ pub record SeenRows : Type 0 where
   pub made_twice : ¬ IsMade Accept (Conn 3) (past 1 []) (past 1 (one ∷ two ∷ three ∷ []))
   pub not_the_last : ¬ IsMade Accept (Conn 1) (past 1 []) (past 1 (one ∷ two ∷ []))
   pub made_by_another : ¬ IsMade (Dial None) (Conn 2) (past 1 (one ∷ [])) (past 1 (one ∷ two ∷ []))
+  -- what a pool call does: it is made, or turned away and not made, and nothing that was seen is lost
+  pub called : IsCalled wide 2 Accept (past 1 []) (Conn 1) (past 1 (one ∷ []))
+  pub answered_and_not_made : ¬ IsCalled wide 2 Accept (past 1 []) (Conn 1) (past 1 [])
+  pub made_and_forgotten : ¬ IsCalled wide 2 Accept (past 1 (one ∷ two ∷ [])) (Conn 3) (past 1 (one ∷ three ∷ []))
+  pub spent : IsCalled ending 2 Accept (past 1 (one ∷ [])) (Refused Spent) (past 1 (one ∷ []))
+  pub no_memory : IsCalled wide 2 Accept (past 1 []) (Refused OutOfMemory) (past 1 [])
+  pub turned_away_and_made : ¬ IsCalled ending 2 Accept (past 1 []) (Refused Spent) (past 1 (one ∷ []))
   pub spent_early : ¬ IsCalled wide 2 Accept (past 1 []) (Refused Spent) (past 1 [])
   pub not_spent : ¬ IsCalled ending 2 Accept (past 1 (one ∷ [])) (Refused OutOfMemory) (past 1 (one ∷ []))
 
--- One history of what two callers have seen: no call of theirs is lost, and none invented
+-- One legal history of what two callers have seen: no call of theirs is lost, none invented, and none comes earlier or
+-- later than it was seen
 pub record WholeRows : Type 0 where
   pub whole : IsWhole wide 2 (past 2 (one ∷ two ∷ []) ∷ past 1 (one ∷ []) ∷ []) (one ∷ two ∷ [])
   pub lost : ¬ IsWhole wide 2 (past 2 (one ∷ two ∷ []) ∷ past 1 (one ∷ []) ∷ []) (one ∷ [])
   pub invented : ¬ IsWhole wide 2 (past 2 [] ∷ past 1 [] ∷ []) (one ∷ [])
+  pub reordered : ¬ IsWhole wide 2 (past 1 (one ∷ []) ∷ past 2 (blocking ∷ []) ∷ []) (blocking ∷ one ∷ [])
+  pub illegal : ¬ IsWhole wide 2 (past 2 (two ∷ []) ∷ past 1 [] ∷ []) (two ∷ [])
+  pub of_a_stranger : ¬ IsWhole wide 2 (past 2 [] ∷ past 1 [] ∷ []) (entry 3 Accept (Conn 1) ∷ [])

@@ -6,7 +6,7 @@ use Rattle.varint_proto.specs.Varint.{IsSpelling, IsUnended, BeginsWide, BeginsS
 use Rattle.varint_proto.specs.Message.{entry, Varint, IsTag, ValueFault, FieldFault}
 use Rattle.varint_proto.specs.Incoming.{AsksMemory}
 use Rattle.varint_proto.proofs.Front.{one_begins}
-use Rattle.varint_proto.specs.Rows.{VarintRows, WideRows, FieldRows, FieldFaultRows, FramedRows, RoomRows, StandRows}
+use Rattle.varint_proto.specs.Rows.{VarintRows, WideRows, FieldRows, FieldFaultRows, FramedRows, RoomRows, StandRows, ViewRows}
 
 pub varint_rows : VarintRows
 unfolding shortest shortest_within
@@ -213,4 +213,15 @@ stand_rows = record {
       let firsts : 8 ≡ 7 = ap (λ (t : List ℕ). get_or t 0 0) same.1 in omega (arith, firsts);
   past_its_end = λ s. let most : 2 ≤ 1 = s.holds.1 in omega (arith, most);
   past_the_limit = λ s. let most : 3 ≤ 2 = s.holds.0.allowed in omega (arith, most);
+}
+
+pub view_rows : ViewRows
+view_rows = record {
+  field = refl;
+  number = λ n. refl;
+  eight = λ bytes. refl;
+  body = λ body. refl;
+  four = λ bytes. refl;
+  whole = refl;
+  not_whole = refl;
 }

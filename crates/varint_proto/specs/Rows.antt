@@ -1,13 +1,15 @@
 -- Worked rows of the definitions (multiformats unsigned-varint; Protocol Buffers, "Encoding").
 use Rattle.std.specs.Prelude.{◌≡◌, ℕ, ◌-◌, ◌^◌, true, false, List, [], ◌∷◌, ◌++◌, replicate, length}
+use Rattle.std.specs.Borrow.{Bor}
 use Rattle.std.specs.Prelude.{Option, Some, None, Ok, Err}
 use Rattle.varint_proto.specs.declared.fault.WireFault.TheVariants.{TooLong, NotShortest, Cut, BadNumber, BadWire}
 use Rattle.varint_proto.specs.declared.fault.IncomingRefused.TheVariants as incoming
 use Rattle.varint_proto.specs.Varint.{ReadsShortest, BeginsWide, WideFault, shortest}
 use Rattle.varint_proto.specs.Message.{Entry, entry, Varint, Fixed64, Bytes, Fixed32, Begins, FieldFault}
-use Rattle.varint_proto.specs.Message.{IsMessage, IsWritable}
+use Rattle.varint_proto.specs.Message.{IsMessage, IsWritable, content_of, entry_of}
+use Rattle.varint_proto.specs.declared.message.Value.TheVariants as values
 use Rattle.varint_proto.specs.Message.{FaultIn, all_varints, all_bodies, last_varint, last_body, shortest_field}
-use Rattle.varint_proto.specs.Incoming.{ReadsFramed, AsksMemory, RefusesRoom, Arriving, Stands}
+use Rattle.varint_proto.specs.Incoming.{ReadsFramed, AsksMemory, RefusesRoom, Arriving, Stands, whole_at}
 
 -- Varints of multiformats
 pub record VarintRows : Type 0 where
@@ -153,3 +155,13 @@ pub record StandRows : Type 0 where
   pub another_body : ¬ Stands (2 ∷ 7 ∷ []) (arriving [] (Some 2) (8 ∷ []))
   pub past_its_end : ¬ Stands (1 ∷ 7 ∷ 8 ∷ []) (arriving [] (Some 1) (7 ∷ 8 ∷ []))
   pub past_the_limit : ¬ Stands (3 ∷ []) (arriving [] (Some 3) [])
+
+-- What contracts see of a field, and of a body and what follows it
+pub record ViewRows : Type 0 where
+  pub field : entry_of (record { number = 3; value = values.Varint 300 }) ≡ entry 3 (Varint 300)
+  pub number : (n : ℕ) → content_of (values.Varint n) ≡ Varint n
+  pub eight : (bytes : List ℕ) → content_of (values.Fixed64 bytes) ≡ Fixed64 bytes
+  pub body : (body : Bor (List ℕ)) → content_of (values.Bytes body) ≡ Bytes body.now
+  pub four : (bytes : List ℕ) → content_of (values.Fixed32 bytes) ≡ Fixed32 bytes
+  pub whole : whole_at true (7 ∷ []) (8 ∷ []) ≡ Some (7 ∷ [], 8 ∷ [])
+  pub not_whole : whole_at false (7 ∷ []) (8 ∷ []) ≡ None

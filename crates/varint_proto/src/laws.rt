@@ -5,7 +5,7 @@ ghost use Rattle.varint_proto.specs.Varint.{Stays, Inside, EndsAt, OneOutcome, S
 ghost use Rattle.varint_proto.specs.Message.{OneReading, SomeReading, WrittenIsRead};
 ghost use Rattle.varint_proto.specs.Incoming.{OneFramed, SomeFramed, FramedStays, FramedEnds, FramedIsRead, StandsRead};
 ghost use Rattle.varint_proto.specs.Rows.{VarintRows, WideRows, FieldRows, FieldFaultRows, PickRows, FramedRows};
-ghost use Rattle.varint_proto.specs.Rows.{RoomRows, StandRows};
+ghost use Rattle.varint_proto.specs.Rows.{RoomRows, StandRows, ViewRows};
 
 /// The definitions say of worked bytes what the standards say.
 pub fn worked_rows()
@@ -17,6 +17,7 @@ pub fn worked_rows()
     ensures framed { FramedRows }
     ensures room { RoomRows }
     ensures stands { StandRows }
+    ensures views { ViewRows }
 {}
 
 /// No spelling of a varint begins another.

@@ -1,11 +1,11 @@
 -- The definitions at worked bytes.
-use Rattle.std.proofs.Common.{ℕ, ◌<◌, List, [], ◌∷◌, ◌++◌, refl, subst, arith}
+use Rattle.std.proofs.Common.{◌≡◌, ap, length, ℕ, ◌<◌, List, [], ◌∷◌, ◌++◌, refl, subst, arith}
 use Rattle.yamux_frames.specs.declared.header.FrameKind.TheVariants.{Payload}
 use Rattle.yamux_frames.specs.declared.header.FrameFault.TheVariants.{BadVersion, BadType}
 use Rattle.yamux_frames.specs.Spelling.{header_bytes, IsHeader}
 use Rattle.yamux_frames.specs.Frames.{Arrival, Reads, IsMidFrame, EndsWithin}
 use Rattle.yamux_frames.specs.Frames.Arrival.{Head, Byte, Tail, Garbled}
-use Rattle.yamux_frames.specs.Rows.{header, behind, ping, two, HeaderRows, HeaderFaultRows, FrameRows, EndRows, PlaceRows}
+use Rattle.yamux_frames.specs.Rows.{header, behind, ping, two, HeaderRows, HeaderFaultRows, FrameRows, EndRows, CutRows, PlaceRows, StandRows}
 use Rattle.yamux_frames.proofs.Readings.{one_reading}
 
 pub header_rows : HeaderRows
@@ -83,6 +83,12 @@ not_within bytes frames rest reads outside e =
 
 pub end_rows : EndRows
 end_rows = record {
+  in_the_next_header = record {
+    frames = Tail ∷ Head ping ∷ [];
+    rest = 0 ∷ [];
+    reads = record { whole = refl; frames_are = (tt, refl, (tt, fits_ping, tt)); rest_is = omega arith };
+    mid_frame = λ e. absurd (cc e);
+  };
   in_a_header = record { frames = []; rest = 0 ∷ []; reads = record { whole = refl; frames_are = tt; rest_is = omega arith }; mid_frame = λ e. absurd (cc e) };
   behind_a_head = record { frames = Head two ∷ []; rest = []; reads = frame_rows.head_alone; mid_frame = tt };
   in_a_payload = record { frames = Byte 7 ∷ Head two ∷ []; rest = []; reads = frame_rows.some_data; mid_frame = tt };
@@ -94,3 +100,16 @@ end_rows = record {
 
 pub place_rows : PlaceRows
 place_rows = record { between_frames = refl; in_a_header = refl; in_a_payload = refl; failed = refl }
+
+pub cut_rows : CutRows
+cut_rows = record { nothing = refl; head_of_data = refl; frame_without_data = refl; part = refl; last_part = refl }
+
+pub stand_rows : StandRows
+stand_rows = record {
+  in_a_payload = record { going = refl; reads = frame_rows.some_data; sound = tt; left = refl; stream = λ _. refl };
+  nothing_left = λ s. let e : 0 ≡ 1 = s.left in omega (arith, e);
+  of_another_stream = λ s. let e : 3 ≡ 1 = s.stream (omega arith) in omega (arith, e);
+  within_a_header = λ s. let e : 13 ≡ 14 = ap length s.reads.whole in omega (arith, e);
+  failed = λ s. absurd (let e = s.going in cc e);
+  behind_a_fault = λ s. s.sound;
+}

@@ -6,7 +6,9 @@ use Rattle.yamux_frames.specs.declared.header.FrameKind.TheVariants.{Payload, Wi
 use Rattle.yamux_frames.specs.declared.header.FrameFault.TheVariants.{BadVersion, BadType}
 use Rattle.yamux_frames.specs.Spelling.{header_bytes, payload_length, IsHeader, HasFault}
 use Rattle.yamux_frames.specs.Place.{Place, is_within}
-use Rattle.yamux_frames.specs.Frames.{Reads, EndsWithin, bytes_left, last_stream}
+use Rattle.yamux_frames.specs.declared.cutter.Cut.TheVariants.{More, Part}
+use Rattle.yamux_frames.specs.declared.cutter.Cut.TheVariants as cut
+use Rattle.yamux_frames.specs.Frames.{Reads, Stands, EndsWithin, bytes_left, last_stream, with_cut}
 use Rattle.yamux_frames.specs.Frames.Arrival.{Head, Byte, Tail, Garbled}
 
 abbrev pub header : FrameKind → ℕ → ℕ → ℕ → Header
@@ -73,11 +75,20 @@ pub record FrameRows : Type 0 where
 pub record EndRows : Type 0 where
   pub in_a_header : EndsWithin (0 ∷ [])
   pub behind_a_head : EndsWithin (header_bytes two)
+  pub in_the_next_header : EndsWithin (header_bytes ping ++ 0 ∷ [])
   pub in_a_payload : EndsWithin (header_bytes two ++ 7 ∷ [])
   pub nothing : ¬ EndsWithin []
   pub behind_a_ping : ¬ EndsWithin (header_bytes ping)
   pub behind_a_payload : ¬ EndsWithin (header_bytes two ++ 7 ∷ 8 ∷ [])
   pub behind_a_fault : ¬ EndsWithin (behind 0 4 ++ 9 ∷ [])
+
+-- What has arrived by an answer of a cutter: a payload's bytes in order, and the tail of a frame with its last byte
+pub record CutRows : Type 0 where
+  pub nothing : with_cut (0 ∷ []) More [] ≡ []
+  pub head_of_data : with_cut (0 ∷ []) (cut.Head two) [] ≡ Head two ∷ []
+  pub frame_without_data : with_cut (5 ∷ []) (cut.Head ping) [] ≡ Tail ∷ Head ping ∷ []
+  pub part : with_cut (7 ∷ []) (Part 1 0 1 false) (Head two ∷ []) ≡ Byte 7 ∷ Head two ∷ []
+  pub last_part : with_cut (7 ∷ 8 ∷ []) (Part 1 0 2 true) (Head two ∷ []) ≡ Tail ∷ Byte 8 ∷ Byte 7 ∷ Head two ∷ []
 
 abbrev pub between : Place
 between = record { part = []; stream = 1; left = 0; fault = None }
@@ -88,3 +99,15 @@ pub record PlaceRows : Type 0 where
   pub in_a_header : is_within (record between { part = 0 ∷ [] }) ≡ true
   pub in_a_payload : is_within (record between { left = 1 }) ≡ true
   pub failed : is_within (record between { part = 0 ∷ []; left = 1; fault = Some BadType }) ≡ false
+
+-- Where a cutter stands, within a payload of which a byte is still to come
+pub record StandRows : Type 0 where
+  pub in_a_payload : Stands (header_bytes two ++ 7 ∷ []) (Byte 7 ∷ Head two ∷ []) (record between { left = 1 })
+  pub nothing_left : ¬ Stands (header_bytes two ++ 7 ∷ []) (Byte 7 ∷ Head two ∷ []) between
+  pub of_another_stream : ¬ Stands (header_bytes two ++ 7 ∷ []) (Byte 7 ∷ Head two ∷ [])
+      (record between { left = 1; stream = 3 })
+  pub within_a_header : ¬ Stands (header_bytes two ++ 7 ∷ []) (Byte 7 ∷ Head two ∷ [])
+      (record between { left = 1; part = 0 ∷ [] })
+  pub failed : ¬ Stands (header_bytes two ++ 7 ∷ []) (Byte 7 ∷ Head two ∷ [])
+      (record between { left = 1; fault = Some BadType })
+  pub behind_a_fault : ¬ Stands (behind 0 4) (Garbled (behind 0 4) ∷ []) between

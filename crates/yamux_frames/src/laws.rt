@@ -3,7 +3,8 @@
 ghost use Rattle.std.specs.Prelude.{◌≡◌};
 ghost use Rattle.yamux_frames.specs.Frames.{OneReading, SomeReading};
 ghost use Rattle.yamux_frames.specs.OneAnswer.{AreAllowed, OneAnswer, AnswerOrFault, OneFault};
-ghost use Rattle.yamux_frames.specs.Rows.{HeaderRows, HeaderFaultRows, FrameRows, EndRows, PlaceRows};
+ghost use Rattle.yamux_frames.specs.Rows.{HeaderRows, HeaderFaultRows, FrameRows, EndRows, CutRows, PlaceRows};
+ghost use Rattle.yamux_frames.specs.Rows.{StandRows};
 
 use crate::header::Header;
 
@@ -13,7 +14,9 @@ pub fn worked_rows()
     ensures faults { HeaderFaultRows }
     ensures frames { FrameRows }
     ensures ends { EndRows }
+    ensures cuts { CutRows }
     ensures places { PlaceRows }
+    ensures stands { StandRows }
 {}
 
 /// No bytes are read in two ways: their frames, the fault among them, and what is left over are determined.

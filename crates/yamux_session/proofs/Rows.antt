@@ -1,9 +1,27 @@
 -- Worked rows of sessions, computed by the definitions.
-use Rattle.std.proofs.Common.{◌≡◌, ◌<◌, ◌≤◌, ℕ, true, false, [], ◌∷◌, refl, arith}
+use Rattle.std.proofs.Common.{◌≡◌, ◌<◌, ◌≤◌, ℕ, zero, suc, true, false, List, [], ◌∷◌, ◌++◌, Some, None, map, cond, nat_lt, inl, inr, refl, sym, ap, subst, ◌∙◌, arith}
+use Rattle.std.proofs.Common.{min, length, take, ◌⊎◌}
+use Rattle.std.specs.List.{AllByRecursion, concat}
+use Rattle.yamux_frames.specs.declared.header.FrameKind.TheVariants.{Ping}
+use Rattle.yamux_frames.specs.declared.header.FrameFault.TheVariants.{BadVersion}
+use Rattle.yamux_frames.specs.Frames.{Arrival, Reads}
+use Rattle.yamux_frames.specs.Frames.Arrival.{Tail, Garbled}
+use Rattle.yamux_frames.proofs.Readings.{one_reading}
+use Rattle.yamux_session.specs.declared.event.Role.TheVariants.{Client, Server}
 use Rattle.yamux_session.specs.declared.event.Fault.TheVariants.{BadFrame}
-use Rattle.yamux_session.specs.History.Item.{Did}
-use Rattle.yamux_session.specs.History.Act.{Start, Close}
-use Rattle.yamux_session.specs.Runs.Point.{At}
+use Rattle.yamux_session.specs.declared.event.Event.{Event}
+use Rattle.yamux_session.specs.declared.event.Event.TheVariants as event
+use Rattle.yamux_session.specs.declared.event.ActRefused.TheVariants as refused
+use Rattle.yamux_session.specs.History.{Item, arrivals}
+use Rattle.yamux_session.specs.History.Item.{Came, Did}
+use Rattle.yamux_session.specs.History.Act.{Start, Write, Close}
+use Rattle.yamux_session.specs.Acts.{next_own, own_count}
+use Rattle.yamux_session.specs.Events.{TellsMore}
+use Rattle.yamux_session.specs.Output.{SendsMore}
+use Rattle.yamux_session.specs.Arrives.{HasData, tellings}
+use Rattle.yamux_session.specs.Runs.{Point, FedOn, GoesOn, Ends, IsCutOff, WritesOn}
+use Rattle.yamux_session.specs.Runs.Point.{At, Over}
+use Rattle.yamux_session.specs.Rows.{header, bare, two_bytes, all_written, ping_bytes, answer_bytes, garbled_bytes, leaving_bytes, ping_and_garbled, FeedRows, StandRows}
 use Rattle.yamux_session.specs.Rows.{OpeningRows, EarlyRows, LeavingRows, EndingRows, AnsweredRows, WindowRows, OtherRows, AnswerRows, FlagRows, NamingRows, FrameRows, GrowthRows, FirstFaultRows, RunRows}
 
 pub opening_rows : OpeningRows
@@ -42,6 +60,7 @@ opening_rows = record {
   gone_away_with_a_code = refl;
   gone_away_before_a_frame = refl;
   gone_away_before_a_call = refl;
+  gone_away_before_all = λ role past gone. ap (λ b. cond b (Some refused.GoneAway) (cond (nat_lt 4294967295 (next_own role past)) (Some refused.StreamsExhausted) (cond (nat_lt 255 (own_count role past)) (Some refused.StreamsFull) None))) gone;
   data_accepted = refl;
   payload_behind_leaving = refl;
   started_by_a_client = refl;
@@ -106,6 +125,15 @@ naming_rows = record {
   reset = λ one. two_streams one.stream one.named.0 one.named.1.0;
   credit = λ one. two_streams one.stream one.named.0 one.named.1.0;
   no_empty_data = λ some. some refl;
+  some_data = λ e. absurd (cc e);
+  one_stream = λ n. record {
+    stream = n;
+    named = (refl, (refl, (refl, (refl, (refl, (refl, tt))))));
+    opened_first = (tt, (tt, (tt, (tt, (tt, tt)))));
+  };
+  no_stream = record { stream = 0; named = (tt, (tt, tt)); opened_first = (tt, tt) };
+  told = refl;
+  put_behind = refl;
 }
   where
     two_streams : (n : ℕ) → 1 ≡ n → 3 ≡ n → ⊥
@@ -138,6 +166,8 @@ ending_rows = record {
   reset_is_dead = refl;
   reset_of_one = refl;
   unknown_refuses = refl;
+  dead_refuses = refl;
+  closed_and_reset_refuses = refl;
   unknown_untaken = refl;
   close_sent = refl;
   reset_sent = refl;
@@ -340,6 +370,27 @@ flag_rows = record {
   much_data_opens_and_resets = refl;
 }
 
+abbrev ping : Arrival
+ping = header Ping 1 0 7
+
+ping_read : Reads ping_bytes (Tail ∷ header Ping 1 0 7 ∷ []) []
+ping_read = record { whole = refl; frames_are = (tt, refl, (tt, record { flags = omega arith; stream = omega arith; length = omega arith }, tt)); rest_is = omega arith }
+
+take_none : (n : ℕ) → take {A = ℕ} n [] ≡ []
+take_none zero = refl
+take_none (suc n) = refl
+
+nothing_read : Reads [] [] []
+nothing_read = record { whole = refl; frames_are = tt; rest_is = omega arith }
+
+now_is : (more : List Arrival) (now : List Item) → now ≡ map Came more ++ [] → arrivals now ≡ [] → now ≡ []
+now_is [] now e none = e
+now_is (x ∷ more) now e none = absurd (let h : x ∷ arrivals (map Came more ++ []) ≡ [] = sym (ap arrivals e) ∙ none in cc h)
+
+nothing_more : (now : List Item) → now ≡ [] → TellsMore Server [] now ⊎ SendsMore Server [] now → ⊥
+nothing_more now same (inl more) = let none : 0 < 0 = subst (λ (t : List Item). TellsMore Server [] t) same more in omega arith
+nothing_more now same (inr more) = let none : 0 < 0 = subst (λ (t : List Item). SendsMore Server [] t) same more in omega arith
+
 pub growth_rows : GrowthRows
 growth_rows = record {
   opening_told = let some : 0 < 1 = omega arith in some;
@@ -351,6 +402,18 @@ growth_rows = record {
   data_that_ends_the_unknown_unsent = λ more. let none : 0 < 0 = more in omega arith;
   reset_of_the_unknown_unsent = λ more. let none : 0 < 0 = more in omega arith;
   answer_unsent = λ more. let none : 0 < 0 = more in omega arith;
+  brought = record {
+    used = 12;
+    within = omega arith;
+    now = bare Ping 1 0 7;
+    came = (Tail ∷ ping ∷ [], refl);
+    read = ([], ping_read);
+    more = inr (let some : 0 < 12 = omega arith in some);
+  };
+  nothing_brought = λ b.
+      let none : arrivals b.now ≡ [] = (one_reading (take b.used []) (arrivals b.now) [] b.read.0 [] b.read.1 (subst (λ (t : List ℕ). Reads t [] []) (sym (take_none b.used)) nothing_read)).0 in
+      let same : b.now ≡ [] = now_is b.came.0 b.now b.came.1 none in
+      nothing_more b.now same b.more;
 }
 
 pub first_fault_rows : FirstFaultRows
@@ -365,6 +428,17 @@ first_fault_rows = record {
   none = λ f. absurd (let e = f.0.1 in cc e);
   none_of_nothing = λ f. f;
 }
+
+-- the pieces of a point that a write led to
+pieces_are : (pieces : List (List ℕ)) → ◌≡◌ {A = Point} (At (Did (Write 1 ((8 ∷ 7 ∷ []) ∷ [])) ∷ two_bytes) []) (At (Did (Write 1 pieces) ∷ two_bytes) []) → pieces ≡ (8 ∷ 7 ∷ []) ∷ []
+pieces_are pieces e = sym (ap pieces_of e)
+  where
+    pieces_of : Point → List (List ℕ)
+    pieces_of (At (Did (Write n pieces) ∷ past) fed) = pieces
+    pieces_of other = []
+
+other_bytes : (pieces : List (List ℕ)) (bytes : List ℕ) → bytes ≡ 7 ∷ 8 ∷ [] → concat pieces ≡ take 2 bytes → pieces ≡ (8 ∷ 7 ∷ []) ∷ [] → ⊥
+other_bytes pieces bytes e whole are = absurd (let h : ◌≡◌ {A = List ℕ} (8 ∷ 7 ∷ []) (7 ∷ 8 ∷ []) = sym (ap concat are) ∙ whole ∙ ap (λ (t : List ℕ). take 2 t) e in cc h)
 
 pub run_rows : RunRows
 run_rows = record {
@@ -393,4 +467,107 @@ run_rows = record {
   one_answer_less = λ last a. a;
   output_while_it_goes = refl;
   output_of_the_failed = refl;
+  written = λ bytes e. subst (λ (t : List ℕ). WritesOn Server two_bytes [] 1 t 2 (At (Did (Write 1 ((7 ∷ []) ∷ (8 ∷ []) ∷ [])) ∷ two_bytes) [])) (sym e) (record {
+    pieces = (7 ∷ []) ∷ (8 ∷ []) ∷ [];
+    added = ((refl, ((omega arith, omega arith), ((omega arith, omega arith), tt)), omega arith), refl);
+    count_is = refl;
+    whole = refl;
+  });
+  not_all_written = λ bytes next e a. let count : 1 ≡ 2 = a.count_is ∙ ap (λ (t : List ℕ). min (length t) 262144) e in omega (arith, count);
+  other_bytes_written = λ bytes e a. other_bytes a.pieces bytes.items e a.whole (pieces_are a.pieces a.added.1);
+  written_without_credit = λ bytes e. subst (λ (t : List ℕ). WritesOn Client all_written [] 1 t 0 (At (Did (Write 1 []) ∷ all_written) [])) (sym e) (record {
+    pieces = [];
+    added = ((refl, tt, omega arith), refl);
+    count_is = refl;
+    whole = refl;
+  });
+  write_for_want_of_memory = λ bytes e. (refl, (λ _. subst (λ (t : List ℕ). 0 < min (length t) 262144) (sym e) (omega arith)), refl);
+  nothing_to_write = λ bytes next e a. let none : 0 < 0 = subst (λ (t : List ℕ). 0 < min (length t) 262144) e (a.1 refl) in omega arith;
+  nothing_to_write_without_credit = λ bytes next e a. let none : 0 < 0 = subst (λ (t : List ℕ). 0 < min (length t) 0) e (a.1 refl) in omega arith;
+  write_refused = λ bytes. (refl, (λ e. absurd (cc e)), refl);
+  run = (At (Did (Close 1) ∷ Did (Start 1) ∷ []) [], (At (Did (Start 1) ∷ []) [], ((refl, refl), refl), (At (Did (Close 1) ∷ Did (Start 1) ∷ []) [], (refl, refl), refl)), refl);
+}
+
+-- ---- a feed
+
+feed_goes_on : (told : List Event) → told ≡ [] → FedOn Server [] [] ping_bytes told (bare Ping 1 0 7)
+feed_goes_on told e = record {
+  came = (Tail ∷ ping ∷ [], refl);
+  told_is = ap tellings (sym e);
+  filled = subst (λ (t : List Event). AllByRecursion HasData t) (sym e) tt;
+}
+
+feed_fails : (told : List Event) → told ≡ event.Fault BadFrame ∷ [] → FedOn Server [] [] (ping_bytes ++ garbled_bytes ++ 9 ∷ []) told ping_and_garbled
+feed_fails told e = record {
+  came = (Garbled garbled_bytes ∷ Tail ∷ ping ∷ [], refl);
+  told_is = ap tellings (sym e);
+  filled = subst (λ (t : List Event). AllByRecursion HasData t) (sym e) (tt, tt);
+}
+
+goes_on : GoesOn Server [] ping_bytes (bare Ping 1 0 7) (At (bare Ping 1 0 7) ping_bytes)
+goes_on = record { no_fault = (refl, (refl, tt)); read = ([], ping_read); next_is = refl }
+
+ends_so : Ends Server [] (ping_bytes ++ garbled_bytes ++ 9 ∷ []) ping_and_garbled (Over (answer_bytes ++ leaving_bytes))
+ends_so = record {
+  faulty = ((BadFrame, refl), (refl, (refl, tt)));
+  read = (24, omega arith, record { whole = refl; frames_are = (tt, (BadVersion, (refl, λ e. absurd (cc e))), ping_read.frames_are) });
+  next_is = refl;
+}
+
+cut_off_behind : IsCutOff Server [] [] ping_bytes (Over answer_bytes)
+cut_off_behind = record {
+  used = 12;
+  within = omega arith;
+  now = bare Ping 1 0 7;
+  came = (Tail ∷ ping ∷ [], refl);
+  no_fault = (refl, (refl, tt));
+  read = ([], ping_read);
+  next_is = refl;
+}
+
+cut_off_before : IsCutOff Server [] [] ping_bytes (Over [])
+cut_off_before = record {
+  used = 0;
+  within = omega arith;
+  now = [];
+  came = ([], refl);
+  no_fault = tt;
+  read = ([], nothing_read);
+  next_is = refl;
+}
+
+some_bytes : (bytes : List ℕ) → bytes ≡ ping_bytes → 0 < length bytes
+some_bytes bytes e = subst (λ (t : List ℕ). 0 < length t) (sym e) (omega arith)
+
+pub feed_rows : FeedRows
+feed_rows = record {
+  went_on = λ bytes told e f. subst (λ (t : List ℕ). (now : List Item) × FedOn Server [] [] t told.items now × (GoesOn Server [] t now (At (bare Ping 1 0 7) ping_bytes) ⊎ Ends Server [] t now (At (bare Ping 1 0 7) ping_bytes))) (sym e) (bare Ping 1 0 7, feed_goes_on told.items f, inl goes_on);
+  failed = λ bytes told e f. subst (λ (t : List ℕ). (now : List Item) × FedOn Server [] [] t told.items now × (GoesOn Server [] t now (Over (answer_bytes ++ leaving_bytes)) ⊎ Ends Server [] t now (Over (answer_bytes ++ leaving_bytes)))) (sym e) (ping_and_garbled, feed_fails told.items f, inr ends_so);
+  cut_off = λ bytes e. (refl, some_bytes bytes.items e, subst (λ (t : List ℕ). IsCutOff Server [] [] t (Over answer_bytes)) (sym e) cut_off_behind);
+  cut_off_at_once = λ bytes e. (refl, some_bytes bytes.items e, subst (λ (t : List ℕ). IsCutOff Server [] [] t (Over [])) (sym e) cut_off_before);
+  nothing_fed = λ bytes next e a. let none : 0 < 0 = subst (λ (t : List ℕ). 0 < length t) e a.1 in omega arith;
+  no_other_refusal = λ bytes next a. absurd (let e = a.0 in cc e);
+}
+
+-- ---- where a session stands
+
+pub stand_rows : StandRows
+stand_rows = record {
+  failed = λ role past fed sent s e stands. absurd (let f : true ≡ false = sym e ∙ stands.going in cc f);
+  faulty = λ fed sent s stands. absurd (let e = stands.no_fault.0 in cc e);
+  unanswered = λ fed sent s stands. let e : 3 ≡ 1 = stands.answered.0.1 in omega (arith, e);
+  not_fed = λ sent s stands. absurd (let e = stands.frames.reads.whole in cc e);
+  not_sent = λ fed s e stands. absurd (let f = sym e ∙ stands.output in cc f);
+  adds = λ old new fed sent stands adds. adds Client [] fed sent stands;
+  adds_a_write = λ old new fed sent stands adds. adds Server two_bytes fed sent stands;
+  led_on = λ s e led. led.goes_on e;
+  led_to_a_fault = λ s e f. record {
+    came = (Garbled garbled_bytes ∷ Tail ∷ ping ∷ [], refl);
+    told_is = refl;
+    goes_on = λ going. absurd (let g : true ≡ false = sym e ∙ going in cc g);
+    fails = λ _. (ends_so.faulty, f, ends_so.read);
+  };
+  output_lost = λ s e f led. absurd (let g = sym f ∙ (led.fails e).1 in cc g);
+  fault_untold = λ s led. absurd (let e = led.told_is in cc e);
+  names_one = λ role past fed bytes sent before after new step. step.names_one;
 }

@@ -5,6 +5,7 @@ use Rattle.yamux_frames.specs.declared.header.FrameKind.{FrameKind}
 use Rattle.yamux_frames.specs.declared.header.FrameKind.TheVariants.{Payload, Window, Ping, GoAway}
 use Rattle.yamux_frames.specs.Frames.{Arrival}
 use Rattle.yamux_frames.specs.Frames.Arrival.{Head, Byte, Tail, Garbled}
+use Rattle.yamux_session.specs.declared.event.Role.{Role}
 use Rattle.yamux_session.specs.declared.event.Role.TheVariants.{Client, Server}
 use Rattle.yamux_session.specs.declared.event.Fault.TheVariants.{BadFrame, WrongParity, DuplicateStream, WindowExceeded}
 use Rattle.yamux_session.specs.declared.event.Fault.TheVariants.{WindowTooLarge}
@@ -15,24 +16,26 @@ use Rattle.yamux_session.specs.History.Act.{Start, Write, Taken, Close, Reset}
 use Rattle.yamux_session.specs.Openings.{live, is_live}
 use Rattle.yamux_session.specs.Windows.{credit, receiving_window, untaken}
 use Rattle.yamux_session.specs.Acts.{IsPiece, frames_length, open_credit, next_own, start_refusal, stream_refusal}
-use Rattle.yamux_session.specs.Acts.{direction_refusal}
+use Rattle.yamux_session.specs.Acts.{direction_refusal, remote_go_away}
 use Rattle.yamux_session.specs.Acts.{IsAnswered, AreAnswered}
 use Rattle.yamux_session.specs.Events.{events, TellsMore}
 use Rattle.yamux_session.specs.Data.{inbound, written}
 use Rattle.yamux_session.specs.Output.{output, SendsMore}
 use Rattle.yamux_session.specs.Events.{Told}
-use Rattle.std.specs.List.{AllByRecursion}
+use Rattle.std.specs.Global.{Vec}
+use Rattle.std.specs.List.{AllByRecursion, concat}
+use Rattle.yamux_session.specs.declared.event.Event.{Event}
 use Rattle.yamux_session.specs.declared.event.Event.TheVariants as event
 use Rattle.yamux_session.specs.Seen.{IsQuiet}
 use Rattle.yamux_session.specs.Endings.{opened_in, told_opened, EndsOnce, IsUntold}
 use Rattle.yamux_session.specs.Naming.{NamesOne}
 use Rattle.yamux_session.specs.Faults.{HasNoFault}
-use Rattle.yamux_session.specs.State.{FirstFaults, IsOneFrame}
+use Rattle.yamux_session.specs.State.{State, Stands, Adds, AddsWrite, Led, IsOneFrame, Steps, FirstFaults, Brings}
 use Rattle.yamux_session.specs.declared.calls.Act.TheVariants as call
-use Rattle.yamux_session.specs.declared.calls.ActAnswer.TheVariants.{Stream, Done, Refused}
-use Rattle.yamux_session.specs.Runs.{Point, Answers, AnswersAll, output_at_point}
+use Rattle.yamux_session.specs.declared.calls.ActAnswer.TheVariants.{Events, Stream, Count, Done, Refused}
+use Rattle.yamux_session.specs.Runs.{Point, Answers, AnswersAll, Runs, output_at_point}
 use Rattle.yamux_session.specs.Runs.Point.{At, Over}
-use Rattle.yamux_session.specs.Arrives.{HasData}
+use Rattle.yamux_session.specs.Arrives.{HasData, tellings, added}
 
 abbrev pub header : FrameKind → ℕ → ℕ → ℕ → Arrival
 header kind flags stream len = Head (record { kind = kind; flags = flags; stream = stream; length = len })
@@ -127,6 +130,8 @@ pub record OpeningRows : Type 0 where
       ≡ Some refused.GoneAway
   pub gone_away_before_a_call : start_refusal Client (Did (Act.GoAway 0) ∷ bare GoAway 0 0 0)
       ≡ Some refused.GoneAway
+  pub gone_away_before_all : (role : Role) (past : List Item) → remote_go_away past ≡ true
+      → start_refusal role past ≡ Some refused.GoneAway
   pub data_accepted : output Server (Came Tail ∷ Came (Byte 7) ∷ Came (header Payload 1 1 1) ∷ [])
       ≡ 0 ∷ 1 ∷ 0 ∷ 2 ∷ 0 ∷ 0 ∷ 0 ∷ 1 ∷ 0 ∷ 0 ∷ 0 ∷ 0 ∷ []
   pub payload_behind_leaving : events Server (in_order ((Did (Act.GoAway 0) ∷ []) ∷
@@ -250,6 +255,10 @@ pub record EndingRows : Type 0 where
   pub reset_of_one : live Server (in_order (bare Window 1 1 0 ∷ bare Window 1 3 0 ∷ bare Window 8 1 0 ∷ []))
       ≡ 3 ∷ []
   pub unknown_refuses : direction_refusal Server [] 1 ≡ Some refused.NoStream
+  -- of a stream that is live no more it isn't the reason that it was closed
+  pub dead_refuses : direction_refusal Server closed_and_ended 1 ≡ Some refused.NoStream
+  pub closed_and_reset_refuses : direction_refusal Server (Did (Reset 1) ∷ Did (Close 1) ∷ bare Window 1 1 0) 1
+      ≡ Some refused.NoStream
   pub unknown_untaken : stream_refusal Server [] 1 ≡ Some refused.NoStream
   pub close_sent : output Server (Did (Close 3) ∷ [])
       ≡ 0 ∷ 1 ∷ 0 ∷ 4 ∷ 0 ∷ 0 ∷ 0 ∷ 3 ∷ 0 ∷ 0 ∷ 0 ∷ 0 ∷ []
@@ -572,6 +581,29 @@ pub record NamingRows : Type 0 where
   pub reset : ¬ NamesOne (event.Reset 1 ∷ event.Ended 3 ∷ [])
   pub credit : ¬ NamesOne (event.Credit 1 ∷ event.Ended 3 ∷ [])
   pub no_empty_data : ¬ HasData (event.Payload 1 [])
+  pub some_data : HasData (event.Payload 1 (7 ∷ []))
+  pub one_stream : (n : ℕ) → NamesOne (event.Opened n ∷ event.Accepted n ∷ event.Payload n (7 ∷ []) ∷ event.Ended n
+      ∷ event.Reset n ∷ event.Credit n ∷ [])
+  pub no_stream : NamesOne (event.GoAway 0 ∷ event.Fault BadFrame ∷ [])
+  -- what each tells, its data byte by byte, and which were put behind others
+  pub told : tellings (event.Opened 1 ∷ event.Accepted 2 ∷ event.Payload 3 (7 ∷ 8 ∷ []) ∷ event.Ended 4 ∷ event.Reset 5
+      ∷ event.Credit 6 ∷ event.GoAway 7 ∷ event.Fault BadFrame ∷ [])
+      ≡ Told.Opened 1 ∷ Told.Accepted 2 ∷ Told.Payload 3 7 ∷ Told.Payload 3 8 ∷ Told.Ended 4 ∷ Told.Reset 5
+      ∷ Told.Credit 6 ∷ Told.GoAway 7 ∷ Told.Fault BadFrame ∷ []
+  pub put_behind : added (event.Opened 1 ∷ []) (event.Opened 1 ∷ event.Ended 1 ∷ []) ≡ event.Ended 1 ∷ []
+
+-- a Ping of 7 and its answer, twelve bytes that are no header, and the GoAway that answers those
+abbrev pub ping_bytes : List ℕ
+ping_bytes = 0 ∷ 2 ∷ 0 ∷ 1 ∷ 0 ∷ 0 ∷ 0 ∷ 0 ∷ 0 ∷ 0 ∷ 0 ∷ 7 ∷ []
+
+abbrev pub answer_bytes : List ℕ
+answer_bytes = 0 ∷ 2 ∷ 0 ∷ 2 ∷ 0 ∷ 0 ∷ 0 ∷ 0 ∷ 0 ∷ 0 ∷ 0 ∷ 7 ∷ []
+
+abbrev pub garbled_bytes : List ℕ
+garbled_bytes = 1 ∷ replicate 11 0
+
+abbrev pub leaving_bytes : List ℕ
+leaving_bytes = 0 ∷ 3 ∷ 0 ∷ 0 ∷ 0 ∷ 0 ∷ 0 ∷ 0 ∷ 0 ∷ 0 ∷ 0 ∷ 1 ∷ []
 
 -- What one call takes at most: a part of one frame, with its header first
 pub record FrameRows : Type 0 where
@@ -594,6 +626,9 @@ pub record GrowthRows : Type 0 where
   pub data_that_ends_the_unknown_unsent : ¬ SendsMore Client [] (bare Payload 4 1 0)
   pub reset_of_the_unknown_unsent : ¬ SendsMore Server [] (bare Window 8 9 0)
   pub answer_unsent : ¬ SendsMore Server [] (bare Ping 2 0 7)
+  -- and so do the bytes that bring it, but not none
+  pub brought : Brings Server [] [] ping_bytes
+  pub nothing_brought : ¬ Brings Server [] [] []
 
 -- bytes that are no header
 abbrev pub garbled : List Item
@@ -650,3 +685,78 @@ pub record RunRows : Type 0 where
   pub one_answer_less : (last : Point) → ¬ AnswersAll Client (at []) (call.Start ∷ []) [] last
   pub output_while_it_goes : output_at_point Client (at (Did (Start 1) ∷ [])) ≡ output Client (Did (Start 1) ∷ [])
   pub output_of_the_failed : output_at_point Client (Over (7 ∷ [])) ≡ 7 ∷ []
+  -- as much is written as there is credit for, whatever its pieces
+  pub written : (bytes : Vec ℕ) → bytes.items ≡ 7 ∷ 8 ∷ []
+      → Answers Server (at two_bytes) (call.Write 1 bytes) (Count 2)
+      (at (Did (Write 1 ((7 ∷ []) ∷ (8 ∷ []) ∷ [])) ∷ two_bytes))
+  pub not_all_written : (bytes : Vec ℕ) (next : Point) → bytes.items ≡ 7 ∷ 8 ∷ []
+      → ¬ Answers Server (at two_bytes) (call.Write 1 bytes) (Count 1) next
+  pub other_bytes_written : (bytes : Vec ℕ) → bytes.items ≡ 7 ∷ 8 ∷ []
+      → ¬ Answers Server (at two_bytes) (call.Write 1 bytes) (Count 2)
+      (at (Did (Write 1 ((8 ∷ 7 ∷ []) ∷ [])) ∷ two_bytes))
+  pub written_without_credit : (bytes : Vec ℕ) → bytes.items ≡ 7 ∷ []
+      → Answers Client (at all_written) (call.Write 1 bytes) (Count 0) (at (Did (Write 1 []) ∷ all_written))
+  -- and memory may be wanting where something is
+  pub write_for_want_of_memory : (bytes : Vec ℕ) → bytes.items ≡ 7 ∷ []
+      → Answers Server (at two_bytes) (call.Write 1 bytes) (Refused refused.OutOfMemory) (at two_bytes)
+  pub nothing_to_write : (bytes : Vec ℕ) (next : Point) → bytes.items ≡ []
+      → ¬ Answers Server (at two_bytes) (call.Write 1 bytes) (Refused refused.OutOfMemory) next
+  pub nothing_to_write_without_credit : (bytes : Vec ℕ) (next : Point) → bytes.items ≡ 7 ∷ []
+      → ¬ Answers Client (at all_written) (call.Write 1 bytes) (Refused refused.OutOfMemory) next
+  pub write_refused : (bytes : Vec ℕ)
+      → Answers Server (at []) (call.Write 1 bytes) (Refused refused.NoStream) (at [])
+  -- a run begins with nothing, and sends what its calls send in turn
+  pub run : Runs Client (call.Start ∷ call.Close 1 ∷ []) (Stream 1 ∷ Done ∷ [])
+      (0 ∷ 1 ∷ 0 ∷ 1 ∷ 0 ∷ 0 ∷ 0 ∷ 1 ∷ 0 ∷ 0 ∷ 0 ∷ 0 ∷ 0 ∷ 1 ∷ 0 ∷ 4 ∷ 0 ∷ 0 ∷ 0 ∷ 1 ∷ 0 ∷ 0 ∷ 0 ∷ 0 ∷ [])
+
+-- What a feed is answered, and where it leads
+pub record FeedRows : Type 0 where
+  pub went_on : (bytes : Vec ℕ) (told : Vec Event) → bytes.items ≡ ping_bytes → told.items ≡ []
+      → Answers Server (at []) (call.Feed bytes) (Events told) (At (bare Ping 1 0 7) ping_bytes)
+  -- a fault is told, the output up to it is sent, and what stands behind it is nothing more
+  pub failed : (bytes : Vec ℕ) (told : Vec Event) → bytes.items ≡ ping_bytes ++ garbled_bytes ++ 9 ∷ []
+      → told.items ≡ event.Fault BadFrame ∷ []
+      → Answers Server (at []) (call.Feed bytes) (Events told) (Over (answer_bytes ++ leaving_bytes))
+  -- for want of memory it is cut off behind a first part, of which the output is sent
+  pub cut_off : (bytes : Vec ℕ) → bytes.items ≡ ping_bytes
+      → Answers Server (at []) (call.Feed bytes) (Refused refused.OutOfMemory) (Over answer_bytes)
+  pub cut_off_at_once : (bytes : Vec ℕ) → bytes.items ≡ ping_bytes
+      → Answers Server (at []) (call.Feed bytes) (Refused refused.OutOfMemory) (Over [])
+  pub nothing_fed : (bytes : Vec ℕ) (next : Point) → bytes.items ≡ []
+      → ¬ Answers Server (at []) (call.Feed bytes) (Refused refused.OutOfMemory) next
+  pub no_other_refusal : (bytes : Vec ℕ) (next : Point)
+      → ¬ Answers Server (at []) (call.Feed bytes) (Refused refused.Ended) next
+
+-- a Ping, and behind it bytes that are no header
+abbrev pub ping_and_garbled : List Item
+ping_and_garbled = Came (Garbled garbled_bytes) ∷ bare Ping 1 0 7
+
+-- Where a session stands, and where its calls lead it
+pub record StandRows : Type 0 where
+  -- none that has failed, or at a list with a fault, with an act that it might not do, with arrivals that it wasn't
+  -- fed, or of which it hasn't sent the output
+  pub failed : (role : Role) (past : List Item) (fed sent : List ℕ) (s : State) → s.failed ≡ true
+      → ¬ Stands role past fed sent s
+  pub faulty : (fed sent : List ℕ) (s : State) → ¬ Stands Server garbled fed sent s
+  pub unanswered : (fed sent : List ℕ) (s : State) → ¬ Stands Client (Did (Start 3) ∷ []) fed sent s
+  pub not_fed : (sent : List ℕ) (s : State) → ¬ Stands Server (bare Ping 1 0 7) [] sent s
+  pub not_sent : (fed : List ℕ) (s : State) → s.pending ≡ [] → ¬ Stands Client (Did (Start 1) ∷ []) fed [] s
+  -- an act is added where it stands
+  pub adds : (old new : State) (fed sent : List ℕ) → Stands Client [] fed sent old
+      → Adds old new (λ role past. Start (next_own role past)) → Stands Client (Did (Start 1) ∷ []) fed sent new
+  pub adds_a_write : (old new : State) (fed sent : List ℕ) → Stands Server two_bytes fed sent old
+      → AddsWrite old new 1 (7 ∷ 8 ∷ [])
+      → (pieces : List (List ℕ)) × (concat pieces ≡ 7 ∷ 8 ∷ [])
+      × Stands Server (Did (Write 1 pieces) ∷ two_bytes) fed sent new
+  -- bytes lead on, or to a fault, and then all output is there
+  pub led_on : (s : State) → s.failed ≡ false → Led Server [] (bare Ping 1 0 7) [] ping_bytes [] [] s
+      → Stands Server (bare Ping 1 0 7) ping_bytes [] s
+  pub led_to_a_fault : (s : State) → s.failed ≡ true → s.pending ≡ answer_bytes ++ leaving_bytes
+      → Led Server [] ping_and_garbled [] (ping_bytes ++ garbled_bytes ++ 9 ∷ []) [] (Told.Fault BadFrame ∷ []) s
+  pub output_lost : (s : State) → s.failed ≡ true → s.pending ≡ []
+      → ¬ Led Server [] ping_and_garbled [] (ping_bytes ++ garbled_bytes ++ 9 ∷ []) [] (Told.Fault BadFrame ∷ []) s
+  pub fault_untold : (s : State)
+      → ¬ Led Server [] ping_and_garbled [] (ping_bytes ++ garbled_bytes ++ 9 ∷ []) [] [] s
+  -- and a step tells of one stream
+  pub names_one : (role : Role) (past : List Item) (fed bytes sent : List ℕ) (before after : List Event) (new : State)
+      (step : Steps role past fed bytes sent before after new) → NamesOne step.tells.more

@@ -12,9 +12,8 @@ ghost use Rattle.yamux_session.specs.OneOutcome.{OneOutcome};
 ghost use Rattle.yamux_session.specs.Runs.{OneCall, RunIsLegal};
 ghost use Rattle.yamux_session.specs.Tied.{ActGoesOn, FeedGoesOn, WantOfMemoryStops};
 ghost use Rattle.yamux_session.specs.Rows.{AnswerRows, AnsweredRows, EarlyRows, EndingRows, FirstFaultRows};
-ghost use Rattle.yamux_session.specs.Rows.{FlagRows, FrameRows, GrowthRows, LeavingRows, NamingRows, OpeningRows};
-ghost use Rattle.yamux_session.specs.Rows.{OtherRows};
-ghost use Rattle.yamux_session.specs.Rows.{RunRows, WindowRows};
+ghost use Rattle.yamux_session.specs.Rows.{FeedRows, FlagRows, FrameRows, GrowthRows, LeavingRows, NamingRows};
+ghost use Rattle.yamux_session.specs.Rows.{OpeningRows, OtherRows, RunRows, StandRows, WindowRows};
 
 /// The definitions say of worked histories what the specification says.
 pub fn worked_rows()
@@ -32,6 +31,8 @@ pub fn worked_rows()
     ensures growth { GrowthRows }
     ensures first_faults { FirstFaultRows }
     ensures runs { RunRows }
+    ensures feeds { FeedRows }
+    ensures stands { StandRows }
 {}
 
 /// At most 256 streams of each end are live.

@@ -1,6 +1,6 @@
 use Rattle.identify_h.proofs.Rows.{message_rows, field_rows, memory_rows, bad_key_rows, merge_rows, stream_rows, fault_rows}
 use Rattle.identify_h.proofs.RoomRows.{room_rows}
-use Rattle.identify_h.proofs.HandlerRows.{number_rows, send_rows, read_rows}
+use Rattle.identify_h.proofs.HandlerRows.{take_rows, number_rows, send_rows, read_rows}
 use Rattle.identify_h.proofs.laws.worked_rows.Goals as goal
 
 pub returns-clause-messages : goal.returns-clause-messages
@@ -35,3 +35,6 @@ returns-clause-reading c = read_rows
 
 pub returns-clause-bad_keys : goal.returns-clause-bad_keys
 returns-clause-bad_keys c = bad_key_rows
+
+pub returns-clause-taking : goal.returns-clause-taking
+returns-clause-taking c = take_rows

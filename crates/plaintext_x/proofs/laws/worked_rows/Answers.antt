@@ -1,4 +1,4 @@
-use Rattle.plaintext_x.proofs.Rows.{proof_rows, waiting_rows, memory_rows, refusal_rows}
+use Rattle.plaintext_x.proofs.Rows.{proof_rows, waiting_rows, memory_rows, refusal_rows, fault_rows, stand_rows}
 use Rattle.plaintext_x.proofs.laws.worked_rows.Goals as goal
 
 pub returns-clause-proofs : goal.returns-clause-proofs
@@ -12,3 +12,9 @@ returns-clause-refusals c = refusal_rows
 
 pub returns-clause-memory : goal.returns-clause-memory
 returns-clause-memory c = memory_rows
+
+pub returns-clause-faults : goal.returns-clause-faults
+returns-clause-faults c = fault_rows
+
+pub returns-clause-stands : goal.returns-clause-stands
+returns-clause-stands c = stand_rows

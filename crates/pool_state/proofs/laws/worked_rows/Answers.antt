@@ -1,4 +1,4 @@
-use Rattle.pool_state.proofs.WorkedRows.{connection_rows, stream_rows, list_rows, refusal_rows, limit_rows, range_rows, added_rows, agent_rows}
+use Rattle.pool_state.proofs.WorkedRows.{connection_rows, stream_rows, list_rows, refusal_rows, limit_rows, range_rows, added_rows, agent_rows, number_rows, pool_rows}
 use Rattle.pool_state.proofs.laws.worked_rows.Goals as goal
 
 pub returns-clause-connections : goal.returns-clause-connections
@@ -24,3 +24,9 @@ returns-clause-added c = added_rows
 
 pub returns-clause-agents : goal.returns-clause-agents
 returns-clause-agents c = agent_rows
+
+pub returns-clause-numbers : goal.returns-clause-numbers
+returns-clause-numbers c = number_rows
+
+pub returns-clause-pools : goal.returns-clause-pools
+returns-clause-pools c = pool_rows

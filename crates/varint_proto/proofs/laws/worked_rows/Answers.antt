@@ -1,4 +1,4 @@
-use Rattle.varint_proto.proofs.Rows.{varint_rows, wide_rows, field_rows, fault_rows, framed_rows, room_rows, stand_rows}
+use Rattle.varint_proto.proofs.Rows.{varint_rows, wide_rows, field_rows, fault_rows, framed_rows, room_rows, stand_rows, view_rows}
 use Rattle.varint_proto.proofs.laws.worked_rows.Goals as goal
 
 pub returns-clause-varints : goal.returns-clause-varints
@@ -21,3 +21,6 @@ returns-clause-room c = room_rows
 
 pub returns-clause-stands : goal.returns-clause-stands
 returns-clause-stands c = stand_rows
+
+pub returns-clause-views : goal.returns-clause-views
+returns-clause-views c = view_rows

@@ -1,4 +1,4 @@
-use Rattle.yamux_session.proofs.Rows.{opening_rows, early_rows, leaving_rows, naming_rows, ending_rows, answered_rows, window_rows, answer_rows, flag_rows, frame_rows, growth_rows, first_fault_rows, other_rows, run_rows}
+use Rattle.yamux_session.proofs.Rows.{opening_rows, early_rows, leaving_rows, naming_rows, ending_rows, answered_rows, window_rows, answer_rows, flag_rows, frame_rows, growth_rows, first_fault_rows, other_rows, run_rows, feed_rows, stand_rows}
 use Rattle.yamux_session.proofs.laws.worked_rows.Goals as goal
 
 pub returns-clause-openings : goal.returns-clause-openings
@@ -42,3 +42,9 @@ returns-clause-first_faults c = first_fault_rows
 
 pub returns-clause-others : goal.returns-clause-others
 returns-clause-others c = other_rows
+
+pub returns-clause-feeds : goal.returns-clause-feeds
+returns-clause-feeds c = feed_rows
+
+pub returns-clause-stands : goal.returns-clause-stands
+returns-clause-stands c = stand_rows
