@@ -50,24 +50,25 @@ module _ {P H : Type 0} (step : H → HandlerCall → H → Type 0) (fails : H �
     (eager : ℕ → Bool) (names : List (List ℕ)) (peer : List ℕ) (role : Role) (log : List (Entry H)) (fed sent : List ℕ) (session : State)
     (streams : ℕ → Option (Streaming H)) (past : List (Earlier H)) (n : ℕ) where
   -- what doesn't begin with an opening came to the stream
-  pub came_to : (told : List Told) → ((rest : List Told) → told ≡ Told.Opened n ∷ rest → ⊥)
-      → Awaits step fails is_closed is_finished inbound_makes outbound_makes eager names peer role log fed sent session streams past n told
-      → (view : Seen) × Routes step fails is_closed is_finished inbound_makes outbound_makes eager names peer role log fed sent session streams past n view told
-  came_to told unopened (inl o) = absurd (unopened o.0 o.1)
-  came_to told unopened (inr r) = r
+  pub came_to : (t : Told) (rest : List Told) → ((left : List Told) → t ∷ rest ≡ Told.Opened n ∷ left → ⊥)
+      → Awaits step fails is_closed is_finished inbound_makes outbound_makes eager names peer role log fed sent session streams past n (t ∷ rest)
+      → (view : Seen) × Routes step fails is_closed is_finished inbound_makes outbound_makes eager names peer role log fed sent session streams past n view (t ∷ rest)
+  came_to t rest unopened (inl o) = absurd (unopened o.0 o.1)
+  came_to t rest unopened (inr (inl r)) = r
+  came_to t rest unopened (inr (inr none)) = absurd (let e : t ∷ rest ≡ [] = none.0 in cc e)
 
   -- data came to it
   pub data_came_to : (bytes : List ℕ) (rest : List Told) → bytes ≢ []
       → Awaits step fails is_closed is_finished inbound_makes outbound_makes eager names peer role log fed sent session streams past n (map (Told.Payload n) bytes ++ rest)
       → (view : Seen) × Routes step fails is_closed is_finished inbound_makes outbound_makes eager names peer role log fed sent session streams past n view (map (Told.Payload n) bytes ++ rest)
   data_came_to [] rest some a = absurd (some refl)
-  data_came_to (b ∷ bytes) rest some a = came_to (map (Told.Payload n) (b ∷ bytes) ++ rest) (λ left e. absurd (cc e)) a
+  data_came_to (b ∷ bytes) rest some a = came_to (Told.Payload n b) (map (Told.Payload n) bytes ++ rest) (λ left e. absurd (cc e)) a
 
   -- what asks nothing of it
   pub routed_over : (making : List (Entry H) → List (Entry H) → Type 0) → making log log → (told : List (ConnEvent H)) (t : Told) (rest : List Told) → IsStill t → ((left : List Told) → t ∷ rest ≡ Told.Opened n ∷ left → ⊥)
       → Awaits step fails is_closed is_finished inbound_makes outbound_makes eager names peer role log fed sent session streams past n (t ∷ rest)
       → Routed step fails is_closed is_finished inbound_makes outbound_makes eager names peer role making log told told fed sent session streams past n rest
   routed_over making kept told t rest is unopened a =
-      let r = came_to (t ∷ rest) unopened a in
+      let r = came_to t rest unopened a in
       told_none step fails is_closed is_finished inbound_makes outbound_makes eager names peer role log told told fed sent session streams past n rest making kept r.0 refl
       (passed_over step fails is_closed is_finished inbound_makes outbound_makes eager names peer role log fed sent session streams past n r.0 t rest is r.1)

@@ -14,7 +14,8 @@ use Rattle.conn_log.specs.Entries.{Entry, items, is_over}
 use Rattle.conn_log.specs.Entries.Entry.{Says}
 use Rattle.conn_log.specs.Held.{IsHeld}
 use Rattle.conn_log.specs.Routes.{IsMoving, Around, Routes, Routed}
-use Rattle.conn_log.proofs.Settling.{said_append, none_asked}
+use Rattle.conn_log.proofs.Settling.{said_append}
+use Rattle.conn_log.proofs.Turning.{same_turns}
 use Rattle.conn_log.proofs.Ending.{ended_view, end_came}
 use Rattle.conn_log.proofs.Data.{with_bytes, data_came, bytes_reset}
 
@@ -30,12 +31,12 @@ module _ {P H : Type 0} (step : H → HandlerCall → H → Type 0) (fails : H �
   pub told_none : (making : List (Entry H) → List (Entry H) → Type 0) → making log log → (view : Seen) → after ≡ before
       → Routes step fails is_closed is_finished inbound_makes outbound_makes eager names peer role log fed sent session streams past n view rest
       → Routed step fails is_closed is_finished inbound_makes outbound_makes eager names peer role making log before after fed sent session streams past n rest
-  told_none making kept view same r = record { newer = []; view = view; told_is = same ∙ sym (append-nil before); untold = refl; unasked = refl; makes = kept; routes = r }
+  told_none making kept view same r = record { newer = []; view = view; told_is = same ∙ sym (append-nil before); untold = refl; same_turn = tt; makes = kept; routes = r }
 
   pub told_at : (making : List (Entry H) → List (Entry H) → Type 0) (view : Seen) (told : ConnEvent H) → making log (Says told ∷ log) → after ≡ before ++ told ∷ []
       → Routes step fails is_closed is_finished inbound_makes outbound_makes eager names peer role (Says told ∷ log) fed sent session streams past n view rest
       → Routed step fails is_closed is_finished inbound_makes outbound_makes eager names peer role making log before after fed sent session streams past n rest
-  told_at making view told kept is r = record { newer = Says told ∷ []; view = view; told_is = is; untold = refl; unasked = refl; makes = kept; routes = r }
+  told_at making view told kept is r = record { newer = Says told ∷ []; view = view; told_is = is; untold = refl; same_turn = tt; makes = kept; routes = r }
 
   -- the event was told before it was routed
   pub told_then : (making later : List (Entry H) → List (Entry H) → Type 0) (told : ConnEvent H) → ((longer : List (Entry H)) → later (Says told ∷ log) longer → making log longer) → after ≡ before ++ told ∷ []
@@ -46,7 +47,7 @@ module _ {P H : Type 0} (step : H → HandlerCall → H → Type 0) (fails : H �
     view = r.view;
     told_is = is ∙ ap (λ t. before ++ t) (sym (said_append r.newer (Says told ∷ []) ∙ ap (λ t. (told ∷ []) ++ t) (sym r.told_is)));
     untold = ap (λ t. events role (items t)) (append_assoc r.newer (Says told ∷ []) log) ∙ r.untold;
-    unasked = none_asked r.newer (Says told ∷ []) r.unasked refl;
+    same_turn = same_turns r.newer (Says told ∷ []) r.same_turn tt;
     makes = subst (λ t. making log t) (sym (append_assoc r.newer (Says told ∷ []) log)) (joins (r.newer ++ (Says told ∷ log)) r.makes);
     routes = subst (λ t. Routes step fails is_closed is_finished inbound_makes outbound_makes eager names peer role t fed sent session streams past n r.view rest)
         (sym (append_assoc r.newer (Says told ∷ []) log)) r.routes;
@@ -68,6 +69,9 @@ module _ {P H : Type 0} (step : H → HandlerCall → H → Type 0) (fails : H �
     opens_none = r.around.opens_none.1;
     ends_last = r.around.ends_last;
     earlier = r.around.earlier;
+    past_is = r.around.past_is;
+    in_turn = r.around.in_turn;
+    turn_is = r.around.turn_is;
   }
 
   -- the stream that is named is held so

@@ -62,12 +62,15 @@ module _ {P H : Type 0} (step : H → HandlerCall → H → Type 0) (fails : H �
           at_rest = record {
             session_stands = subst (λ (t : List ℕ). SessionStands (session_role role) (items now) up.rest t after) all_sent there;
             due = a.at_rest.due;
+            in_turn = a.at_rest.in_turn;
             each = a.at_rest.each;
             live_held = a.at_rest.live_held;
             made_held = a.at_rest.made_held;
             resets_told = a.at_rest.resets_told;
             earlier = a.at_rest.earlier;
+            past_is = a.at_rest.past_is;
           };
+          rested = a.rested up.rested;
           asks_are = asks_append a.later opened ∙ ap (λ t. (asks up.log ++ (number, index) ∷ []) ++ t) a.alone ∙ append-nil (asks up.log ++ (number, index) ∷ []) ∙ ap (λ t. t ++ (number, index) ∷ []) up.asks_are;
           early = early_asked (is_eager start) a.later up.log number index a.alone a.at_once up.early;
           now = behind;

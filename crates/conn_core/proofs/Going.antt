@@ -17,7 +17,7 @@ use Rattle.conn_log.specs.declared.event.ConnEvent.TheVariants as event
 use Rattle.conn_log.specs.declared.event.ConnFault.TheVariants as fault
 use Rattle.conn_log.specs.Entries.{Entry, items, said, asks}
 use Rattle.conn_log.specs.Making.{AreMadeInTurn, MakesOn}
-use Rattle.conn_log.specs.Rests.{AreAtRest, Grows}
+use Rattle.conn_log.specs.Rests.{AreAtRest, AreRested, Grows}
 use Rattle.conn_log.proofs.Settling.{said_append, asks_append}
 use Rattle.conn_log.proofs.Early.{early_grows}
 use Rattle.mux.specs.Faults.{Faults}
@@ -59,12 +59,15 @@ module _ {P H : Type 0} (step : H → HandlerCall → H → Type 0) (fails : H �
           at_rest = record {
             session_stands = subst (λ (t : List ℕ). SessionStands (session_role role) (items now) (up.rest ++ piece) t after) all_sent there;
             due = g.at_rest.due;
+            in_turn = g.at_rest.in_turn;
             each = g.at_rest.each;
             live_held = g.at_rest.live_held;
             made_held = g.at_rest.made_held;
             resets_told = g.at_rest.resets_told;
             earlier = g.at_rest.earlier;
+            past_is = g.at_rest.past_is;
           };
+          rested = g.rested up.rested;
           asks_are = asks_append g.newer up.log ∙ ap (λ t. asks up.log ++ t) g.unasked ∙ append-nil (asks up.log) ∙ up.asks_are;
           early = early_grows (is_eager start) g.newer up.log g.unasked up.early;
           now = behind;
@@ -104,6 +107,7 @@ module _ {P H : Type 0} (step : H → HandlerCall → H → Type 0) (fails : H �
           newer = now;
           makes = λ first first_is. subst (λ (t : List (Entry H)). AreMadeInTurn inbound_leads outbound_leads (id_of up.key) (session_role role) first t behind) logs
               (f.makes first (subst (λ (p : P). AreMadeInTurn inbound_leads outbound_leads (id_of up.key) (session_role role) p up.log up.now) first_is up.makes));
+          rested = λ none. subst (λ t. AreRested step fails is_closed is_finished inbound_makes outbound_makes (is_eager start) (listed start) (id_of up.key) (session_role role) t) logs (f.rested up.rested);
           asks_are = asks_append f.newer up.log ∙ ap (λ t. asks up.log ++ t) f.asks_are ∙ append-nil (asks up.log) ∙ up.asks_are;
           told_is = ap (λ t. before ++ t) f.told_is ∙ sym (append_assoc before old (said f.newer)) ∙ ap (λ t. t ++ said f.newer) up.told_is ∙ ap (λ t. event.Upgraded up.key ∷ t) (sym (said_append f.newer up.log));
           front = up.rest ++ f.front;

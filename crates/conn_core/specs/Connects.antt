@@ -32,7 +32,7 @@ use Rattle.conn_log.specs.Asked.{AreMadeEarly, IsRefusedAs, IsBrokenOf}
 use Rattle.conn_log.specs.declared.event.ConnRefused.{ConnRefused}
 use Rattle.conn_log.specs.declared.event.ConnRefused.TheVariants as refusals
 use Rattle.conn_log.specs.Making.{AreMadeInTurn, MakesOn}
-use Rattle.conn_log.specs.Rests.{AreAtRest}
+use Rattle.conn_log.specs.Rests.{AreAtRest, AreRested}
 use Rattle.board.specs.Handlers.{handlers_of, handlers_past}
 use Rattle.mux.specs.declared.mux.Mux.{Mux}
 use Rattle.mux.specs.Faults.{Faults}
@@ -82,6 +82,9 @@ module _ {P H : Type 0} (step : H → HandlerCall → H → Type 0) (fails : H �
     pub at_rest : AreAtRest step fails is_closed is_finished inbound_makes outbound_makes (is_eager start)
         (listed start) (id_of key) (session_role role) log rest (output (session_role role) (items log)) session streams
         past
+    -- and so all streams were before each frame that came, and before each stream that this end opened
+    pub rested : AreRested step fails is_closed is_finished inbound_makes outbound_makes (is_eager start) (listed start)
+        (id_of key) (session_role role) log
     pub asks_are : asks log ≡ asked
     pub early : AreMadeEarly (is_eager start) log
     -- the protocols that it has now: each handler was made once, in turn, from those that it was given on

@@ -1,6 +1,7 @@
 -- The list has grown by entries about one stream: all others are at rest as before.
 use Rattle.std.proofs.Common.{◌≡◌, ◌⊎◌, inl, inr, ℕ, ◌==◌, ◌||◌, Bool, true, false, List, [], ◌++◌, Option, Some, None, refl, sym, ap, ◌∙◌, subst}
 use Rattle.std.specs.Prelude.{IfSome, IsSome}
+use Rattle.std.specs.List.{AllByRecursion}
 use Rattle.handlers.specs.Calls.{HandlerCall, Asked}
 use Rattle.yamux_session.specs.declared.event.Role.{Role}
 use Rattle.yamux_session.specs.Events.{Told}
@@ -12,6 +13,7 @@ use Rattle.conn_log.specs.Entries.{Entry, items, is_over, left_behind}
 use Rattle.conn_log.specs.Due.{AllDue, told_reset, was_reset, told_end, end_was_told}
 use Rattle.conn_log.specs.Held.{IsAtRest, earlier_of}
 use Rattle.conn_log.specs.Routes.{EndsLast, Around}
+use Rattle.conn_log.proofs.Turning.{IsOnly, turn_on, in_turn_on, aside_on}
 use Rattle.conn_log.proofs.Same.{Same, same_refl, at_rest_same, left_same}
 
 pub if_some : {A : Type 0} {P Q : A → Type 0} (r : Option A) → ((x : A) → P x → Q x) → IfSome r P → IfSome r Q
@@ -31,8 +33,9 @@ module _ {P H : Type 0} (step : H → HandlerCall → H → Type 0) (fails : H �
       → ((m : ℕ) → left_behind role (newer ++ log) m ≡ left_behind role log m)
       → ((m : ℕ) → was_reset role (items (newer ++ log)) m ≡ was_reset role (items log) m)
       → end_was_told role (items (newer ++ log)) n ≡ end_was_told role (items log) n → ((m : ℕ) → is_over role log m ≡ true → is_over role (newer ++ log) m ≡ true)
+      → AllByRecursion (IsOnly n) newer
       → Around step fails is_closed is_finished inbound_makes outbound_makes eager names peer role (newer ++ log) fed sent after now past n later rest
-  grown log newer fed sent before after streams now past n view later rest a due others there elsewhere heard ended behind resets ends over = record {
+  grown log newer fed sent before after streams now past n view later rest a due others there elsewhere heard ended behind resets ends over only = record {
     session_stands = there;
     due = due;
     others = λ m apart. subst (λ (t : Option (Streaming H)). IfSome t (λ it. IsAtRest step is_closed is_finished names role (newer ++ log) m it)) (sym (elsewhere m apart))
@@ -48,6 +51,9 @@ module _ {P H : Type 0} (step : H → HandlerCall → H → Type 0) (fails : H �
     opens_none = a.opens_none;
     ends_last = subst (λ b. EndsLast b rest) (sym ended) a.ends_last;
     earlier = λ m. left_same step is_closed is_finished names role log newer m 0 (earlier_of m past) (behind m) (a.earlier m);
+    past_is = a.past_is ∙ sym (aside_on role n newer log only);
+    in_turn = in_turn_on n newer log only a.turn_is a.in_turn;
+    turn_is = turn_on n newer log only ∙ a.turn_is;
   } where
     by_over : (m : ℕ) → (is_over role log m ≡ true) ⊎ (told_reset m rest ≡ true) → (is_over role (newer ++ log) m ≡ true) ⊎ (told_reset m rest ≡ true)
     by_over m (inl was) = inl (over m was)
@@ -60,4 +66,4 @@ module _ {P H : Type 0} (step : H → HandlerCall → H → Type 0) (fails : H �
       → Around step fails is_closed is_finished inbound_makes outbound_makes eager names peer role log fed sent after now past n view rest
   still log fed sent before after streams now past n view rest same_session elsewhere a =
       grown log [] fed sent before after streams now past n view view rest a a.due (λ m apart. same_refl role log m)
-      (subst (λ (t : State). SessionStands role (items log) fed sent t) (sym same_session) a.session_stands) elsewhere a.heard refl (λ m. refl) (λ m. refl) refl (λ m was. was)
+      (subst (λ (t : State). SessionStands role (items log) fed sent t) (sym same_session) a.session_stands) elsewhere a.heard refl (λ m. refl) (λ m. refl) refl (λ m was. was) tt

@@ -29,20 +29,22 @@ use Rattle.routing.specs.declared.delivered.Outcome.TheVariants as outcomes
 use Rattle.routing.specs.Routing.{Came as CameTo}
 use Rattle.conn_log.specs.declared.earlier.Earlier.{Earlier}
 use Rattle.conn_log.specs.declared.event.ConnEvent.{ConnEvent}
-use Rattle.conn_log.specs.Entries.{Entry, items, said, asks, since, agreed_in, over_in, is_over, made_in, left_behind, asked}
+use Rattle.conn_log.specs.Entries.{Entry, items, said, since, agreed_in, over_in, is_over, made_in, left_behind, put_aside, asked}
 use Rattle.conn_log.specs.Entries.Entry.{Of, Says, Made, Asks}
+use Rattle.conn_log.specs.Turns.{turn, AreInTurn}
 use Rattle.conn_log.specs.Due.{AllDue, direction_of, was_reset}
 use Rattle.conn_log.specs.Making.{AreMadeInTurn, MakesOn}
 use Rattle.conn_log.specs.Held.{IsSide, IsHeld, IsAtRest, AreLeft, earlier_of}
 use Rattle.conn_log.specs.Rests.{AreAtRest}
 use Rattle.conn_log.specs.Asked as ask
 use Rattle.conn_log.specs.Asked.{IsEarly, told_of, IsBrokenOf}
-use Rattle.conn_log.specs.Routes.{Around, Routed}
+use Rattle.conn_log.specs.Routes.{KeepsTurn, Around, Routed}
+use Rattle.conn_log.proofs.Turning.{same_turns, turn_unasked, rested_on}
 use Rattle.conn_log.proofs.Same.{Same, same_trans, same_by_making, at_rest_same, left_same}
 use Rattle.conn_log.proofs.Around.{if_some}
 use Rattle.conn_log.proofs.Views.{same}
 use Rattle.conn_log.proofs.StageKinds.{talking_kind, talking_awaits}
-use Rattle.conn_log.proofs.Settling.{said_append, none_asked}
+use Rattle.conn_log.proofs.Settling.{said_append}
 use Rattle.conn_log.proofs.Rested.{rested}
 
 -- what the list begins with, once the stream is opened: the handler of an eager protocol is made at once
@@ -54,9 +56,9 @@ said_first : {H : Type 0} (n : ℕ) (handler : Option H) → said (at_first n ha
 said_first n None = refl
 said_first n (Some handler) = refl
 
-unasked_first : {H : Type 0} (n : ℕ) (handler : Option H) → asks (at_first n handler) ≡ []
-unasked_first n None = refl
-unasked_first n (Some handler) = refl
+same_turn_first : {H : Type 0} (n : ℕ) (handler : Option H) → KeepsTurn (at_first n handler)
+same_turn_first n None = tt
+same_turn_first n (Some handler) = tt
 
 -- a stream that talks comes to nothing, or is given up
 talks_not_served : {H : Type 0} (stage : Stage H) → is_talking stage ≡ true → kind_of stage ≡ Served → ⊥
@@ -155,6 +157,19 @@ module _ {P H : Type 0} (step : H → HandlerCall → H → Type 0) (fails : H �
     left_first None m = refl
     left_first (Some handler) m = refl
 
+    -- it is this stream's turn
+    turn_first : (handler : Option H) → turn (at_first n handler ++ Asks n index ∷ log) ≡ Some n
+    turn_first None = refl
+    turn_first (Some handler) = refl
+
+    in_turn_first : (handler : Option H) → AreInTurn (at_first n handler ++ Asks n index ∷ log)
+    in_turn_first None = (tt, r.in_turn)
+    in_turn_first (Some handler) = (refl, (tt, r.in_turn))
+
+    aside_first : (handler : Option H) → put_aside role (at_first n handler ++ Asks n index ∷ log) ≡ put_aside role log
+    aside_first None = refl
+    aside_first (Some handler) = refl
+
     own : is_own role n ≡ true
     own = ap (is_own role) there.answered.0.1 ∙ own_next role (items log) there.answered.1
 
@@ -184,6 +199,9 @@ module _ {P H : Type 0} (step : H → HandlerCall → H → Type 0) (fails : H �
       ends_last = tt;
       earlier = λ m. subst (λ (t : List (Entry H)). AreLeft step is_closed is_finished names role t m 0 (earlier_of m past)) (append_assoc (at_first n handler) (Asks n index ∷ []) log)
           (left_same step is_closed is_finished names role log (at_first n handler ++ Asks n index ∷ []) m 0 (earlier_of m past) (left_first handler m) (r.earlier m));
+      past_is = r.past_is ∙ sym (aside_first handler);
+      in_turn = in_turn_first handler;
+      turn_is = turn_first handler;
     } where
       over_at : (m : ℕ) → (((n == m) ≡ true) × (n ≡ m)) ⊎ (((n == m) ≡ false) × (n ≢ m)) → cond (n == m || false) false (false || was_reset role (items log) m) ≡ true
           → is_over role (at_first n handler ++ Asks n index ∷ log) m ≡ true
@@ -245,12 +263,15 @@ module _ {P H : Type 0} (step : H → HandlerCall → H → Type 0) (fails : H �
       later = routed.newer ++ at_first n handler;
       number_is = there.answered.0.1;
       told_is = routed.told_is ∙ ap (λ t. told ++ t) (sym (said_append routed.newer (at_first n handler) ∙ ap (λ t. t ++ said routed.newer) (said_first n handler)));
-      alone = none_asked routed.newer (at_first n handler) routed.unasked (unasked_first n handler);
+      alone = turn_unasked (routed.newer ++ at_first n handler) (same_turns routed.newer (at_first n handler) routed.same_turn (same_turn_first n handler));
       only_broken = subst (λ (t : List (ConnEvent H)). AllByRecursion (IsBrokenOf n) t)
           (append_cancel_left told more (said routed.newer) (sym is ∙ routed.told_is) ∙ sym (said_append routed.newer (at_first n handler) ∙ ap (λ t. t ++ said routed.newer) (said_first n handler))) broken;
       at_once = λ on. by_handler handler early on;
       makes = subst (λ (t : List (Entry H)). MakesOn inbound_leads outbound_leads peer role protocols last log t) (sym (append_assoc routed.newer (at_first n handler) (Asks n index ∷ log)))
           (λ first was. routed.makes first (makes_first handler early first was));
+      rested = λ was. rested_on step fails is_closed is_finished inbound_makes outbound_makes eager names peer role (routed.newer ++ at_first n handler) (Asks n index ∷ log)
+          (same_turns routed.newer (at_first n handler) routed.same_turn (same_turn_first n handler))
+          (record { fed = fed; sent = sent; session = before; streams = streams; past = past; at_rest = r }, was);
       at_rest = subst (λ (t : List (Entry H)). AreAtRest step fails is_closed is_finished inbound_makes outbound_makes eager names peer role t fed sent later then aside)
           (sym (append_assoc routed.newer (at_first n handler) (Asks n index ∷ log)))
           (rested step fails is_closed is_finished inbound_makes outbound_makes eager names peer role (routed.newer ++ (at_first n handler ++ Asks n index ∷ log)) fed sent later then aside n routed.view routed.routes);

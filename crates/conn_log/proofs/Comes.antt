@@ -25,18 +25,18 @@ use Rattle.routing.specs.Routing.{Came}
 use Rattle.conn_log.specs.declared.earlier.Earlier.{Earlier}
 use Rattle.conn_log.specs.declared.event.ConnEvent.{ConnEvent}
 use Rattle.conn_log.specs.declared.event.ConnEvent.TheVariants as event
-use Rattle.conn_log.specs.Entries.{Entry, items, said, asks, is_last, is_over}
+use Rattle.conn_log.specs.Entries.{Entry, items, said, is_last, is_over}
 use Rattle.conn_log.specs.Entries.Entry.{Says}
 use Rattle.conn_log.specs.Due.{HasCome, IsThere, IsDone, IsDue, AllDue, HandlerFails}
 use Rattle.conn_log.specs.Making.{MakesNone}
 use Rattle.conn_log.specs.Held.{IsHeld}
-use Rattle.conn_log.specs.Routes.{IsMoving, Around, Routes, Comes}
+use Rattle.conn_log.specs.Routes.{KeepsTurn, IsMoving, Around, Routes, Comes}
 use Rattle.conn_log.proofs.Same.{same_by_event, IsOf, side_same}
 use Rattle.conn_log.proofs.Around.{grown, still}
 use Rattle.conn_log.proofs.Views.{same}
 use Rattle.conn_log.proofs.StageKinds.{same_talking, same_awaiting, same_handed, served_talking, served_handed}
 use Rattle.conn_log.proofs.Making.{did_none}
-use Rattle.conn_log.proofs.Served.{did, items_did, said_did, did_untold, did_unasked, view_by, AllOn, Own, did_own, all_on, come_of, come_on, view_came, view_ended, view_over, around_acts}
+use Rattle.conn_log.proofs.Served.{did, items_did, said_did, did_untold, did_keeps, view_by, AllOn, Own, did_own, all_on, come_of, come_on, view_came, view_ended, view_over, around_acts}
 
 pub or_on : (b : Bool) → b || true ≡ true
 or_on true = refl
@@ -54,7 +54,7 @@ module _ {P H : Type 0} (step : H → HandlerCall → H → Type 0) (fails : H �
   around_event log fed sent session streams past n view rest told of is_due a =
       grown step fails is_closed is_finished inbound_makes outbound_makes eager names peer role log (Says told ∷ []) fed sent session session streams streams past n view view rest a
       (is_due, a.due) (λ m apart. same_by_event role log n m told of apart) a.session_stands (λ m apart. refl) a.heard refl (λ m. refl) (λ m. refl) refl
-      (λ m over. ap (λ b. is_last m told || b) over ∙ or_on (is_last m told))
+      (λ m over. ap (λ b. is_last m told || b) over ∙ or_on (is_last m told)) (of, tt)
 
   -- ---- a stream that was served
 
@@ -214,13 +214,13 @@ module _ {P H : Type 0} (step : H → HandlerCall → H → Type 0) (fails : H �
       pub newer : List (Entry H)
       pub none_said : said newer ≡ []
       pub untold : events role (items (newer ++ log)) ≡ events role (items log)
-      pub unasked : asks newer ≡ []
+      pub same_turn : KeepsTurn newer
       pub unmade : MakesNone newer
       pub seen_now : Seen
       pub comes : Comes step fails is_closed is_finished inbound_makes outbound_makes eager names peer role (newer ++ log) fed sent after now past n seen_now rest outcome
 
     pub went : (outcome : Outcome H) → Came step fails is_closed is_finished role (items log) fed sent n h.so_far old before outcome after new → Went outcome
-    went outcomes.Going c = record { newer = did c.0.goes.acts; none_said = said_did c.0.goes.acts; untold = did_untold role c.0.goes.acts log; unasked = did_unasked H c.0.goes.acts; unmade = did_none H c.0.goes.acts; seen_now = view_by c.0.goes.acts view; comes = goes_on c.0 c.1 }
-    went (outcomes.Done handler) c = record { newer = did c.0.goes.acts; none_said = said_did c.0.goes.acts; untold = did_untold role c.0.goes.acts log; unasked = did_unasked H c.0.goes.acts; unmade = did_none H c.0.goes.acts; seen_now = view_by c.0.goes.acts view; comes = is_done handler c.0 c.1 }
+    went outcomes.Going c = record { newer = did c.0.goes.acts; none_said = said_did c.0.goes.acts; untold = did_untold role c.0.goes.acts log; same_turn = did_keeps H c.0.goes.acts; unmade = did_none H c.0.goes.acts; seen_now = view_by c.0.goes.acts view; comes = goes_on c.0 c.1 }
+    went (outcomes.Done handler) c = record { newer = did c.0.goes.acts; none_said = said_did c.0.goes.acts; untold = did_untold role c.0.goes.acts log; same_turn = did_keeps H c.0.goes.acts; unmade = did_none H c.0.goes.acts; seen_now = view_by c.0.goes.acts view; comes = is_done handler c.0 c.1 }
     went outcomes.Refused c = absurd c
-    went (outcomes.Broken cause) c = record { newer = []; none_said = refl; untold = refl; unasked = refl; unmade = tt; seen_now = view; comes = is_broken c.1.0 cause c.0 c.1.1 c.1.2 }
+    went (outcomes.Broken cause) c = record { newer = []; none_said = refl; untold = refl; same_turn = tt; unmade = tt; seen_now = view; comes = is_broken c.1.0 cause c.0 c.1.1 c.1.2 }

@@ -22,18 +22,19 @@ use Rattle.routing.specs.Routing.{Came, Takes, HasAgreed, Stops, InTalk, Deliver
 use Rattle.conn_log.specs.declared.earlier.Earlier.{Earlier}
 use Rattle.conn_log.specs.declared.event.ConnEvent.{ConnEvent}
 use Rattle.conn_log.specs.declared.event.ConnEvent.TheVariants as event
-use Rattle.conn_log.specs.Entries.{Entry, items, said, asks, agreed, is_over, made_of, agreement}
+use Rattle.conn_log.specs.Entries.{Entry, items, said, agreed, is_over, made_of, agreement}
 use Rattle.conn_log.specs.Entries.Entry.{Says, Made}
 use Rattle.conn_log.specs.Due.{direction_of, IsDue, told_reset, was_reset, told_end}
 use Rattle.conn_log.specs.Making.{MakesNone, MakesOn}
 use Rattle.conn_log.specs.Held.{IsSide, IsHeld}
-use Rattle.conn_log.specs.Routes.{IsNoOpening, EndsLast, Around, Comes}
+use Rattle.conn_log.specs.Routes.{KeepsTurn, IsNoOpening, EndsLast, Around, Comes}
+use Rattle.conn_log.proofs.Turning.{same_turns}
 use Rattle.conn_log.proofs.Making.{makes_none}
 use Rattle.conn_log.proofs.Same.{same_by_making}
 use Rattle.conn_log.proofs.Around.{grown, still}
 use Rattle.conn_log.proofs.Views.{same, came_front}
 use Rattle.conn_log.proofs.StageKinds.{same_talking, same_awaiting, same_handed, served_talking, served_handed, served_awaits, talking_kind, talking_awaits}
-use Rattle.conn_log.proofs.Settling.{said_append, none_asked}
+use Rattle.conn_log.proofs.Settling.{said_append}
 use Rattle.conn_log.proofs.Comes.{went, around_event}
 
 -- what is seen of a stream of which these bytes came
@@ -94,6 +95,9 @@ module _ {P H : Type 0} (step : H → HandlerCall → H → Type 0) (fails : H �
     opens_none = none_opened n bytes rest a.opens_none;
     ends_last = still_last view.ended n bytes rest a.ends_last;
     earlier = a.earlier;
+    past_is = a.past_is;
+    in_turn = a.in_turn;
+    turn_is = a.turn_is;
   }
 
   -- its handler was made
@@ -103,7 +107,7 @@ module _ {P H : Type 0} (step : H → HandlerCall → H → Type 0) (fails : H �
       → Around step fails is_closed is_finished inbound_makes outbound_makes eager names peer role (Made n made ∷ log) fed sent session streams past n view rest
   around_making log fed sent session streams past n view rest made is_due a =
       grown step fails is_closed is_finished inbound_makes outbound_makes eager names peer role log (Made n made ∷ []) fed sent session session streams streams past n view view rest a
-      (is_due, a.due) (λ m apart. same_by_making role log n m made apart) a.session_stands (λ m apart. refl) a.heard refl (λ m. refl) (λ m. refl) refl (λ m over. over)
+      (is_due, a.due) (λ m apart. same_by_making role log n m made apart) a.session_stands (λ m apart. refl) a.heard refl (λ m. refl) (λ m. refl) refl (λ m over. over) (refl, tt)
 
   -- What data came to: by these entries, that tell this, and whose handlers were made so.
   pub record Went (making : List (Entry H) → List (Entry H) → Type 0) (log : List (Entry H)) (told : List (ConnEvent H)) (fed sent : List ℕ) (session : State) (streams : ℕ → Option (Streaming H)) (past : List (Earlier H)) (n : ℕ) (rest : List Told)
@@ -111,7 +115,7 @@ module _ {P H : Type 0} (step : H → HandlerCall → H → Type 0) (fails : H �
     pub newer : List (Entry H)
     pub said_is : said newer ≡ told
     pub untold : events role (items (newer ++ log)) ≡ events role (items log)
-    pub unasked : asks newer ≡ []
+    pub same_turn : KeepsTurn newer
     pub makes : making log (newer ++ log)
     pub seen_now : Seen
     pub comes : Comes step fails is_closed is_finished inbound_makes outbound_makes eager names peer role (newer ++ log) fed sent session streams past n seen_now rest outcome
@@ -131,7 +135,7 @@ module _ {P H : Type 0} (step : H → HandlerCall → H → Type 0) (fails : H �
       newer = [];
       said_is = refl;
       untold = refl;
-      unasked = refl;
+      same_turn = tt;
       makes = keeps [] tt;
       seen_now = view;
       comes = come (around_event step fails is_closed is_finished inbound_makes outbound_makes eager names peer role log fed sent after now past n view rest told of is_due (still step fails is_closed is_finished inbound_makes outbound_makes eager names peer role log fed sent before after streams now past n view rest same_session elsewhere a));
@@ -164,7 +168,7 @@ module _ {P H : Type 0} (step : H → HandlerCall → H → Type 0) (fails : H �
         } in
         let it = went step fails is_closed is_finished inbound_makes outbound_makes eager names peer role acts_do acts_move log fed sent before after streams now past n view rest middle new a held over
         elsewhere here outcome served.3 in
-        record { newer = it.newer; said_is = it.none_said; untold = it.untold; unasked = it.unasked; makes = keeps it.newer it.unmade; seen_now = it.seen_now; comes = it.comes }
+        record { newer = it.newer; said_is = it.none_said; untold = it.untold; same_turn = it.same_turn; makes = keeps it.newer it.unmade; seen_now = it.seen_now; comes = it.comes }
     takes making log keeps bytes old got outcome a came going h (inr f) =
         let front = came_front n view rest a.opens_none in
         let data_is : inbound role (items log) n ≡ h.so_far.got ++ bytes ++ front.0 =
@@ -274,7 +278,7 @@ module _ {P H : Type 0} (step : H → HandlerCall → H → Type 0) (fails : H �
           } in
           let it = went step fails is_closed is_finished inbound_makes outbound_makes eager names peer role acts_do acts_move log fed sent before after streams now past n view rest middle new a held over
           elsewhere here outcome came_to in
-          record { newer = it.newer; said_is = it.none_said; untold = it.untold; unasked = it.unasked; makes = keeps kept it.newer it.unmade; seen_now = it.seen_now; comes = it.comes }
+          record { newer = it.newer; said_is = it.none_said; untold = it.untold; same_turn = it.same_turn; makes = keeps kept it.newer it.unmade; seen_now = it.seen_now; comes = it.comes }
 
       -- both ends agree by a front of these bytes, and the handler takes the rest
       agreed_on : (outcome : Outcome H) (index : ℕ) (front more : List ℕ) (middle : Streaming H) → is_talking old.stage ≡ true
@@ -342,7 +346,7 @@ module _ {P H : Type 0} (step : H → HandlerCall → H → Type 0) (fails : H �
               newer = it.newer ++ Says (event.Agreed n index) ∷ [];
               said_is = said_append it.newer (Says (event.Agreed n index) ∷ []) ∙ ap (λ t. (event.Agreed n index ∷ []) ++ t) it.said_is;
               untold = ap (λ t. events role (items t)) (append_assoc it.newer (Says (event.Agreed n index) ∷ []) log) ∙ it.untold;
-              unasked = none_asked it.newer (Says (event.Agreed n index) ∷ []) it.unasked refl;
+              same_turn = same_turns it.newer (Says (event.Agreed n index) ∷ []) it.same_turn tt;
               makes = subst (λ t. making log t) (sym (append_assoc it.newer (Says (event.Agreed n index) ∷ []) log)) it.makes;
               seen_now = it.seen_now;
               comes = subst (λ t. Comes step fails is_closed is_finished inbound_makes outbound_makes eager names peer role t fed sent after now past n it.seen_now rest outcome)
@@ -357,7 +361,7 @@ module _ {P H : Type 0} (step : H → HandlerCall → H → Type 0) (fails : H �
               newer = it.newer ++ Made n has.made ∷ Says (event.Agreed n index) ∷ [];
               said_is = said_append it.newer (Made n has.made ∷ Says (event.Agreed n index) ∷ []) ∙ ap (λ t. (event.Agreed n index ∷ []) ++ t) it.said_is;
               untold = ap (λ t. events role (items t)) (append_assoc it.newer (Made n has.made ∷ Says (event.Agreed n index) ∷ []) log) ∙ it.untold;
-              unasked = none_asked it.newer (Made n has.made ∷ Says (event.Agreed n index) ∷ []) it.unasked refl;
+              same_turn = same_turns it.newer (Made n has.made ∷ Says (event.Agreed n index) ∷ []) it.same_turn tt;
               makes = subst (λ t. making log t) (sym (append_assoc it.newer (Made n has.made ∷ Says (event.Agreed n index) ∷ []) log))
                   (λ first was. it.makes first (protocols, was, (refl, made.1.1)));
               seen_now = it.seen_now;

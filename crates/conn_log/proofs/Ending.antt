@@ -21,12 +21,12 @@ use Rattle.routing.specs.declared.delivered.Outcome.TheVariants as outcomes
 use Rattle.routing.specs.Routing.{Came, Ends}
 use Rattle.conn_log.specs.declared.earlier.Earlier.{Earlier}
 use Rattle.conn_log.specs.declared.event.ConnEvent.TheVariants as event
-use Rattle.conn_log.specs.Entries.{Entry, items, asks, agreed, is_over}
+use Rattle.conn_log.specs.Entries.{Entry, items, agreed, is_over}
 use Rattle.conn_log.specs.Entries.Entry.{Says}
 use Rattle.conn_log.specs.Due.{HasCome, IsDue}
 use Rattle.conn_log.specs.Making.{MakesNone}
 use Rattle.conn_log.specs.Held.{IsHeld}
-use Rattle.conn_log.specs.Routes.{Around, Comes}
+use Rattle.conn_log.specs.Routes.{KeepsTurn, Around, Comes}
 use Rattle.conn_log.proofs.Around.{still}
 use Rattle.conn_log.proofs.Views.{same, none_behind}
 use Rattle.conn_log.proofs.StageKinds.{same_talking, same_awaiting, same_handed}
@@ -77,6 +77,9 @@ module _ {P H : Type 0} (step : H → HandlerCall → H → Type 0) (fails : H �
     opens_none = a.opens_none.1;
     ends_last = a.ends_last.1;
     earlier = a.earlier;
+    past_is = a.past_is;
+    in_turn = a.in_turn;
+    turn_is = a.turn_is;
   }
 
   module _ (acts_do : ActsDo) (acts_move : ActsMove) (log : List (Entry H)) (fed sent : List ℕ) (before after : State) (streams now : ℕ → Option (Streaming H))
@@ -122,7 +125,7 @@ module _ {P H : Type 0} (step : H → HandlerCall → H → Type 0) (fails : H �
       pub newer : List (Entry H)
       pub none_said : Rattle.conn_log.specs.Entries.said newer ≡ []
       pub untold : events role (items (newer ++ log)) ≡ events role (items log)
-      pub unasked : asks newer ≡ []
+      pub same_turn : KeepsTurn newer
       pub unmade : MakesNone newer
       pub seen_now : Seen
       pub comes : Comes step fails is_closed is_finished inbound_makes outbound_makes eager names peer role (newer ++ log) fed sent after now past n seen_now rest outcome
@@ -150,7 +153,7 @@ module _ {P H : Type 0} (step : H → HandlerCall → H → Type 0) (fails : H �
           newer = [];
           none_said = refl;
           untold = refl;
-          unasked = refl;
+          same_turn = tt;
           unmade = tt;
           seen_now = ended_view view;
           comes = subst (λ (o : Outcome H). Comes step fails is_closed is_finished inbound_makes outbound_makes eager names peer role log fed sent after now past n (ended_view view) rest o) (sym is) (
@@ -178,7 +181,7 @@ module _ {P H : Type 0} (step : H → HandlerCall → H → Type 0) (fails : H �
           newer = [];
           none_said = refl;
           untold = refl;
-          unasked = refl;
+          same_turn = tt;
           unmade = tt;
           seen_now = ended_view view;
           comes = subst (λ (o : Outcome H). Comes step fails is_closed is_finished inbound_makes outbound_makes eager names peer role log fed sent after now past n (ended_view view) rest o) (sym is) (
@@ -196,7 +199,7 @@ module _ {P H : Type 0} (step : H → HandlerCall → H → Type 0) (fails : H �
           let held = told_end served.0 served.1 served.2 in
           let now_it = went step fails is_closed is_finished inbound_makes outbound_makes eager names peer role acts_do acts_move log fed sent before after streams now past n (ended_view view) rest served.0 new
           a held (λ off. refl) elsewhere here outcome served.3 in
-          record { newer = now_it.newer; none_said = now_it.none_said; untold = now_it.untold; unasked = now_it.unasked; unmade = now_it.unmade; seen_now = now_it.seen_now; comes = now_it.comes }
+          record { newer = now_it.newer; none_said = now_it.none_said; untold = now_it.untold; same_turn = now_it.same_turn; unmade = now_it.unmade; seen_now = now_it.seen_now; comes = now_it.comes }
       by_hands (inr f) = failed outcome f.1.0 f.1.1 f.1.2 f.1.3 f.1.4 f.0
 
       by_talk : (b : Bool) → is_talking old.stage ≡ b → Ended outcome

@@ -1,6 +1,6 @@
 -- A frame arrived at streams that are at rest: what it told is to be routed.
-use Rattle.std.proofs.Common.{◌≡◌, ◌≢◌, ◌⊎◌, inl, inr, ℕ, suc, ◌==◌, ◌||◌, ◌&&◌, Bool, true, false, cond, List, [], ◌∷◌, ◌++◌, map, Option, refl, sym, ap, ◌∙◌, subst}
-use Rattle.std.specs.Prelude.{IfSome, drop}
+use Rattle.std.proofs.Common.{◌≡◌, ◌≢◌, ◌⊎◌, inl, inr, ℕ, suc, ◌==◌, ◌||◌, ◌&&◌, Bool, true, false, cond, List, [], ◌∷◌, ◌++◌, map, Option, Some, None, refl, sym, ap, ◌∙◌, subst}
+use Rattle.std.specs.Prelude.{IfSome, IsSome, drop}
 use Rattle.std.specs.List.{AllByRecursion}
 use Rattle.std.proofs.lemmas.Bool.Decides.{eqb_tells}
 use Rattle.handlers.specs.Calls.{HandlerCall, Asked}
@@ -16,11 +16,12 @@ use Rattle.yamux_session.specs.Naming.{IsAbout, IsNoOpening as OpensNone, NamesO
 use Rattle.yamux_session.specs.Events.{Told, events}
 use Rattle.yamux_session.specs.Seen.{Seen, seen, hears, all_heard, just_opened, AgreesOn, TellsFrom, EventsTell, Windows, windows, CreditIsTold}
 use Rattle.yamux_session.specs.Endings.{opened_in, told_opened, OpeningsAreTold, OpenedByTheOther, OpenedAnew, EndsAreLast}
-use Rattle.yamux_session.specs.State.{State, Stands as SessionStands}
+use Rattle.yamux_session.specs.State.{State, Stands as SessionStands, IsOneFrame}
 use Rattle.streams.specs.State.{Streaming}
 use Rattle.conn_log.specs.declared.earlier.Earlier.{Earlier}
-use Rattle.conn_log.specs.Entries.{Entry, items, since, agreed_in, over_in, made_in, is_over, is_kept, left_behind}
-use Rattle.conn_log.specs.Due.{told_reset, was_reset, told_end, end_was_told}
+use Rattle.conn_log.specs.Entries.{Entry, items, since, agreed_in, over_in, made_in, is_over, made_of, is_kept, left_behind, put_aside}
+use Rattle.conn_log.specs.Turns.{turn}
+use Rattle.conn_log.specs.Due.{AllDue, told_reset, was_reset, told_end, end_was_told}
 use Rattle.conn_log.specs.Held.{IsAtRest, AreLeft, earlier_of}
 use Rattle.conn_log.specs.Rests.{AreAtRest}
 use Rattle.conn_log.specs.Routes.{IsStill, IsFor, IsNoOpening, IsMoving, Around, Opening, Routes, Awaits, set_aside}
@@ -28,11 +29,12 @@ use Rattle.conn_log.proofs.Same.{Same, side_same, settled_same, at_rest_same, le
 use Rattle.conn_log.proofs.Around.{if_some}
 use Rattle.conn_log.proofs.Views.{same}
 use Rattle.conn_log.proofs.Opening.{sent_stays}
-use Rattle.conn_log.proofs.Leaving.{earlier_other, are_left}
+use Rattle.conn_log.proofs.Leaving.{earlier_other, are_left, numbers_are}
 use Rattle.conn_log.proofs.Rested.{end_agrees}
 use Rattle.conn_log.proofs.Arriving.{arrived, items_arrived, asked_arrived, since_arrived, left_arrived, IsNamed, named, opens_none, not_heard, not_opened, quiet, unopened, still_quiet, still_heard}
 use Rattle.std.proofs.Math.Bool.{or_comm}
 use Rattle.conn_log.proofs.Ends.{ends_unopened, ends_opened, live_ends}
+use Rattle.conn_log.proofs.Heads.{stream_of, all_named, all_about, turn_arrived, in_turn_arrived, aside_arrived}
 use Rattle.conn_log.proofs.Resets.{either_true, reset_after, reset_unopened, reset_other, reset_told, AreAlive, alive_told, none_reset, ends_last, told_by, told_is_by, FirstOpens, first_opens, due_arrived}
 
 -- what holds of every session
@@ -65,15 +67,20 @@ module _ {P H : Type 0} (step : H → HandlerCall → H → Type 0) (fails : H �
     (rests : AreAtRest step fails is_closed is_finished inbound_makes outbound_makes eager names peer role log fed sent session streams past)
     (tells : TellsFrom role (items log) came (tellings told))
     (there : SessionStands role (map Came came ++ items log) later sent now)
-    (one : NamesOne told) (filled : AllByRecursion HasData told) where
+    (frame : IsOneFrame came) (one : NamesOne told) (filled : AllByRecursion HasData told) where
+  -- the stream that the last header names
   abbrev pub n : ℕ
-  n = one.stream
+  n = stream_of (items log) came
 
   abbrev pub then : List (Entry H)
   then = arrived came ++ log
 
   about : AllByRecursion (IsNamed n) (tellings told)
-  about = named one.stream told one.named
+  about = subst (λ (t : List Told). AllByRecursion (IsNamed n) t) (told_is_by role (items log) came (tellings told) tells) (all_named role (items log) came frame)
+
+  all_are_about : AllByRecursion (IsAbout n) told
+  unfolding about
+  all_are_about = all_about n told filled about
 
   items_are : items then ≡ map Came came ++ items log
   items_are = items_arrived came log
@@ -131,11 +138,17 @@ module _ {P H : Type 0} (step : H → HandlerCall → H → Type 0) (fails : H �
   first_told : FirstOpens (told_by role (items log) came)
   first_told = subst FirstOpens (sym (told_is_by role (items log) came (tellings told) tells)) (first_opens told one.opened_first)
 
+  -- whether its number is opened anew decides of what is put aside
+  aside_now : (opened : Bool) → opened_in role (items log) came n ≡ opened
+      → put_aside role then ≡ cond (opened && is_kept role log n) (put_aside role log ++ n ∷ []) (put_aside role log)
+  aside_now opened is = aside_arrived role came log frame ∙ ap (λ b. cond (b && is_kept role log n) (put_aside role log ++ n ∷ []) (put_aside role log)) is
+
   around : (aside : List (Earlier H)) (view : Seen) (rest : List Told) (before : Bool) → was_reset role (items then) n ≡ told_reset n rest || before
       → (before ≡ true → is_over role then n ≡ true) → AgreesOn (seen role (items then) n) (all_heard n view rest) → AllByRecursion (IsNoOpening n) rest
       → Rattle.conn_log.specs.Routes.EndsLast view.ended rest → (told_reset n rest ≡ true → view.ended || told_end n rest ≡ end_was_told role (items then) n) → ((m : ℕ) → AreLeft step is_closed is_finished names role then m 0 (earlier_of m aside))
+      → map (λ (it : Earlier H). it.number) aside ≡ put_aside role then → turn then ≡ Some n
       → Around step fails is_closed is_finished inbound_makes outbound_makes eager names peer role then later sent now streams aside n view rest
-  around aside view rest before reset_is told_before heard none last end_is left = record {
+  around aside view rest before reset_is told_before heard none last end_is left aside_is turn_is = record {
     session_stands = subst (λ (t : List Item). SessionStands role t later sent now) (sym items_are) there;
     due = due_arrived step fails is_closed is_finished inbound_makes outbound_makes eager names peer role laws.openings_are_told log rests.resets_told came tells.no_fault
         first_told rests.due;
@@ -151,6 +164,9 @@ module _ {P H : Type 0} (step : H → HandlerCall → H → Type 0) (fails : H �
     opens_none = none;
     ends_last = last;
     earlier = left;
+    past_is = aside_is;
+    in_turn = in_turn_arrived came log rests.in_turn;
+    turn_is = turn_is;
   } where
     here : told_reset n rest || before ≡ true → (is_over role then n ≡ true) ⊎ (told_reset n rest ≡ true)
     here was = by_either (either_true (told_reset n rest) before was) where
@@ -205,8 +221,8 @@ module _ {P H : Type 0} (step : H → HandlerCall → H → Type 0) (fails : H �
   events_are : events role (items then) ≡ events role (items log) ++ tellings told
   events_are = ap (λ (t : List Item). events role t) items_are ∙ tells.told_is
 
-  unopened_faced : AllByRecursion OpensNone told → Faced
-  unopened_faced none_opened =
+  unopened_faced : turn then ≡ Some n → AllByRecursion OpensNone told → Faced
+  unopened_faced turn_is none_opened =
       let none = opens_none n told none_opened in
       let view = seen role (items log) n in
       let off = unopened n (tellings told) none in
@@ -214,8 +230,8 @@ module _ {P H : Type 0} (step : H → HandlerCall → H → Type 0) (fails : H �
       let was = was_reset role (items log) n in
       record {
         stream = n;
-        all_for = all_for n told one.named filled;
-        awaits = inr (
+        all_for = all_for n told all_are_about filled;
+        awaits = inr (inl (
           view,
           record {
             around = around past view (tellings told) was
@@ -223,14 +239,15 @@ module _ {P H : Type 0} (step : H → HandlerCall → H → Type 0) (fails : H �
                 (λ is. ap (over_in n) (since_same n off) ∙ rests.resets_told n is)
                 (agrees n) none (ends_last n view.ended view (tellings told) about none (laws.ends_are_last role (items log) came (tellings told) n tells) alive)
                 (λ reset. ends_now none (was_live none alive reset))
-                (λ m. left_by m none (eqb_tells n m));
+                (λ m. left_by m none (eqb_tells n m))
+                (rests.past_is ∙ sym (aside_now false (laws.openings_are_told role (items log) came (tellings told) n tells ∙ off))) turn_is;
             own = if_some (streams n) (λ it r. moving it none r) (rests.each n);
             own_held = rests.live_held n;
             own_to_reset = λ reset going. rests.live_held n (was_live none alive reset);
             own_kept = λ made going.
                 rests.made_held n (λ none_made. made (ap (made_in n) (since_same n off) ∙ none_made)) (sym (ap (over_in n) (since_same n off)) ∙ going);
           },
-        );
+        ));
       } where
         -- one whose reset is told was live, and of it the end was told where it came
         was_live : AllByRecursion (IsNoOpening n) (tellings told) → AreAlive n (seen role (items log) n) (tellings told) → told_reset n (tellings told) ≡ true
@@ -256,8 +273,8 @@ module _ {P H : Type 0} (step : H → HandlerCall → H → Type 0) (fails : H �
         left_by m none (inr it) = others_left m it.0
 
   -- it is opened by what arrived
-  opened_faced : (rest : List Event) → told ≡ event.Opened n ∷ rest → AllByRecursion OpensNone rest → AllByRecursion (IsAbout n) rest → AllByRecursion HasData rest → Faced
-  opened_faced rest is none_opened rest_about rest_filled =
+  opened_faced : turn then ≡ Some n → (rest : List Event) → told ≡ event.Opened n ∷ rest → AllByRecursion OpensNone rest → AllByRecursion (IsAbout n) rest → AllByRecursion HasData rest → Faced
+  opened_faced turn_is rest is none_opened rest_about rest_filled =
       let told_is : tellings told ≡ Told.Opened n ∷ tellings rest = ap tellings is in
       let none = opens_none n rest none_opened in
       let view = seen role (items log) n in
@@ -283,12 +300,20 @@ module _ {P H : Type 0} (step : H → HandlerCall → H → Type 0) (fails : H �
                 (subst (λ (t : List Told). AgreesOn (seen role (items then) n) (all_heard n view t)) told_is (agrees n)))
                 none (ends_last n false (hears n view (Told.Opened n)) (tellings rest) (named n rest rest_about) none once alive.1)
                 (λ reset. sym (ap (λ (t : List Item). end_was_told role t n) items_are ∙ ends_opened laws.openings_are_told role (items log) came n tells.no_fault first_told opened
-                ∙ ap (told_end n) (told_is_by role (items log) came (Told.Opened n ∷ tellings rest) tells_it))) (λ m. left_by m opened tells_it (eqb_tells n m));
+                ∙ ap (told_end n) (told_is_by role (items log) came (Told.Opened n ∷ tellings rest) tells_it))) (λ m. left_by m opened tells_it (eqb_tells n m))
+                (numbers_by opened tells_it) turn_is;
             fresh = since_arrived role came log n ∙ ap (λ b. cond b [] (since role log n)) opened;
             theirs = laws.opened_by_the_other role (items log) came n opened;
           },
         );
       } where
+        numbers_by : opened_in role (items log) came n ≡ true → TellsFrom role (items log) came (Told.Opened n ∷ tellings rest)
+            → map (λ (it : Earlier H). it.number) (past ++ set_aside n (streams n)) ≡ put_aside role then
+        numbers_by opened tells_it =
+            numbers_are step is_closed is_finished names role log (arrived came) n past (laws.opened_anew role (items log) came (tellings rest) n tells_it)
+            (left_arrived role came log n ∙ ap (λ b. cond (b && is_kept role log n) (suc (left_behind role log n)) (left_behind role log n)) opened) (rests.earlier n) (streams n) (rests.each n) (rests.made_held n)
+            ∙ ap (λ (t : List ℕ). cond (is_kept role log n) (t ++ n ∷ []) t) rests.past_is ∙ sym (aside_now true opened)
+
         left_by : (m : ℕ) → opened_in role (items log) came n ≡ true → TellsFrom role (items log) came (Told.Opened n ∷ tellings rest) → (((n == m) ≡ true) × (n ≡ m)) ⊎ (((n == m) ≡ false) × (n ≢ m))
             → AreLeft step is_closed is_finished names role then m 0 (earlier_of m (past ++ set_aside n (streams n)))
         left_by m opened tells_it (inl it) = subst (λ (k : ℕ). AreLeft step is_closed is_finished names role then k 0 (earlier_of k (past ++ set_aside n (streams n)))) it.1
@@ -296,20 +321,43 @@ module _ {P H : Type 0} (step : H → HandlerCall → H → Type 0) (fails : H �
             (left_arrived role came log n ∙ ap (λ b. cond (b && is_kept role log n) (suc (left_behind role log n)) (left_behind role log n)) opened) (rests.earlier n) (streams n) (rests.each n) (rests.made_held n))
         left_by m opened tells_it (inr it) = subst (λ (t : List (Streaming H)). AreLeft step is_closed is_finished names role then m 0 t) (sym (earlier_other n m past (streams n) it.0)) (others_left m it.0)
 
-  pub faced : Faced
-  faced = by_told told refl where
+  -- where nothing arrived nothing is to be routed
+  nothing_faced : came ≡ [] → Faced
+  nothing_faced none =
+      let told_none : tellings told ≡ [] = sym (told_is_by role (items log) came (tellings told) tells) ∙ ap (told_by role (items log)) none in
+      record {
+        stream = n;
+        all_for = all_for n told all_are_about filled;
+        awaits = inr (inr (
+          told_none,
+          record {
+            session_stands = subst (λ (t : List Item). SessionStands role t later sent now) (sym items_are) there;
+            due = subst (λ (c : List Arrival). AllDue step fails is_closed is_finished inbound_makes outbound_makes eager names peer role (arrived c ++ log)) (sym none) rests.due;
+            in_turn = in_turn_arrived came log rests.in_turn;
+            each = subst (λ (c : List Arrival). (m : ℕ) → IfSome (streams m) (λ it. IsAtRest step is_closed is_finished names role (arrived c ++ log) m it)) (sym none) rests.each;
+            live_held = subst (λ (c : List Arrival). (m : ℕ) → is_live role (items (arrived c ++ log)) m ≡ true → IsSome (streams m)) (sym none) rests.live_held;
+            made_held = subst (λ (c : List Arrival). (m : ℕ) → made_of role (arrived c ++ log) m ≢ None → is_over role (arrived c ++ log) m ≡ false → IsSome (streams m)) (sym none) rests.made_held;
+            resets_told = subst (λ (c : List Arrival). (m : ℕ) → was_reset role (items (arrived c ++ log)) m ≡ true → is_over role (arrived c ++ log) m ≡ true) (sym none) rests.resets_told;
+            earlier = subst (λ (c : List Arrival). (m : ℕ) → AreLeft step is_closed is_finished names role (arrived c ++ log) m 0 (earlier_of m past)) (sym none) rests.earlier;
+            past_is = subst (λ (c : List Arrival). map (λ (it : Earlier H). it.number) past ≡ put_aside role (arrived c ++ log)) (sym none) rests.past_is;
+          },
+        ));
+      }
+
+  some_faced : turn then ≡ Some n → Faced
+  some_faced turn_is = by_told told refl where
     later_none : (e : Event) (rest : List Event) → told ≡ e ∷ rest → AllByRecursion OpensNone rest
     later_none e rest is = subst (λ (t : List Event). AllByRecursion OpensNone (drop 1 t)) is one.opened_first
 
     unopened_by : (e : Event) (rest : List Event) → told ≡ e ∷ rest → OpensNone e → Faced
-    unopened_by e rest is first = unopened_faced (subst (λ (t : List Event). AllByRecursion OpensNone t) (sym is) (first, later_none e rest is))
+    unopened_by e rest is first = unopened_faced turn_is (subst (λ (t : List Event). AllByRecursion OpensNone t) (sym is) (first, later_none e rest is))
 
     by_told : (t : List Event) → told ≡ t → Faced
-    by_told [] is = unopened_faced (subst (λ (t : List Event). AllByRecursion OpensNone t) (sym is) tt)
+    by_told [] is = unopened_faced turn_is (subst (λ (t : List Event). AllByRecursion OpensNone t) (sym is) tt)
     by_told (event.Opened m ∷ rest) is =
-        let all_about = subst (λ (t : List Event). AllByRecursion (IsAbout one.stream) t) is one.named in
+        let all_about = subst (λ (t : List Event). AllByRecursion (IsAbout n) t) is all_are_about in
         let all_filled = subst (λ (t : List Event). AllByRecursion HasData t) is filled in
-        opened_faced rest (is ∙ ap (λ k. event.Opened k ∷ rest) all_about.0) (later_none (event.Opened m) rest is) all_about.1 all_filled.1
+        opened_faced turn_is rest (is ∙ ap (λ k. event.Opened k ∷ rest) all_about.0) (later_none (event.Opened m) rest is) all_about.1 all_filled.1
     by_told (event.Accepted m ∷ rest) is = unopened_by (event.Accepted m) rest is tt
     by_told (event.Payload m bytes ∷ rest) is = unopened_by (event.Payload m bytes) rest is tt
     by_told (event.Ended m ∷ rest) is = unopened_by (event.Ended m) rest is tt
@@ -317,3 +365,9 @@ module _ {P H : Type 0} (step : H → HandlerCall → H → Type 0) (fails : H �
     by_told (event.Credit m ∷ rest) is = unopened_by (event.Credit m) rest is tt
     by_told (event.GoAway code ∷ rest) is = unopened_by (event.GoAway code) rest is tt
     by_told (event.Fault fault ∷ rest) is = unopened_by (event.Fault fault) rest is tt
+
+  pub faced : Faced
+  faced = by_came came refl where
+    by_came : (c : List Arrival) → came ≡ c → Faced
+    by_came [] is = nothing_faced is
+    by_came (x ∷ more) is = some_faced (subst (λ (c : List Arrival). turn (arrived c ++ log) ≡ Some (stream_of (items log) c)) (sym is) (turn_arrived x more log))

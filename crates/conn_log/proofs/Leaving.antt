@@ -1,7 +1,7 @@
 -- A number that is opened anew leaves the stream of its earlier opening behind, where its handler is held still.
-use Rattle.std.proofs.Common.{◌≡◌, ◌≢◌, ℕ, suc, ◌==◌, Bool, true, false, not, ◌&&◌, cond, List, [], ◌∷◌, ◌++◌, Option, Some, None, refl, sym, ap, ◌∙◌, subst}
+use Rattle.std.proofs.Common.{◌≡◌, ◌≢◌, ℕ, suc, ◌==◌, Bool, true, false, not, ◌&&◌, cond, List, [], ◌∷◌, ◌++◌, map, Option, Some, None, refl, sym, ap, ◌∙◌, subst}
 use Rattle.std.specs.Prelude.{IfSome, IsSome, is_some}
-use Rattle.std.proofs.lemmas.List.{append-nil}
+use Rattle.std.proofs.lemmas.List.{append-nil, map-append}
 use Rattle.handlers.specs.Calls.{HandlerCall}
 use Rattle.yamux_session.specs.declared.event.Role.{Role}
 use Rattle.yamux_session.specs.Openings.{is_live}
@@ -73,16 +73,43 @@ module _ {H : Type 0} (step : H → HandlerCall → H → Type 0) (is_closed is_
       (sym (earlier_append n past (record { number = n; stream = it } ∷ []) ∙ ap (λ b. earlier_of n past ++ cond b (it ∷ []) []) (same n)))
       (left_one step is_closed is_finished names role log newer n 0 it (earlier_of n past) (left_is ∙ ap (λ b. cond b (suc (left_behind role log n)) (left_behind role log n)) on) over on rest all)
 
+  -- where that of the opening before is at rest, its handler is held unless it was handed out
+  held_kept : (it : Streaming H) → IsAtRest step is_closed is_finished names role log n it → (b : Bool) → was_handed_out it.stage ≡ b → is_kept role log n ≡ not b
+  held_kept it rest true out = over_is_not_kept (made_of role log n) (is_over role log n) (rest.held.over ∙ out)
+  held_kept it rest false out =
+      let made = made_where_ended step it.stage rest.held.so_far it.waiting rest.held.stands (rest.held.ended_is ∙ rest.over_by_end over) rest.held.served out in
+      ap (λ t. is_some t && not (is_over role log n)) (sym rest.held.made_is ∙ made.1) ∙ ap not (rest.held.over ∙ out)
+
+  as_kept : (aside : List (Earlier H)) (b : Bool) → is_kept role log n ≡ b → map (λ (it : Earlier H). it.number) aside ≡ cond b (n ∷ []) []
+      → map (λ (it : Earlier H). it.number) (past ++ aside)
+      ≡ cond (is_kept role log n) (map (λ (it : Earlier H). it.number) past ++ n ∷ []) (map (λ (it : Earlier H). it.number) past)
+  as_kept aside b kept is =
+      map-append (λ (it : Earlier H). it.number) past aside ∙ ap (λ t. map (λ (it : Earlier H). it.number) past ++ t) is ∙ by_test b
+      ∙ ap (λ c. cond c (map (λ (it : Earlier H). it.number) past ++ n ∷ []) (map (λ (it : Earlier H). it.number) past)) (sym kept) where
+        by_test : (b : Bool) → map (λ (it : Earlier H). it.number) past ++ cond b (n ∷ []) []
+            ≡ cond b (map (λ (it : Earlier H). it.number) past ++ n ∷ []) (map (λ (it : Earlier H). it.number) past)
+        by_test true = refl
+        by_test false = append-nil (map (λ (it : Earlier H). it.number) past)
+
   is_left : (it : Streaming H) → IsAtRest step is_closed is_finished names role log n it → (b : Bool) → was_handed_out it.stage ≡ b
       → Left (cond b [] (record { number = n; stream = it } ∷ []))
-  is_left it rest true out = none_left (over_is_not_kept (made_of role log n) (is_over role log n) (rest.held.over ∙ out))
-  is_left it rest false out =
-      let made = made_where_ended step it.stage rest.held.so_far it.waiting rest.held.stands (rest.held.ended_is ∙ rest.over_by_end over) rest.held.served out in
-      let kept : is_kept role log n ≡ true = ap (λ t. is_some t && not (is_over role log n)) (sym rest.held.made_is ∙ made.1) ∙ ap not (rest.held.over ∙ out) in
-      one_left it kept rest
+  is_left it rest true out = none_left (held_kept it rest true out)
+  is_left it rest false out = one_left it (held_kept it rest false out) rest
 
   -- those of the number that is opened, where that of the opening before was put aside
   pub are_left : (held : Option (Streaming H)) → IfSome held (λ it. IsAtRest step is_closed is_finished names role log n it)
       → (made_of role log n ≢ None → is_over role log n ≡ false → IsSome held) → Left (set_aside n held)
   are_left None rest made_held = none_left (not_kept (made_of role log n) (is_over role log n) (λ made going. absurd (cc (made_held made going))))
   are_left (Some it) rest made_held = is_left it rest (was_handed_out it.stage) refl
+
+  -- and their numbers
+  pub numbers_are : (held : Option (Streaming H)) → IfSome held (λ it. IsAtRest step is_closed is_finished names role log n it)
+      → (made_of role log n ≢ None → is_over role log n ≡ false → IsSome held)
+      → map (λ (it : Earlier H). it.number) (past ++ set_aside n held)
+      ≡ cond (is_kept role log n) (map (λ (it : Earlier H). it.number) past ++ n ∷ []) (map (λ (it : Earlier H). it.number) past)
+  numbers_are None rest made_held = as_kept [] false (not_kept (made_of role log n) (is_over role log n) (λ made going. absurd (cc (made_held made going)))) refl
+  numbers_are (Some it) rest made_held = by_stage (was_handed_out it.stage) refl where
+    by_stage : (b : Bool) → was_handed_out it.stage ≡ b → map (λ (it : Earlier H). it.number) (past ++ cond b [] (record { number = n; stream = it } ∷ []))
+        ≡ cond (is_kept role log n) (map (λ (it : Earlier H). it.number) past ++ n ∷ []) (map (λ (it : Earlier H). it.number) past)
+    by_stage true out = as_kept [] false (held_kept it rest true out) refl
+    by_stage false out = as_kept (record { number = n; stream = it } ∷ []) true (held_kept it rest false out) refl

@@ -1,4 +1,5 @@
 pub mod Same
+pub mod Turning
 pub mod Around
 pub mod Views
 pub mod StageKinds
@@ -13,6 +14,7 @@ pub mod Opening
 pub mod Rested
 pub mod Arriving
 pub mod Resets
+pub mod Heads
 pub mod Ends
 pub mod Facing
 pub mod Asking
@@ -20,4 +22,5 @@ pub mod Leaving
 pub mod Early
 pub mod MadeRows
 pub mod ListRows
+pub mod TurnRows
 pub mod Placed

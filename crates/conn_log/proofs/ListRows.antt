@@ -7,7 +7,7 @@ use Rattle.conn_log.specs.declared.event.ConnRefused.TheVariants as refusals
 use Rattle.conn_log.specs.Entries.{asked, made_in}
 use Rattle.conn_log.specs.Entries.Entry.{Made, Asks}
 use Rattle.conn_log.specs.Asked.{IsRefusedAs}
-use Rattle.conn_log.specs.EntryRows.{ListRows, SinceRows, AgreedRows, OverRows, HandlerRows, LeftRows, AskedForRows}
+use Rattle.conn_log.specs.EntryRows.{ListRows, SinceRows, AgreedRows, OverRows, HandlerRows, LeftRows, AsideRows, AskedForRows}
 use Rattle.conn_log.specs.DueRows.{DirectionRows, ResetRows, EndRows, GivenUpRows, MayBeMadeRows}
 use Rattle.conn_log.specs.AskedRows.{RefusedAsRows, EarlyRows, ToldOfRows, MadeEarlyRows, BrokenOfRows, is_1}
 
@@ -89,6 +89,21 @@ left_rows = record {
   handed_out = refl;
   of_another = refl;
   of_that_one = refl;
+  passed = refl;
+  asked_for = refl;
+}
+
+pub aside_rows : AsideRows
+aside_rows = record {
+  of_nothing = refl;
+  not_yet = refl;
+  once = refl;
+  twice = refl;
+  in_order = refl;
+  not_made = refl;
+  handed_out = refl;
+  of_another = refl;
+  goes_on = refl;
   passed = refl;
   asked_for = refl;
 }

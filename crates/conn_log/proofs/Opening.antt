@@ -1,5 +1,5 @@
 -- Where the streams stand once the other end's opening of one of them was told.
-use Rattle.std.proofs.Common.{◌≡◌, ℕ, ◌==◌, Bool, true, false, not, ◌&&◌, cond, List, [], ◌∷◌, ◌++◌, Option, None, refl, sym, ap, ◌∙◌, subst}
+use Rattle.std.proofs.Common.{◌≡◌, ℕ, ◌==◌, Bool, true, false, not, ◌&&◌, cond, List, [], ◌∷◌, ◌++◌, map, Option, None, refl, sym, ap, ◌∙◌, subst}
 use Rattle.std.specs.Prelude.{IfSome, IsSome}
 use Rattle.std.specs.List.{AllByRecursion}
 use Rattle.handlers.specs.Calls.{HandlerCall, Asked}
@@ -56,6 +56,9 @@ module _ {P H : Type 0} (step : H → HandlerCall → H → Type 0) (fails : H �
     opens_none = a.opens_none;
     ends_last = a.ends_last;
     earlier = λ m. subst (λ (t : List (Earlier H)). AreLeft step is_closed is_finished names role log m 0 (earlier_of m t)) (sym aside) (a.earlier m);
+    past_is = ap (λ (t : List (Earlier H)). map (λ (it : Earlier H). it.number) t) aside ∙ a.past_is;
+    in_turn = a.in_turn;
+    turn_is = a.turn_is;
   }
 
   -- the new stream answers, and nothing has come yet

@@ -58,6 +58,9 @@ module _ {P H : Type 0} (step : H → HandlerCall → H → Type 0) (fails : H �
     opens_none = a.opens_none.1;
     ends_last = last_first view.ended rest a.ends_last;
     earlier = a.earlier;
+    past_is = a.past_is;
+    in_turn = a.in_turn;
+    turn_is = a.turn_is;
   } where
     by_number : (m : ℕ) → (((n == m) ≡ true) × (n ≡ m)) ⊎ (((n == m) ≡ false) × (n ≢ m)) → (is_over role log m ≡ true) ⊎ ((n == m) || told_reset m rest ≡ true)
         → (is_over role log m ≡ true) ⊎ (told_reset m rest ≡ true)

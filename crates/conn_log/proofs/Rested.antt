@@ -17,6 +17,7 @@ use Rattle.conn_log.specs.Due.{told_reset, was_reset, told_end}
 use Rattle.conn_log.specs.Held.{IsAtRest}
 use Rattle.conn_log.specs.Rests.{AreAtRest, Grows}
 use Rattle.conn_log.specs.Routes.{IsStill, EndsLast, IsMoving, Routes, Routed, Awaits, IsUnderWay}
+use Rattle.conn_log.proofs.Turning.{turn_unasked, rested_on}
 use Rattle.conn_log.proofs.Settling.{routed_behind}
 
 -- whether the end came: of a live stream it was told, and one that is live no more had ended
@@ -88,6 +89,9 @@ module _ {P H : Type 0} (step : H → HandlerCall → H → Type 0) (fails : H �
       opens_none = r.around.opens_none.1;
       ends_last = still_ends view.ended t rest is r.around.ends_last;
       earlier = r.around.earlier;
+      past_is = r.around.past_is;
+      in_turn = r.around.in_turn;
+      turn_is = r.around.turn_is;
     };
     own = goes_on (streams n) r.own;
     own_held = r.own_held;
@@ -105,7 +109,7 @@ module _ {P H : Type 0} (step : H → HandlerCall → H → Type 0) (fails : H �
       (told rest : List Told) (making : List (Entry H) → List (Entry H) → Type 0) where
     pub begun : making log log → mid ≡ before → Awaits step fails is_closed is_finished inbound_makes outbound_makes eager names peer role log fed sent session streams past n told
         → IsUnderWay step fails is_closed is_finished inbound_makes outbound_makes eager names peer role making log before mid fed sent session streams past n told
-    begun makes same a = record { newer = []; told_is = same ∙ sym (append-nil before); untold = refl; unasked = refl; makes = makes; awaits = a }
+    begun makes same a = record { newer = []; told_is = same ∙ sym (append-nil before); untold = refl; same_turn = tt; makes = makes; awaits = a }
 
     -- one more was routed
     pub went_on : (so_far one : List (Entry H) → List (Entry H) → Type 0)
@@ -115,8 +119,8 @@ module _ {P H : Type 0} (step : H → HandlerCall → H → Type 0) (fails : H �
         → IsUnderWay step fails is_closed is_finished inbound_makes outbound_makes eager names peer role making log before after fed sent middle then later n rest
     went_on so_far one joins u r =
         let both = routed_behind step fails is_closed is_finished inbound_makes outbound_makes eager names peer role log u.newer before mid after (said u.newer) fed sent middle then later n rest
-        making one (λ last made. joins (u.newer ++ log) last u.makes made) refl u.told_is u.untold u.unasked r in
-        record { newer = both.newer; told_is = both.told_is; untold = both.untold; unasked = both.unasked; makes = both.makes; awaits = inr (both.view, both.routes) }
+        making one (λ last made. joins (u.newer ++ log) last u.makes made) refl u.told_is u.untold u.same_turn r in
+        record { newer = both.newer; told_is = both.told_is; untold = both.untold; same_turn = both.same_turn; makes = both.makes; awaits = inr (inl (both.view, both.routes)) }
 
   -- ---- behind the last
 
@@ -155,11 +159,13 @@ module _ {P H : Type 0} (step : H → HandlerCall → H → Type 0) (fails : H �
     rested view r = record {
       session_stands = r.around.session_stands;
       due = r.around.due;
+      in_turn = r.around.in_turn;
       each = λ m. each_at m (eqb_tells n m);
       live_held = λ m live. live_at m (eqb_tells n m) live;
       made_held = λ m made going. made_at m (eqb_tells n m) made going;
       resets_told = λ m was. over_at m (r.around.resets_told m was);
       earlier = r.around.earlier;
+      past_is = r.around.past_is;
     } where
       over_at : (m : ℕ) → (is_over role log m ≡ true) ⊎ (false ≡ true) → is_over role log m ≡ true
       over_at m (inl over) = over
@@ -182,7 +188,19 @@ module _ {P H : Type 0} (step : H → HandlerCall → H → Type 0) (fails : H �
       → IsUnderWay step fails is_closed is_finished inbound_makes outbound_makes eager names peer role making log before after fed sent session streams past n []
       → Grows step fails is_closed is_finished inbound_makes outbound_makes eager names peer role making log before after fed sent session streams past
   all_routed making log before after fed sent session streams past n u = by_cases u.awaits where
+    grows : AreAtRest step fails is_closed is_finished inbound_makes outbound_makes eager names peer role (u.newer ++ log) fed sent session streams past
+        → Grows step fails is_closed is_finished inbound_makes outbound_makes eager names peer role making log before after fed sent session streams past
+    grows at_rest = record {
+      newer = u.newer;
+      told_is = u.told_is;
+      unasked = turn_unasked u.newer u.same_turn;
+      makes = u.makes;
+      rested = rested_on step fails is_closed is_finished inbound_makes outbound_makes eager names peer role u.newer log u.same_turn;
+      at_rest = at_rest;
+    }
+
     by_cases : Awaits step fails is_closed is_finished inbound_makes outbound_makes eager names peer role (u.newer ++ log) fed sent session streams past n []
         → Grows step fails is_closed is_finished inbound_makes outbound_makes eager names peer role making log before after fed sent session streams past
     by_cases (inl o) = absurd (let e : [] ≡ Told.Opened n ∷ o.0 = o.1 in cc e)
-    by_cases (inr r) = record { newer = u.newer; told_is = u.told_is; unasked = u.unasked; makes = u.makes; at_rest = rested (u.newer ++ log) fed sent session streams past n r.0 r.1 }
+    by_cases (inr (inl r)) = grows (rested (u.newer ++ log) fed sent session streams past n r.0 r.1)
+    by_cases (inr (inr r)) = grows r.1

@@ -17,12 +17,13 @@ use Rattle.streams.specs.Streams.{Past}
 use Rattle.streams.specs.State.{Streaming}
 use Rattle.serving.specs.Served.{IsDue as ActIsDue, AreDue, with_sent}
 use Rattle.conn_log.specs.declared.earlier.Earlier.{Earlier}
-use Rattle.conn_log.specs.Entries.{Entry, items, said, asks, agreed, is_over, made_of, asked, left_behind}
+use Rattle.conn_log.specs.Entries.{Entry, items, said, agreed, is_over, made_of, asked, left_behind}
 use Rattle.conn_log.specs.Entries.Entry.{Of}
 use Rattle.conn_log.specs.Due.{HasCome, IsThere, HasGiven, IsDue, AllDue, was_reset, end_was_told}
 use Rattle.conn_log.specs.Held.{IsSide}
-use Rattle.conn_log.specs.Routes.{IsNoOpening, EndsLast, Around}
+use Rattle.conn_log.specs.Routes.{KeepsTurn, IsNoOpening, EndsLast, Around}
 use Rattle.conn_log.proofs.Same.{Same, same_refl, same_trans, same_by_act, IsOn, side_same}
+use Rattle.conn_log.proofs.Turning.{IsOnly}
 use Rattle.conn_log.proofs.Around.{grown}
 use Rattle.conn_log.proofs.Views.{done_by, does_is, moves_on, came_front, none_behind}
 
@@ -44,9 +45,9 @@ pub did_untold : {H : Type 0} (role : Role) (acts : List Act) (log : List (Entry
 did_untold role [] log = refl
 did_untold role (act ∷ acts) log = append-nil (events role (items (did acts ++ log))) ∙ did_untold role acts log
 
-pub did_unasked : (H : Type 0) (acts : List Act) → asks {H = H} (did acts) ≡ []
-did_unasked H [] = refl
-did_unasked H (act ∷ acts) = did_unasked H acts
+pub did_keeps : (H : Type 0) (acts : List Act) → KeepsTurn {H = H} (did acts)
+did_keeps H [] = tt
+did_keeps H (act ∷ acts) = did_keeps H acts
 
 -- what is seen of the stream behind these acts
 abbrev pub view_by : List Act → Seen → Seen
@@ -166,6 +167,11 @@ module _ {P H : Type 0} (step : H → HandlerCall → H → Type 0) (fails : H �
     by_act (Reset k) on = refl
     by_act (Start k) on = absurd on
     by_act (Act.GoAway code) on = absurd on
+
+  -- they are about the stream
+  did_only : (n : ℕ) (acts : List Act) → AllOn n acts → AllByRecursion (IsOnly {H = H} n) (did acts)
+  did_only n [] on = tt
+  did_only n (act ∷ acts) on = (on.0, did_only n acts on.1)
 
   -- ---- what came
 
@@ -331,4 +337,4 @@ module _ {P H : Type 0} (step : H → HandlerCall → H → Type 0) (fails : H �
       (did_due log n so_far acts c due a.due) (λ m apart. did_same log n m acts apart on)
       (subst (λ (t : List Item). SessionStands role t fed sent after) (sym (items_did acts log)) there) elsewhere
       (did_heard log n view rest acts on a.opens_none a.heard) (view_ended n acts view on) (did_left log n acts on)
-      (did_resets log n acts on) (did_ends log n acts on n) (λ m over. did_over log n acts on m ∙ over)
+      (did_resets log n acts on) (did_ends log n acts on n) (λ m over. did_over log n acts on m ∙ over) (did_only n acts on)

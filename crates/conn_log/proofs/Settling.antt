@@ -18,7 +18,8 @@ use Rattle.conn_log.specs.Entries.{Entry, items, said, asks, is_over}
 use Rattle.conn_log.specs.Entries.Entry.{Of, Says, Made, Asks}
 use Rattle.conn_log.specs.Due.{IsGivenUp}
 use Rattle.conn_log.specs.Making.{MakesNone}
-use Rattle.conn_log.specs.Routes.{IsMoving, Around, Routes, Routed, Resets}
+use Rattle.conn_log.specs.Routes.{KeepsTurn, IsMoving, Around, Routes, Routed, Resets}
+use Rattle.conn_log.proofs.Turning.{same_turns}
 use Rattle.conn_log.proofs.Same.{Same, same_refl, same_by_act}
 use Rattle.conn_log.proofs.Around.{grown}
 use Rattle.conn_log.proofs.Views.{gone, its_own, moves_on, agrees_gone, gone_first_all}
@@ -52,15 +53,15 @@ module _ {P H : Type 0} (step : H → HandlerCall → H → Type 0) (fails : H �
   pub routed_behind : (log newer : List (Entry H)) (before mid after more : List (ConnEvent H)) (fed sent : List ℕ) (session : State) (streams : ℕ → Option (Streaming H))
       (past : List (Earlier H)) (n : ℕ) (rest : List Told) (making later : List (Entry H) → List (Entry H) → Type 0)
       → ((longer : List (Entry H)) → later (newer ++ log) longer → making log longer)
-      → said newer ≡ more → mid ≡ before ++ more → events role (items (newer ++ log)) ≡ events role (items log) → asks newer ≡ []
+      → said newer ≡ more → mid ≡ before ++ more → events role (items (newer ++ log)) ≡ events role (items log) → KeepsTurn newer
       → Routed step fails is_closed is_finished inbound_makes outbound_makes eager names peer role later (newer ++ log) mid after fed sent session streams past n rest
       → Routed step fails is_closed is_finished inbound_makes outbound_makes eager names peer role making log before after fed sent session streams past n rest
-  routed_behind log newer before mid after more fed sent session streams past n rest making later joins first is none_told unasked r = record {
+  routed_behind log newer before mid after more fed sent session streams past n rest making later joins first is none_told keeps r = record {
     newer = r.newer ++ newer;
     view = r.view;
     told_is = r.told_is ∙ ap (λ t. t ++ said r.newer) (is ∙ ap (λ t. before ++ t) (sym first)) ∙ append_assoc before (said newer) (said r.newer) ∙ ap (λ t. before ++ t) (sym (said_append r.newer newer));
     untold = ap (λ t. events role (items t)) (append_assoc r.newer newer log) ∙ r.untold ∙ none_told;
-    unasked = none_asked r.newer newer r.unasked unasked;
+    same_turn = same_turns r.newer newer r.same_turn keeps;
     makes = subst (λ t. making log t) (sym (append_assoc r.newer newer log)) (joins (r.newer ++ (newer ++ log)) r.makes);
     routes = subst (λ t. Routes step fails is_closed is_finished inbound_makes outbound_makes eager names peer role t fed sent session streams past n r.view rest)
         (sym (append_assoc r.newer newer log)) r.routes;
@@ -69,11 +70,11 @@ module _ {P H : Type 0} (step : H → HandlerCall → H → Type 0) (fails : H �
   pub routed_on : (log : List (Entry H)) (newer : List (Entry H)) (before after : List (ConnEvent H)) (fed sent : List ℕ) (session : State) (streams : ℕ → Option (Streaming H))
       (past : List (Earlier H)) (n : ℕ) (rest : List Told) (making later : List (Entry H) → List (Entry H) → Type 0)
       → ((longer : List (Entry H)) → later (newer ++ log) longer → making log longer)
-      → said newer ≡ [] → events role (items (newer ++ log)) ≡ events role (items log) → asks newer ≡ []
+      → said newer ≡ [] → events role (items (newer ++ log)) ≡ events role (items log) → KeepsTurn newer
       → Routed step fails is_closed is_finished inbound_makes outbound_makes eager names peer role later (newer ++ log) before after fed sent session streams past n rest
       → Routed step fails is_closed is_finished inbound_makes outbound_makes eager names peer role making log before after fed sent session streams past n rest
-  routed_on log newer before after fed sent session streams past n rest making later joins none none_told unasked r =
-      routed_behind log newer before before after [] fed sent session streams past n rest making later joins none (sym (append-nil before)) none_told unasked r
+  routed_on log newer before after fed sent session streams past n rest making later joins none none_told keeps r =
+      routed_behind log newer before before after [] fed sent session streams past n rest making later joins none (sym (append-nil before)) none_told keeps r
 
   module _ (acts_do : ActsDo) (acts_move : ActsMove) (log : List (Entry H)) (fed sent : List ℕ) (before after : State) (streams now : ℕ → Option (Streaming H))
       (past : List (Earlier H)) (n : ℕ) (view : Seen) (rest : List Told)
@@ -101,7 +102,7 @@ module _ {P H : Type 0} (step : H → HandlerCall → H → Type 0) (fails : H �
         → Routes step fails is_closed is_finished inbound_makes outbound_makes eager names peer role (Of (Did (Reset n)) ∷ log) fed sent after now past n (gone view) rest
     was_reset there = record {
       around = grown step fails is_closed is_finished inbound_makes outbound_makes eager names peer role log (Of (Did (Reset n)) ∷ []) fed sent before after streams now past n view (gone view) rest a
-          (given_up, a.due) apart there elsewhere (moves_on acts_do role (items log) n view rest (Reset n) refl a.opens_none a.heard) refl (λ m. refl) (λ m. refl) refl (λ m over. over);
+          (given_up, a.due) apart there elsewhere (moves_on acts_do role (items log) n view rest (Reset n) refl a.opens_none a.heard) refl (λ m. refl) (λ m. refl) refl (λ m over. over) (refl, tt);
       own = subst (λ (t : Option (Streaming H)). IfSome t (λ it. IsMoving step fails is_closed is_finished inbound_makes outbound_makes eager names peer role
           (Of (Did (Reset n)) ∷ log) n (gone view) rest it)) (sym none_here) tt;
       own_held = λ live. absurd (cc live);
@@ -116,7 +117,7 @@ module _ {P H : Type 0} (step : H → HandlerCall → H → Type 0) (fails : H �
       around = grown step fails is_closed is_finished inbound_makes outbound_makes eager names peer role log [] fed sent before after streams now past n view (gone view) rest a a.due
           (λ m e. same_refl role log m) (subst (λ (t : State). SessionStands role (items log) fed sent t) (sym same_session) a.session_stands) elsewhere
           (subst (λ (x : Seen). AgreesOn (seen role (items log) n) x) (sym (gone_first_all n view rest a.opens_none))
-          (agrees_gone (seen role (items log) n) (all_heard n view rest) off a.heard)) refl (λ m. refl) (λ m. refl) refl (λ m over. over);
+          (agrees_gone (seen role (items log) n) (all_heard n view rest) off a.heard)) refl (λ m. refl) (λ m. refl) refl (λ m over. over) tt;
       own = subst (λ (t : Option (Streaming H)). IfSome t (λ it. IsMoving step fails is_closed is_finished inbound_makes outbound_makes eager names peer role log n (gone view) rest it)) (sym none_here) tt;
       own_held = λ live. absurd (cc live);
       own_kept = λ made going. absurd (not_going log given_up going);
@@ -131,7 +132,7 @@ module _ {P H : Type 0} (step : H → HandlerCall → H → Type 0) (fails : H �
       view = gone view;
       told_is = same_told ∙ sym (append-nil told);
       untold = append-nil (events role (items log));
-      unasked = refl;
+      same_turn = tt;
       makes = keeps (Of (Did (Reset n)) ∷ []) tt;
       routes = was_reset there;
     }
@@ -140,7 +141,7 @@ module _ {P H : Type 0} (step : H → HandlerCall → H → Type 0) (fails : H �
       view = gone view;
       told_is = same_told ∙ sym (append-nil told);
       untold = refl;
-      unasked = refl;
+      same_turn = tt;
       makes = keeps [] tt;
       routes = was_gone over.0 over.1;
     }

@@ -20,7 +20,7 @@ use Rattle.conn_log.specs.declared.event.ConnRefused.{ConnRefused}
 use Rattle.conn_log.specs.declared.event.ConnRefused.TheVariants as refusals
 use Rattle.conn_log.specs.Entries.{Entry, items, said, asks, asked, made_in}
 use Rattle.conn_log.specs.Entries.Entry.{Made, Asks}
-use Rattle.conn_log.specs.Rests.{AreAtRest}
+use Rattle.conn_log.specs.Rests.{AreAtRest, AreRested}
 
 -- a stream is refused for the reason for which the session opens none, or where memory is wanting
 abbrev pub IsRefusedAs : Option ActRefused → ConnRefused → Type 0
@@ -72,5 +72,9 @@ module _ {P H : Type 0} (step : H → HandlerCall → H → Type 0) (fails : H �
     pub at_once : eager index ≡ true
         → (handler : H) × (newer : List (Entry H)) × (later ≡ newer ++ Made number handler ∷ [])
     pub makes : making log (later ++ Asks number index ∷ log)
+    -- all streams were at rest before it was opened
+    pub rested : AreRested step fails is_closed is_finished inbound_makes outbound_makes eager names peer role log
+        → AreRested step fails is_closed is_finished inbound_makes outbound_makes eager names peer role
+        (later ++ Asks number index ∷ log)
     pub at_rest : AreAtRest step fails is_closed is_finished inbound_makes outbound_makes eager names peer role
         (later ++ Asks number index ∷ log) fed sent session streams past

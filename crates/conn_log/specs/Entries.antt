@@ -4,9 +4,10 @@
 use Rattle.std.specs.Prelude.{ℕ, suc, Bool, false, not, ◌==◌, ◌&&◌, ◌||◌, if◌then◌else◌}
 use Rattle.std.specs.Prelude.{Option, Some, None, is_some}
 use Rattle.std.specs.Prelude.{List, [], ◌∷◌, ◌++◌}
+use Rattle.yamux_frames.specs.Frames.Arrival.{Head, Byte, Tail, Garbled}
 use Rattle.yamux_session.specs.declared.event.Role.{Role}
 use Rattle.yamux_session.specs.History.{Item}
-use Rattle.yamux_session.specs.History.Item.{Did}
+use Rattle.yamux_session.specs.History.Item.{Came, Did}
 use Rattle.yamux_session.specs.History.Act.{Start}
 use Rattle.yamux_session.specs.Openings.{opens}
 use Rattle.conn_log.specs.declared.event.ConnEvent.{ConnEvent}
@@ -124,6 +125,21 @@ left_behind role (Of x ∷ log) n =
 left_behind role (Says e ∷ log) n = left_behind role log n
 left_behind role (Made m handler ∷ log) n = left_behind role log n
 left_behind role (Asks m index ∷ log) n = left_behind role log n
+
+-- the numbers that were opened anew while the handler of their stream was still held, in that order; only the other
+-- end's head opens one anew
+abbrev pub put_aside : {H : Type 0} → Role → List (Entry H) → List ℕ
+put_aside role [] = []
+put_aside role (Of (Came (Head h)) ∷ log) =
+    if opens role (items log) (Came (Head h)) h.stream && is_kept role log h.stream
+    then put_aside role log ++ h.stream ∷ [] else put_aside role log
+put_aside role (Of (Came (Byte b)) ∷ log) = put_aside role log
+put_aside role (Of (Came Tail) ∷ log) = put_aside role log
+put_aside role (Of (Came (Garbled bytes)) ∷ log) = put_aside role log
+put_aside role (Of (Did act) ∷ log) = put_aside role log
+put_aside role (Says e ∷ log) = put_aside role log
+put_aside role (Made n handler ∷ log) = put_aside role log
+put_aside role (Asks n index ∷ log) = put_aside role log
 
 -- the protocol for which this end opened the stream; it opens no number twice
 abbrev pub asked : {H : Type 0} → List (Entry H) → ℕ → Option ℕ

@@ -4,7 +4,7 @@
 use Rattle.std.specs.Prelude.{◌≡◌, ℕ, true, false, List, [], ◌∷◌, ◌++◌, Some, None}
 use Rattle.peer_ids.specs.Key.{Key}
 use Rattle.yamux_frames.specs.declared.header.FrameKind.TheVariants.{Window}
-use Rattle.yamux_frames.specs.Frames.Arrival.{Tail}
+use Rattle.yamux_frames.specs.Frames.Arrival.{Byte, Tail, Garbled}
 use Rattle.yamux_session.specs.declared.event.Role.TheVariants.{Client, Server}
 use Rattle.yamux_session.specs.History.Item.{Came, Did}
 use Rattle.yamux_session.specs.History.Act.{Start, Close, Reset}
@@ -13,7 +13,7 @@ use Rattle.streams.specs.declared.stop.Cause.TheVariants as causes
 use Rattle.conn_log.specs.declared.event.ConnFault.TheVariants as faults
 use Rattle.conn_log.specs.declared.event.ConnEvent.TheVariants as event
 use Rattle.conn_log.specs.Entries.{Entry, items, said, asks, since, agreement, agreed_in, agreed, over_in, is_over}
-use Rattle.conn_log.specs.Entries.{made_in, made_of, is_kept, left_behind, asked}
+use Rattle.conn_log.specs.Entries.{made_in, made_of, is_kept, left_behind, put_aside, asked}
 use Rattle.conn_log.specs.Entries.Entry.{Of, Says, Made, Asks}
 
 -- the other end's frame with these flags for a stream came: SYN is 1, FIN 4, RST 8
@@ -143,6 +143,27 @@ pub record LeftRows : Type 0 where
   pub passed : left_behind Client (agrees 2 1 ∷ makes 2 8 ∷ Asks 2 0 ∷ Of (Did (Close 2)) ∷ frame 0 2 ++ opened 2
       ++ held) 2 ≡ 1
   pub asked_for : left_behind Client (Asks 1 0 ∷ makes 1 7 ∷ Asks 1 0 ∷ []) 1 ≡ 0
+
+-- the other end opened streams 2 and 4, and this end reset both; then it opened 4 anew, and then 2
+abbrev pub two_aside : List (Entry ℕ)
+two_aside = opened 2 ++ opened 4 ++ reset 2 ∷ reset 4 ∷ makes 4 8 ∷ opened 4 ++ makes 2 7 ∷ opened 2
+
+pub record AsideRows : Type 0 where
+  pub of_nothing : put_aside {H = ℕ} Client [] ≡ []
+  pub not_yet : put_aside Client held ≡ []
+  pub once : put_aside Client (opened 2 ++ held) ≡ 2 ∷ []
+  pub twice : put_aside Client (opened 2 ++ held ++ held) ≡ 2 ∷ 2 ∷ []
+  -- in the order in which they were opened anew
+  pub in_order : put_aside Client two_aside ≡ 4 ∷ 2 ∷ []
+  -- where none was held none is put aside
+  pub not_made : put_aside Client (opened 2 ++ reset 2 ∷ opened 2) ≡ []
+  pub handed_out : put_aside Client (opened 2 ++ reset 2 ∷ done 2 7 ∷ makes 2 7 ∷ opened 2) ≡ []
+  pub of_another : put_aside Client (opened 4 ++ held) ≡ []
+  pub goes_on : put_aside Client (frame 0 2 ++ makes 2 7 ∷ opened 2) ≡ []
+  -- what opens nothing is passed over
+  pub passed : put_aside Client (agrees 2 1 ∷ makes 2 8 ∷ Asks 1 0 ∷ Of (Did (Close 2)) ∷ Of (Came (Byte 9)) ∷ frame 0 2
+      ++ Of (Came (Garbled (9 ∷ []))) ∷ opened 2 ++ held) ≡ 2 ∷ []
+  pub asked_for : put_aside Client (Asks 1 0 ∷ makes 1 7 ∷ Asks 1 0 ∷ []) ≡ []
 
 pub record AskedForRows : Type 0 where
   pub of_nothing : asked {H = ℕ} [] 1 ≡ None

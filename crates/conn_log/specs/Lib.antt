@@ -1,9 +1,11 @@
 -- cited by public clauses and laws
 pub mod Entries
+pub mod Turns
 pub mod Due
 pub mod Making
 pub mod MakingRows
 pub mod EntryRows
+pub mod TurnRows
 pub mod DueRows
 pub mod AskedRows
 pub mod PlaceRows

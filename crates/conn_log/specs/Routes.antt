@@ -1,12 +1,12 @@
 -- Where the streams of a connection stand while what a frame told is routed to the one that it names.
 -- Inside: no public clause of a connection cites it.
 use Rattle.std.specs.Prelude.{◌≡◌, ◌≢◌, ◌⊎◌, ℕ, ◌==◌, ◌||◌, Bool, true, false, if◌then◌else◌, List, [], ◌∷◌, ◌++◌}
-use Rattle.std.specs.Prelude.{Option, Some, None, IfSome, IsSome}
+use Rattle.std.specs.Prelude.{map, Option, Some, None, IfSome, IsSome}
 use Rattle.std.specs.List.{AllByRecursion}
 use Rattle.handlers.specs.Calls.{HandlerCall, Asked}
 use Rattle.yamux_session.specs.declared.event.Role.{Role}
 use Rattle.yamux_session.specs.History.{Item, is_own}
-use Rattle.yamux_session.specs.History.Item.{Did}
+use Rattle.yamux_session.specs.History.Item.{Came, Did}
 use Rattle.yamux_session.specs.History.Act.{Reset}
 use Rattle.yamux_session.specs.Openings.{is_live}
 use Rattle.yamux_session.specs.declared.event.Event.{Event}
@@ -22,10 +22,12 @@ use Rattle.streams.specs.declared.stop.Cause.TheVariants as causes
 use Rattle.routing.specs.declared.delivered.Outcome.{Outcome}
 use Rattle.routing.specs.declared.delivered.Outcome.TheVariants.{Going, Done, Refused, Broken}
 use Rattle.conn_log.specs.declared.event.ConnEvent.TheVariants as event
-use Rattle.conn_log.specs.Entries.{Entry, items, said, asks, since, is_over, made_of}
-use Rattle.conn_log.specs.Entries.Entry.{Says}
+use Rattle.conn_log.specs.Entries.{Entry, items, said, since, is_over, made_of, put_aside}
+use Rattle.conn_log.specs.Entries.Entry.{Of, Says, Made, Asks}
+use Rattle.conn_log.specs.Turns.{turn, AreInTurn}
 use Rattle.conn_log.specs.Due.{AllDue, told_reset, was_reset, told_end, end_was_told}
 use Rattle.conn_log.specs.Held.{IsHeld, IsAtRest, AreLeft, earlier_of}
+use Rattle.conn_log.specs.Rests.{AreAtRest}
 
 -- it asks nothing of the stream
 abbrev pub IsStill : Told → Type 0
@@ -51,6 +53,15 @@ EndsLast ended (other ∷ rest) = EndsLast ended rest
 abbrev pub set_aside : {H : Type 0} → ℕ → Option (Streaming H) → List (Earlier H)
 set_aside n None = []
 set_aside n (Some it) = if was_handed_out it.stage then [] else record { number = n; stream = it } ∷ []
+
+-- no frame came, and this end opened no stream
+abbrev pub KeepsTurn : {H : Type 0} → List (Entry H) → Type 0
+KeepsTurn [] = Unit {0}
+KeepsTurn (Of (Came x) ∷ log) = ⊥
+KeepsTurn (Of (Did act) ∷ log) = KeepsTurn log
+KeepsTurn (Says e ∷ log) = KeepsTurn log
+KeepsTurn (Made n handler ∷ log) = KeepsTurn log
+KeepsTurn (Asks n index ∷ log) = ⊥
 
 -- The stream was reset where it was live; else nothing was done.
 abbrev pub Resets : Role → List Item → List ℕ → List ℕ → ℕ → State → State → Type 0
@@ -101,6 +112,10 @@ module _ {P H : Type 0} (step : H → HandlerCall → H → Type 0) (fails : H �
     pub opens_none : AllByRecursion (IsNoOpening n) rest
     pub ends_last : EndsLast view.ended rest
     pub earlier : (m : ℕ) → AreLeft step is_closed is_finished names role log m 0 (earlier_of m past)
+    pub past_is : map (λ (it : Earlier H). it.number) past ≡ put_aside role log
+    -- it is the turn of the one that is named
+    pub in_turn : AreInTurn log
+    pub turn_is : turn log ≡ Some n
 
   -- And that one moves.
   pub record Routes (log : List (Entry H)) (fed sent : List ℕ) (session : State) (streams : ℕ → Option (Streaming H))
@@ -133,8 +148,8 @@ module _ {P H : Type 0} (step : H → HandlerCall → H → Type 0) (fails : H �
     pub told_is : after ≡ before ++ said newer
     -- the session told nothing more meanwhile
     pub untold : events role (items (newer ++ log)) ≡ events role (items log)
-    -- and this end opened no stream
-    pub unasked : asks newer ≡ []
+    -- no frame came, and this end opened no stream
+    pub same_turn : KeepsTurn newer
     pub makes : making log (newer ++ log)
     pub routes : Routes (newer ++ log) fed sent session streams past n view rest
 
@@ -146,12 +161,15 @@ module _ {P H : Type 0} (step : H → HandlerCall → H → Type 0) (fails : H �
     pub fresh : since role log n ≡ []
     pub theirs : is_own role n ≡ false
 
-  -- This is still to be routed of what a frame told: an opening and what follows it, or what came to a stream.
+  -- This is still to be routed of what a frame told: an opening and what follows it, or what came to a stream, or
+  -- nothing, where no frame came.
   abbrev pub Awaits : List (Entry H) → List ℕ → List ℕ → State → (ℕ → Option (Streaming H)) → List (Earlier H) → ℕ
       → List Told → Type 0
   Awaits log fed sent session streams past n told =
       ((rest : List Told) × (told ≡ Told.Opened n ∷ rest) × Opening log fed sent session streams past n rest)
-      ⊎ ((view : Seen) × Routes log fed sent session streams past n view told)
+      ⊎ (((view : Seen) × Routes log fed sent session streams past n view told)
+      ⊎ ((told ≡ []) × AreAtRest step fails is_closed is_finished inbound_makes outbound_makes eager names peer role
+      log fed sent session streams past))
 
   -- A part of what a frame told was routed, and the rest is still to be.
   pub record IsUnderWay (making : List (Entry H) → List (Entry H) → Type 0) (log : List (Entry H))
@@ -160,7 +178,7 @@ module _ {P H : Type 0} (step : H → HandlerCall → H → Type 0) (fails : H �
     pub newer : List (Entry H)
     pub told_is : after ≡ before ++ said newer
     pub untold : events role (items (newer ++ log)) ≡ events role (items log)
-    -- and this end opened no stream
-    pub unasked : asks newer ≡ []
+    -- no frame came, and this end opened no stream
+    pub same_turn : KeepsTurn newer
     pub makes : making log (newer ++ log)
     pub awaits : Awaits (newer ++ log) fed sent session streams past n rest

@@ -2,7 +2,8 @@
 
 ghost use Rattle.conn_log.specs.MakingRows.{MakingRows};
 ghost use Rattle.conn_log.specs.EntryRows.{ListRows, SinceRows, AgreedRows, OverRows, HandlerRows, LeftRows};
-ghost use Rattle.conn_log.specs.EntryRows.{AskedForRows};
+ghost use Rattle.conn_log.specs.EntryRows.{AsideRows, AskedForRows};
+ghost use Rattle.conn_log.specs.TurnRows.{TurnRows, AboutRows, InTurnRows, RestedRows};
 ghost use Rattle.conn_log.specs.DueRows.{DirectionRows, ResetRows, EndRows, GivenUpRows, MayBeMadeRows};
 ghost use Rattle.conn_log.specs.PlaceRows.{TalkPlaceRows, LastPlaceRows, ActPlaceRows};
 ghost use Rattle.conn_log.specs.AskedRows.{RefusedAsRows, EarlyRows, ToldOfRows, MadeEarlyRows, BrokenOfRows};
@@ -16,6 +17,7 @@ pub fn worked_rows()
     ensures over { OverRows }
     ensures handlers { HandlerRows }
     ensures left { LeftRows }
+    ensures aside { AsideRows }
     ensures asked_for { AskedForRows }
     ensures directions { DirectionRows }
     ensures resets { ResetRows }
@@ -30,4 +32,8 @@ pub fn worked_rows()
     ensures told_of { ToldOfRows }
     ensures made_early { MadeEarlyRows }
     ensures broken_of { BrokenOfRows }
+    ensures turns { TurnRows }
+    ensures about { AboutRows }
+    ensures in_turn { InTurnRows }
+    ensures rested { RestedRows }
 {}

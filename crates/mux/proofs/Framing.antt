@@ -14,15 +14,16 @@ use Rattle.yamux_session.specs.Arrives.{tellings, HasData}
 use Rattle.yamux_session.specs.Events.{Told, events}
 use Rattle.yamux_session.specs.Naming.{NamesOne}
 use Rattle.yamux_session.specs.Seen.{TellsFrom}
-use Rattle.yamux_session.specs.State.{State, Stands as SessionStands, Led, EndsWith}
+use Rattle.yamux_session.specs.State.{State, Stands as SessionStands, Led, EndsWith, IsOneFrame}
 use Rattle.streams.specs.State.{Streaming}
 use Rattle.conn_log.specs.declared.earlier.Earlier.{Earlier}
 use Rattle.conn_log.specs.declared.event.ConnEvent.{ConnEvent}
 use Rattle.conn_log.specs.Entries.{Entry, items, said}
-use Rattle.conn_log.specs.Rests.{AreAtRest, Grows}
+use Rattle.conn_log.specs.Rests.{AreAtRest, AreRested, Grows}
 use Rattle.conn_log.specs.Routes.{IsFor, Awaits}
 use Rattle.conn_log.proofs.Arriving.{arrived, said_arrived, asks_arrived}
 use Rattle.conn_log.proofs.Settling.{said_append, none_asked}
+use Rattle.conn_log.proofs.Heads.{rested_arrived}
 use Rattle.conn_log.proofs.Facing.{SessionLaws, faced}
 use Rattle.mux.specs.Faults.{Faults}
 
@@ -32,6 +33,8 @@ module _ {P H : Type 0} (step : H → HandlerCall → H → Type 0) (fails : H �
   -- What is to be routed behind what arrived.
   pub record Framed (log : List (Entry H)) (fed bytes sent : List ℕ) (session : State) (streams : ℕ → Option (Streaming H)) (past : List (Earlier H)) (told : List Event) : Type 0 where
     pub came : List Arrival
+    pub rested : AreRested step fails is_closed is_finished inbound_makes outbound_makes eager names peer role log
+        → AreRested step fails is_closed is_finished inbound_makes outbound_makes eager names peer role (arrived came ++ log)
     pub stream : ℕ
     pub all_for : AllByRecursion (IsFor stream) told
     pub awaits : Awaits step fails is_closed is_finished inbound_makes outbound_makes eager names peer role (arrived came ++ log) (fed ++ bytes) sent session streams past stream (tellings told)
@@ -39,8 +42,8 @@ module _ {P H : Type 0} (step : H → HandlerCall → H → Type 0) (fails : H �
   module _ (log : List (Entry H)) (fed bytes sent : List ℕ) (before session : State) (streams : ℕ → Option (Streaming H)) (past : List (Earlier H))
       (rests : AreAtRest step fails is_closed is_finished inbound_makes outbound_makes eager names peer role log fed sent before streams past)
       (now : List Item) (told : List Event) (led : Led role (items log) now fed bytes sent (tellings told) session) where
-    pub framed : SessionLaws → session.failed ≡ false → NamesOne told → AllByRecursion HasData told → Framed log fed bytes sent session streams past told
-    framed laws going one filled =
+    pub framed : SessionLaws → session.failed ≡ false → IsOneFrame led.came.0 → NamesOne told → AllByRecursion HasData told → Framed log fed bytes sent session streams past told
+    framed laws going frame one filled =
         let came = led.came.0 in
         let now_is : now ≡ map Came came ++ items log = led.came.1 in
         let stands = led.goes_on going in
@@ -49,8 +52,15 @@ module _ {P H : Type 0} (step : H → HandlerCall → H → Type 0) (fails : H �
           told_is = sym (ap (λ (t : List Item). events role t) now_is) ∙ led.told_is;
         } in
         let there = subst (λ (t : List Item). SessionStands role t (fed ++ bytes) sent session) now_is stands in
-        let it = faced step fails is_closed is_finished inbound_makes outbound_makes eager names peer role laws log fed sent (fed ++ bytes) before session streams past came told rests tells there one filled in
-        record { came = came; stream = it.stream; all_for = it.all_for; awaits = it.awaits }
+        let it = faced step fails is_closed is_finished inbound_makes outbound_makes eager names peer role laws log fed sent (fed ++ bytes) before session streams past came told rests tells there frame one filled in
+        record {
+          came = came;
+          rested = rested_arrived step fails is_closed is_finished inbound_makes outbound_makes eager names peer role came log frame
+              (record { fed = fed; sent = sent; session = before; streams = streams; past = past; at_rest = rests });
+          stream = it.stream;
+          all_for = it.all_for;
+          awaits = it.awaits;
+        }
 
     pub faulted : (making : List (Entry H) → List (Entry H) → Type 0) → making log log → (telling : List (ConnEvent H)) → session.failed ≡ true → (fault : Fault) × (told ≡ event.Fault fault ∷ [])
         → Faults step fails is_closed is_finished inbound_makes outbound_makes eager names peer role making log [] telling telling fed bytes sent session.pending
@@ -62,6 +72,7 @@ module _ {P H : Type 0} (step : H → HandlerCall → H → Type 0) (fails : H �
           told_is = sym (append-nil telling);
           asks_are = refl;
           makes = kept;
+          rested = λ was. was;
           front = [];
           rest = bytes;
           bytes_are = refl;
@@ -80,13 +91,16 @@ module _ {P H : Type 0} (step : H → HandlerCall → H → Type 0) (fails : H �
   -- what was routed behind what arrived
   pub grows_behind : (log : List (Entry H)) (came : List Arrival) (before after : List (ConnEvent H)) (fed sent : List ℕ) (session : State) (streams : ℕ → Option (Streaming H)) (past : List (Earlier H))
       → (making later : List (Entry H) → List (Entry H) → Type 0) → ((longer : List (Entry H)) → later (arrived came ++ log) longer → making log longer)
+      → (AreRested step fails is_closed is_finished inbound_makes outbound_makes eager names peer role log
+      → AreRested step fails is_closed is_finished inbound_makes outbound_makes eager names peer role (arrived came ++ log))
       → Grows step fails is_closed is_finished inbound_makes outbound_makes eager names peer role later (arrived came ++ log) before after fed sent session streams past
       → Grows step fails is_closed is_finished inbound_makes outbound_makes eager names peer role making log before after fed sent session streams past
-  grows_behind log came before after fed sent session streams past making later joins g = record {
+  grows_behind log came before after fed sent session streams past making later joins rested g = record {
     newer = g.newer ++ arrived came;
     told_is = g.told_is ∙ ap (λ t. before ++ t) (sym (said_append g.newer (arrived came) ∙ ap (λ t. t ++ said g.newer) (said_arrived came)));
     unasked = none_asked g.newer (arrived came) g.unasked (asks_arrived H came);
     makes = subst (λ t. making log t) (sym (append_assoc g.newer (arrived came) log)) (joins (g.newer ++ (arrived came ++ log)) g.makes);
+    rested = λ was. subst (λ t. AreRested step fails is_closed is_finished inbound_makes outbound_makes eager names peer role t) (sym (append_assoc g.newer (arrived came) log)) (g.rested (rested was));
     at_rest = subst (λ t. AreAtRest step fails is_closed is_finished inbound_makes outbound_makes eager names peer role t fed sent session streams past) (sym (append_assoc g.newer (arrived came) log)) g.at_rest;
   }
 
@@ -102,6 +116,7 @@ module _ {P H : Type 0} (step : H → HandlerCall → H → Type 0) (fails : H �
     told_is = h.told_is ∙ ap (λ t. t ++ said h.newer) g.told_is ∙ append_assoc before (said g.newer) (said h.newer) ∙ ap (λ t. before ++ t) (sym (said_append h.newer g.newer));
     unasked = none_asked h.newer g.newer h.unasked g.unasked;
     makes = subst (λ t. making log t) (sym (append_assoc h.newer g.newer log)) (joins (g.newer ++ log) (h.newer ++ (g.newer ++ log)) g.makes h.makes);
+    rested = λ was. subst (λ t. AreRested step fails is_closed is_finished inbound_makes outbound_makes eager names peer role t) (sym (append_assoc h.newer g.newer log)) (h.rested (g.rested was));
     at_rest = subst (λ t. AreAtRest step fails is_closed is_finished inbound_makes outbound_makes eager names peer role t fed sent session streams later) (sym (append_assoc h.newer g.newer log)) h.at_rest;
   }
 
@@ -114,6 +129,7 @@ module _ {P H : Type 0} (step : H → HandlerCall → H → Type 0) (fails : H �
     told_is = sym (append-nil told);
     unasked = refl;
     makes = kept;
+    rested = λ was. was;
     at_rest = subst (λ (t : List ℕ). AreAtRest step fails is_closed is_finished inbound_makes outbound_makes eager names peer role log t sent session streams past) (sym (append-nil fed)) rests;
   }
 
@@ -130,6 +146,7 @@ module _ {P H : Type 0} (step : H → HandlerCall → H → Type 0) (fails : H �
         newer = f.newer ++ g.newer;
         asks_are = none_asked f.newer g.newer f.asks_are g.unasked;
         makes = subst (λ t. making log t) logs (joins (g.newer ++ log) (f.newer ++ (g.newer ++ log)) g.makes f.makes);
+        rested = λ was. subst (λ t. AreRested step fails is_closed is_finished inbound_makes outbound_makes eager names peer role t) logs (f.rested (g.rested was));
         told_is = f.told_is ∙ ap (λ t. t ++ said f.newer) g.told_is ∙ append_assoc before (said g.newer) (said f.newer) ∙ ap (λ t. before ++ t) (sym (said_append f.newer g.newer));
         front = first ++ f.front;
         rest = f.rest;
@@ -156,6 +173,7 @@ module _ {P H : Type 0} (step : H → HandlerCall → H → Type 0) (fails : H �
     told_is = f.told_is;
     asks_are = f.asks_are;
     makes = f.makes;
+    rested = f.rested;
     front = f.front;
     rest = f.rest ++ more;
     bytes_are = ap (λ t. t ++ more) f.bytes_are ∙ append_assoc f.front f.rest more;

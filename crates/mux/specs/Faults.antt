@@ -14,7 +14,7 @@ use Rattle.streams.specs.State.{Streaming}
 use Rattle.conn_log.specs.declared.earlier.Earlier.{Earlier}
 use Rattle.conn_log.specs.declared.event.ConnEvent.{ConnEvent}
 use Rattle.conn_log.specs.Entries.{Entry, items, said, asks}
-use Rattle.conn_log.specs.Rests.{AreAtRest}
+use Rattle.conn_log.specs.Rests.{AreAtRest, AreRested}
 
 -- The first fault was met behind a list at whose end all streams are at rest: by a front of these bytes, and by what
 -- this end was asked for, the list grew, what it says was told, and its handlers were made so; by what follows them
@@ -28,6 +28,9 @@ pub record Faults {P H : Type 0} (step : H → HandlerCall → H → Type 0) (fa
   pub told_is : after ≡ before ++ said newer
   pub asks_are : asks newer ≡ asked
   pub makes : making log (newer ++ log)
+  -- all streams were at rest before each frame, and before each stream that this end opened
+  pub rested : AreRested step fails is_closed is_finished inbound_makes outbound_makes eager names peer role log
+      → AreRested step fails is_closed is_finished inbound_makes outbound_makes eager names peer role (newer ++ log)
   pub front : List ℕ
   pub rest : List ℕ
   pub bytes_are : bytes ≡ front ++ rest

@@ -1,5 +1,6 @@
 use Rattle.conn_log.proofs.MadeRows.{making_rows}
-use Rattle.conn_log.proofs.ListRows.{list_rows, since_rows, agreed_rows, over_rows, handler_rows, left_rows, asked_for_rows, direction_rows, reset_rows, end_rows, given_up_rows, may_be_made_rows, refused_as_rows, early_rows, told_of_rows, made_early_rows, broken_of_rows}
+use Rattle.conn_log.proofs.ListRows.{list_rows, since_rows, agreed_rows, over_rows, handler_rows, left_rows, aside_rows, asked_for_rows, direction_rows, reset_rows, end_rows, given_up_rows, may_be_made_rows, refused_as_rows, early_rows, told_of_rows, made_early_rows, broken_of_rows}
+use Rattle.conn_log.proofs.TurnRows.{turn_rows, about_rows, in_turn_rows, rested_rows}
 use Rattle.conn_log.proofs.Placed.{talk_place_rows, last_place_rows, act_place_rows}
 use Rattle.conn_log.proofs.laws.worked_rows.Goals as goal
 
@@ -23,6 +24,9 @@ returns-clause-handlers c = handler_rows
 
 pub returns-clause-left : goal.returns-clause-left
 returns-clause-left c = left_rows
+
+pub returns-clause-aside : goal.returns-clause-aside
+returns-clause-aside c = aside_rows
 
 pub returns-clause-asked_for : goal.returns-clause-asked_for
 returns-clause-asked_for c = asked_for_rows
@@ -65,3 +69,15 @@ returns-clause-last_places c = last_place_rows
 
 pub returns-clause-act_places : goal.returns-clause-act_places
 returns-clause-act_places c = act_place_rows
+
+pub returns-clause-turns : goal.returns-clause-turns
+returns-clause-turns c = turn_rows
+
+pub returns-clause-about : goal.returns-clause-about
+returns-clause-about c = about_rows
+
+pub returns-clause-in_turn : goal.returns-clause-in_turn
+returns-clause-in_turn c = in_turn_rows
+
+pub returns-clause-rested : goal.returns-clause-rested
+returns-clause-rested c = rested_rows

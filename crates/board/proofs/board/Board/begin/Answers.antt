@@ -79,7 +79,7 @@ returns-clause-begins g c = λ log fed sent before r there.
     (routed_on H.steps H.fails H.is_closed H.is_finished makes.makes_inbound makes.makes_outbound (makes.is_eager board.protocols) (makes.listed board.protocols) board.peer board.role log_now
     now.newer c.args.owed.now.items c.settle.new.told.items fed sent c.settle.new.session (tree.get nat_cmp c.settle.new.self.streams) c.settle.new.self.past.items n [] making making
     (λ longer made first was. made first (makes_none makes.leads_inbound makes.leads_outbound board.peer board.role c.early.new.protocols c.early.new.protocols refl log_now now.newer now.unmade first was))
-    now.none_said now.untold now.unasked routed)
+    now.none_said now.untold now.same_turn routed)
     (told_of n outcome) told_is
     (gives_up_only H.steps H.fails H.is_closed H.is_finished board.role (items log_now) fed sent n held.so_far stream c.args.session.now outcome c.deliver_credit.new.session c.deliver_credit.new.stream
     asks.2 came))

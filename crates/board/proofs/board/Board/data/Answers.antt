@@ -64,7 +64,7 @@ returns-clause-routes g c = λ log fed sent view rest r some_data.
     (tree.get nat_cmp c.settle.new.self.streams) c.settle.new.self.past.items n rest
     (MakesOn makes.leads_inbound makes.leads_outbound board.peer board.role board.protocols c.settle.new.self.protocols)
     (MakesOn makes.leads_inbound makes.leads_outbound board.peer board.role c.deliver.new.protocols c.settle.new.self.protocols)
-    (λ longer made first was. made first (now.makes first was)) now.said_is c.in_ok-tell_agreement.ensures now.untold now.unasked routed)
+    (λ longer made first was. made first (now.makes first was)) now.said_is c.in_ok-tell_agreement.ensures now.untold now.same_turn routed)
     (subst
     (λ (e : ℕ → Bool). Comes H.steps H.fails H.is_closed H.is_finished makes.makes_inbound makes.makes_outbound e (makes.listed board.protocols) board.peer board.role (now.newer ++ log) fed sent
     c.deliver.new.session table board.past.items n now.seen_now rest c.in_ok-delivered.delivered.outcome

@@ -53,5 +53,5 @@ returns-clause-routes g c = λ log fed sent view rest r.
     (MakesOn makes.leads_inbound makes.leads_outbound board.peer board.role board.protocols c.settle.new.self.protocols)
     (MakesOn makes.leads_inbound makes.leads_outbound board.peer board.role board.protocols c.settle.new.self.protocols)
     (λ longer made first was. made first (makes_none makes.leads_inbound makes.leads_outbound board.peer board.role board.protocols board.protocols refl log now.newer now.unmade first was))
-    now.none_said now.untold now.unasked routed)
+    now.none_said now.untold now.same_turn routed)
     (c.settle.ensures.settles (now.newer ++ log) fed sent now.seen_now rest now.comes)

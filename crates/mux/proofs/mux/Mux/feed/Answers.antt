@@ -6,11 +6,24 @@ use Rattle.yamux_session.proofs.Pieces.{take_on}
 use Rattle.conn_log.specs.Rests.{AreAtRest, Grows}
 use Rattle.conn_log.specs.Making.{MakesOn}
 use Rattle.board.specs.Boards.{MakesOnBoard}
-use Rattle.board.proofs.Stepping.{keeps_on, kept_on}
+use Rattle.board.proofs.Stepping.{keeps_all, keeps_on, kept_on}
 use Rattle.mux.specs.Faults.{Faults}
-use Rattle.mux.proofs.Framing.{grows_on, faults_behind, faults_before}
+use Rattle.mux.proofs.Framing.{grows_on, grows_none, faults_behind, faults_before}
 use Rattle.mux.proofs.mux.Mux.feed.Goals as goal
 use Rattle.mux.proofs.mux.Mux.feed.Goals.{then-loop-at-test+else-not-has_failed, else-loop-at-test}
+
+pub loop-at-init : goal.loop-at-init
+loop-at-init g c =
+    let H = g.P.H.Handler in
+    let makes = g.P.Protocols in
+    let board = c.args.self.now.board in
+    record {
+      within = omega arith;
+      keeps = keeps_all makes.listed makes.is_eager board;
+      goes = λ log fed sent rests still. grows_none H.steps H.fails H.is_closed H.is_finished makes.makes_inbound makes.makes_outbound (makes.is_eager board.protocols) (makes.listed board.protocols) board.peer
+          board.role (MakesOnBoard makes.leads_inbound makes.leads_outbound board board) log (λ first was. was) c.args.told.now.items fed sent c.args.self.now.session (tree.get nat_cmp board.streams) board.past.items rests;
+      faults = λ log fed sent rests failed. absurd (let both : true ≡ false = sym failed ∙ rests.session_stands.going in cc both);
+    }
 
 pub loop-at-preserved : goal.loop-at-preserved
 loop-at-preserved g c =

@@ -57,7 +57,7 @@ went g c log fed sent rests =
     let led = c.in-Ok.ensures.fed board.role (items log) fed sent rests.session_stands in
     let still : c.feed_frame.new.self.failed ≡ false = sym c.has_failed.ensures ∙ c.if-has_failed.false in
     let it = framed H.steps H.fails H.is_closed H.is_finished makes.makes_inbound makes.makes_outbound (makes.is_eager board.protocols) (makes.listed board.protocols) board.peer board.role
-    log fed bytes sent c.args.self.now.session c.feed_frame.new.self (tree.get nat_cmp board.streams) board.past.items rests led.0 told led.1 laws still
+    log fed bytes sent c.args.self.now.session c.feed_frame.new.self (tree.get nat_cmp board.streams) board.past.items rests led.0 told led.1 laws still led.2
     (c.in-Ok.ensures.one_stream board.role (items log) fed sent rests.session_stands) (c.in-Ok.ensures.filled board.role (items log) fed sent rests.session_stands) in
     let then = arrived it.came ++ log in
     grows_behind H.steps H.fails H.is_closed H.is_finished makes.makes_inbound makes.makes_outbound (makes.is_eager board.protocols) (makes.listed board.protocols) board.peer board.role
@@ -65,6 +65,7 @@ went g c log fed sent rests =
     (MakesOn makes.leads_inbound makes.leads_outbound board.peer board.role board.protocols c.route.new.self.protocols)
     (MakesOn makes.leads_inbound makes.leads_outbound board.peer board.role board.protocols c.route.new.self.protocols)
     (λ longer made first was. made first (makes_none makes.leads_inbound makes.leads_outbound board.peer board.role board.protocols board.protocols refl log (arrived it.came) (arrived_none _ it.came) first was))
+    it.rested
     (c.in_ok-route.ensures.routes then (fed ++ bytes) sent it.stream
     (subst (λ (t : List Event). AllByRecursion (IsFor it.stream) t) told_is it.all_for)
     (subst (λ (t : List Event). Awaits H.steps H.fails H.is_closed H.is_finished makes.makes_inbound makes.makes_outbound (makes.is_eager board.protocols) (makes.listed board.protocols)
