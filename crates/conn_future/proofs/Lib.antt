@@ -6,3 +6,5 @@ pub mod Unchanged
 pub mod Waiting
 pub mod Unlinked
 pub mod Standing
+pub mod OverLink
+pub mod Rows

@@ -12,12 +12,17 @@ use Rattle.upgrade.specs.declared.role.ConnRole.{ConnRole}
 use Rattle.conn_log.specs.declared.event.ConnEvent.{ConnEvent}
 use Rattle.conn_log.specs.declared.event.ConnEvent.TheVariants as event
 use Rattle.conn_log.specs.declared.event.ConnFault.TheVariants as fault
+use Rattle.conn_log.specs.Entries.{Entry}
+use Rattle.mux.specs.declared.mux.Mux.{Mux}
 use Rattle.conn_core.specs.declared.connection.ConnCore.{ConnCore}
+use Rattle.conn_core.specs.declared.connection.Phase.TheVariants as phases
 use Rattle.conn_core.specs.Connects.{Stands, is_over, waiting_in}
+use Rattle.conn_core.specs.Promises.{IsSplit}
 use Rattle.conn_core.specs.Runs.{is_end}
 use Rattle.conn_future.specs.declared.stage.Stage.{Stage}
 use Rattle.conn_future.specs.declared.stage.Stage.TheVariants.{Going, Shutting, Starved, Over}
 use Rattle.conn_future.specs.declared.conn.Conn.{Conn}
+use Rattle.conn_future.specs.Stages.{is_live}
 
 -- the event that a poll gave
 abbrev pub given_by : {H : Type 0} → Poll (Option (ConnEvent H)) → List (ConnEvent H)
@@ -115,3 +120,26 @@ EndsBehind {L} {P} {H} link protocols handler =
     (last : ConnEvent H) (conn : Conn L P H link protocols handler)
     → Follows link protocols handler start role own first asked (gave ++ last ∷ []) conn → is_end last ≡ true
     → (conn.stage ≡ Over) × (conn.held.items ≡ [])
+
+-- What is carried on in turn is carried on together.
+abbrev pub CarriesInTurn : {L P H : Type 0} (link : LinkGhosts L) (protocols : ProtocolsGhosts P H)
+    (handler : HandlerGhosts H) → Type 0
+CarriesInTurn {L} {P} {H} link protocols handler =
+    (first mid last : Conn L P H link protocols handler) (events more : List (ConnEvent H))
+    → Carries link protocols handler first events mid → Carries link protocols handler mid more last
+    → Carries link protocols handler first (events ++ more) last
+
+-- A connection that is up, and makes calls of its link. Of what the link gave the first part is the upgrade's, and the
+-- frames of the rest are what the session's list says. What was given, is held and is owed is that it is up, and then
+-- what the list says. What the link took and what is left is what the upgrade wrote, and then the session's output.
+abbrev pub UpOverLink : {L P H : Type 0} (link : LinkGhosts L) (protocols : ProtocolsGhosts P H)
+    (handler : HandlerGhosts H) → Type 0
+UpOverLink {L} {P} {H} link protocols handler =
+    (start : P) (role : ConnRole) (own : Key) (first : L) (asked : List (ℕ × ℕ)) (gave : List (ConnEvent H))
+    (conn : Conn L P H link protocols handler) (mux : Mux P H)
+    → Follows link protocols handler start role own first asked gave conn → is_live conn.stage ≡ true
+    → conn.core.phase ≡ phases.Up mux
+    → (given : List ℕ) × (took : List ℕ) × (log : List (Entry H)) × link.moves first given took conn.link
+    × IsSplit handler.steps handler.fails handler.is_closed handler.is_finished protocols.makes_inbound
+    protocols.makes_outbound protocols.listed protocols.is_eager protocols.leads_inbound protocols.leads_outbound
+    start role own given ((gave ++ conn.held.items) ++ conn.core.owed.items) (took ++ conn.unsent) log
