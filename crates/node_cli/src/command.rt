@@ -1,5 +1,7 @@
 //! What the words of a command line ask for.
 
+use crate::dialing::{Dialer, identifier_of, identify_command, ping_command, pinger_of};
+use crate::listen::{Listener, listen_command, listener_of};
 use crate::options::{BadOption, config_of, replay_command};
 use crate::trace::Traced;
 use crate::trace_options::{trace_command, traced_of};
@@ -9,7 +11,7 @@ use pool_state::Config;
 use std::alloc::{AllocError, Global};
 
 /// What a command line asks for.
-#[derive(Clone, Copy)]
+#[derive(Drop)]
 pub enum Asked<'a> {
     /// The text of the id of a key message in hexadecimal.
     Id(&'a str),
@@ -23,6 +25,10 @@ pub enum Asked<'a> {
     Trace(Traced<'a>),
     /// A script on two nodes.
     Run,
+    /// A node that listens.
+    Listen(Listener<'a>),
+    /// A node that dials a peer.
+    Dial(Dialer<'a>),
 }
 
 /// Why a command line asks for nothing.
@@ -97,7 +103,10 @@ fn command<'a>(alloc: Global) -> Result<Command<'a>, AllocError> {
     }
     command = command.subcommand(replay_command(alloc)?)?;
     command = command.subcommand(trace_command(alloc)?)?;
-    command.subcommand(run_command(alloc))
+    command = command.subcommand(run_command(alloc))?;
+    command = command.subcommand(listen_command(alloc)?)?;
+    command = command.subcommand(ping_command(alloc)?)?;
+    command.subcommand(identify_command(alloc)?)
 }
 
 /// What the words ask for, where they are a good command line.
@@ -113,6 +122,15 @@ fn parse<'a>(alloc: Global, words: &'a [&'a str]) -> Result<Result<Asked<'a>, Ba
         Some(("run", _)) => return Ok(Ok(Asked::Run)),
         Some(("trace", found)) => {
             return Ok(traced_of(alloc, found).map(|traced| Asked::Trace(traced)));
+        }
+        Some(("listen", found)) => {
+            return Ok(listener_of(alloc, found).map(|listener| Asked::Listen(listener)));
+        }
+        Some(("ping", found)) => {
+            return Ok(pinger_of(alloc, found).map(|dialer| Asked::Dial(dialer)));
+        }
+        Some(("identify", found)) => {
+            return Ok(identifier_of(alloc, found).map(|dialer| Asked::Dial(dialer)));
         }
         _ => None,
     };

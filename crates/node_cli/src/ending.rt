@@ -1,6 +1,7 @@
 //! Why a run of `node` ends early, and the line that tells it.
 
 use multiaddr::AddrFault;
+use node_peer::{PeerEnding, PlaceFault};
 use node_run::RunEnding;
 use node_texts::{HashRefused, IdRefused};
 use std::io;
@@ -18,6 +19,12 @@ pub enum Ending {
     /// The address is none.
     #[error("refused {0:?}")]
     Addr(AddrFault),
+    /// The address names no place of a node.
+    #[error("refused {0}")]
+    Place(PlaceFault),
+    /// The run of a node ended for this.
+    #[error("refused {0}")]
+    Peer(PeerEnding),
     /// The line of this number, from 1 on, is of no known form.
     #[error("refused line {0}")]
     Line(u64),
@@ -63,6 +70,21 @@ impl From<RunEnding> for Ending {
             RunEnding::Input => Ending::Input,
             RunEnding::GaveUp => Ending::GaveUp,
             RunEnding::Failed => Ending::Unwritten,
+        }
+    }
+}
+
+impl From<PlaceFault> for Ending {
+    fn from(fault: PlaceFault) -> Ending {
+        Ending::Place(fault)
+    }
+}
+
+impl From<PeerEnding> for Ending {
+    fn from(ending: PeerEnding) -> Ending {
+        match ending {
+            PeerEnding::Failed => Ending::Unwritten,
+            ending => Ending::Peer(ending),
         }
     }
 }

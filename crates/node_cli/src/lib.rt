@@ -4,8 +4,10 @@
 ghost use Rattle.std.specs.Prelude.{◌≤◌};
 
 mod command;
+mod dialing;
 mod ending;
 mod input;
+mod listen;
 mod options;
 mod replay;
 mod run;
@@ -14,7 +16,10 @@ mod trace_line;
 mod trace_options;
 
 use command::{Asked, Unasked, read};
+use dialing::run_dialer;
 pub use ending::Ending;
+use listen::run_listener;
+pub use node_peer::Watched;
 use node_texts::{addr_lines, hash_hex, id_text};
 use replay::replay;
 use run::run;
@@ -33,7 +38,7 @@ use trace::trace;
 pub fn node<R, I, O, E>(rt: &R, words: &[&str], input: &mut I, output: &mut O, faults: &mut E) -> u8
 where
     R: AllocGlobal + Wait + Clock + Net + RandomSource,
-    I: Read,
+    I: Read + Watched,
     O: Write,
     E: Write,
     ensures { result ≤ 3 }
@@ -41,9 +46,11 @@ where
     let alloc = rt.alloc();
     match read(alloc, words) {
         Ok(asked) => {
-            let answered = match &asked {
+            let answered = match asked {
                 Asked::Run => run(rt, input, output),
-                asked => answer(alloc, asked, input, output),
+                Asked::Listen(listener) => run_listener(rt, listener, input, output),
+                Asked::Dial(dialer) => run_dialer(rt, dialer, output),
+                asked => answer(alloc, &asked, input, output),
             };
             let flushed = output.flush();
             status(answered.and(flushed.map_err(Ending::from)), faults)
@@ -86,7 +93,7 @@ fn status<E: Write>(outcome: Result<(), Ending>, faults: &mut E) -> u8
     }
 }
 
-/// Prints what was asked for, but for a run of two nodes.
+/// Prints what was asked for, but for a run of nodes.
 fn answer<I: Read, O: Write>(
     alloc: Global,
     asked: &Asked<'_>,
@@ -103,8 +110,8 @@ fn answer<I: Read, O: Write>(
         }
         Asked::Replay(config) => replay(alloc, *config, input, output)?,
         Asked::Trace(traced) => trace(alloc, traced, input, output)?,
-        // It needs more than memory, and isn't answered here.
-        Asked::Run => {}
+        // They need more than memory, and aren't answered here.
+        Asked::Run | Asked::Listen(_) | Asked::Dial(_) => {}
     }
     Ok(())
 }

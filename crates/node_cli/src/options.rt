@@ -1,4 +1,4 @@
-//! The options of a replay, and the pool that they ask for.
+//! The options of a pool: its limits, and the peers that they name; and what a replay's pool is made with.
 
 use clap::{Arg, ArgAction, ArgMatches, Command, value_parser};
 use pool_state::{Config, Limits};
@@ -15,7 +15,7 @@ struct NumberOption {
     most: i64,
 }
 
-static NUMBERS: [NumberOption; 8] = [
+static LIMITS: [NumberOption; 7] = [
     NumberOption {
         name: "conns",
         help: "How many connections may stand",
@@ -65,14 +65,15 @@ static NUMBERS: [NumberOption; 8] = [
         least: 0,
         most: 64,
     },
-    NumberOption {
-        name: "first-conn",
-        help: "The first connection's number",
-        default: "1",
-        least: 0,
-        most: 4_294_967_295,
-    },
 ];
+
+static FIRST_CONN: NumberOption = NumberOption {
+    name: "first-conn",
+    help: "The first connection's number",
+    default: "1",
+    least: 0,
+    most: 4_294_967_295,
+};
 
 /// The front's option, whose range is no range of `clap`'s.
 const FIRST_FRONT: &str = "first-front";
@@ -106,16 +107,18 @@ fn first_front<'a>(alloc: Global) -> Arg<'a> {
         .default_value("0")
 }
 
-fn allow_only<'a>(alloc: Global) -> Arg<'a> {
+/// The option by which only allowed peers may connect.
+pub fn allow_only<'a>(alloc: Global) -> Arg<'a> {
     Arg::new(alloc, "allow-only")
         .long("allow-only")
         .help("Only allowed peers may connect")
         .action(ArgAction::SetTrue)
 }
 
-fn with_numbers<'a>(alloc: Global, command: Command<'a>) -> Result<Command<'a>, AllocError> {
+/// The command with the options of a pool's limits.
+pub fn with_limits<'a>(alloc: Global, command: Command<'a>) -> Result<Command<'a>, AllocError> {
     let mut command = command;
-    for option in &NUMBERS {
+    for option in &LIMITS {
         command = command.arg(number(alloc, option))?;
     }
     Ok(command)
@@ -126,7 +129,8 @@ pub fn replay_command<'a>(alloc: Global) -> Result<Command<'a>, AllocError> {
     let command = Command::new(alloc, "replay")
         .about("Runs a script of pool calls from standard input")
         .arg(own(alloc))?;
-    with_numbers(alloc, command)?
+    with_limits(alloc, command)?
+        .arg(number(alloc, &FIRST_CONN))?
         .arg(first_front(alloc))?
         .arg(allow_only(alloc))
 }
@@ -146,6 +150,12 @@ pub enum BadOption {
     /// A key message is none.
     #[error("the value of '--key' is no key message in hexadecimal")]
     Key,
+    /// An agent is none.
+    #[error("the value of '--agent' is not 1 to 64 printable ASCII characters")]
+    Agent,
+    /// A peer that is blocked or allowed is none.
+    #[error("the value of '--block' or '--allow' is no peer")]
+    Listed,
     /// A ping's payload is none.
     #[error("the value of '--payload' is not 32 bytes in hexadecimal")]
     Payload,
@@ -155,33 +165,40 @@ pub enum BadOption {
 }
 
 /// Whether the value of an option is digits alone. The parser of numbers takes a sign.
-fn is_digits(found: &ArgMatches<'_>, name: &str) -> bool {
+pub fn is_digits(found: &ArgMatches<'_>, name: &str) -> bool {
     let word = found.get_str(name).unwrap_or("");
     word.bytes().all(|byte| byte.is_ascii_digit())
 }
 
-/// What a pool is made with, by the options that were found.
-pub fn config_of(found: &ArgMatches<'_>) -> Result<Config, BadOption> {
-    let are_digits = NUMBERS.iter().all(|option| is_digits(found, option.name));
-    if !are_digits || !is_digits(found, FIRST_FRONT) {
+/// The limits of a pool, by the options that were found.
+pub fn limits_of(found: &ArgMatches<'_>) -> Result<Limits, BadOption> {
+    if !LIMITS.iter().all(|option| is_digits(found, option.name)) {
         return Err(BadOption::Number);
     }
-    let number = |name: &str| found.get_one::<u32>(name).unwrap_or(0);
+    let number = |name: &str| found.get_one::<u32>(name).unwrap_or(0) as usize;
     let limits = Limits::new(
-        number("conns") as usize,
-        number("per-peer") as usize,
-        number("streams") as usize,
-        number("blocked") as usize,
-        number("inbound") as usize,
-        number("outbound") as usize,
-        number("allowed") as usize,
-    )
-    .ok_or(BadOption::Number)?;
+        number("conns"),
+        number("per-peer"),
+        number("streams"),
+        number("blocked"),
+        number("inbound"),
+        number("outbound"),
+        number("allowed"),
+    );
+    limits.ok_or(BadOption::Number)
+}
+
+/// What a replay's pool is made with, by the options that were found.
+pub fn config_of(found: &ArgMatches<'_>) -> Result<Config, BadOption> {
+    let limits = limits_of(found)?;
+    if !is_digits(found, FIRST_CONN.name) || !is_digits(found, FIRST_FRONT) {
+        return Err(BadOption::Number);
+    }
     let own = found.get_str("own").and_then(|word| peer_of(word));
     Ok(Config {
         own: own.ok_or(BadOption::Peer)?,
         limits,
-        first_conn: number("first-conn"),
+        first_conn: found.get_one::<u32>(FIRST_CONN.name).unwrap_or(0),
         first_front: found.get_one::<u64>(FIRST_FRONT).unwrap_or(0),
         allow_only: found.get_flag("allow-only"),
     })

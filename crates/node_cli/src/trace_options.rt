@@ -5,6 +5,7 @@ use crate::trace::Traced;
 use clap::{Arg, ArgAction, ArgMatches, Command};
 use hex::FromHex;
 use node_texts::{IdRefused, key_of};
+use peer_ids::PublicKey;
 use std::alloc::{AllocError, Global};
 use upgrade::ConnRole;
 
@@ -22,7 +23,7 @@ fn role<'a>(alloc: Global) -> Arg<'a> {
 }
 
 /// An option in hexadecimal.
-fn digits<'a>(
+pub fn hex_option<'a>(
     alloc: Global,
     name: &'static str,
     help: &'static str,
@@ -43,8 +44,17 @@ pub fn trace_command<'a>(alloc: Global) -> Result<Command<'a>, AllocError> {
     Command::new(alloc, "trace")
         .about("Runs one end of a connection on a script from standard input")
         .arg(role(alloc))?
-        .arg(digits(alloc, "key", key, ZERO_KEY))?
-        .arg(digits(alloc, "payload", payload, ZEROS))
+        .arg(hex_option(alloc, "key", key, ZERO_KEY))?
+        .arg(hex_option(alloc, "payload", payload, ZEROS))
+}
+
+/// The key that the value of an option spells.
+pub fn key_option(alloc: Global, hex: &str) -> Result<PublicKey, BadOption> {
+    match key_of(alloc, hex) {
+        Ok(key) => Ok(key),
+        Err(IdRefused::OutOfMemory) => Err(BadOption::OutOfMemory),
+        Err(_) => Err(BadOption::Key),
+    }
 }
 
 /// The end that is traced, by the words that were found.
@@ -55,11 +65,7 @@ pub fn traced_of<'a>(alloc: Global, found: &ArgMatches<'a>) -> Result<Traced<'a>
         _ => return Err(BadOption::Role),
     };
     let key = found.get_str("key").unwrap_or(ZERO_KEY);
-    match key_of(alloc, key) {
-        Ok(_) => {}
-        Err(IdRefused::OutOfMemory) => return Err(BadOption::OutOfMemory),
-        Err(_) => return Err(BadOption::Key),
-    }
+    let _is_one = key_option(alloc, key)?;
     let payload = found.get_str("payload").unwrap_or(ZEROS);
     match <[u8; 32] as FromHex>::from_hex(payload) {
         Ok(payload) => Ok(Traced { role, key, payload }),
