@@ -6,7 +6,7 @@ use std::net::Net;
 use std::random::RandomSource;
 use std::sync::Wait;
 use std::test::*;
-use std::thread::{Threads, join};
+use std::thread::join;
 use std::time::Clock;
 
 /// The id of the key by which a node listens, where none is given.
@@ -18,24 +18,8 @@ const DIALER: &str = "bafzaajaiaejcapkac7b6qq4jlkjlocvhjunx5pe4tawm6lwes2gmbtkv6
 /// The id of a third peer.
 const OTHER: &str = "bafzaajaiaejcacylbmfqwcylbmfqwcylbmfqwcylbmfqwcylbmfqwcylbmfqwcyl";
 
-/// A node that is told these words beside `listen` serves until what a dialer does, one after the other, is done.
-fn talk<R>(rt: &R, words: &[&str], errands: &[&[&str]]) -> (Ran, Vec<Ran>)
-where
-    R: AllocGlobal + Threads + Wait + Clock + Net + RandomSource + Sync,
-{
-    let desk = Desk::new();
-    join(
-        rt,
-        || serve(rt, &desk, words),
-        || {
-            let outcomes = dial_all(rt, &desk, errands);
-            desk.end();
-            outcomes
-        },
-    )
-}
-
-/// Runs each of these commands on the address where the desk's node listens.
+/// Runs each of these commands on the address where the desk's node listens, one after the other; then the node is to
+/// end.
 fn dial_all<R>(rt: &R, desk: &Desk, errands: &[&[&str]]) -> Vec<Ran>
 where
     R: AllocGlobal + Wait + Clock + Net + RandomSource,
@@ -45,6 +29,7 @@ where
     for errand in errands {
         let _ = outcomes.push(dial(rt, addr, errand));
     }
+    desk.end();
     outcomes
 }
 
@@ -72,10 +57,15 @@ fn pongs<R: AllocGlobal>(rt: &R, count: u32) -> Result<String, std::io::Error> {
 
 #[test]
 fn two_programs_talk(rt: HostRuntime) {
-    let (served, ran) = talk(
+    let desk = Desk::new();
+    let (served, ran) = join(
         &rt,
-        &["listen", "--agent", "a b"],
-        &[&["ping", "ADDR", "--count", "3"], &["identify", "ADDR"]],
+        || serve(&rt, &desk, &["listen", "--agent", "a b"]),
+        || dial_all(
+            &rt,
+            &desk,
+            &[&["ping", "ADDR", "--count", "3"], &["identify", "ADDR"]],
+        ),
     );
     let pongs = pongs(&rt, 3).expect(&rt, "memory");
     let said =
@@ -113,7 +103,12 @@ fn two_programs_talk(rt: HostRuntime) {
 
 #[test]
 fn a_hundred_pings_of_one_call(rt: HostRuntime) {
-    let (served, ran) = talk(&rt, &["listen"], &[&["ping", "ADDR", "--count", "100"]]);
+    let desk = Desk::new();
+    let (served, ran) = join(
+        &rt,
+        || serve(&rt, &desk, &["listen"]),
+        || dial_all(&rt, &desk, &[&["ping", "ADDR", "--count", "100"]]),
+    );
     let pongs = pongs(&rt, 100).expect(&rt, "memory");
     assert!(rt; ran.len() == 1 && served.status == 0);
     assert!(rt;
@@ -175,7 +170,12 @@ static BARRED: [Barred; 6] = [
 #[test]
 fn barred_peers_are_refused(rt: HostRuntime) {
     for (row, barred) in BARRED.iter().enumerate() {
-        let (served, ran) = talk(&rt, barred.listener, &[&["ping", "ADDR"]]);
+        let desk = Desk::new();
+        let (served, ran) = join(
+            &rt,
+            || serve(&rt, &desk, barred.listener),
+            || dial_all(&rt, &desk, &[&["ping", "ADDR"]]),
+        );
         let status = u8::from(barred.is_refused);
         assert!(rt; served.status == 0 && ran.len() == 1, "row {row}");
         assert!(rt;

@@ -11,7 +11,7 @@ use std::net::{Net, SocketAddr};
 use std::random::RandomSource;
 use std::sync::Wait;
 use std::test::*;
-use std::thread::{Threads, join};
+use std::thread::join;
 use std::time::{Clock, Duration};
 
 /// A peer's manner, what it is dialed for, how that ends, and what is printed.
@@ -276,7 +276,7 @@ fn peers_of_other_makes_are_served(rt: HostRuntime) {
     );
 }
 
-/// Whether a flood's connection is dropped, and the next peer is served.
+/// Whether a flood's connection is dropped, and what comes of the next peer; then the desk's node is to end.
 fn flooded<R>(rt: &R, desk: &Desk, flood: Flood) -> (bool, Ran)
 where
     R: AllocGlobal + Wait + Clock + Net + RandomSource,
@@ -285,33 +285,34 @@ where
         Ok(addr) => floods(rt, addr, flood).unwrap_or(false),
         Err(_) => false,
     };
-    (is_dropped, run_words(rt, &["ping", desk.addr(rt)]))
+    let pinged = run_words(rt, &["ping", desk.addr(rt)]);
+    desk.end();
+    (is_dropped, pinged)
 }
 
-/// Whether a node drops the connection of this flood, and serves the next peer.
-fn outlives<R>(rt: &R, flood: Flood) -> bool
-where
-    R: AllocGlobal + Threads + Wait + Clock + Net + RandomSource + Sync,
-{
-    let desk = Desk::new();
-    let (served, (is_dropped, pinged)) = join(
-        rt,
-        || serve(rt, &desk, &["listen"]),
-        || {
-            let outcome = flooded(rt, &desk, flood);
-            desk.end();
-            outcome
-        },
-    );
-    is_dropped && pinged.status == 0 && served.status == 0 && served.text().contains("\ngone 1\n")
+/// Whether a node that ran so has dropped a connection, and then served a peer that ran so.
+fn outlived(served: &Ran, pinged: &Ran) -> bool {
+    pinged.status == 0 && served.status == 0 && served.text().contains("\ngone 1\n")
 }
 
 #[test]
 fn a_flood_of_pings_is_dropped(rt: HostRuntime) {
-    assert!(rt; outlives(&rt, Flood::Pings));
+    let desk = Desk::new();
+    let (served, (is_dropped, pinged)) = join(
+        &rt,
+        || serve(&rt, &desk, &["listen"]),
+        || flooded(&rt, &desk, Flood::Pings),
+    );
+    assert!(rt; is_dropped && outlived(&served, &pinged));
 }
 
 #[test]
 fn a_flood_of_openings_is_dropped(rt: HostRuntime) {
-    assert!(rt; outlives(&rt, Flood::Openings));
+    let desk = Desk::new();
+    let (served, (is_dropped, pinged)) = join(
+        &rt,
+        || serve(&rt, &desk, &["listen"]),
+        || flooded(&rt, &desk, Flood::Openings),
+    );
+    assert!(rt; is_dropped && outlived(&served, &pinged));
 }
