@@ -10,3 +10,4 @@ pub mod WhileUp
 pub mod Counting
 pub mod Listed
 pub mod Waiting
+pub mod Rows

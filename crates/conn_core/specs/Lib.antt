@@ -2,3 +2,6 @@
 pub mod Connects
 pub mod Runs
 pub mod Promises
+pub mod ConnectRows
+pub mod RunRows
+pub mod PromiseRows

@@ -11,9 +11,8 @@ use Rattle.conn_log.specs.declared.event.ConnFault.TheVariants as fault
 use Rattle.conn_core.specs.declared.connection.ConnCore.{ConnCore}
 use Rattle.conn_core.specs.Connects.{is_over}
 use Rattle.conn_core.specs.Runs.{is_end}
-use Rattle.conn_future.specs.Follows.{Joins, Parts, Ends}
 use Rattle.conn_future.specs.Follows.Ends.{Told, Failed, Refused, Shut}
-use Rattle.conn_future.specs.StageRows.{StageRows, WaitRows, DrainRows, Line, lines, line, ended, shut}
+use Rattle.conn_future.specs.StageRows.{StageRows, WaitRows, DrainRows, Line, line, ended, shut}
 use Rattle.conn_future.specs.FollowRows.{JoinRows, GoingRows, RefusedRows, EndRows, FollowRows, core_stands, joins, parts, ends}
 
 pub stage_rows : StageRows

@@ -14,6 +14,8 @@ mixed = Take (1 ∷ 2 ∷ []) ∷ Give 9 (3 ∷ []) ∷ Take (4 ∷ []) ∷ End 
 
 -- what was handed over and what was given, in order
 pub record JoinedRows : Type 0 where
+  pub given_any : (room : ℕ) (bytes : List ℕ) (calls : List HandlerCall)
+      → given (Give room bytes ∷ calls) ≡ bytes ++ given calls
   pub taken_whole : taken (Take (1 ∷ 2 ∷ 3 ∷ []) ∷ []) ≡ 1 ∷ 2 ∷ 3 ∷ []
   pub given_whole : given (Give 3 (1 ∷ 2 ∷ 3 ∷ []) ∷ []) ≡ 1 ∷ 2 ∷ 3 ∷ []
   pub taken : taken mixed ≡ 1 ∷ 2 ∷ 4 ∷ 6 ∷ []

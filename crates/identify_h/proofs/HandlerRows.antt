@@ -113,6 +113,8 @@ read_rows = record {
   fresh = record { peer_is = refl; message = refl; stands = stands_at_first };
   of_another_peer = λ f. absurd (let e : ◌≡◌ {A = List ℕ} [] (1 ∷ []) = f.peer_is in cc e);
   read_already = λ f. absurd (let e : Some nothing ≡ None = f.message in cc e);
+  stands_somewhere = λ w. w [] stands_at_first;
+  stands_there_alone = nothing_came;
   cut = λ n. (
     λ h. h.1 ∙ ap number_of (cut_alone h.0 (h.3 refl [] stands_at_first)),
     λ e. (

@@ -1,5 +1,5 @@
 -- A reader reads what it was handed.
-use Rattle.std.proofs.Common.{◌≡◌, ◌↔◌, ℕ, Bool, true, List, [], ◌∷◌, ◌++◌, Option, Some, None, refl, sym, ◌∙◌, ap, subst, append_assoc}
+use Rattle.std.proofs.Common.{◌≡◌, ◌↔◌, ℕ, Bool, true, false, List, [], ◌∷◌, ◌++◌, Option, Some, None, refl, sym, ◌∙◌, ap, subst, append_assoc}
 use Rattle.std.specs.Prelude.{IfSome, is_some}
 use Rattle.std.proofs.lemmas.List.{append-nil}
 use Rattle.handlers.specs.Calls.{HandlerCall, Take, Give, End, Arises, EndsAs, GivesOnly, taken, given}
@@ -64,6 +64,30 @@ reads_after peer input r s (End ∷ calls) ended peer_is none at ends came =
     let same : input ≡ input ++ taken calls = sym (append-nil input) ∙ ap (λ (t : List ℕ). input ++ t) (sym later.0) in
     subst (λ (b : Bool). HasRead peer (input ++ taken calls) b (given calls) s) (sym ends.0)
     (subst (λ (t : List ℕ). HasRead peer t true (given calls) s) same later.1)
+
+-- what was handed bytes alone stands behind them
+pub record Goes (peer input : List ℕ) (r : Reader) : Type 0 where
+  pub peer_is : r.peer ≡ peer
+  pub none : r.message ≡ None
+  pub stands : Stands input r
+
+goes_on : (peer input : List ℕ) (r s : Reader) (calls : List HandlerCall) → Goes peer input r → EndsAs calls false → Arises ReadStep r calls s
+    → Goes peer (input ++ taken calls) s
+goes_on peer input r s [] goes ends came =
+    subst (λ (t : Reader). Goes peer (input ++ []) t) came (subst (λ (t : List ℕ). Goes peer t r) (sym (append-nil input)) goes)
+goes_on peer input r s (Take bytes ∷ calls) goes ends came =
+    let step = came.1 in
+    subst (λ (t : List ℕ). Goes peer t s) (append_assoc input bytes (taken calls))
+    (goes_on peer (input ++ bytes) came.0 s calls
+    (record { peer_is = step.peer ∙ goes.peer_is; none = step.message; stands = step.stands input goes.stands }) ends came.2)
+goes_on peer input r s (Give room bytes ∷ calls) goes ends came =
+    goes_on peer input came.0 s calls (subst (λ (t : Reader). Goes peer input t) (sym came.1.2) goes) ends came.2
+goes_on peer input r s (End ∷ calls) goes ends came = absurd (cc ends.0)
+
+pub goes_after : (peer : List ℕ) (calls : List HandlerCall) (made s : Reader) → IsFresh peer made → EndsAs calls false → Arises ReadStep made calls s
+    → Goes peer (taken calls) s
+goes_after peer calls made s fresh ends came =
+    goes_on peer [] made s calls (record { peer_is = fresh.peer_is; none = fresh.message; stands = fresh.stands }) ends came
 
 has_read : (peer : List ℕ) (calls : List HandlerCall) (ended : Bool) (made s : Reader) → IsFresh peer made → EndsAs calls ended
     → Arises ReadStep made calls s → HasRead peer (taken calls) ended (given calls) s

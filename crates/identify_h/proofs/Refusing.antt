@@ -1,16 +1,17 @@
 -- A call that is answered is refused for want of memory alone.
-use Rattle.std.proofs.Common.{◌≡◌, ℕ, Bool, true, false, List, ◌++◌, ◌<◌, min, length, refl, sym, ◌∙◌, ap, arith}
-use Rattle.std.specs.Prelude.{if◌then◌else◌}
+use Rattle.std.proofs.Common.{◌≡◌, ℕ, Bool, true, false, ◌||◌, List, ◌++◌, ◌<◌, min, length, None, refl, sym, ◌∙◌, ap, subst, arith}
+use Rattle.std.specs.Prelude.{if◌then◌else◌, is_some}
 use Rattle.std.proofs.lemmas.List.{length-take}
-use Rattle.handlers.specs.Calls.{Take, Give, End, ToTake, ToGive, ToEnd}
+use Rattle.handlers.specs.Calls.{HandlerCall, Take, Give, End, ToTake, ToGive, ToEnd, Arises, EndsAs, taken}
 use Rattle.identify_h.specs.declared.fault.IdentifyFault.{IdentifyFault}
 use Rattle.identify_h.specs.declared.fault.IdentifyFault.TheVariants.{Failed, TooLong, TooMany, Wire, OtherKey, Cut, OutOfMemory}
 use Rattle.identify_h.specs.Faults.{number_of}
 use Rattle.identify_h.specs.Messages.{Message}
 use Rattle.identify_h.specs.Streams.{GoesOn, TakeFails, EndFails, Reads}
 use Rattle.identify_h.specs.Sending.{Sending, SendStep, SendFails}
-use Rattle.identify_h.specs.Reading.{Reader, Stands, ReadStep, ReadFails}
+use Rattle.identify_h.specs.Reading.{Reader, Stands, IsFresh, ReadStep, ReadFails, is_over}
 use Rattle.identify_h.proofs.Outcomes.{one_outcome}
+use Rattle.identify_h.proofs.Read.{goes_after}
 
 -- ---- the end that reads
 
@@ -48,6 +49,25 @@ reader_end input r s n at step fails =
     let read = step.1 in
     let m : Message = read.0 in
     fails.1 ∙ ended_fails r.peer input m fails.0 (read.2 input at) (fails.3 step.0 input at)
+
+-- what goes on is refused by the fault of all that it was handed
+going : (r : Reader) → r.failed ≡ false → r.message ≡ None → is_over r ≡ false
+going r goes none = ap (λ (b : Bool). b || is_some r.message) goes ∙ ap is_some none
+
+pub told_take : (peer : List ℕ) (calls : List HandlerCall) (made r : Reader) → IsFresh peer made → EndsAs calls false → Arises ReadStep made calls r
+    → (bytes : List ℕ) (n : ℕ) → ReadFails r (ToTake bytes) n → (fault : IdentifyFault) × (n ≡ number_of fault) × TakeFails (taken calls) bytes fault
+told_take peer calls made r fresh ends came bytes n fails =
+    let goes = goes_after peer calls made r fresh ends came in
+    (fails.0, fails.1, fails.3 (going r goes.stands.going goes.none) (taken calls) goes.stands)
+
+pub told_end : (peer : List ℕ) (calls : List HandlerCall) (made r : Reader) → IsFresh peer made → EndsAs calls false → Arises ReadStep made calls r
+    → (n : ℕ) → ReadFails r ToEnd n → (fault : IdentifyFault) × (n ≡ number_of fault) × EndFails peer (taken calls) fault
+told_end peer calls made r fresh ends came n fails =
+    let goes = goes_after peer calls made r fresh ends came in (
+      fails.0,
+      fails.1,
+      subst (λ (p : List ℕ). EndFails p (taken calls) fails.0) goes.peer_is (fails.3 (going r goes.stands.going goes.none) (taken calls) goes.stands),
+    )
 
 pub reader_give : (r s : Reader) (room : ℕ) (bytes : List ℕ) (n : ℕ) → ReadStep r (Give room bytes) s → ReadFails r (ToGive room) n → ⊥
 reader_give r s room bytes n step fails = let never : false ≡ true = sym step.0 ∙ fails.1 in cc

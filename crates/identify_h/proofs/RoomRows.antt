@@ -1,12 +1,12 @@
 -- Where a stream asks for memory, at worked bytes.
-use Rattle.std.proofs.Common.{◌≡◌, ℕ, zero, suc, ◌<◌, ◌≤◌, List, [], ◌∷◌, ◌++◌, length, take, replicate, Ok, None, ◌∙◌, refl, subst, inl, inr, arith}
+use Rattle.std.proofs.Common.{◌≡◌, ℕ, zero, suc, ◌-◌, ◌<◌, ◌≤◌, List, [], ◌∷◌, ◌++◌, length, take, replicate, Ok, None, ◌∙◌, refl, subst, inl, inr, arith}
 use Rattle.std.proofs.lemmas.List.{append-nil}
 use Rattle.varint_proto.specs.Varint.{IsSpelling, IsUnended}
 use Rattle.varint_proto.specs.Incoming.{Announces}
 use Rattle.identify_h.specs.declared.fault.IdentifyFault.TheVariants.{TooLong, TooMany, OutOfMemory}
-use Rattle.identify_h.specs.Streams.{left_behind, Begins, AsksRoom, TakeFails, AskingGoesOn}
+use Rattle.identify_h.specs.Streams.{most_messages, left_behind, Begins, IsPart, AsksRoom, TakeFails, AskingGoesOn}
 use Rattle.identify_h.specs.Rows.{RoomRows}
-use Rattle.identify_h.proofs.Outcomes.{there, framed_not, one_outcome}
+use Rattle.identify_h.proofs.Outcomes.{there, framed_not, stops_part, one_outcome}
 use Rattle.identify_h.proofs.Rows.{one_short, framed_row, stream_rows, fault_rows}
 
 -- bytes of which none ends a spelling spell nothing
@@ -28,6 +28,19 @@ asks_goes input asks = record {
   begins = asks.2;
   part = inr (asks.3, inr (asks.4.0, [], asks.4.1, asks.4.2));
 }
+
+-- and that is behind its whole messages
+asks_there : (input rest : List ℕ) (bodies : List (List ℕ)) → Begins input bodies rest → IsPart bodies rest → AsksRoom input
+    → (len : ℕ) × Announces (left_behind bodies) rest len [] × (0 < len)
+asks_there input rest bodies begins part asks =
+    let same = there input asks.0 bodies asks.1 rest asks.2 begins
+    (λ body after some. framed_not (left_behind asks.0) asks.1 (Ok None) (λ x e. cc) (inr (asks.4.0, [], asks.4.1, asks.4.2)) body after)
+    (stops_part (most_messages - length bodies) bodies rest part) in (
+      asks.4.0,
+      subst (λ (t : List ℕ). Announces (left_behind bodies) t asks.4.0 []) same.rest_is
+          (subst (λ (t : List (List ℕ)). Announces (left_behind t) asks.1 asks.4.0 []) same.bodies_are asks.4.1),
+      asks.4.2,
+    )
 
 -- nor is it asked for where a length has begun at most
 begun_not : (input : List ℕ) (bodies : List (List ℕ)) (rest : List ℕ) → Begins input bodies rest → IsUnended rest → length rest < 9
@@ -104,4 +117,5 @@ room_rows = record {
       one_outcome.goes (1 ∷ 8 ∷ 128 ∷ 128 ∷ 1 ∷ []) TooLong (asks_goes _ (one_byte (1 ∷ 8 ∷ 128 ∷ 128 ∷ []) 1 fails)) fault_rows.together;
   eleventh = λ fails.
       one_outcome.goes (replicate 10 0 ++ 1 ∷ []) TooMany (asks_goes _ (one_byte (replicate 10 0) 1 fails)) fault_rows.eleventh_begun;
+  elsewhere = asks_there;
 }

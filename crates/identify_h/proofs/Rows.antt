@@ -20,6 +20,7 @@ use Rattle.identify_h.specs.declared.fault.IdentifyFault.TheVariants.{TooMany, O
 use Rattle.identify_h.specs.Messages.{IsKeyOf, IsKeySpelt, HasText, HasField, Refuses, SaysSomething}
 use Rattle.identify_h.specs.Streams.{Lead, Begins as BeginsWith, HasFault, left_behind}
 use Rattle.identify_h.proofs.Messages.{not_spelt}
+use Rattle.identify_h.proofs.SentRead.{messages_lead}
 use Rattle.identify_h.specs.Rows.{key_field, key_id, nothing, nine, texts_and_none, MessageRows, FieldRows, MemoryRows, BadKeyRows, MergeRows, StreamRows, FaultRows}
 
 one_wide : (n : ℕ) (rest : List ℕ) → n < 128 → BeginsWide (n ∷ rest) n rest
@@ -297,6 +298,20 @@ field_rows = record {
     message,
     record { key = subst (λ (t : Option (List ℕ)). IsKeyOf peer t None) (sym none) tt; listen = refl; protocols = refl; observed = refl; version = refl; agent = refl },
   );
+  any_key = λ peer bytes spelling fields key message is spells own. (
+    fields,
+    message,
+    record {
+      key = subst (λ (t : Option (List ℕ)). IsKeyOf peer t (Some key)) (sym is) (spells, own);
+      listen = refl;
+      protocols = refl;
+      observed = refl;
+      version = refl;
+      agent = refl;
+    },
+  );
+  any_other_key = λ peer bytes spelling fields key message is spells other. (fields, message, (spelling, is, inr (key, spells, other)));
+  any_bad_key = λ peer bytes spelling fields fault message is refused some. (fields, message, (spelling, is, inl (fault, some, refused)));
 }
   where
     id_is : id_of the_key ≡ key_id
@@ -534,6 +549,15 @@ of_two b least lt = (
   refl,
 )
 
+-- together they have what was left at most
+lead_within : (left : ℕ) (input : List ℕ) (bodies : List (List ℕ)) (rest : List ℕ) → Lead left input bodies rest → length (concat bodies) ≤ left
+lead_within left input [] rest leads = omega arith
+lead_within left input (body ∷ bodies) rest leads =
+    let later = lead_within (left - length body) leads.0 bodies rest leads.2 in
+    let sum = length-append body (concat bodies) in
+    let fits : length body ≤ left = leads.1.allowed in
+    omega arith
+
 pub fault_rows : FaultRows
 fault_rows = record {
   cut_behind_bad = (
@@ -561,6 +585,13 @@ fault_rows = record {
     record { few = omega arith; lead = (128 ∷ 128 ∷ 1 ∷ [], framed_row 16384 (8 ∷ []) _ (omega arith) (omega arith), refl) },
     (omega arith, (16384, [], (128 ∷ 128 ∷ 1 ∷ [], record { ends = (omega arith, (omega arith, omega arith)); within = omega arith; shortest = λ _. omega arith; value = refl }, refl), omega arith)),
   );
+  next_bad = λ input rest bodies begins few bad. (bodies, rest, begins, (few, bad));
+  next_too_long = λ input rest after bodies len begins few spelt long.
+      let within = lead_within 16384 input bodies rest begins.lead in
+      let past : 16384 - length (concat bodies) < len = omega (arith, within, long) in
+      (bodies, rest, begins, (few, (len, after, spelt, past)));
+  next_too_many = λ input rest bodies begins all some. (bodies, rest, begins, (all, some));
+  next_cut = λ peer input rest bodies begins part some. (bodies, rest, begins, part, inr some);
   empty_behind_the_longest = λ body is. record {
     bodies = body ∷ [] ∷ [];
     rest = [];
@@ -589,6 +620,7 @@ fault_rows = record {
 
 pub stream_rows : StreamRows
 stream_rows = record {
+  any_messages = λ bodies rest few small. record { few = few; lead = messages_lead 16384 bodies rest small (omega arith) };
   two_messages = (
     (42 ∷ 3 ∷ 97 ∷ 98 ∷ 99 ∷ []) ∷ (50 ∷ 1 ∷ 120 ∷ []) ∷ [],
     record {

@@ -1,11 +1,16 @@
 -- Worked rows of the definitions (libp2p identify 1.0.0; the limits are this project's profile).
-use Rattle.std.specs.Prelude.{◌≡◌, ◌↔◌, ℕ, List, [], ◌∷◌, ◌++◌, length, Some, None, true, false, replicate, take, drop}
-use Rattle.std.specs.List.{concat}
+use Rattle.std.specs.Prelude.{◌≡◌, ◌≢◌, ◌↔◌, ℕ, ◌+◌, ◌<◌, ◌≤◌, List, [], ◌∷◌, ◌++◌, length, Option, Some, None, Err}
+use Rattle.std.specs.Prelude.{true, false, replicate, take, drop}
+use Rattle.std.specs.List.{concat, flat_map}
 use Rattle.handlers.specs.Calls.{Take, Give, End, ToTake, ToGive, ToEnd}
 use Rattle.peer_ids.specs.declared.kind.KeyType.TheVariants.{Ed25519}
 use Rattle.peer_ids.specs.Key.{Key}
 use Rattle.peer_ids.specs.PeerId.{id_of}
+use Rattle.peer_ids.specs.ReadsKey.{SpellsKey, RefusesKey}
+use Rattle.peer_ids.specs.declared.fault.KeyFault.{KeyFault}
 use Rattle.varint_proto.specs.Message.{Entry, IsMessage, all_bodies, last_body}
+use Rattle.varint_proto.specs.Varint.{BeginsShortest}
+use Rattle.varint_proto.specs.Incoming.{Announces, ReadsFramed}
 use Rattle.identify_h.specs.Messages.{Message, Spells, Refuses, HasBadKey, SaysSomething, written, merged}
 use Rattle.identify_h.specs.declared.fault.IdentifyFault.TheVariants.{Failed, TooLong, TooMany, Wire, OtherKey, Cut}
 use Rattle.identify_h.specs.declared.fault.IdentifyFault.TheVariants.{OutOfMemory}
@@ -13,8 +18,9 @@ use Rattle.varint_proto.specs.declared.fault.IncomingRefused.TheVariants as inco
 use Rattle.peer_ids.specs.declared.fault.KeyFault.TheVariants as keys
 use Rattle.identify_h.specs.Faults.{number_of, of_key_fault, of_incoming}
 use Rattle.identify_h.specs.Sending.{framed, sending, SendStep, SendFails}
-use Rattle.identify_h.specs.Reading.{Reader, IsFresh, ReadStep, ReadFails}
-use Rattle.identify_h.specs.Streams.{GoesOn, HasFault, TakeFails, EndFails, Reads}
+use Rattle.identify_h.specs.Reading.{Reader, IsFresh, Whenever, ReadStep, ReadFails}
+use Rattle.identify_h.specs.Streams.{Begins, IsPart, left_behind, GoesOn, HasFault, AsksRoom, TakeFails}
+use Rattle.identify_h.specs.Streams.{EndFails, Reads}
 
 -- a message that says nothing, and one with a version `abc` and an agent `x`
 abbrev pub nothing : Message
@@ -103,6 +109,17 @@ pub record MergeRows : Type 0 where
   pub agent : (known : Message) (bytes : List ℕ)
       → merged known (record nothing { agent = Some bytes }) ≡ record known { agent = Some bytes }
 
+-- what these fields say beside a key
+abbrev pub said_by : Option Key → List Entry → Message
+said_by key fields = record {
+  key = key;
+  listen = all_bodies 2 fields;
+  protocols = all_bodies 3 fields;
+  observed = last_body 4 fields;
+  version = last_body 5 fields;
+  agent = last_body 6 fields;
+}
+
 -- Which fields are read, in which order
 pub record FieldRows : Type 0 where
   -- a number that is known, of another wire type, is no empty version
@@ -124,16 +141,20 @@ pub record FieldRows : Type 0 where
   -- of two texts the last counts, though it is empty
   pub empty_behind_a_text : Spells [] texts_and_none
       (record nothing { observed = Some []; version = Some []; agent = Some [] })
-  -- whatever fields a message has, of any number and wire type: where no key stands among them it says what they do
+  -- whatever fields a message has, of any number and wire type, it says what they do, where no key stands among them,
+  -- or the peer's, however that is spelt
   pub any_fields : (peer bytes : List ℕ) (fields : List Entry) → IsMessage bytes fields → last_body 1 fields ≡ None
-      → Spells peer bytes (record {
-        key = None;
-        listen = all_bodies 2 fields;
-        protocols = all_bodies 3 fields;
-        observed = last_body 4 fields;
-        version = last_body 5 fields;
-        agent = last_body 6 fields;
-      })
+      → Spells peer bytes (said_by None fields)
+  pub any_key : (peer bytes spelling : List ℕ) (fields : List Entry) (key : Key) → IsMessage bytes fields
+      → last_body 1 fields ≡ Some spelling → SpellsKey spelling key → id_of key ≡ peer
+      → Spells peer bytes (said_by (Some key) fields)
+  -- the key of another peer, and one that isn't read, are refused as that
+  pub any_other_key : (peer bytes spelling : List ℕ) (fields : List Entry) (key : Key) → IsMessage bytes fields
+      → last_body 1 fields ≡ Some spelling → SpellsKey spelling key → id_of key ≢ peer
+      → Refuses peer bytes OtherKey
+  pub any_bad_key : (peer bytes spelling : List ℕ) (fields : List Entry) (fault : KeyFault) → IsMessage bytes fields
+      → last_body 1 fields ≡ Some spelling → RefusesKey spelling fault → fault ≢ keys.OutOfMemory
+      → Refuses peer bytes OtherKey
   -- that key, read of a peer whose key has another byte
   pub key_of_another : Refuses (0 ∷ 36 ∷ 8 ∷ 1 ∷ 18 ∷ 32 ∷ replicate 32 9) key_field OtherKey
 
@@ -187,6 +208,9 @@ pub record BadKeyRows : Type 0 where
 pub record StreamRows : Type 0 where
   pub two_messages : Reads [] (5 ∷ 42 ∷ 3 ∷ 97 ∷ 98 ∷ 99 ∷ 3 ∷ 50 ∷ 1 ∷ 120 ∷ []) named
   pub ten_empty : Reads [] (replicate 10 0) nothing
+  -- at most ten bodies, of at most 16384 bytes together, each behind its length, are whole messages, whatever follows
+  pub any_messages : (bodies : List (List ℕ)) (rest : List ℕ) → length bodies ≤ 10 → length (concat bodies) ≤ 16384
+      → Begins (flat_map framed bodies ++ rest) bodies rest
   pub eleven : HasFault (replicate 11 0) TooMany
   pub too_long : HasFault (129 ∷ 128 ∷ 1 ∷ []) TooLong
   pub bad_length : HasFault (128 ∷ 0 ∷ []) Wire
@@ -219,6 +243,16 @@ pub record FaultRows : Type 0 where
   -- behind nine of a byte each a tenth may have 16375 bytes, and no more
   pub tenth : GoesOn (nine ++ 247 ∷ 127 ∷ [])
   pub tenth_too_long : HasFault (nine ++ 248 ∷ 127 ∷ []) TooLong
+  -- behind whole messages, however many: a length that is badly spelt, or too long; an eleventh; an end within one
+  pub next_bad : (input rest : List ℕ) (bodies : List (List ℕ)) → Begins input bodies rest → length bodies < 10
+      → ReadsFramed (left_behind bodies) rest (Err incoming.BadLength) → HasFault input Wire
+  pub next_too_long : (input rest after : List ℕ) (bodies : List (List ℕ)) (len : ℕ) → Begins input bodies rest
+      → length bodies < 10 → BeginsShortest rest len after → 16384 < length (concat bodies) + len
+      → HasFault input TooLong
+  pub next_too_many : (input rest : List ℕ) (bodies : List (List ℕ)) → Begins input bodies rest
+      → length bodies ≡ 10 → 0 < length rest → HasFault input TooMany
+  pub next_cut : (peer input rest : List ℕ) (bodies : List (List ℕ)) → Begins input bodies rest → IsPart bodies rest
+      → 0 < length rest → EndFails peer input Cut
 
 -- Where a stream asks for memory: at the last byte of a length, once for each body that isn't empty
 pub record RoomRows : Type 0 where
@@ -233,6 +267,9 @@ pub record RoomRows : Type 0 where
   -- nor for a body that is too long behind those before it alone
   pub too_long_together : ¬ TakeFails (1 ∷ 8 ∷ 128 ∷ 128 ∷ []) (1 ∷ []) OutOfMemory
   pub eleventh : ¬ TakeFails (replicate 10 0) (1 ∷ []) OutOfMemory
+  -- nor, behind whole messages, however many, anywhere else
+  pub elsewhere : (input rest : List ℕ) (bodies : List (List ℕ)) → Begins input bodies rest → IsPart bodies rest
+      → AsksRoom input → (len : ℕ) × Announces (left_behind bodies) rest len [] × (0 < len)
 
 -- Why bytes behind an input aren't taken: the first fault of all of it
 pub record TakeRows : Type 0 where
@@ -303,7 +340,9 @@ pub record ReadRows : Type 0 where
   -- and before it
   pub fresh : IsFresh [] at_first
   pub of_another_peer : ¬ IsFresh (1 ∷ []) at_first
-  pub read_already : ¬ IsFresh [] at_end
+  pub read_already : ¬ IsFresh [] (record at_first { message = Some nothing })
+  pub stands_somewhere : ¬ Whenever at_first (λ input. ⊥)
+  pub stands_there_alone : Whenever at_first (λ input. input ≡ [])
   pub cut : (n : ℕ) → ReadFails at_first ToEnd n ↔ (n ≡ 6)
   pub too_long : (n : ℕ) → ReadFails at_first (ToTake (129 ∷ 128 ∷ 1 ∷ [])) n ↔ (n ≡ 2)
   pub takes_nothing : ReadStep (record at_end { message = None }) (Take []) (record at_end { message = None })

@@ -1,7 +1,8 @@
 //! What the message and its handlers do, over whole inputs and whole lists of calls.
 
 ghost use Rattle.std.specs.Prelude.{◌≡◌, ◌↔◌, ◌<◌, ℕ, Bool, List, [], ◌∷◌, ◌++◌, length, true, false, IsSome, IfSome};
-ghost use Rattle.std.specs.Prelude.{is_some};
+ghost use Rattle.std.specs.Prelude.{is_some, map};
+ghost use Rattle.std.specs.Option.{option_map};
 ghost use mathlib.Core.List.{IsPrefix};
 ghost use Rattle.handlers.specs.Calls.{HandlerCall, Take, Give, End, Asked, ToTake};
 ghost use Rattle.handlers.specs.Calls.{ToGive, ToEnd, Arises, EndsAs, taken, given};
@@ -16,9 +17,9 @@ ghost use Rattle.std.specs.declared.alloc.AllocFailed.{AllocFailed};
 ghost use Rattle.identify_h.specs.Faults.{number_of, of_key_fault, of_incoming};
 ghost use Rattle.identify_h.specs.contracts.identify.Identify.{the_view};
 ghost use Rattle.identify_h.specs.declared.identify.Identify.TheInside.{Inside as Fields};
-ghost use Rattle.identify_h.specs.Parts.{texts, text};
 ghost use Rattle.identify_h.specs.Messages.{KeyIsThePeers, OneMessage, WrittenIsRead};
-ghost use Rattle.identify_h.specs.Streams.{Reads, OneOutcome, SomeOutcome, FaultsStay, AskingGoesOn, SentIsRead};
+ghost use Rattle.identify_h.specs.Streams.{Reads, TakeFails, EndFails};
+ghost use Rattle.identify_h.specs.Streams.{OneOutcome, SomeOutcome, FaultsStay, AskingGoesOn, SentIsRead};
 ghost use Rattle.identify_h.specs.Reading.{Reader, Stands, IsFresh, Alike, ReadStep, ReadFails};
 ghost use Rattle.identify_h.specs.Sending.{Sending, SendStep, SendFails, sending, most_bytes};
 ghost use Rattle.identify_h.specs.Rows.{MessageRows, FieldRows, MemoryRows, BadKeyRows, MergeRows, StreamRows};
@@ -52,11 +53,11 @@ pub fn worked_rows()
 pub fn fields_are_public()
     ensures { (identify : Fields) → the_view identify ≡ record {
       key = identify.key;
-      listen = texts identify.listen.items;
-      protocols = texts identify.protocols.items;
-      observed = text identify.observed;
-      version = text identify.version;
-      agent = text identify.agent;
+      listen = map (λ v. v.items) identify.listen.items;
+      protocols = map (λ v. v.items) identify.protocols.items;
+      observed = option_map (λ v. v.items) identify.observed;
+      version = option_map (λ v. v.items) identify.version;
+      agent = option_map (λ v. v.items) identify.agent;
     } }
 {}
 
@@ -161,6 +162,18 @@ pub fn reading_refuses()
     ensures give { (old new : Reader) (room : ℕ) (bytes : List ℕ) (n : ℕ)
         → ⟦<IdentifyIn as Handler>⟧.steps old (Give room bytes) new
         → ¬ ⟦<IdentifyIn as Handler>⟧.fails old (ToGive room) n }
+{}
+
+/// A reader refuses what comes, and the end, by the number of what is wrong with all that it was handed.
+pub fn reading_tells_its_stream()
+    ensures take { (peer : List ℕ) (calls : List HandlerCall) (made reader : Reader) → IsFresh peer made
+        → EndsAs calls false → Arises ⟦<IdentifyIn as Handler>⟧.steps made calls reader → (bytes : List ℕ) (n : ℕ)
+        → ⟦<IdentifyIn as Handler>⟧.fails reader (ToTake bytes) n
+        → (fault : IdentifyFault) × (n ≡ number_of fault) × TakeFails (taken calls) bytes fault }
+    ensures end { (peer : List ℕ) (calls : List HandlerCall) (made reader : Reader) → IsFresh peer made
+        → EndsAs calls false → Arises ⟦<IdentifyIn as Handler>⟧.steps made calls reader → (n : ℕ)
+        → ⟦<IdentifyIn as Handler>⟧.fails reader ToEnd n
+        → (fault : IdentifyFault) × (n ≡ number_of fault) × EndFails peer (taken calls) fault }
 {}
 
 /// A reader refuses a call for what is wrong with its stream, by that fault's number, and for nothing else.

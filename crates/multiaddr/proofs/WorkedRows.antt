@@ -25,7 +25,7 @@ use Rattle.multiaddr.specs.declared.fault.AddrFault.TheVariants.{Empty, UnknownP
 use Rattle.multiaddr.specs.Ip6.{SpellsGroups}
 use Rattle.multiaddr.specs.Text.{ReadsValue, LeadsParts, PrintsParts, NoSlash, TextFault, tail_of, name_of}
 use Rattle.multiaddr.specs.Given.{GivesSocket, GivesPeer, host_part, port_part}
-use Rattle.multiaddr.proofs.Ip6Text.{prints}
+use Rattle.multiaddr.proofs.Ip6Text.{prints, spells_no_dot}
 use Rattle.multiaddr.proofs.Values.{decimal_first}
 use Rattle.std.proofs.lemmas.Fmt.{decimal_injective}
 use Rattle.std.specs.Str.Parse.{AllDigits, digits_value}
@@ -346,6 +346,8 @@ ip6_rows = record {
     value = refl;
   });
   no_zero_group = no_groups;
+  no_dots = λ groups h. (spells_no_dot (codes "::1.2.3.4") groups h).1.1.1.0 refl;
+  no_dots_behind_groups = λ groups h. (spells_no_dot (codes "1:2:3:4:5:6:1.2.3.4") groups h).1.1.1.1.1.1.1.1.1.1.1.1.1.0 refl;
   zeros_alone = inr (record {
     head_text = [];
     tail_text = [];

@@ -143,6 +143,9 @@ pub record Ip6Rows : Type 0 where
   pub zeros_between : SpellsGroups (codes "1::Ab2") (1 ∷ 0 ∷ 0 ∷ 0 ∷ 0 ∷ 0 ∷ 0 ∷ 2738 ∷ [])
   pub one_zero_group : SpellsGroups (codes "1:2:3:4:5:6:7::") (1 ∷ 2 ∷ 3 ∷ 4 ∷ 5 ∷ 6 ∷ 7 ∷ 0 ∷ [])
   pub no_zero_group : (groups : List ℕ) → ¬ SpellsGroups (codes "1:2:3:4::5:6:7:8") groups
+  -- no tail with dots, neither behind `::` nor behind six groups
+  pub no_dots : (groups : List ℕ) → ¬ SpellsGroups (codes "::1.2.3.4") groups
+  pub no_dots_behind_groups : (groups : List ℕ) → ¬ SpellsGroups (codes "1:2:3:4:5:6:1.2.3.4") groups
   pub zeros_alone : SpellsGroups (codes "::") (replicate 8 0)
   pub any_zeros : PrintsGroups (codes "::") (replicate 8 0)
   pub first_of_equal_runs : PrintsGroups (codes "::1:0:0:1:0:0") groups

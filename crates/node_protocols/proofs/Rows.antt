@@ -8,8 +8,6 @@ use Rattle.node_protocols.specs.declared.handler.NodeHandler.TheVariants.{Reads,
 use Rattle.varint_proto.specs.Varint.{shortest, shortest_within}
 use Rattle.identify_h.specs.declared.fault.IdentifyFault.TheVariants.{Failed}
 use Rattle.identify_h.specs.Faults.{number_of}
-use Rattle.identify_h.specs.Sending.{sending}
-use Rattle.ping_h.specs.Echoes.{fresh}
 use Rattle.node_protocols.specs.Handlers.{Stops}
 use Rattle.identify_h.specs.Messages.{Message}
 use Rattle.node_protocols.specs.Makes.{LeadsOutbound}
@@ -17,7 +15,7 @@ use Rattle.node_protocols.specs.Rows.{OwnRows, MakesRows, LeadsRows, HandlerRows
 
 pub own : OwnRows
 unfolding shortest shortest_within
-own = record { key = λ key agent. refl; agent = λ key agent. refl; body = refl }
+own = record { any = λ key agent. refl; body = refl }
 
 pub makes : MakesRows
 unfolding shortest shortest_within
@@ -102,32 +100,18 @@ stopped_echo echo (Pings next) h = absurd h
 
 pub stops : StopRows
 stops = record {
-  sender = λ handler. (
-    stopped_sender (sending (1 ∷ [])) handler,
-    λ e. subst (λ (h : NodeHandler). Stops (Sends (sending (1 ∷ []))) h) (sym e) refl,
-  );
-  ping = λ handler. (stopped_ping back handler, λ e. subst (λ (h : NodeHandler). Stops (Pings back) h) (sym e) refl);
-  echo = λ handler. (stopped_echo fresh handler, λ e. subst (λ (h : NodeHandler). Stops (Echoes fresh) h) (sym e) refl);
+  sender = λ out handler. (stopped_sender out handler, λ e. subst (λ (h : NodeHandler). Stops (Sends out) h) (sym e) refl);
+  ping = λ out handler. (stopped_ping out handler, λ e. subst (λ (h : NodeHandler). Stops (Pings out) h) (sym e) refl);
+  echo = λ echo handler. (stopped_echo echo handler, λ e. subst (λ (h : NodeHandler). Stops (Echoes echo) h) (sym e) refl);
   reader = (refl, refl);
   going_reader = λ h. cc h.0;
   reader_with_a_message = λ h. cc h.1;
-  failed_reader = refl;
-  failed_sender = refl;
-  failed_ping = refl;
-  failed_echo = refl;
-  ended_reader = refl;
-  ended_sender = refl;
-  ended_ping = refl;
-  ended_echo = refl;
-  over_reader = refl;
-  over_sender = refl;
-  over_ping = refl;
-  over_echo = refl;
-  ended_sender_over = refl;
-  ended_ping_over = refl;
-  ended_echo_over = refl;
-  going_over = refl;
-  going_sender_over = refl;
-  going_ping_over = refl;
-  going_echo_over = refl;
+  failed_reader = λ reader. refl;
+  failed_sender = λ out. refl;
+  failed_ping = λ out. refl;
+  failed_echo = λ echo. refl;
+  over_reader = λ reader. refl;
+  over_sender = λ out. refl;
+  over_ping = λ out. refl;
+  over_echo = λ echo. refl;
 }

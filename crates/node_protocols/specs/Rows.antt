@@ -1,12 +1,13 @@
 -- Worked rows of the definitions (libp2p identify 1.0.0 and ping 1.0.0; Protocol Buffers, "Encoding"; the indexes are
 -- this project's profile).
-use Rattle.std.specs.Prelude.{◌≡◌, ◌↔◌, ℕ, ◌+◌, List, [], ◌∷◌, ◌++◌, true, false, replicate, codes, Some, None}
+use Rattle.std.specs.Prelude.{◌≡◌, ◌↔◌, ℕ, ◌+◌, ◌||◌, List, [], ◌∷◌, ◌++◌, true, false, replicate, codes, Some, None}
+use Rattle.std.specs.Prelude.{is_some}
 use Rattle.handlers.specs.Calls.{HandlerCall, ToGive, ToEnd}
 use Rattle.peer_ids.specs.declared.kind.KeyType.TheVariants.{Ed25519}
 use Rattle.peer_ids.specs.Key.{Key}
 use Rattle.identify_h.specs.Messages.{Message, written}
 use Rattle.identify_h.specs.Reading.{Reader}
-use Rattle.identify_h.specs.Sending.{sending}
+use Rattle.identify_h.specs.Sending.{Sending, sending}
 use Rattle.identify_h.specs.Rows.{at_end, nothing, named}
 use Rattle.ping_h.specs.Echoes.{Echo, fresh}
 use Rattle.ping_h.specs.Rounds.{Round, round}
@@ -23,9 +24,9 @@ zero_key = record { kind = Ed25519; body = replicate 32 0 }
 
 -- the body that a node of this key sends: its key, the three names, the version, and the agent
 pub record OwnRows : Type 0 where
-  -- any key and any agent are said whole
-  pub key : (key : Key) (agent : List ℕ) → (own_message key agent).key ≡ Some key
-  pub agent : (key : Key) (agent : List ℕ) → (own_message key agent).agent ≡ Some agent
+  -- any key and any agent are said whole, and nothing else of it hangs on them
+  pub any : (key : Key) (agent : List ℕ) → own_message key agent
+      ≡ record (own_message zero_key (codes "x")) { key = Some key; agent = Some agent }
   pub body : written (own_message zero_key (codes "x"))
       ≡ (10 ∷ 36 ∷ 8 ∷ 1 ∷ 18 ∷ 32 ∷ replicate 32 0) ++ ((26 ∷ 14 ∷ codes "/ipfs/id/1.0.0")
       ++ ((26 ∷ 19 ∷ codes "/ipfs/id/push/1.0.0") ++ ((26 ∷ 16 ∷ codes "/ipfs/ping/1.0.0")
@@ -113,33 +114,22 @@ unread = record at_end { message = None }
 -- What a fault leaves of each kind
 pub record StopRows : Type 0 where
   -- it has failed, and nothing else of it is another
-  pub sender : (handler : NodeHandler) → Stops (Sends (sending (1 ∷ []))) handler
-      ↔ (handler ≡ Sends (record (sending (1 ∷ [])) { failed = true }))
-  pub ping : (handler : NodeHandler) → Stops (Pings back) handler ↔ (handler ≡ Pings (record back { failed = true }))
-  pub echo : (handler : NodeHandler) → Stops (Echoes fresh) handler
-      ↔ (handler ≡ Echoes (record fresh { failed = true }))
+  pub sender : (out : Sending) (handler : NodeHandler) → Stops (Sends out) handler
+      ↔ (handler ≡ Sends (record out { failed = true }))
+  pub ping : (out : Round) (handler : NodeHandler) → Stops (Pings out) handler
+      ↔ (handler ≡ Pings (record out { failed = true }))
+  pub echo : (echo : Echo) (handler : NodeHandler) → Stops (Echoes echo) handler
+      ↔ (handler ≡ Echoes (record echo { failed = true }))
   -- a reader has failed, and has no message
   pub reader : Stops (Reads unread) (Reads (record unread { failed = true }))
   pub going_reader : ¬ Stops (Reads unread) (Reads unread)
   pub reader_with_a_message : ¬ Stops (Reads unread) (Reads (record at_end { failed = true }))
-  -- by a fault each kind has failed, and by the end none
-  pub failed_reader : has_failed (Reads (record unread { failed = true })) ≡ true
-  pub failed_sender : has_failed (Sends (record (sending []) { failed = true })) ≡ true
-  pub failed_ping : has_failed (Pings (record back { failed = true })) ≡ true
-  pub failed_echo : has_failed (Echoes (record fresh { failed = true })) ≡ true
-  pub ended_reader : has_failed (Reads at_end) ≡ false
-  pub ended_sender : has_failed (Sends (record (sending []) { ended = true })) ≡ false
-  pub ended_ping : has_failed (Pings (record back { ended = true })) ≡ false
-  pub ended_echo : has_failed (Echoes (record fresh { ended = true })) ≡ false
-  -- by either it takes nothing more
-  pub over_reader : is_over (Reads (record unread { failed = true })) ≡ true
-  pub over_sender : is_over (Sends (record (sending []) { failed = true })) ≡ true
-  pub over_ping : is_over (Pings (record back { failed = true })) ≡ true
-  pub over_echo : is_over (Echoes (record fresh { failed = true })) ≡ true
-  pub ended_sender_over : is_over (Sends (record (sending []) { ended = true })) ≡ true
-  pub ended_ping_over : is_over (Pings (record back { ended = true })) ≡ true
-  pub ended_echo_over : is_over (Echoes (record fresh { ended = true })) ≡ true
-  pub going_over : is_over (Reads unread) ≡ false
-  pub going_sender_over : is_over (Sends (sending [])) ≡ false
-  pub going_ping_over : is_over (Pings back) ≡ false
-  pub going_echo_over : is_over (Echoes fresh) ≡ false
+  -- it has failed where that of its kind has, and takes nothing more by that or once it was ended
+  pub failed_reader : (reader : Reader) → has_failed (Reads reader) ≡ reader.failed
+  pub failed_sender : (out : Sending) → has_failed (Sends out) ≡ out.failed
+  pub failed_ping : (out : Round) → has_failed (Pings out) ≡ out.failed
+  pub failed_echo : (echo : Echo) → has_failed (Echoes echo) ≡ echo.failed
+  pub over_reader : (reader : Reader) → is_over (Reads reader) ≡ (reader.failed || is_some reader.message)
+  pub over_sender : (out : Sending) → is_over (Sends out) ≡ (out.failed || out.ended)
+  pub over_ping : (out : Round) → is_over (Pings out) ≡ (out.failed || out.ended)
+  pub over_echo : (echo : Echo) → is_over (Echoes echo) ≡ (echo.failed || echo.ended)

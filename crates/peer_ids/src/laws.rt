@@ -1,5 +1,8 @@
 //! Laws of keys, ids and texts. Each is a function with an empty body, whose contract is the law.
 
+ghost use Rattle.std.specs.Prelude.{◌≡◌, ℕ, List, Result};
+ghost use Rattle.peer_ids.specs.declared.fault.IdFault.{IdFault};
+ghost use Rattle.peer_ids.specs.ReadsText.{ReadsId};
 ghost use Rattle.peer_ids.specs.Laws.{OneKey, SomeKey, CanonicalIsRead, IdsAreMultihashes, OneText};
 ghost use Rattle.peer_ids.specs.Rows.{Base32Rows, CountRows, IdRows, KeyRows, MultihashRows, TextRows, TypeRows};
 
@@ -26,6 +29,12 @@ pub fn ids_are_multihashes()
 /// An id has one text, and two different ids have different texts.
 pub fn one_text()
     ensures { OneText }
+{}
+
+/// A text is read in one way: as one id, or with one fault.
+pub fn one_reading()
+    ensures { (text : List ℕ) (some other : Result (List ℕ) IdFault) → ReadsId text some → ReadsId text other
+        → some ≡ other }
 {}
 
 /// The definitions say of worked keys, ids and texts what the standards say.

@@ -19,9 +19,9 @@ use Rattle.peer_ids.specs.PeerId.{multihash_of}
 use Rattle.peer_ids.proofs.Written.{canonical_spells, id_is_multihash}
 use Rattle.plaintext_x.specs.declared.fault.ExchangeFault.{ExchangeFault}
 use Rattle.plaintext_x.specs.declared.fault.ExchangeFault.TheVariants.{Wire, NoId, NoKey, BadKey, Differs}
-use Rattle.plaintext_x.specs.Exchange.{SpellsExchange, RefusesBody, HasRead, Exchanging, Exchanges, AsksMemory, longest, last_id, last_key, joined_key, body_of, message_of}
+use Rattle.plaintext_x.specs.Exchange.{SpellsExchange, RefusesBody, HasRead, Exchanging, Stands, Exchanges, AsksMemory, longest, last_id, last_key, joined_key, body_of, message_of}
 use Rattle.plaintext_x.proofs.Own.{own_is_proven}
-use Rattle.plaintext_x.specs.Rows.{short_key, key_bytes, id_bytes, id_field, key_field, long_key, long_bytes, long_id_field, long_key_field, ProofRows, WaitingRows, MemoryRows, RefusalRows, FaultRows, StandRows}
+use Rattle.plaintext_x.specs.Rows.{short_key, key_bytes, id_bytes, id_field, key_field, long_key, long_bytes, long_id_field, long_key_field, ProofRows, WaitingRows, MemoryRows, RefusalRows, FaultRows, StandRows, at_first}
 use Rattle.plaintext_x.proofs.Steps.{faulty_in}
 
 -- a length of one byte
@@ -329,6 +329,12 @@ answer_read : (answer : Option Key) (x : Exchanging) (input : List ℕ) (used : 
 answer_read None x input used read = read.2
 answer_read (Some key) x input used read = read
 
+stands_first : Stands short_key at_first [] 0 []
+stands_first = record {
+  read = (record { going = refl; holds = ((tt, omega arith), refl, refl) }, refl, waiting_rows.nothing);
+  written = refl;
+}
+
 another : message_of long_key ≡ message_of short_key → ⊥
 another e = absurd (cc (sym proof_rows.sent_of_a_long_key ∙ e ∙ proof_rows.sent))
 
@@ -337,6 +343,9 @@ stand_rows = record {
   proven = refl;
   waiting = refl;
   failed = refl;
+  told_nothing = stands_first;
+  stands_somewhere = λ w. w short_key [] 0 [] stands_first;
+  another_limit = λ own input used taken stands. let e : 8193 ≡ 8192 = stands.read.1 in omega (arith, e);
   answered = λ own x input used taken answer stands e. answer_read answer x input used (subst (λ (o : Option (Option Key)). HasRead o x input used) e stands.read);
   unwritten = λ x input used none stands. absurd (cc (sym none ∙ stands.written ∙ proof_rows.sent));
   wrote_another = λ x input used other stands. another (sym other ∙ stands.written);

@@ -7,8 +7,8 @@ use Rattle.peer_ids.specs.Key.{Key}
 use Rattle.peer_ids.specs.PeerId.{id_of, multihash_of}
 use Rattle.plaintext_x.specs.declared.fault.ExchangeFault.TheVariants.{Failed, TooLong, Wire, NoId, NoKey, BadKey}
 use Rattle.plaintext_x.specs.declared.fault.ExchangeFault.TheVariants.{Differs, OutOfMemory}
-use Rattle.plaintext_x.specs.Exchange.{Exchanging, Stands, Exchanges, AsksMemory, RunsOut, message_of, is_proven}
-use Rattle.plaintext_x.specs.Exchange.{of_refused, of_key_fault}
+use Rattle.plaintext_x.specs.Exchange.{Exchanging, Stands, Whenever, Exchanges, AsksMemory, RunsOut, message_of}
+use Rattle.plaintext_x.specs.Exchange.{is_proven, of_refused, of_key_fault}
 
 -- a key of one byte, the message that spells it, and its peer id
 abbrev pub short_key : Key
@@ -117,11 +117,24 @@ pub record FaultRows : Type 0 where
   pub key_of_a_bad_length : of_key_fault keys.BadLength ≡ BadKey
   pub no_room_for_a_key : of_key_fault keys.OutOfMemory ≡ OutOfMemory
 
+-- an exchange that was told nothing yet
+abbrev pub at_first : Exchanging
+at_first = record {
+  incoming = record { limit = 8192; spelling = []; expected = None; body = []; room = 0; failed = false };
+  answer = Some None;
+  pending = message_of short_key;
+}
+
 -- What an exchange that stands has answered and written
 pub record StandRows : Type 0 where
   pub proven : is_proven (Some (Some short_key)) ≡ true
   pub waiting : is_proven (Some None) ≡ false
   pub failed : is_proven None ≡ false
+  pub told_nothing : Stands short_key at_first [] 0 []
+  pub stands_somewhere : ¬ Whenever at_first (λ input used. ⊥)
+  pub another_limit : (own : Key) (input : List ℕ) (used : ℕ) (taken : List ℕ) → ¬ Stands own (record at_first {
+    incoming = record at_first.incoming { limit = 8193 };
+  }) input used taken
   -- an answer is what the whole input comes to
   pub answered : (own : Key) (x : Exchanging) (input : List ℕ) (used : ℕ) (taken : List ℕ) (answer : Option Key)
       → Stands own x input used taken → x.answer ≡ Some answer → Exchanges input (Ok answer) used

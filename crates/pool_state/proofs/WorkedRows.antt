@@ -1,5 +1,5 @@
 -- Worked rows of pools, computed by the definitions.
-use Rattle.std.proofs.Common.{◌≡◌, sym, ap, ◌∙◌, ℕ, ◌≤◌, List, [], ◌∷◌, refl, arith}
+use Rattle.std.proofs.Common.{◌≡◌, sym, ap, ◌∙◌, ℕ, ◌<◌, ◌≤◌, List, [], ◌∷◌, refl, arith}
 use Rattle.std.specs.List.{All}
 use Rattle.std.proofs.lemmas.List.{length-replicate}
 use Rattle.std.proofs.lemmas.List.Elements.{All-nil, All-cons, All-head, All-tail, All-replicate}
@@ -7,7 +7,8 @@ use Rattle.pool_state.specs.declared.call.Reply.TheVariants as reply
 use Rattle.pool_state.specs.declared.limits.Config.{Config}
 use Rattle.pool_state.specs.declared.listing.Listing.{Listing}
 use Rattle.pool_state.specs.AgentName.{IsAgentName}
-use Rattle.pool_state.specs.Rows.{ConnectionRows, StreamRows, ListRows, RefusalRows, LimitRows, RangeRows, AddedRows, AgentRows, NumberRows, PoolRows}
+use Rattle.pool_state.specs.Rows.{ConnectionRows, StreamRows, ListRows, RefusalRows, LimitRows, RangeRows, AddedRows, BoundedRows, AgentRows, NumberRows, PoolRows}
+use Rattle.pool_state.specs.Rows.{first, dialing}
 
 pub connection_rows : ConnectionRows
 connection_rows = record {
@@ -31,6 +32,7 @@ stream_rows = record {
   last_agent = record { replies = refl; listing_is = refl };
   agent_stays = record { replies = refl; listing_is = refl };
   agent_of_the_closing = record { replies = refl; listing_is = refl };
+  gone_while_busy = record { replies = refl; listing_is = refl };
 }
 
 pub list_rows : ListRows
@@ -151,6 +153,7 @@ added_rows = record {
   front_past_four_bytes = refl;
   no_such_protocol = refl;
   stays_closing = refl;
+  settles_alone = refl;
   of_another_number = refl;
   of_the_same_low_byte = refl;
   refused_ask = refl;
@@ -159,8 +162,27 @@ added_rows = record {
   blocks_all = refl;
   unblocks_any = refl;
   allows_any = refl;
+  other_replies = (refl, (refl, (refl, (refl, (refl, (refl, (refl, (refl, (refl, (refl, (refl, (refl, (refl, (refl, (refl, (refl, (refl, (refl, (refl, (refl, (refl, (refl, (refl, tt)))))))))))))))))))))));
   each_of_its_number = refl;
   all_of_its_number = refl;
+}
+
+pub bounded_rows : BoundedRows
+bounded_rows = record {
+  connection_more = λ b. let many : 257 ≤ 256 = b.conns in omega (arith, many);
+  accepted_more = λ b. let many : 3 ≤ 2 = b.inbound in omega (arith, many);
+  dialed_more = λ b. let many : 2 ≤ 1 = b.outbound in omega (arith, many);
+  more_of_a_peer = λ b. let many : 2 ≤ 1 = b.per_peer first in omega (arith, many);
+  more_done_than_asked = λ b. let many : 1 ≤ 0 = b.done 0 dialing (omega arith) 2 in omega (arith, many);
+  stream_more = λ b. let many : 2 ≤ 1 = b.streams 0 dialing (omega arith) in omega (arith, many);
+  blocked_more = λ b. let many : 2 ≤ 1 = b.blocked in omega (arith, many);
+  allowed_more = λ b. let many : 2 ≤ 1 = b.allowed in omega (arith, many);
+  pending_though_blocked = λ b. absurd (let e = b.blocked_close 0 dialing (omega arith) first refl (0, omega arith, refl) in cc e);
+  pending_though_not_allowed = λ b. let there = b.allowed_stay refl 0 dialing (omega arith) first refl (λ e. absurd (cc e)) in omega (arith, there.1);
+  number_twice = λ b. let rise : 1 < 1 = b.rising 0 (omega arith) in omega (arith, rise);
+  falling = λ b. let rise : 2 < 1 = b.rising 0 (omega arith) in omega (arith, rise);
+  left = refl;
+  not_left = refl;
 }
 
 abbrev IsPrintable : ℕ → Type 0

@@ -1,7 +1,7 @@
 -- Worked rows of pools: what the definitions say of these calls in turn, each limit at 1 and at its largest.
 -- Source: This project's profile of a swarm.
 use Rattle.std.specs.Prelude.{◌≡◌, ℕ, Bool, true, false, List, [], ◌∷◌, ◌++◌, map, replicate, Option, Some, None}
-use Rattle.std.specs.List.{range_with_len}
+use Rattle.std.specs.List.{range_with_len, AllByRecursion}
 use Rattle.std.proofs.Common.{refl}
 use Rattle.std.proofs.lemmas.Bool.{leb-true}
 use Rattle.pool_state.specs.declared.call.Call.{Call}
@@ -54,7 +54,9 @@ use Rattle.pool_state.specs.declared.row.Phase.{Phase}
 use Rattle.pool_state.specs.declared.row.Phase.TheVariants as phase
 use Rattle.pool_state.specs.AgentName.{IsAgentName}
 use Rattle.pool_state.specs.Parts.{Peer, listing}
-use Rattle.pool_state.specs.History.{Entry, entry}
+use Rattle.pool_state.specs.History.{Entry, entry, unblocks}
+use Rattle.pool_state.specs.Bounded.{IsBounded}
+use Rattle.pool_state.specs.Ordered.{is_left}
 use Rattle.pool_state.specs.declared.pool.Pool.{Pool}
 use Rattle.pool_state.specs.Table.{may_refuse, number_of}
 use Rattle.pool_state.specs.Shown.{Shown, reply_after}
@@ -263,6 +265,11 @@ pub record StreamRows : Type 0 where
       ∷ (Note 1 x, reply.Done) ∷ (HangUp first, reply.Count 1) ∷ (Block first, reply.Count 0)
       ∷ (Disallow first, reply.Count 0) ∷ [])
       (listing 7 (naming (row 1 Listener phase.Closing (Some first)) x ∷ []) (first ∷ []) [])
+  -- a connection may go at any time: live, and with streams that aren't done
+  pub gone_while_busy : Play wide
+      ((Accept, reply.Conn 1) ∷ (Settle 1 first, reply.Done) ∷ (Note 1 x, reply.Done) ∷ (Ask 1 0, reply.Done)
+      ∷ (Gone 1, reply.Done) ∷ (Note 1 x, refused NoConn) ∷ [])
+      (listing 6 [] [] [])
 
 -- The lists of peers: in the order in which their blocks or allowances began, each once
 pub record ListRows : Type 0 where
@@ -499,6 +506,10 @@ pub record AddedRows : Type 0 where
   pub no_such_protocol : more_at (5 ∷ 6 ∷ 7 ∷ []) 3 ≡ 5 ∷ 6 ∷ 7 ∷ []
   pub stays_closing : row_after (Settle 1 second) reply.Done (row 1 Listener phase.Closing (Some first))
       ≡ row 1 Listener phase.Closing (Some second)
+  -- of a row that has an agent and streams a Settle changes the phase and the peer alone
+  pub settles_alone : row_after (Settle 2 first) reply.Done
+      (counting (naming (row 2 Listener phase.Pending None) x) (3 ∷ 4 ∷ 5 ∷ []) (0 ∷ 1 ∷ 2 ∷ []))
+      ≡ counting (naming (row 2 Listener phase.Live (Some first)) x) (3 ∷ 4 ∷ 5 ∷ []) (0 ∷ 1 ∷ 2 ∷ [])
   pub of_another_number : row_after (Ask 65538 0) reply.Done living ≡ living
   pub of_the_same_low_byte : row_after (Ask 258 0) reply.Done living ≡ living
   pub refused_ask : row_after (Ask 1 0) (refused Full) (row 1 Listener phase.Live None)
@@ -512,9 +523,40 @@ pub record AddedRows : Type 0 where
       ≡ row 1 Listener phase.Closing (Some first)
   pub unblocks_any : Becomes (Unblock third) (reply.Count 0) (dialing ∷ living ∷ []) [] (second ∷ [])
   pub allows_any : Becomes (Allow first) (reply.Count 0) (dialing ∷ living ∷ []) (third ∷ []) (second ∷ first ∷ [])
+  -- a call with a reply that isn't its own changes nothing
+  pub other_replies : AllByRecursion
+      (λ (step : Call × Reply). Becomes step.0 step.1 (dialing ∷ living ∷ []) (third ∷ []) (second ∷ []))
+      ((Dial None, refused Full) ∷ (Dial None, reply.Done) ∷ (Accept, refused Full) ∷ (Accept, reply.Count 3)
+      ∷ (Settle 1 first, refused Blocked) ∷ (Settle 1 first, reply.Count 1) ∷ (Done 2 0, refused NothingAsked)
+      ∷ (Done 2 0, reply.Count 1) ∷ (Ask 2 0, reply.Count 1) ∷ (Note 2 x, refused NotLive) ∷ (Note 2 x, reply.Count 1)
+      ∷ (Gone 1, refused NoConn) ∷ (Gone 1, reply.Count 1) ∷ (HangUp first, refused SelfPeer)
+      ∷ (HangUp first, reply.Done) ∷ (Block first, refused BlockFull) ∷ (Block first, reply.Done)
+      ∷ (Unblock third, refused SelfPeer) ∷ (Unblock third, reply.Done) ∷ (Allow first, refused AllowFull)
+      ∷ (Allow first, reply.Done) ∷ (Disallow second, refused SelfPeer) ∷ (Disallow second, reply.Done) ∷ [])
   pub each_of_its_number : rows_after (Ask 1 2) reply.Done (twins Dialer Listener (0 ∷ 0 ∷ 0 ∷ []))
       ≡ twins Dialer Listener (0 ∷ 0 ∷ 1 ∷ [])
   pub all_of_its_number : rows_after (Gone 1) reply.Done (twins Dialer Listener (0 ∷ 0 ∷ 0 ∷ [])) ≡ []
+
+-- Listings that don't keep to the limits: each is past one of them alone, or has a row that breaks a promise, or rows
+-- that don't rise. And which peers some entries leave
+pub record BoundedRows : Type 0 where
+  pub connection_more : ¬ IsBounded wide (listing 0
+      (rows 200 Listener None ++ map (λ n. row n Dialer phase.Pending None) (range_with_len 201 57)) [] [])
+  pub accepted_more : ¬ IsBounded narrow (listing 0 (rows 3 Listener None) [] [])
+  pub dialed_more : ¬ IsBounded narrow (listing 0 (rows 2 Dialer None) [] [])
+  pub more_of_a_peer : ¬ IsBounded narrow (listing 0 (dialing ∷ row 2 Listener phase.Live (Some first) ∷ []) [] [])
+  pub more_done_than_asked : ¬ IsBounded narrow (listing 0 (busy (0 ∷ 0 ∷ 0 ∷ []) (0 ∷ 0 ∷ 1 ∷ [])) [] [])
+  pub stream_more : ¬ IsBounded narrow (listing 0 (busy (1 ∷ 0 ∷ 1 ∷ []) (0 ∷ 0 ∷ 0 ∷ [])) [] [])
+  pub blocked_more : ¬ IsBounded narrow (listing 0 [] (crowd 2) [])
+  pub allowed_more : ¬ IsBounded narrow (listing 0 [] [] (crowd 2))
+  pub pending_though_blocked : ¬ IsBounded narrow (listing 0 (dialing ∷ []) (first ∷ []) [])
+  pub pending_though_not_allowed : ¬ IsBounded guarded (listing 0 (dialing ∷ []) [] [])
+  pub number_twice : ¬ IsBounded wide (listing 0 (twins Dialer Listener (0 ∷ 0 ∷ 0 ∷ [])) [] [])
+  pub falling : ¬ IsBounded wide (listing 0 (living ∷ dialing ∷ []) [] [])
+  pub left : is_left unblocks (history_of ((Block first, reply.Count 0) ∷ (Unblock second, reply.Count 1) ∷ []))
+      first ≡ true
+  pub not_left : is_left unblocks (history_of ((Block first, reply.Count 0) ∷ (Unblock first, reply.Count 1) ∷ []))
+      first ≡ false
 
 -- The name of an agent: from 1 to 64 bytes, each from the space to the tilde
 pub record AgentRows : Type 0 where

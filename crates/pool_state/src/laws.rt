@@ -14,7 +14,7 @@ ghost use Rattle.pool_state.specs.Shown.{Shown, IsLegal, ShowsHistory, reply_aft
 ghost use Rattle.pool_state.specs.Added.{added};
 ghost use Rattle.pool_state.specs.Bounded.{IsBounded, refusal_numbers};
 ghost use Rattle.pool_state.specs.Ordered.{IsEachOnce, KeepsOrder};
-ghost use Rattle.pool_state.specs.Rows.{AddedRows, AgentRows, ConnectionRows, LimitRows, ListRows};
+ghost use Rattle.pool_state.specs.Rows.{AddedRows, AgentRows, BoundedRows, ConnectionRows, LimitRows, ListRows};
 ghost use Rattle.pool_state.specs.Rows.{NumberRows, PoolRows, RangeRows, RefusalRows, StreamRows};
 
 /// What a legal history shows keeps to the limits.
@@ -80,6 +80,7 @@ pub fn worked_rows()
     ensures limits { LimitRows }
     ensures ranges { RangeRows }
     ensures added { AddedRows }
+    ensures bounded { BoundedRows }
     ensures agents { AgentRows }
     ensures numbers { NumberRows }
     ensures pools { PoolRows }

@@ -1,9 +1,10 @@
 -- The worked rows of streams.
-use Rattle.std.proofs.Common.{◌≡◌, ◌⊎◌, ℕ, ◌<◌, true, false, List, [], ◌∷◌, ◌++◌, length, Option, Some, None, Result, Ok, refl, sym, ap, ◌∙◌, subst, append_assoc, inl, inr, arith}
+use Rattle.std.proofs.Common.{◌≡◌, ◌≢◌, ◌⊎◌, ℕ, ◌<◌, true, false, List, [], ◌∷◌, ◌++◌, length, take, Option, Some, None, Result, Ok, refl, sym, ap, ◌∙◌, subst, append_assoc, inl, inr, arith}
 use Rattle.std.proofs.lemmas.List.{append-nil, length-append, nil_from_length}
 use Rattle.ms_select.specs.declared.answer.Answer.{Answer}
 use Rattle.ms_select.specs.declared.answer.Answer.TheVariants.{Going}
 use Rattle.ms_select.specs.declared.fault.SelectFault.{SelectFault}
+use Rattle.ms_select.specs.declared.fault.SelectFault.TheVariants as select_faults
 use Rattle.ms_select.specs.Messages.{header, spelled}
 use Rattle.ms_select.specs.Rows.{x, header_bytes, x_bytes, y_bytes, na_bytes}
 use Rattle.handlers.specs.Calls.{HandlerCall, Take, Give, End, Arises, EndsAs, taken, given}
@@ -12,10 +13,14 @@ use Rattle.talks.specs.Talks.{Talks, Agrees}
 use Rattle.talks.specs.Rows.{asks, answers, question, z_bytes}
 use Rattle.talks.proofs.Outcomes.{asked_all}
 use Rattle.talks.proofs.Rows.{ask_rows, answer_rows}
+use Rattle.streams.specs.declared.stop.Cause.TheVariants.{Select, Handler}
+use Rattle.streams.specs.declared.stop.Stop.{Stop}
+use Rattle.streams.specs.declared.stop.Stop.TheVariants.{Broken}
+use Rattle.streams.specs.Stops.{of_select}
 use Rattle.streams.specs.Handled.{AskedLast}
 use Rattle.streams.specs.Streams.{Past, HasAgreed, IsEarly, IsServed, IsDone, fresh}
 use Rattle.streams.specs.Hearing.{HasNoRoom}
-use Rattle.streams.specs.Rows.{StageRows, AskedRows, HearsRows, EarlyRows, RoomRows, StreamRows, came, calls, served_past, done_past}
+use Rattle.streams.specs.Rows.{StageRows, AskedRows, HearsRows, EarlyRows, RoomRows, StopRows, StreamRows, came, calls, served_past, done_past}
 use Rattle.streams.proofs.Deciding.{one_talk, one_split}
 
 -- ---- where a stream is
@@ -47,6 +52,34 @@ stage_rows = record {
   talking_awaits_none = λ talk. refl;
   was_done = (refl, refl, refl, refl);
   talking_was_not_done = λ talk. refl;
+  kinds = (refl, refl, refl, refl);
+  talking_kind = λ talk handler. refl;
+}
+
+own_fault : (fault : SelectFault) → fault ≢ select_faults.OutOfMemory → of_select fault ≡ Broken (Select fault)
+own_fault select_faults.OutOfMemory other = absurd (other refl)
+own_fault select_faults.Failed other = refl
+own_fault select_faults.BadLength other = refl
+own_fault select_faults.NoNewline other = refl
+own_fault select_faults.BadHeader other = refl
+own_fault select_faults.NotProposed other = refl
+
+number_in : Stop → ℕ
+number_in (Broken (Handler fault)) = fault.number
+number_in other = 0
+
+pub stop_rows : StopRows
+unfolding number_in
+stop_rows = record {
+  out_of_turn = refl;
+  memory = refl;
+  fault = own_fault;
+  handler = λ n. (
+    λ h. let same : n ≡ h.0.number = ap number_in h.1 in same ∙ h.2.1,
+    λ e. (record { number = n }, refl, (refl, e)),
+  );
+  asked_else = λ stop h. absurd (cc h.2.0);
+  another_stop = λ h. absurd (cc h.1);
 }
 
 -- ---- the last call
@@ -205,6 +238,10 @@ nothing_written r =
     let behind = writes_all r.front (r.output ++ r.more) r.standing r.talks in
     r.some (nil_from_length r.more (omega (arith, before, behind, length-append r.output r.more)))
 
+-- whatever comes, that end has written its question
+wrote_question : (input output : List ℕ) → Talks asks input (Ok Going) output → output ≡ question
+wrote_question input output t = asked_all x 2 input (Ok Going) output t ∙ sym (asked_all x 2 [] (Ok Going) question ask_rows.at_once)
+
 pub room_rows : RoomRows
 room_rows = record {
   refusal = record {
@@ -221,6 +258,12 @@ room_rows = record {
   };
   nothing_waits = λ r. r.waits refl;
   nothing_written = nothing_written;
+  to_the_talk = λ now. (
+    λ r.
+        let wrote : r.output ≡ question = wrote_question (header_bytes ++ take r.runs_out.n (3 ∷ 47 ∷ [])) r.output r.runs_out.before in
+        r.sent_is ∙ ap (λ (t : List ℕ). t ++ r.gave) wrote ∙ ap (λ (t : List ℕ). question ++ t) r.early.2,
+    λ is. record { output = question; gave = []; runs_out = ask_rows.memory; early = (refl, refl, refl); sent_is = is },
+  );
 }
 
 room_in : Option HandlerCall → ℕ

@@ -1,22 +1,27 @@
 -- Worked rows of streams (multistream-select 1.0; that a handler is asked with a room is this project's profile): of a
 -- stream that asks for x, which has the index 2, and of one that answers with x and y.
-use Rattle.std.specs.Prelude.{◌≡◌, ◌↔◌, ℕ, ◌==◌, Bool, true, false, List, [], ◌∷◌, ◌++◌, Option, Some, None, Ok, Err}
-use Rattle.ms_select.specs.declared.fault.SelectFault.TheVariants.{NotProposed}
+use Rattle.std.specs.Prelude.{◌≡◌, ◌≢◌, ◌↔◌, ℕ, ◌==◌, Bool, true, false, List, [], ◌∷◌, ◌++◌, Option, Some, None}
+use Rattle.std.specs.Prelude.{Ok, Err}
+use Rattle.ms_select.specs.declared.fault.SelectFault.{SelectFault}
+use Rattle.ms_select.specs.declared.fault.SelectFault.TheVariants.{Failed, NotProposed}
+use Rattle.ms_select.specs.declared.fault.SelectFault.TheVariants as select_faults
 use Rattle.ms_select.specs.Rows.{header_bytes, x_bytes, y_bytes, na_bytes}
-use Rattle.handlers.specs.Calls.{HandlerCall, Take, Give, End}
+use Rattle.handlers.specs.Calls.{HandlerCall, Take, Give, End, Asked, ToGive, ToEnd}
 use Rattle.handlers.specs.Rows.{Noting}
 use Rattle.talks.specs.Rows.{asks, answers, question, z_bytes}
 use Rattle.talks.specs.State.{Talking}
 use Rattle.streams.specs.declared.heard.Heard.TheVariants.{Going, Agreed, Refused}
 use Rattle.streams.specs.declared.stage.Stage.{Stage}
 use Rattle.streams.specs.declared.stage.Stage.TheVariants as stages
-use Rattle.streams.specs.declared.stop.Cause.TheVariants.{Select}
-use Rattle.streams.specs.declared.stop.Stop.TheVariants.{Broken}
+use Rattle.streams.specs.declared.stop.Cause.TheVariants.{Select, Handler}
+use Rattle.streams.specs.declared.stop.Stop.{Stop}
+use Rattle.streams.specs.declared.stop.Stop.TheVariants.{Broken, OutOfMemory}
+use Rattle.streams.specs.Stops.{of_select, not_now, FailsBy}
 use Rattle.streams.specs.Handled.{AskedLast, Handled}
 use Rattle.streams.specs.Streams.{Past, IsEarly, IsServed, IsDone, fresh}
 use Rattle.streams.specs.State.{is_talking, awaits_handler, handler_of, is_open, has_closed, has_finished}
-use Rattle.streams.specs.State.{was_handed_out}
-use Rattle.streams.specs.Hearing.{Hears, HasNoRoom}
+use Rattle.streams.specs.State.{was_handed_out, kind_of, InTalk, Awaiting, Served, HandedOut, Ended}
+use Rattle.streams.specs.Hearing.{Hears, HasNoRoom, HasRunOut}
 
 -- the stages of a stream whose handlers are numbers, and one of which is closed or finished where it is 0
 abbrev pub is_0 : ℕ → Bool
@@ -72,6 +77,10 @@ pub record StageRows : Type 0 where
   pub was_done : (was_handed_out handed_out ≡ true) × (was_handed_out (serving 0) ≡ false)
       × (was_handed_out awaiting ≡ false) × (was_handed_out over ≡ false)
   pub talking_was_not_done : (talk : Talking) → was_handed_out (talking talk (Some 0)) ≡ false
+  -- each place is of its own kind, whatever is held there
+  pub kinds : (kind_of (serving 7) ≡ Served) × (kind_of awaiting ≡ Awaiting) × (kind_of handed_out ≡ HandedOut)
+      × (kind_of over ≡ Ended)
+  pub talking_kind : (talk : Talking) (handler : Option ℕ) → kind_of (talking talk handler) ≡ InTalk
 
 -- the last call was a give, and it left what its room had more than it gave
 pub record AskedRows : Type 0 where
@@ -102,6 +111,23 @@ pub record RoomRows : Type 0 where
   pub refusal : HasNoRoom answers [] (header_bytes ++ z_bytes) header_bytes
   pub nothing_waits : ¬ HasNoRoom answers [] (header_bytes ++ z_bytes) []
   pub nothing_written : ¬ HasNoRoom asks [] header_bytes question
+  -- where memory is refused to the talk, all that it wrote waits, and nothing else
+  pub to_the_talk : (now : List ℕ) → HasRunOut Noting (record (fresh asks None) { got = header_bytes }) None
+      (3 ∷ 47 ∷ []) now ↔ (now ≡ question)
+
+-- fails by 3 where the end is said, and nowhere else
+abbrev pub fails_by_3 : ℕ → Asked → ℕ → Type 0
+fails_by_3 handler asked n = (asked ≡ ToEnd) × (n ≡ 3)
+
+-- Why a stream stops: out of turn by Failed; and a fault of its talk is its own, but for want of memory
+pub record StopRows : Type 0 where
+  pub out_of_turn : not_now ≡ Broken (Select Failed)
+  pub memory : of_select select_faults.OutOfMemory ≡ OutOfMemory
+  pub fault : (fault : SelectFault) → fault ≢ select_faults.OutOfMemory → of_select fault ≡ Broken (Select fault)
+  -- a handler that fails by 3 where the end is said to it
+  pub handler : (n : ℕ) → FailsBy fails_by_3 0 ToEnd (Broken (Handler (record { number = n }))) ↔ (n ≡ 3)
+  pub asked_else : (stop : Stop) → ¬ FailsBy fails_by_3 0 (ToGive 1) stop
+  pub another_stop : ¬ FailsBy fails_by_3 0 ToEnd OutOfMemory
 
 -- a stream that answers with y: behind the talk came 1 and 2
 abbrev pub came : List ℕ

@@ -2,7 +2,7 @@
 
 ghost use Rattle.streams.specs.Streams.{Past};
 ghost use Rattle.streams.specs.Laws.{OneAnswer, AnswerStays, CutAnywhere, OneSplit};
-ghost use Rattle.streams.specs.Rows.{StageRows, AskedRows, HearsRows, EarlyRows, RoomRows, StreamRows};
+ghost use Rattle.streams.specs.Rows.{StageRows, AskedRows, HearsRows, EarlyRows, RoomRows, StopRows, StreamRows};
 
 use handlers::Handler;
 
@@ -13,6 +13,7 @@ pub fn worked_rows()
     ensures hears { HearsRows }
     ensures early { EarlyRows }
     ensures room { RoomRows }
+    ensures stops { StopRows }
     ensures streams { StreamRows }
 {}
 

@@ -1,10 +1,11 @@
 -- Worked rows, computed by the definitions.
-use Rattle.std.proofs.Common.{◌≡◌, ◌≤◌, ◌<◌, ◌==◌, ◌∷◌, ◌++◌, ℕ, zero, suc, true, false, List, [], length, refl, sym, ap, inl, inr, arith, length-append, ◌∙◌}
+use Rattle.std.proofs.Common.{◌≡◌, ◌≢◌, ◌≤◌, ◌<◌, ◌==◌, ◌∷◌, ◌++◌, ℕ, zero, suc, true, false, List, [], length, refl, sym, ap, inl, inr, arith, length-append, ◌∙◌}
 use Rattle.std.specs.List.{list_any}
 use Rattle.std.proofs.lemmas.List.Elements.{All-cons, All-nil, All-head, All-tail}
 use mathlib.Core.List.{IsPrefix}
 use Rattle.pool_state.specs.declared.call.Call.TheVariants.{Accept}
-use Rattle.pool_state.specs.declared.call.Reply.TheVariants.{Conn, Refused}
+use Rattle.pool_state.specs.declared.call.Reply.TheVariants.{Conn, Count, Done, Refused}
+use Rattle.pool_state.specs.declared.call.Refusal.{Refusal}
 use Rattle.pool_state.specs.declared.call.Refusal.TheVariants.{Spent, OutOfMemory, Full}
 use Rattle.pool_state.specs.History.{Entry, entry}
 use Rattle.pool_state.specs.Shown.{IsLegal}
@@ -42,6 +43,18 @@ answered : ¬ IsTurnedAway (Conn 1)
 answered (inl e) = absurd (cc e)
 answered (inr e) = absurd (cc e)
 
+done : ¬ IsTurnedAway Done
+done (inl e) = absurd (cc e)
+done (inr e) = absurd (cc e)
+
+counted : (n : ℕ) → ¬ IsTurnedAway (Count n)
+counted n (inl e) = absurd (cc e)
+counted n (inr e) = absurd (cc e)
+
+other_refusals : (why : Refusal) → why ≢ Spent → why ≢ OutOfMemory → ¬ IsTurnedAway (Refused why)
+other_refusals why a b (inl e) = a (cc e)
+other_refusals why a b (inr e) = b (cc e)
+
 pub caller_rows : CallerRows
 caller_rows = record {
   calls_of_one = refl;
@@ -59,6 +72,9 @@ caller_rows = record {
   no_memory = inr refl;
   refused = refused;
   answered = answered;
+  done = done;
+  counted = counted;
+  other_refusals = other_refusals;
 }
 
 legal_two : IsLegal wide (one ∷ two ∷ [])

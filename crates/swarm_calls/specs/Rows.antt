@@ -1,8 +1,9 @@
 -- Worked rows of a shared swarm's histories: whose calls they have, and what a caller has seen of them.
 -- Source: This project's profile of a swarm that threads share.
-use Rattle.std.specs.Prelude.{◌≡◌, [], ◌∷◌, None}
+use Rattle.std.specs.Prelude.{◌≡◌, ◌≢◌, ℕ, [], ◌∷◌, None}
 use Rattle.pool_state.specs.declared.call.Call.TheVariants.{Dial, Accept, Block}
-use Rattle.pool_state.specs.declared.call.Reply.TheVariants.{Conn, Count, Refused}
+use Rattle.pool_state.specs.declared.call.Reply.TheVariants.{Conn, Count, Done, Refused}
+use Rattle.pool_state.specs.declared.call.Refusal.{Refusal}
 use Rattle.pool_state.specs.declared.call.Refusal.TheVariants.{Spent, OutOfMemory, Full}
 use Rattle.pool_state.specs.History.{Entry, entry}
 use Rattle.pool_state.specs.Rows.{wide, ending}
@@ -40,6 +41,10 @@ pub record CallerRows : Type 0 where
   pub no_memory : IsTurnedAway (Refused OutOfMemory)
   pub refused : ¬ IsTurnedAway (Refused Full)
   pub answered : ¬ IsTurnedAway (Conn 1)
+  pub done : ¬ IsTurnedAway Done
+  pub counted : (n : ℕ) → ¬ IsTurnedAway (Count n)
+  -- a call that is refused for any other reason is made
+  pub other_refusals : (why : Refusal) → why ≢ Spent → why ≢ OutOfMemory → ¬ IsTurnedAway (Refused why)
 
 -- What a caller sees later, and what its call has done then
 pub record SeenRows : Type 0 where

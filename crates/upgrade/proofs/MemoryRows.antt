@@ -1,10 +1,12 @@
 -- Where memory is refused, at worked bytes.
-use Rattle.std.proofs.Common.{◌≡◌, ◌≢◌, ◌⊎◌, ℕ, ◌<◌, ◌≤◌, List, [], ◌∷◌, ◌++◌, length, Option, Some, None, Result, Ok, refl, sym, ap, ◌∙◌, subst, append_assoc, inl, inr, arith, lit<}
+use Rattle.std.proofs.Common.{◌≡◌, ◌≢◌, ◌⊎◌, ℕ, ◌<◌, ◌≤◌, List, [], ◌∷◌, ◌++◌, length, Option, Some, None, Result, Ok, Err, refl, sym, ap, ◌∙◌, subst, append_assoc, inl, inr, arith, lit<}
 use Rattle.std.proofs.lemmas.List.{append-nil, length-append, nil_from_length}
 use Rattle.varint_proto.specs.Varint.{BeginsShortest, shortest, shortest_within}
 use Rattle.varint_proto.proofs.Lists.{same_parts}
 use Rattle.peer_ids.specs.Key.{Key}
-use Rattle.ms_select.specs.declared.answer.Answer.TheVariants.{Going, Agreed}
+use Rattle.ms_select.specs.declared.answer.Answer.{Answer}
+use Rattle.ms_select.specs.declared.answer.Answer.TheVariants.{Going, Agreed, NoneLeft as NoneIsLeft}
+use Rattle.ms_select.specs.declared.fault.SelectFault.{SelectFault}
 use Rattle.ms_select.specs.Messages.{header, na, message, spelled}
 use Rattle.ms_select.specs.Rows.{x}
 use Rattle.ms_select.proofs.Rows.{text_asks_nothing}
@@ -18,10 +20,12 @@ use Rattle.talks.specs.Talks.{Talks, RunsOut as TalkRunsOut}
 use Rattle.talks.proofs.Outcomes.{asked_all, one_outcome as one_talk}
 use Rattle.upgrade.specs.declared.role.ConnRole.TheVariants.{Dialer}
 use Rattle.upgrade.specs.declared.fault.UpgradeFault.{UpgradeFault}
+use Rattle.upgrade.specs.declared.fault.UpgradeFault.TheVariants as fault
 use Rattle.upgrade.specs.Upgrades.{
   InFirstTalk,
   InExchange,
   InSecondTalk,
+  InTalk,
   Upgrades,
   HasNoRoom,
   BeginsNoPart,
@@ -126,6 +130,33 @@ second_wrote : (input piece written : List ℕ) → SecondTalkRunsOut Dialer own
 second_wrote input piece written r =
     let talk = asked_all yamux 0 _ (Ok Going) r.talk r.runs_out.before in
     r.written_is ∙ ap (λ (t : List ℕ). t ++ r.talk) (exchange_wrote r.before.before r.before.written_before (Ok (Some r.key)) r.before.proven) ∙ ap (λ (t : List ℕ). sent ++ t) talk
+
+-- a dialer has written one of three things, whatever it comes to
+abbrev Wrote : List ℕ → Type 0
+Wrote written = (written ≡ hello) ⊎ ((written ≡ sent) ⊎ (written ≡ sent ++ mux))
+
+talk_wrote : (input written : List ℕ) (standing : Result Answer SelectFault) → InTalk Dialer own input standing written → Wrote written
+talk_wrote input written standing (inl t) = inl (asked_all plaintext 0 input standing written t)
+talk_wrote input written standing (inr s) =
+    let talk = asked_all yamux 0 s.1.second standing s.1.talk s.1.talks in
+    inr (inr (s.1.written_is ∙ ap (λ (t : List ℕ). t ++ s.1.talk) (exchange_wrote s.1.before s.1.written_before (Ok (Some s.0)) s.1.proven) ∙ ap (λ (t : List ℕ). sent ++ t) talk))
+
+dialer_wrote : (input written : List ℕ) (outcome : Result (Option Key) UpgradeFault) → Upgrades Dialer own input outcome written → Wrote written
+dialer_wrote input written (Ok None) (inl t) = talk_wrote input written (Ok Going) t
+dialer_wrote input written (Ok None) (inr e) = inr (inl (exchange_wrote input written (Ok None) e))
+dialer_wrote input written (Ok (Some key)) u = talk_wrote input written (Ok (Agreed u.0)) (inr (key, u.1))
+dialer_wrote input written (Err (fault.Select f)) t = talk_wrote input written (Err f) t
+dialer_wrote input written (Err fault.NoneLeft) u = talk_wrote u.0 written (Ok NoneIsLeft) u.3
+dialer_wrote input written (Err (fault.Exchange f)) u = inr (inl (exchange_wrote input written (Err f) u.1))
+dialer_wrote input written (Err fault.Failed) u = absurd u
+dialer_wrote input written (Err fault.OutOfMemory) u = absurd u
+
+kept_of : (input piece kept : List ℕ) → RunsOut Dialer own input piece [] kept → Wrote kept
+kept_of input piece kept (inl r) = absurd (r.waits refl)
+kept_of input piece kept (inr (inl r)) = elim r.before [ inl b ↦ inl (said_first (input ++ r.front) kept b.0 b.1) | inr b ↦ inr (inl (exchange_wrote (input ++ r.front) kept (Ok (Some b.0)) b.1)) ]
+kept_of input piece kept (inr (inr (inl r))) = inl (first_wrote input piece kept r)
+kept_of input piece kept (inr (inr (inr (inl r)))) = inr (inl (exchange_wrote (input ++ r.front) kept (Ok None) r.before))
+kept_of input piece kept (inr (inr (inr (inr r)))) = inr (inr (second_wrote input piece kept r))
 
 hello_not_sent : hello ≢ sent
 hello_not_sent e = some_message own (no_more hello (message_of own) e)
@@ -284,6 +315,7 @@ memory_rows = record {
     runs_out = record { n = 0; within = lit< tt; before = opens Dialer yamux; behind = mux_goes [] (lit< tt); ends = ([], 19 ∷ [], 19, refl, one_byte 19 [] (omega arith)) };
     written_is = refl;
   }))));
+  kept = kept_of;
   nothing_asked = nothing_more [] hello (inl (inl (opens Dialer plaintext)));
   text = no_text;
   in_message = no_message_byte;
@@ -312,4 +344,5 @@ room_rows = record {
   nothing_waits = λ r. r.waits refl;
   nothing_written = has_room [] [] hello
       (λ front rest e. subst (λ (t : List ℕ). Upgrades Dialer own t (Ok None) hello) (sym (nothing_in front rest e).0) (inl (inl (opens Dialer plaintext)))) hello;
+  kept_and_lost = λ input piece waiting kept r. dialer_wrote (input ++ r.front) (kept ++ r.lost) r.outcome r.upgrades;
 }

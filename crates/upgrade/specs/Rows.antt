@@ -1,6 +1,6 @@
 -- Worked rows of an upgrade (multistream-select 1.0; plaintext 2.0.0; the order of its parts is this project's
 -- profile): of an end that opened the connection and of one that took it, each with a key of one byte.
-use Rattle.std.specs.Prelude.{◌≡◌, ◌≢◌, ℕ, List, [], ◌∷◌, ◌++◌, codes, Some, None, Ok, Err}
+use Rattle.std.specs.Prelude.{◌≡◌, ◌≢◌, ◌⊎◌, ℕ, List, [], ◌∷◌, ◌++◌, codes, Some, None, Ok, Err}
 use Rattle.peer_ids.specs.Key.{Key}
 use Rattle.peer_ids.specs.declared.kind.KeyType.TheVariants.{Secp256k1}
 use Rattle.ms_select.specs.declared.fault.SelectFault.TheVariants.{BadHeader}
@@ -88,6 +88,9 @@ pub record MemoryRows : Type 0 where
   pub key_of_message : RunsOut Dialer own (hello ++ 16 ∷ id_field) key_field [] sent
   pub second_talk : RunsOut Dialer own hello (message_of other) [] sent
   pub length_in_second_talk : RunsOut Dialer own come (19 ∷ []) [] (sent ++ mux)
+  -- what is kept is all that was written by then
+  pub kept : (input piece kept : List ℕ) → RunsOut Dialer own input piece [] kept
+      → (kept ≡ hello) ⊎ ((kept ≡ sent) ⊎ (kept ≡ sent ++ mux))
   -- with the whole output kept, no memory is asked for before a byte has come, whatever waits
   pub nothing_asked : (waiting : List ℕ) → ¬ RunsOut Dialer own [] [] waiting hello
   -- nor by a byte of a text, or of a message
@@ -103,6 +106,9 @@ pub record RoomRows : Type 0 where
   pub refusal : HasNoRoom Listener own [] (spelled (header ∷ x ∷ [])) (spelled (header ∷ [])) (spelled (header ∷ []))
   pub nothing_waits : ¬ HasNoRoom Listener own [] (spelled (header ∷ x ∷ [])) [] (spelled (header ∷ []))
   pub nothing_written : ¬ HasNoRoom Dialer own [] [] hello hello
+  -- what is kept and what is lost are all that was written by then
+  pub kept_and_lost : (input piece waiting kept : List ℕ) (r : HasNoRoom Dialer own input piece waiting kept)
+      → (kept ++ r.lost ≡ hello) ⊎ ((kept ++ r.lost ≡ sent) ⊎ (kept ++ r.lost ≡ sent ++ mux))
 
 -- output that grows: at its end alone, and by nothing too
 pub record GrowthRows : Type 0 where

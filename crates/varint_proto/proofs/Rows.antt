@@ -1,12 +1,12 @@
 -- The definitions at worked bytes.
-use Rattle.std.proofs.Common.{◌≡◌, ℕ, zero, suc, ◌+◌, ◌-◌, ◌%◌, ◌^◌, ◌<◌, ◌≤◌, List, [], ◌∷◌, ◌++◌, replicate, take, get_or, refl, sym, ◌∙◌, ap, subst, length, inl, inr, arith}
+use Rattle.std.proofs.Common.{◌≡◌, ℕ, zero, suc, ◌+◌, ◌-◌, ◌%◌, ◌^◌, ◌<◌, ◌≤◌, List, [], ◌∷◌, ◌++◌, None, replicate, take, get_or, refl, sym, ◌∙◌, ap, subst, length, inl, inr, arith}
 use Rattle.std.proofs.lemmas.List.{length-replicate, append-nil}
 use Rattle.varint_proto.specs.declared.fault.WireFault.TheVariants.{TooLong, NotShortest, BadWire}
 use Rattle.varint_proto.specs.Varint.{IsSpelling, IsUnended, BeginsWide, BeginsShortest, shortest, shortest_within}
-use Rattle.varint_proto.specs.Message.{entry, Varint, IsTag, ValueFault, FieldFault}
-use Rattle.varint_proto.specs.Incoming.{AsksMemory}
+use Rattle.varint_proto.specs.Message.{Entry, entry, Varint, IsTag, ValueFault, FieldFault}
+use Rattle.varint_proto.specs.Incoming.{AsksMemory, Stands}
 use Rattle.varint_proto.proofs.Front.{one_begins}
-use Rattle.varint_proto.specs.Rows.{VarintRows, WideRows, FieldRows, FieldFaultRows, FramedRows, RoomRows, StandRows, ViewRows}
+use Rattle.varint_proto.specs.Rows.{VarintRows, WideRows, FieldRows, FieldFaultRows, FramedRows, RoomRows, StandRows, ViewRows, arriving}
 
 pub varint_rows : VarintRows
 unfolding shortest shortest_within
@@ -199,8 +199,13 @@ room_rows = record {
   past_the_limit = λ r. limit_at r.0 r.1 r.3;
 }
 
+stands_first : Stands [] (arriving [] None [])
+stands_first = record { going = refl; holds = ((tt, omega arith), refl, refl) }
+
 pub stand_rows : StandRows
 stand_rows = record {
+  stands_somewhere = λ w. w [] stands_first;
+  stands_there_alone = λ input s. sym s.holds.1;
   at_first = record { going = refl; holds = ((tt, omega arith), refl, refl) };
   in_the_length = record { going = refl; holds = (((omega arith, tt), omega arith), refl, refl) };
   in_the_body = record { going = refl; holds = (record { begins = short_length 2 _ (omega arith); allowed = omega arith }, omega arith) };
@@ -218,6 +223,10 @@ stand_rows = record {
 pub view_rows : ViewRows
 view_rows = record {
   field = refl;
+  answered = refl;
+  another_answered = λ e. let numbers : 4 ≡ 3 = ap (λ (f : Entry). f.number) e in omega (arith, numbers);
+  none_answered = λ h. h;
+  refused = λ h. h;
   number = λ n. refl;
   eight = λ bytes. refl;
   body = λ body. refl;

@@ -6,10 +6,10 @@ use Rattle.varint_proto.specs.declared.fault.WireFault.TheVariants.{TooLong, Not
 use Rattle.varint_proto.specs.declared.fault.IncomingRefused.TheVariants as incoming
 use Rattle.varint_proto.specs.Varint.{ReadsShortest, BeginsWide, WideFault, shortest}
 use Rattle.varint_proto.specs.Message.{Entry, entry, Varint, Fixed64, Bytes, Fixed32, Begins, FieldFault}
-use Rattle.varint_proto.specs.Message.{IsMessage, IsWritable, content_of, entry_of}
+use Rattle.varint_proto.specs.Message.{IsMessage, IsWritable, IsField, content_of, entry_of}
 use Rattle.varint_proto.specs.declared.message.Value.TheVariants as values
 use Rattle.varint_proto.specs.Message.{FaultIn, all_varints, all_bodies, last_varint, last_body, shortest_field}
-use Rattle.varint_proto.specs.Incoming.{ReadsFramed, AsksMemory, RefusesRoom, Arriving, Stands, whole_at}
+use Rattle.varint_proto.specs.Incoming.{ReadsFramed, AsksMemory, RefusesRoom, Arriving, Stands, Whenever, whole_at}
 
 -- Varints of multiformats
 pub record VarintRows : Type 0 where
@@ -146,6 +146,8 @@ arriving spelling expected body = record {
 -- What is held of an input: nothing but the part of a length, or of a body as long as was announced at most
 pub record StandRows : Type 0 where
   pub at_first : Stands [] (arriving [] None [])
+  pub stands_somewhere : ¬ Whenever (arriving [] None []) (λ input. ⊥)
+  pub stands_there_alone : Whenever (arriving [] None []) (λ input. input ≡ [])
   pub in_the_length : Stands (172 ∷ []) (arriving (172 ∷ []) None [])
   pub in_the_body : Stands (2 ∷ 7 ∷ []) (arriving [] (Some 2) (7 ∷ []))
   pub whole : Stands (2 ∷ 7 ∷ 8 ∷ []) (arriving [] (Some 2) (7 ∷ 8 ∷ []))
@@ -159,6 +161,10 @@ pub record StandRows : Type 0 where
 -- What contracts see of a field, and of a body and what follows it
 pub record ViewRows : Type 0 where
   pub field : entry_of (record { number = 3; value = values.Varint 300 }) ≡ entry 3 (Varint 300)
+  pub answered : IsField (Ok (Some (record { number = 3; value = values.Varint 300 }))) (entry 3 (Varint 300))
+  pub another_answered : ¬ IsField (Ok (Some (record { number = 4; value = values.Varint 300 }))) (entry 3 (Varint 300))
+  pub none_answered : ¬ IsField (Ok None) (entry 3 (Varint 300))
+  pub refused : ¬ IsField (Err Cut) (entry 3 (Varint 300))
   pub number : (n : ℕ) → content_of (values.Varint n) ≡ Varint n
   pub eight : (bytes : List ℕ) → content_of (values.Fixed64 bytes) ≡ Fixed64 bytes
   pub body : (body : Bor (List ℕ)) → content_of (values.Bytes body) ≡ Bytes body.now

@@ -1,28 +1,37 @@
 -- Worked rows of sessions, computed by the definitions.
-use Rattle.std.proofs.Common.{◌≡◌, ◌<◌, ◌≤◌, ℕ, zero, suc, true, false, List, [], ◌∷◌, ◌++◌, Some, None, map, cond, nat_lt, inl, inr, refl, sym, ap, subst, ◌∙◌, arith}
-use Rattle.std.proofs.Common.{min, length, take, ◌⊎◌}
+use Rattle.std.proofs.Common.{◌≡◌, ◌<◌, ◌≤◌, ◌-◌, ℕ, zero, suc, Bool, true, false, ◌&&◌, not, List, [], ◌∷◌, ◌++◌, Option, Some, None, map, cond, nat_lt, inl, inr, refl, sym, ap, subst, ◌∙◌, arith}
+use Rattle.std.proofs.Common.{min, length, take, vec_len, ◌⊎◌}
+use Rattle.std.specs.Prelude.{filter}
 use Rattle.std.specs.List.{AllByRecursion, concat}
-use Rattle.yamux_frames.specs.declared.header.FrameKind.TheVariants.{Ping}
+use Rattle.std.proofs.lemmas.List.{append-nil}
+use Rattle.std.proofs.lemmas.Bool.{le-ltb}
+use Rattle.yamux_frames.specs.declared.header.Header.{Header}
+use Rattle.yamux_frames.specs.declared.header.FrameKind.TheVariants.{Ping, Window}
 use Rattle.yamux_frames.specs.declared.header.FrameFault.TheVariants.{BadVersion}
 use Rattle.yamux_frames.specs.Frames.{Arrival, Reads}
-use Rattle.yamux_frames.specs.Frames.Arrival.{Tail, Garbled}
+use Rattle.yamux_frames.specs.Frames.Arrival.{Head, Tail, Garbled}
 use Rattle.yamux_frames.proofs.Readings.{one_reading}
 use Rattle.yamux_session.specs.declared.event.Role.TheVariants.{Client, Server}
-use Rattle.yamux_session.specs.declared.event.Fault.TheVariants.{BadFrame}
+use Rattle.yamux_session.specs.declared.event.Fault.{Fault}
+use Rattle.yamux_session.specs.declared.event.Fault.TheVariants.{BadFrame, DuplicateStream}
 use Rattle.yamux_session.specs.declared.event.Event.{Event}
 use Rattle.yamux_session.specs.declared.event.Event.TheVariants as event
 use Rattle.yamux_session.specs.declared.event.ActRefused.TheVariants as refused
-use Rattle.yamux_session.specs.History.{Item, arrivals}
+use Rattle.yamux_session.specs.History.{Item, arrivals, is_ping, is_of_stream, is_remote}
 use Rattle.yamux_session.specs.History.Item.{Came, Did}
 use Rattle.yamux_session.specs.History.Act.{Start, Write, Close}
 use Rattle.yamux_session.specs.Acts.{next_own, own_count}
-use Rattle.yamux_session.specs.Events.{TellsMore}
-use Rattle.yamux_session.specs.Output.{SendsMore}
+use Rattle.yamux_session.specs.Openings.{contains, is_live, is_let_in, live, local_go_away, opens}
+use Rattle.yamux_session.specs.Windows.{accepted}
+use Rattle.yamux_session.specs.Faults.{or_else}
+use Rattle.yamux_session.specs.Events.{Told, TellsMore, when, events, events_unless}
+use Rattle.yamux_session.specs.Output.{SendsMore, answer_to, frame, output, output_unless}
 use Rattle.yamux_session.specs.Arrives.{HasData, tellings}
 use Rattle.yamux_session.specs.Runs.{Point, FedOn, GoesOn, Ends, IsCutOff, WritesOn}
 use Rattle.yamux_session.specs.Runs.Point.{At, Over}
-use Rattle.yamux_session.specs.Rows.{header, bare, two_bytes, all_written, ping_bytes, answer_bytes, garbled_bytes, leaving_bytes, ping_and_garbled, FeedRows, StandRows}
-use Rattle.yamux_session.specs.Rows.{OpeningRows, EarlyRows, LeavingRows, EndingRows, AnsweredRows, WindowRows, OtherRows, AnswerRows, FlagRows, NamingRows, FrameRows, GrowthRows, FirstFaultRows, RunRows}
+use Rattle.yamux_session.specs.Rows.{header, bare, two_bytes, all_written, ping_bytes, answer_bytes, garbled_bytes, leaving_bytes}
+use Rattle.yamux_session.specs.CallRows.{ping_and_garbled, FeedRows, RunRows, StandRows}
+use Rattle.yamux_session.specs.Rows.{OpeningRows, FullRows, SentRows, SameRows, EarlyRows, LeavingRows, EndingRows, AnsweredRows, WindowRows, OtherRows, AnswerRows, FlagRows, NamingRows, FrameRows, GrowthRows, FirstFaultRows}
 
 pub opening_rows : OpeningRows
 opening_rows = record {
@@ -81,6 +90,81 @@ opening_rows = record {
   reopened_with_too_much_data = refl;
   reopened_and_charged = refl;
   reopened_goes_on = refl;
+}
+
+-- ---- where 256 streams are live
+
+abbrev plain_syn : Header
+plain_syn = record { kind = Window; flags = 1; stream = 1; length = 0 }
+
+abbrev lets_in : List Item → Bool
+lets_in past = is_let_in Server (live Server past) (local_go_away past) plain_syn
+
+none_let_in : (past : List Item) → is_live Server past 1 ≡ false → length (filter (is_remote Server) (live Server past)) ≡ 256 → lets_in past ≡ false
+none_let_in past off full =
+    ap (λ c. (not c && nat_lt (length (filter (is_remote Server) (live Server past))) 256) && not (local_go_away past)) off
+    ∙ ap (λ n. nat_lt n 256 && not (local_go_away past)) full
+
+-- the fault of that SYN, by whether its stream is live and is let in
+abbrev syn_fault_by : Bool → Bool → Option Fault
+syn_fault_by is_there let_in = or_else (cond is_there (Some DuplicateStream) None) (cond (let_in && true) None None)
+
+-- and its events
+abbrev syn_events_by : List Item → Bool → List Told
+syn_events_by past let_in =
+    when (contains (cond let_in (1 ∷ []) []) 1) (Told.Opened 1)
+    ++ when ((((let_in && true) && false) && false) && not (accepted Server past 1)) (Told.Accepted 1)
+    ++ when (((let_in && true) && true) && false) (Told.Credit 1)
+
+pub full_rows : FullRows
+full_rows = record {
+  untold = λ past off full.
+      ap (λ c. events Server past ++ events_unless (syn_fault_by c (lets_in past)) (syn_events_by past (lets_in past))) off
+      ∙ ap (λ b. events Server past ++ events_unless (syn_fault_by false b) (syn_events_by past b)) (none_let_in past off full)
+      ∙ append-nil (events Server past);
+  answered = λ past off full.
+      ap (λ c. output Server past ++ output_unless (syn_fault_by c (lets_in past)) (answer_to plain_syn (contains (cond (lets_in past) (1 ∷ []) []) 1))) off
+      ∙ ap (λ b. output Server past ++ output_unless (syn_fault_by false b) (answer_to plain_syn (contains (cond b (1 ∷ []) []) 1))) (none_let_in past off full);
+  not_started = λ role past stays number full.
+      ap (λ b. cond b (Some refused.GoneAway) (cond (nat_lt 4294967295 (next_own role past)) (Some refused.StreamsExhausted) (cond (nat_lt 255 (own_count role past)) (Some refused.StreamsFull) None))) stays
+      ∙ ap (λ b. cond b (Some refused.StreamsExhausted) (cond (nat_lt 255 (own_count role past)) (Some refused.StreamsFull) None)) (le-ltb 4294967295 (next_own role past) (omega (arith, number)))
+      ∙ ap (λ n. cond (nat_lt 255 n) (Some refused.StreamsFull) None) full;
+}
+
+-- ---- what is sent
+
+-- the answer to a head, by whether it has SYN and whether it opens a stream
+abbrev answer_by : Header → Bool → Bool → List ℕ
+answer_by h has_syn opened =
+    cond (not has_syn) [] (cond (is_ping h.kind) (frame Ping 2 0 h.length) (cond (not (is_of_stream h)) [] (frame Window (cond opened 2 8) h.stream 0)))
+
+pub sent_rows : SentRows
+sent_rows = record {
+  started = λ role past. refl;
+  written = λ role past. refl;
+  closed = λ role past. refl;
+  reset = λ role past. refl;
+  left = λ role past. refl;
+  byte = λ role past b. append-nil (output role past);
+  tail = λ role past. append-nil (output role past);
+  without_syn = λ role past h plain good.
+      ap (λ f. output role past ++ output_unless f (answer_to h (opens role past (Came (Head h)) h.stream))) good
+      ∙ ap (λ s. output role past ++ answer_by h s (opens role past (Came (Head h)) h.stream)) plain
+      ∙ append-nil (output role past);
+  untold = λ role past act. append-nil (events role past);
+}
+
+pub same_rows : SameRows
+same_rows = record {
+  another_life = λ a. absurd (let e = a.live in cc e);
+  another_close = λ a. absurd (let e = a.closed in cc e);
+  other_data = λ a. absurd (let e = a.came in cc e);
+  other_data_sent = λ a. absurd (let e = a.sent in cc e);
+  end_unheard = λ a. absurd (let e = a.live_ended refl in cc e);
+  end_invented = λ a. absurd (let e = a.ended refl in cc e);
+  cut_otherwise = λ told said e f. ap tellings e ∙ sym (ap tellings f);
+  other_event = λ told said e f same. absurd (let g = sym (ap tellings e) ∙ same ∙ ap tellings f in cc g);
+  other_count = λ same. absurd (cc same);
 }
 
 pub early_rows : EarlyRows
@@ -290,6 +374,7 @@ answer_rows = record {
   gone_away_told = refl;
   gone_away_goes_on = refl;
   accepted_once = refl;
+  accepted_by_the_first = refl;
   its_own_not_accepted = refl;
   accepted_of_the_unknown = refl;
   data_of_its_own_unknown = refl;
@@ -328,6 +413,9 @@ flag_rows = record {
   accepted_behind_the_end = refl;
   accepted_and_ended = refl;
   accepted_and_reset = refl;
+  data_accepts_and_ends = refl;
+  data_accepts_and_resets = refl;
+  opened_and_reset_with_credit = refl;
   ended_with_credit = refl;
   credit_of_the_end = refl;
   reset_with_data_behind_the_end = refl;
@@ -340,6 +428,8 @@ flag_rows = record {
   live_behind_a_ping = refl;
   ping_ends_nothing = refl;
   ping_accepts_nothing = refl;
+  accepted_behind_a_ping = refl;
+  accepted_behind_late_data = refl;
   gone_away_resets_nothing = refl;
   live_behind_going_away = refl;
   gone_away_ends_nothing = refl;
@@ -442,6 +532,7 @@ other_bytes pieces bytes e whole are = absurd (let h : ◌≡◌ {A = List ℕ} 
 
 pub run_rows : RunRows
 run_rows = record {
+  sent = λ calls answers out it. it.2;
   started = ((refl, refl), refl);
   another_number = λ next a. let e : 3 ≡ 1 = a.0.1 in omega (arith, e);
   start_refused = (refl, refl);
@@ -456,6 +547,8 @@ run_rows = record {
   refused_and_closed = λ a. absurd (let e = a.1 in cc e);
   reset = (refl, refl);
   reset_refused = (refl, refl);
+  refused_stays = λ why next. ((λ a. a.1), ((λ a. a.2), ((λ a. a.1), ((λ a. a.1), ((λ a. a.1), tt)))));
+  refused_write_stays = λ bytes why next a. a.2;
   left = (omega arith, refl);
   leaving_for_want_of_memory = (refl, refl);
   leaving_refused = λ next a. absurd (let e = a.0 in cc e);
@@ -547,6 +640,9 @@ feed_rows = record {
   cut_off_at_once = λ bytes e. (refl, some_bytes bytes.items e, subst (λ (t : List ℕ). IsCutOff Server [] [] t (Over [])) (sym e) cut_off_before);
   nothing_fed = λ bytes next e a. let none : 0 < 0 = subst (λ (t : List ℕ). 0 < length t) e a.1 in omega arith;
   no_other_refusal = λ bytes next a. absurd (let e = a.0 in cc e);
+  no_empty_data = λ bytes told next e a. let filled : AllByRecursion HasData (event.Payload 1 [] ∷ []) = subst (λ (t : List Event). AllByRecursion HasData t) e a.1.filled in filled.0 refl;
+  ended = λ bytes now next it. it.next_is;
+  cut = λ bytes next it. (it.no_fault, it.next_is);
 }
 
 -- ---- where a session stands
@@ -558,6 +654,8 @@ stand_rows = record {
   unanswered = λ fed sent s stands. let e : 3 ≡ 1 = stands.answered.0.1 in omega (arith, e);
   not_fed = λ sent s stands. absurd (let e = stands.frames.reads.whole in cc e);
   not_sent = λ fed s e stands. absurd (let f = sym e ∙ stands.output in cc f);
+  whenever = λ s fed sent number stands fact. fact Client [] fed sent stands;
+  nothing_brought = λ s sent stands brings. growth_rows.nothing_brought (brings Server [] [] sent stands);
   adds = λ old new fed sent stands adds. adds Client [] fed sent stands;
   adds_a_write = λ old new fed sent stands adds. adds Server two_bytes fed sent stands;
   led_on = λ s e led. led.goes_on e;
@@ -569,5 +667,10 @@ stand_rows = record {
   };
   output_lost = λ s e f led. absurd (let g = sym f ∙ (led.fails e).1 in cc g);
   fault_untold = λ s led. absurd (let e = led.told_is in cc e);
+  fed = λ old new bytes fed sent told stands feeds. feeds Server two_bytes fed sent stands;
+  fed_a_frame = λ old new bytes fed sent told stands feeds. feeds Server two_bytes fed sent stands;
+  ran_out = λ old new bytes fed sent stands out. out Server two_bytes fed sent stands;
+  come_to_a_fault = λ fed bytes sent pending come. absurd (let e = come.no_fault.0 in cc e);
+  room_left = λ bytes whole used. ap (λ n. n - vec_len bytes) whole ∙ ap (λ n. 64 - n) used;
   names_one = λ role past fed bytes sent before after new step. step.names_one;
 }

@@ -1,6 +1,8 @@
 -- Worked rows of sessions: what the definitions say of these histories.
 -- Source: hashicorp yamux, and this project's profile of a session.
-use Rattle.std.specs.Prelude.{◌≡◌, ℕ, zero, suc, ◌+◌, true, false, List, [], ◌∷◌, ◌++◌, replicate, Some, None}
+use Rattle.std.specs.Prelude.{◌≡◌, ℕ, zero, suc, ◌+◌, ◌<◌, true, false, List, [], ◌∷◌, ◌++◌, replicate, filter}
+use Rattle.std.specs.Prelude.{length, Some, None}
+use Rattle.yamux_frames.specs.declared.header.Header.{Header}
 use Rattle.yamux_frames.specs.declared.header.FrameKind.{FrameKind}
 use Rattle.yamux_frames.specs.declared.header.FrameKind.TheVariants.{Payload, Window, Ping, GoAway}
 use Rattle.yamux_frames.specs.Frames.{Arrival}
@@ -10,7 +12,7 @@ use Rattle.yamux_session.specs.declared.event.Role.TheVariants.{Client, Server}
 use Rattle.yamux_session.specs.declared.event.Fault.TheVariants.{BadFrame, WrongParity, DuplicateStream, WindowExceeded}
 use Rattle.yamux_session.specs.declared.event.Fault.TheVariants.{WindowTooLarge}
 use Rattle.yamux_session.specs.declared.event.ActRefused.TheVariants as refused
-use Rattle.yamux_session.specs.History.{Item, Act}
+use Rattle.yamux_session.specs.History.{Item, Act, syn, is_own, is_remote}
 use Rattle.yamux_session.specs.History.Item.{Came, Did}
 use Rattle.yamux_session.specs.History.Act.{Start, Write, Taken, Close, Reset}
 use Rattle.yamux_session.specs.Openings.{live, is_live}
@@ -23,18 +25,17 @@ use Rattle.yamux_session.specs.Data.{inbound, written}
 use Rattle.yamux_session.specs.Output.{output, SendsMore}
 use Rattle.yamux_session.specs.Events.{Told}
 use Rattle.std.specs.Global.{Vec}
-use Rattle.std.specs.List.{AllByRecursion, concat}
+use Rattle.std.specs.List.{AllByRecursion}
 use Rattle.yamux_session.specs.declared.event.Event.{Event}
 use Rattle.yamux_session.specs.declared.event.Event.TheVariants as event
-use Rattle.yamux_session.specs.Seen.{IsQuiet}
+use Rattle.yamux_session.specs.Seen.{IsQuiet, AgreesOn, just_opened}
 use Rattle.yamux_session.specs.Endings.{opened_in, told_opened, EndsOnce, IsUntold}
 use Rattle.yamux_session.specs.Naming.{NamesOne}
-use Rattle.yamux_session.specs.Faults.{HasNoFault}
-use Rattle.yamux_session.specs.State.{State, Stands, Adds, AddsWrite, Led, IsOneFrame, Steps, FirstFaults, Brings}
-use Rattle.yamux_session.specs.declared.calls.Act.TheVariants as call
-use Rattle.yamux_session.specs.declared.calls.ActAnswer.TheVariants.{Events, Stream, Count, Done, Refused}
-use Rattle.yamux_session.specs.Runs.{Point, Answers, AnswersAll, Runs, output_at_point}
-use Rattle.yamux_session.specs.Runs.Point.{At, Over}
+use Rattle.yamux_session.specs.Faults.{HasNoFault, fault_at}
+use Rattle.yamux_session.specs.State.{IsOneFrame, FirstFaults}
+use Rattle.yamux_session.specs.State.{Brings}
+use Rattle.yamux_session.specs.declared.calls.ActAnswer.TheVariants.{Events, Count}
+use Rattle.yamux_session.specs.Runs.{AreSame}
 use Rattle.yamux_session.specs.Arrives.{HasData, tellings, added}
 
 abbrev pub header : FrameKind → ℕ → ℕ → ℕ → Arrival
@@ -171,6 +172,18 @@ pub record OpeningRows : Type 0 where
       ++ reopened)
       ≡ Told.Opened 1 ∷ Told.Payload 1 7 ∷ Told.Ended 1 ∷ Told.Opened 1 ∷ Told.Payload 1 9 ∷ []
 
+-- What comes of one stream more where 256 are live: a SYN of the other end gets RST, and is no fault
+pub record FullRows : Type 0 where
+  pub untold : (past : List Item) → is_live Server past 1 ≡ false
+      → length (filter (is_remote Server) (live Server past)) ≡ 256
+      → events Server (Came (header Window 1 1 0) ∷ past) ≡ events Server past
+  pub answered : (past : List Item) → is_live Server past 1 ≡ false
+      → length (filter (is_remote Server) (live Server past)) ≡ 256
+      → output Server (Came (header Window 1 1 0) ∷ past)
+      ≡ output Server past ++ (0 ∷ 1 ∷ 0 ∷ 8 ∷ 0 ∷ 0 ∷ 0 ∷ 1 ∷ 0 ∷ 0 ∷ 0 ∷ 0 ∷ [])
+  pub not_started : (role : Role) (past : List Item) → remote_go_away past ≡ false → next_own role past < 4294967296
+      → length (filter (is_own role) (live role past)) ≡ 256 → start_refusal role past ≡ Some refused.StreamsFull
+
 -- What comes for a stream of this end before its ACK, which a peer may send late or never
 pub record EarlyRows : Type 0 where
   pub some_data : events Client (in_order ((Did (Start 1) ∷ []) ∷
@@ -277,6 +290,41 @@ pub record EndingRows : Type 0 where
   pub told_end : ¬ IsUntold 1 (Told.Ended 1 ∷ [])
   pub told_reset : ¬ IsUntold 1 (Told.Reset 1 ∷ [])
   pub told_credit : ¬ IsUntold 1 (Told.GoAway 1 ∷ Told.Credit 1 ∷ [])
+
+-- What is sent, wherever it is done or comes: by an act its own frame, and nothing for a byte, for the end of a frame
+-- and for a head without SYN. And an act tells nothing
+pub record SentRows : Type 0 where
+  pub started : (role : Role) (past : List Item) → output role (Did (Start 258) ∷ past)
+      ≡ output role past ++ (0 ∷ 1 ∷ 0 ∷ 1 ∷ 0 ∷ 0 ∷ 1 ∷ 2 ∷ 0 ∷ 0 ∷ 0 ∷ 0 ∷ [])
+  pub written : (role : Role) (past : List Item) → output role (Did (Write 258 ((7 ∷ []) ∷ [])) ∷ past)
+      ≡ output role past ++ (0 ∷ 0 ∷ 0 ∷ 0 ∷ 0 ∷ 0 ∷ 1 ∷ 2 ∷ 0 ∷ 0 ∷ 0 ∷ 1 ∷ 7 ∷ [])
+  pub closed : (role : Role) (past : List Item) → output role (Did (Close 258) ∷ past)
+      ≡ output role past ++ (0 ∷ 1 ∷ 0 ∷ 4 ∷ 0 ∷ 0 ∷ 1 ∷ 2 ∷ 0 ∷ 0 ∷ 0 ∷ 0 ∷ [])
+  pub reset : (role : Role) (past : List Item) → output role (Did (Reset 258) ∷ past)
+      ≡ output role past ++ (0 ∷ 1 ∷ 0 ∷ 8 ∷ 0 ∷ 0 ∷ 1 ∷ 2 ∷ 0 ∷ 0 ∷ 0 ∷ 0 ∷ [])
+  pub left : (role : Role) (past : List Item) → output role (Did (Act.GoAway 2) ∷ past)
+      ≡ output role past ++ (0 ∷ 3 ∷ 0 ∷ 0 ∷ 0 ∷ 0 ∷ 0 ∷ 0 ∷ 0 ∷ 0 ∷ 0 ∷ 2 ∷ [])
+  pub byte : (role : Role) (past : List Item) (b : ℕ) → output role (Came (Byte b) ∷ past) ≡ output role past
+  pub tail : (role : Role) (past : List Item) → output role (Came Tail ∷ past) ≡ output role past
+  pub without_syn : (role : Role) (past : List Item) (h : Header) → syn h ≡ false
+      → fault_at role past (Came (Head h)) ≡ None → output role (Came (Head h) ∷ past) ≡ output role past
+  pub untold : (role : Role) (past : List Item) (act : Act) → events role (Did act ∷ past) ≡ events role past
+
+-- What is heard of a stream is no other than what is, in each of its parts; and answers that are the same but for how
+-- data is cut are no others
+pub record SameRows : Type 0 where
+  pub another_life : ¬ AgreesOn just_opened (record just_opened { live = false })
+  pub another_close : ¬ AgreesOn just_opened (record just_opened { closed = true })
+  pub other_data : ¬ AgreesOn just_opened (record just_opened { came = 7 ∷ [] })
+  pub other_data_sent : ¬ AgreesOn just_opened (record just_opened { sent = 7 ∷ [] })
+  pub end_unheard : ¬ AgreesOn (record just_opened { ended = true }) just_opened
+  pub end_invented : ¬ AgreesOn (record just_opened { live = false })
+      (record just_opened { live = false; ended = true })
+  pub cut_otherwise : (told said : Vec Event) → told.items ≡ event.Payload 1 (7 ∷ 8 ∷ []) ∷ []
+      → said.items ≡ event.Payload 1 (7 ∷ []) ∷ event.Payload 1 (8 ∷ []) ∷ [] → AreSame (Events told) (Events said)
+  pub other_event : (told said : Vec Event) → told.items ≡ event.Ended 1 ∷ [] → said.items ≡ event.Reset 1 ∷ []
+      → ¬ AreSame (Events told) (Events said)
+  pub other_count : ¬ AreSame (Count 1) (Count 2)
 
 -- Which acts an end may do
 pub record AnsweredRows : Type 0 where
@@ -429,6 +477,9 @@ pub record AnswerRows : Type 0 where
   pub gone_away_goes_on : is_live Client (bare GoAway 0 0 0 ++ Did (Start 1) ∷ []) 1 ≡ true
   pub accepted_once : events Client (in_order ((Did (Start 1) ∷ []) ∷ bare Window 2 1 0 ∷ bare Window 2 1 0 ∷
       [])) ≡ Told.Accepted 1 ∷ []
+  -- by the first ACK, on whichever frame it comes, and by nothing else
+  pub accepted_by_the_first : events Client (in_order ((Did (Start 1) ∷ []) ∷ bare Payload 0 1 0 ∷ bare Payload 2 1 0 ∷
+      bare Window 2 1 0 ∷ [])) ≡ Told.Accepted 1 ∷ []
   pub its_own_not_accepted : events Server (in_order (bare Window 1 1 0 ∷ bare Window 2 1 0 ∷ []))
       ≡ Told.Opened 1 ∷ []
   -- of a stream of this end that it hasn't opened nothing is told, and it is no fault
@@ -498,6 +549,12 @@ pub record FlagRows : Type 0 where
       ≡ Told.Accepted 1 ∷ Told.Ended 1 ∷ []
   pub accepted_and_reset : events Client (in_order ((Did (Start 1) ∷ []) ∷ bare Window 10 1 0 ∷ []))
       ≡ Told.Accepted 1 ∷ Told.Reset 1 ∷ []
+  pub data_accepts_and_ends : events Client (in_order ((Did (Start 1) ∷ []) ∷ bare Payload 6 1 0 ∷ []))
+      ≡ Told.Accepted 1 ∷ Told.Ended 1 ∷ []
+  pub data_accepts_and_resets : events Client (in_order ((Did (Start 1) ∷ []) ∷ bare Payload 10 1 0 ∷ []))
+      ≡ Told.Accepted 1 ∷ Told.Reset 1 ∷ []
+  pub opened_and_reset_with_credit : events Server (bare Window 9 1 5)
+      ≡ Told.Opened 1 ∷ Told.Credit 1 ∷ Told.Reset 1 ∷ []
   pub ended_with_credit : events Server (in_order (bare Window 1 1 0 ∷ bare Window 4 1 5 ∷ []))
       ≡ Told.Opened 1 ∷ Told.Credit 1 ∷ Told.Ended 1 ∷ []
   pub credit_of_the_end : credit Server (in_order (bare Window 1 1 0 ∷ bare Window 4 1 5 ∷ [])) 1 ≡ 262149
@@ -517,6 +574,11 @@ pub record FlagRows : Type 0 where
   pub ping_ends_nothing : events Server (in_order (bare Window 1 1 0 ∷ bare Ping 4 1 7 ∷ []))
       ≡ Told.Opened 1 ∷ []
   pub ping_accepts_nothing : events Client (in_order ((Did (Start 1) ∷ []) ∷ bare Ping 2 1 7 ∷ [])) ≡ []
+  -- so a stream is accepted by the first ACK that is its own
+  pub accepted_behind_a_ping : events Client (in_order ((Did (Start 1) ∷ []) ∷ bare Ping 2 1 7 ∷ bare Window 2 1 0 ∷
+      [])) ≡ Told.Accepted 1 ∷ []
+  pub accepted_behind_late_data : events Client (in_order ((Did (Start 1) ∷ []) ∷ bare Window 4 1 0 ∷
+      bare Payload 2 1 0 ∷ bare Window 2 1 0 ∷ [])) ≡ Told.Ended 1 ∷ Told.Accepted 1 ∷ []
   pub gone_away_resets_nothing : events Server (in_order (bare Window 1 1 0 ∷ bare GoAway 8 1 0 ∷ []))
       ≡ Told.Opened 1 ∷ Told.GoAway 0 ∷ []
   pub live_behind_going_away : is_live Server (in_order (bare Window 1 1 0 ∷ bare GoAway 8 1 0 ∷ [])) 1 ≡ true
@@ -645,118 +707,3 @@ pub record FirstFaultRows : Type 0 where
   pub behind_a_fault : ¬ FirstFaults Server (Did (Act.GoAway 0) ∷ garbled)
   pub none : ¬ FirstFaults Server (bare Window 1 1 0)
   pub none_of_nothing : ¬ FirstFaults Server []
-
--- a run that has come to this list, fed nothing
-abbrev pub at : List Item → Point
-at past = At past []
-
--- What a call of a run is answered, and where it leads
-pub record RunRows : Type 0 where
-  pub started : Answers Client (at []) call.Start (Stream 1) (at (Did (Start 1) ∷ []))
-  pub another_number : (next : Point) → ¬ Answers Client (at []) call.Start (Stream 3) next
-  pub start_refused : Answers Client (at (bare GoAway 0 0 0)) call.Start (Refused refused.GoneAway)
-      (at (bare GoAway 0 0 0))
-  pub all_taken : Answers Server (at two_bytes) (call.Taken 1 5) Done (at (Did (Taken 1 2) ∷ two_bytes))
-  pub no_more_taken : ¬ Answers Server (at two_bytes) (call.Taken 1 5) Done (at (Did (Taken 1 5) ∷ two_bytes))
-  pub take_refused : Answers Server (at []) (call.Taken 1 0) (Refused refused.NoStream) (at [])
-  -- where nothing is given back no memory is asked for
-  pub nothing_given_back : (next : Point)
-      → ¬ Answers Server (at two_bytes) (call.Taken 1 2) (Refused refused.OutOfMemory) next
-  pub closed : Answers Server (at two_bytes) (call.Close 1) Done (at (Did (Close 1) ∷ two_bytes))
-  pub close_refused : Answers Server (at []) (call.Close 1) (Refused refused.NoStream) (at [])
-  pub close_for_want_of_memory : Answers Server (at two_bytes) (call.Close 1) (Refused refused.OutOfMemory)
-      (at two_bytes)
-  pub not_closed : (next : Point) → ¬ Answers Server (at []) (call.Close 1) Done next
-  -- what is refused leads nowhere
-  pub refused_and_closed : ¬ Answers Server (at two_bytes) (call.Close 1) (Refused refused.OutOfMemory)
-      (at (Did (Close 1) ∷ two_bytes))
-  pub reset : Answers Server (at two_bytes) (call.Reset 1) Done (at (Did (Reset 1) ∷ two_bytes))
-  pub reset_refused : Answers Server (at []) (call.Reset 1) (Refused refused.NoStream) (at [])
-  pub left : Answers Server (at []) (call.GoAway 7) Done (at (Did (Act.GoAway 7) ∷ []))
-  pub leaving_for_want_of_memory : Answers Server (at []) (call.GoAway 7) (Refused refused.OutOfMemory) (at [])
-  pub leaving_refused : (next : Point) → ¬ Answers Server (at []) (call.GoAway 7) (Refused refused.Ended) next
-  pub answer_of_another : (next : Point) → ¬ Answers Server (at two_bytes) (call.Close 1) (Stream 1) next
-  -- after a fault each call is refused, and the output stays
-  pub failed : Answers Server (Over (7 ∷ [])) (call.Close 1) (Refused refused.Failed) (Over (7 ∷ []))
-  pub failed_by_one : (next : Point) → ¬ Answers Server (Over (7 ∷ [])) (call.Close 1) (Refused refused.NoStream) next
-  pub output_lost : ¬ Answers Server (Over (7 ∷ [])) (call.Close 1) (Refused refused.Failed) (Over [])
-  pub in_turn : AnswersAll Client (at []) (call.Start ∷ call.Close 1 ∷ []) (Stream 1 ∷ Done ∷ [])
-      (at (Did (Close 1) ∷ Did (Start 1) ∷ []))
-  pub one_answer_less : (last : Point) → ¬ AnswersAll Client (at []) (call.Start ∷ []) [] last
-  pub output_while_it_goes : output_at_point Client (at (Did (Start 1) ∷ [])) ≡ output Client (Did (Start 1) ∷ [])
-  pub output_of_the_failed : output_at_point Client (Over (7 ∷ [])) ≡ 7 ∷ []
-  -- as much is written as there is credit for, whatever its pieces
-  pub written : (bytes : Vec ℕ) → bytes.items ≡ 7 ∷ 8 ∷ []
-      → Answers Server (at two_bytes) (call.Write 1 bytes) (Count 2)
-      (at (Did (Write 1 ((7 ∷ []) ∷ (8 ∷ []) ∷ [])) ∷ two_bytes))
-  pub not_all_written : (bytes : Vec ℕ) (next : Point) → bytes.items ≡ 7 ∷ 8 ∷ []
-      → ¬ Answers Server (at two_bytes) (call.Write 1 bytes) (Count 1) next
-  pub other_bytes_written : (bytes : Vec ℕ) → bytes.items ≡ 7 ∷ 8 ∷ []
-      → ¬ Answers Server (at two_bytes) (call.Write 1 bytes) (Count 2)
-      (at (Did (Write 1 ((8 ∷ 7 ∷ []) ∷ [])) ∷ two_bytes))
-  pub written_without_credit : (bytes : Vec ℕ) → bytes.items ≡ 7 ∷ []
-      → Answers Client (at all_written) (call.Write 1 bytes) (Count 0) (at (Did (Write 1 []) ∷ all_written))
-  -- and memory may be wanting where something is
-  pub write_for_want_of_memory : (bytes : Vec ℕ) → bytes.items ≡ 7 ∷ []
-      → Answers Server (at two_bytes) (call.Write 1 bytes) (Refused refused.OutOfMemory) (at two_bytes)
-  pub nothing_to_write : (bytes : Vec ℕ) (next : Point) → bytes.items ≡ []
-      → ¬ Answers Server (at two_bytes) (call.Write 1 bytes) (Refused refused.OutOfMemory) next
-  pub nothing_to_write_without_credit : (bytes : Vec ℕ) (next : Point) → bytes.items ≡ 7 ∷ []
-      → ¬ Answers Client (at all_written) (call.Write 1 bytes) (Refused refused.OutOfMemory) next
-  pub write_refused : (bytes : Vec ℕ)
-      → Answers Server (at []) (call.Write 1 bytes) (Refused refused.NoStream) (at [])
-  -- a run begins with nothing, and sends what its calls send in turn
-  pub run : Runs Client (call.Start ∷ call.Close 1 ∷ []) (Stream 1 ∷ Done ∷ [])
-      (0 ∷ 1 ∷ 0 ∷ 1 ∷ 0 ∷ 0 ∷ 0 ∷ 1 ∷ 0 ∷ 0 ∷ 0 ∷ 0 ∷ 0 ∷ 1 ∷ 0 ∷ 4 ∷ 0 ∷ 0 ∷ 0 ∷ 1 ∷ 0 ∷ 0 ∷ 0 ∷ 0 ∷ [])
-
--- What a feed is answered, and where it leads
-pub record FeedRows : Type 0 where
-  pub went_on : (bytes : Vec ℕ) (told : Vec Event) → bytes.items ≡ ping_bytes → told.items ≡ []
-      → Answers Server (at []) (call.Feed bytes) (Events told) (At (bare Ping 1 0 7) ping_bytes)
-  -- a fault is told, the output up to it is sent, and what stands behind it is nothing more
-  pub failed : (bytes : Vec ℕ) (told : Vec Event) → bytes.items ≡ ping_bytes ++ garbled_bytes ++ 9 ∷ []
-      → told.items ≡ event.Fault BadFrame ∷ []
-      → Answers Server (at []) (call.Feed bytes) (Events told) (Over (answer_bytes ++ leaving_bytes))
-  -- for want of memory it is cut off behind a first part, of which the output is sent
-  pub cut_off : (bytes : Vec ℕ) → bytes.items ≡ ping_bytes
-      → Answers Server (at []) (call.Feed bytes) (Refused refused.OutOfMemory) (Over answer_bytes)
-  pub cut_off_at_once : (bytes : Vec ℕ) → bytes.items ≡ ping_bytes
-      → Answers Server (at []) (call.Feed bytes) (Refused refused.OutOfMemory) (Over [])
-  pub nothing_fed : (bytes : Vec ℕ) (next : Point) → bytes.items ≡ []
-      → ¬ Answers Server (at []) (call.Feed bytes) (Refused refused.OutOfMemory) next
-  pub no_other_refusal : (bytes : Vec ℕ) (next : Point)
-      → ¬ Answers Server (at []) (call.Feed bytes) (Refused refused.Ended) next
-
--- a Ping, and behind it bytes that are no header
-abbrev pub ping_and_garbled : List Item
-ping_and_garbled = Came (Garbled garbled_bytes) ∷ bare Ping 1 0 7
-
--- Where a session stands, and where its calls lead it
-pub record StandRows : Type 0 where
-  -- none that has failed, or at a list with a fault, with an act that it might not do, with arrivals that it wasn't
-  -- fed, or of which it hasn't sent the output
-  pub failed : (role : Role) (past : List Item) (fed sent : List ℕ) (s : State) → s.failed ≡ true
-      → ¬ Stands role past fed sent s
-  pub faulty : (fed sent : List ℕ) (s : State) → ¬ Stands Server garbled fed sent s
-  pub unanswered : (fed sent : List ℕ) (s : State) → ¬ Stands Client (Did (Start 3) ∷ []) fed sent s
-  pub not_fed : (sent : List ℕ) (s : State) → ¬ Stands Server (bare Ping 1 0 7) [] sent s
-  pub not_sent : (fed : List ℕ) (s : State) → s.pending ≡ [] → ¬ Stands Client (Did (Start 1) ∷ []) fed [] s
-  -- an act is added where it stands
-  pub adds : (old new : State) (fed sent : List ℕ) → Stands Client [] fed sent old
-      → Adds old new (λ role past. Start (next_own role past)) → Stands Client (Did (Start 1) ∷ []) fed sent new
-  pub adds_a_write : (old new : State) (fed sent : List ℕ) → Stands Server two_bytes fed sent old
-      → AddsWrite old new 1 (7 ∷ 8 ∷ [])
-      → (pieces : List (List ℕ)) × (concat pieces ≡ 7 ∷ 8 ∷ [])
-      × Stands Server (Did (Write 1 pieces) ∷ two_bytes) fed sent new
-  -- bytes lead on, or to a fault, and then all output is there
-  pub led_on : (s : State) → s.failed ≡ false → Led Server [] (bare Ping 1 0 7) [] ping_bytes [] [] s
-      → Stands Server (bare Ping 1 0 7) ping_bytes [] s
-  pub led_to_a_fault : (s : State) → s.failed ≡ true → s.pending ≡ answer_bytes ++ leaving_bytes
-      → Led Server [] ping_and_garbled [] (ping_bytes ++ garbled_bytes ++ 9 ∷ []) [] (Told.Fault BadFrame ∷ []) s
-  pub output_lost : (s : State) → s.failed ≡ true → s.pending ≡ []
-      → ¬ Led Server [] ping_and_garbled [] (ping_bytes ++ garbled_bytes ++ 9 ∷ []) [] (Told.Fault BadFrame ∷ []) s
-  pub fault_untold : (s : State)
-      → ¬ Led Server [] ping_and_garbled [] (ping_bytes ++ garbled_bytes ++ 9 ∷ []) [] [] s
-  -- and a step tells of one stream
-  pub names_one : (role : Role) (past : List Item) (fed bytes sent : List ℕ) (before after : List Event) (new : State)
-      (step : Steps role past fed bytes sent before after new) → NamesOne step.tells.more

@@ -12,12 +12,16 @@ ghost use Rattle.yamux_session.specs.OneOutcome.{OneOutcome};
 ghost use Rattle.yamux_session.specs.Runs.{OneCall, RunIsLegal};
 ghost use Rattle.yamux_session.specs.Tied.{ActGoesOn, FeedGoesOn, WantOfMemoryStops};
 ghost use Rattle.yamux_session.specs.Rows.{AnswerRows, AnsweredRows, EarlyRows, EndingRows, FirstFaultRows};
-ghost use Rattle.yamux_session.specs.Rows.{FeedRows, FlagRows, FrameRows, GrowthRows, LeavingRows, NamingRows};
-ghost use Rattle.yamux_session.specs.Rows.{OpeningRows, OtherRows, RunRows, StandRows, WindowRows};
+ghost use Rattle.yamux_session.specs.Rows.{FlagRows, FrameRows, FullRows, GrowthRows, LeavingRows, NamingRows};
+ghost use Rattle.yamux_session.specs.Rows.{OpeningRows, OtherRows, SameRows, SentRows, WindowRows};
+ghost use Rattle.yamux_session.specs.CallRows.{FeedRows, RunRows, StandRows};
 
 /// The definitions say of worked histories what the specification says.
 pub fn worked_rows()
     ensures openings { OpeningRows }
+    ensures full { FullRows }
+    ensures sent { SentRows }
+    ensures same { SameRows }
     ensures early { EarlyRows }
     ensures leaving { LeavingRows }
     ensures endings { EndingRows }

@@ -1,4 +1,4 @@
-use Rattle.pool_state.proofs.WorkedRows.{connection_rows, stream_rows, list_rows, refusal_rows, limit_rows, range_rows, added_rows, agent_rows, number_rows, pool_rows}
+use Rattle.pool_state.proofs.WorkedRows.{connection_rows, stream_rows, list_rows, refusal_rows, limit_rows, range_rows, added_rows, bounded_rows, agent_rows, number_rows, pool_rows}
 use Rattle.pool_state.proofs.laws.worked_rows.Goals as goal
 
 pub returns-clause-connections : goal.returns-clause-connections
@@ -21,6 +21,9 @@ returns-clause-ranges c = range_rows
 
 pub returns-clause-added : goal.returns-clause-added
 returns-clause-added c = added_rows
+
+pub returns-clause-bounded : goal.returns-clause-bounded
+returns-clause-bounded c = bounded_rows
 
 pub returns-clause-agents : goal.returns-clause-agents
 returns-clause-agents c = agent_rows

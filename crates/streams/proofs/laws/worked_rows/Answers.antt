@@ -1,4 +1,4 @@
-use Rattle.streams.proofs.Rows.{stage_rows, asked_rows, hears_rows, early_rows, room_rows, stream_rows}
+use Rattle.streams.proofs.Rows.{stage_rows, asked_rows, hears_rows, early_rows, room_rows, stop_rows, stream_rows}
 use Rattle.streams.proofs.laws.worked_rows.Goals as goal
 
 pub returns-clause-stages : goal.returns-clause-stages
@@ -15,6 +15,9 @@ returns-clause-streams c = stream_rows
 
 pub returns-clause-early : goal.returns-clause-early
 returns-clause-early c = early_rows
+
+pub returns-clause-stops : goal.returns-clause-stops
+returns-clause-stops c = stop_rows
 
 pub returns-clause-room : goal.returns-clause-room
 returns-clause-room c = room_rows

@@ -1,8 +1,17 @@
-use Rattle.yamux_session.proofs.Rows.{opening_rows, early_rows, leaving_rows, naming_rows, ending_rows, answered_rows, window_rows, answer_rows, flag_rows, frame_rows, growth_rows, first_fault_rows, other_rows, run_rows, feed_rows, stand_rows}
+use Rattle.yamux_session.proofs.Rows.{opening_rows, full_rows, sent_rows, same_rows, early_rows, leaving_rows, naming_rows, ending_rows, answered_rows, window_rows, answer_rows, flag_rows, frame_rows, growth_rows, first_fault_rows, other_rows, run_rows, feed_rows, stand_rows}
 use Rattle.yamux_session.proofs.laws.worked_rows.Goals as goal
 
 pub returns-clause-openings : goal.returns-clause-openings
 returns-clause-openings c = opening_rows
+
+pub returns-clause-full : goal.returns-clause-full
+returns-clause-full c = full_rows
+
+pub returns-clause-sent : goal.returns-clause-sent
+returns-clause-sent c = sent_rows
+
+pub returns-clause-same : goal.returns-clause-same
+returns-clause-same c = same_rows
 
 pub returns-clause-endings : goal.returns-clause-endings
 returns-clause-endings c = ending_rows
