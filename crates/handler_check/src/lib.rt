@@ -10,6 +10,12 @@ mod identify_tests;
 #[cfg(test)]
 mod message_tests;
 #[cfg(test)]
+mod number_tests;
+#[cfg(test)]
 mod ping_tests;
 #[cfg(test)]
 mod protocol_tests;
+#[cfg(test)]
+mod push_tests;
+#[cfg(test)]
+mod said;

@@ -103,7 +103,8 @@ static MET: [Met; 11] = [
         manner: Manner {
             steps: &[Step {
                 heard: UP + 24,
-                says: b"\x00\x01\x00\x02\x00\x00\x00\x01\x00\x00\x00\x00\x00\x00\x00\x00\x00\x00\x00\x01\x00\x00\x00\x18\
+                says: b"\x00\x01\x00\x02\x00\x00\x00\x01\x00\x00\x00\x00\
+                    \x00\x00\x00\x00\x00\x00\x00\x01\x00\x00\x00\x18\
                     \x13/multistream/1.0.0\n\x03na\n",
             }],
             ..UPGRADED

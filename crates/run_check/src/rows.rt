@@ -78,8 +78,8 @@ static ROWS: [Row; 10] = [
     Row {
         script: "a listen\nb listen\na dial\nb dial\na await live 2\nb await live 2\na ask 1 2\nb ask 1 2\n\
             a await done 2 1\nb await done 2 1\na hangup\na await none\nb await none\n",
-        printed: "a listening\nb listening\na conn 1\nb conn 1\na live 2\nb live 2\na ok\nb ok\na done 2 1\nb done 2 1\n\
-            a count 2\na none\nb none\n",
+        printed: "a listening\nb listening\na conn 1\nb conn 1\na live 2\nb live 2\na ok\nb ok\na done 2 1\n\
+            b done 2 1\na count 2\na none\nb none\n",
         ending: Ok(()),
     },
     Row {

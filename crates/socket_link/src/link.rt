@@ -24,7 +24,8 @@ pub struct SocketLink<S: Socket> {
 impl<S: Socket> SocketLink<S> {
     /// A link over a socket that is connected.
     pub fn new(socket: S) -> SocketLink<S>
-        ensures { (result.socket ≡ socket) × (result.failures ≡ 0) × (result.has_ended ≡ false) × (result.is_shut ≡ false) }
+        ensures { (result.socket ≡ socket) × (result.failures ≡ 0) × (result.has_ended ≡ false)
+            × (result.is_shut ≡ false) }
     {
         SocketLink {
             socket,
