@@ -1,5 +1,10 @@
 //! Why the run of a node ends early.
 
+ghost use Rattle.std.specs.Prelude.{◌≡◌};
+ghost use Rattle.node_peer.specs.Endings.{EndsIdentify, EndsPing, IsIdentifyFault, IsPingFault};
+ghost use Rattle.node_peer.specs.Endings.{ending_of_conn, ending_of_stream};
+ghost use Rattle.node_peer.specs.declared.ending.PeerEnding.TheVariants.{Failed};
+
 use conn_log::ConnFault;
 use driver::{ConnEnd, StreamEnd};
 use handlers::HandlerFault;
@@ -57,12 +62,16 @@ pub enum PeerEnding {
 }
 
 impl From<io::Error> for PeerEnding {
+    ghost from_gives = { λ _ ending. ending ≡ Failed };
+
     fn from(_error: io::Error) -> PeerEnding {
         PeerEnding::Failed
     }
 }
 
 impl From<AllocError> for PeerEnding {
+    ghost from_gives = { λ _ ending. ending ≡ Failed };
+
     fn from(_error: AllocError) -> PeerEnding {
         PeerEnding::Failed
     }
@@ -70,7 +79,9 @@ impl From<AllocError> for PeerEnding {
 
 impl PeerEnding {
     /// What the end of the connection means, before all was done.
-    pub fn of_conn(end: ConnEnd) -> PeerEnding {
+    pub fn of_conn(end: ConnEnd) -> PeerEnding
+        ensures { result ≡ ending_of_conn end }
+    {
         match end {
             ConnEnd::NoConnection => PeerEnding::NoConnection,
             ConnEnd::Refused(refusal) => PeerEnding::Refused(refusal),
@@ -81,7 +92,9 @@ impl PeerEnding {
     }
 
     /// What the end of a ping's stream means, where the ping isn't done.
-    pub fn of_ping(end: StreamEnd) -> PeerEnding {
+    pub fn of_ping(end: StreamEnd) -> PeerEnding
+        ensures { EndsPing end result }
+    {
         match end {
             StreamEnd::Broken(Cause::Handler(HandlerFault { number })) => {
                 PeerEnding::Ping(ping_fault(number))
@@ -91,7 +104,9 @@ impl PeerEnding {
     }
 
     /// What the end of an identify stream means, where no message was read.
-    pub fn of_identify(end: StreamEnd) -> PeerEnding {
+    pub fn of_identify(end: StreamEnd) -> PeerEnding
+        ensures { EndsIdentify end result }
+    {
         match end {
             StreamEnd::Broken(Cause::Handler(HandlerFault { number })) => {
                 PeerEnding::Identify(identify_fault(number))
@@ -101,7 +116,9 @@ impl PeerEnding {
     }
 
     /// The same, where it isn't for its handler.
-    fn of_stream(end: StreamEnd) -> PeerEnding {
+    fn of_stream(end: StreamEnd) -> PeerEnding
+        ensures { result ≡ ending_of_stream end }
+    {
         match end {
             StreamEnd::Refused => PeerEnding::NotSpoken,
             StreamEnd::Broken(Cause::Select(fault)) => PeerEnding::Select(fault),
@@ -114,7 +131,9 @@ impl PeerEnding {
 }
 
 /// The fault of a ping that has this number.
-fn ping_fault(number: u8) -> PingFault {
+fn ping_fault(number: u8) -> PingFault
+    ensures { IsPingFault number result }
+{
     match number {
         2 => PingFault::WrongEcho,
         3 => PingFault::Cut,
@@ -124,7 +143,9 @@ fn ping_fault(number: u8) -> PingFault {
 }
 
 /// The fault of an identify stream that has this number.
-fn identify_fault(number: u8) -> IdentifyFault {
+fn identify_fault(number: u8) -> IdentifyFault
+    ensures { IsIdentifyFault number result }
+{
     match number {
         2 => IdentifyFault::TooLong,
         3 => IdentifyFault::TooMany,

@@ -1,11 +1,14 @@
 //! What a node dials a peer for.
 
+ghost use Rattle.std.specs.Prelude.{◌≡◌};
+ghost use Rattle.node_peer.specs.Errands.{index_of, rounds_of};
+
 use crate::dialing::Dialing;
 use crate::ending::PeerEnding;
 use crate::own::Own;
-use crate::place::Place;
 use crate::post::ticks_in;
 use driver::{Caller, Driver, Fresh, Member, SwarmUse, with_swarm};
+use node_place::Place;
 use pool_state::{Config, Limits, Reply};
 use std::alloc::AllocGlobal;
 use std::io::Write;
@@ -31,7 +34,9 @@ pub enum Errand {
 
 impl Errand {
     /// The index of the protocol.
-    pub fn index(self) -> u8 {
+    pub fn index(self) -> u8
+        ensures { result ≡ index_of self }
+    {
         match self {
             Errand::Identify => 0,
             Errand::Ping(_) => 2,
@@ -39,7 +44,9 @@ impl Errand {
     }
 
     /// How many streams it takes.
-    pub fn rounds(self) -> u32 {
+    pub fn rounds(self) -> u32
+        ensures { result ≡ rounds_of self }
+    {
         match self {
             Errand::Identify => 1,
             Errand::Ping(count) => count,

@@ -7,7 +7,6 @@ mod ending;
 mod errand;
 mod listening;
 mod own;
-mod place;
 mod post;
 mod said;
 mod shown;
@@ -15,7 +14,7 @@ mod watched;
 
 pub use ending::PeerEnding;
 pub use errand::{Errand, dial};
+pub use node_place::{Place, PlaceFault, place_of};
 pub use own::Own;
-pub use place::{Place, PlaceFault, place_of};
 pub use post::{ListenTerms, listen};
 pub use watched::Watched;

@@ -1,5 +1,8 @@
 //! What a node is.
 
+ghost use Rattle.std.specs.Prelude.{◌≡◌, IfOk, IfErr};
+ghost use Rattle.peer_ids.specs.PeerId.{canonical_of, id_of};
+
 use crate::ending::PeerEnding;
 use driver::Setup;
 use peer_ids::{PeerId, PublicKey};
@@ -18,12 +21,18 @@ pub struct Own<'a> {
 
 impl Own<'_> {
     /// The node's own peer.
-    pub fn peer(&self) -> PeerId {
+    pub fn peer(&self) -> PeerId
+        ensures { result ≡ id_of self.now.key }
+    {
         PeerId::of_key(&self.key)
     }
 
     /// What its driver is made with.
-    pub fn setup<R: RandomSource + AllocGlobal>(&self, rt: &R) -> Result<Setup, PeerEnding> {
+    pub fn setup<R: RandomSource + AllocGlobal>(&self, rt: &R) -> Result<Setup, PeerEnding>
+        ensures key { IfOk result (λ setup. setup.key.items ≡ canonical_of self.now.key) }
+        ensures agent { IfOk result (λ setup. setup.agent.items ≡ self.now.agent.now) }
+        ensures refused { IfErr result (λ ending. ending ≡ PeerEnding.Failed) }
+    {
         Ok(Setup {
             key: self.key.canonical()?,
             agent: Vec::from_slice(rt.alloc(), self.agent.as_bytes())?,

@@ -1,13 +1,14 @@
 //! The run of a node that listens.
 
-ghost use Rattle.std.specs.Prelude.{◌≡◌, ◌<◌};
+ghost use Rattle.std.specs.Prelude.{◌≡◌, ◌<◌, ◌-◌, ◌^◌, ◌/◌, max, min};
+ghost use Rattle.std.specs.Duration.{as_nanos};
 
 use crate::ending::PeerEnding;
 use crate::listening::Listening;
 use crate::own::Own;
-use crate::place::{Place, addr_text};
 use crate::watched::Watched;
 use driver::{Caller, Driver, Fresh, Member, SwarmUse, with_swarm};
+use node_place::{Place, addr_text};
 use peer_ids::PeerId;
 use pool_state::{Config, Limits, Refusal, Reply};
 use std::alloc::{AllocGlobal, Global};
@@ -44,6 +45,7 @@ pub struct ListenTerms {
 /// How many ticks lie in a time, at least one.
 pub fn ticks_in(limit: Duration, tick: u64) -> u32
     requires { 0 < tick }
+    ensures { result ≡ max 1 (min (2 ^ 32 - 1) (as_nanos limit / 1_000_000 / tick)) }
 {
     let ticks = limit.as_millis() / u128::from(tick);
     u32::try_from(ticks).unwrap_or(u32::MAX).max(1)

@@ -1,0 +1,6 @@
+mod Bytes
+mod Names
+mod OnePlace
+mod Printed
+mod Spelt
+mod WorkedRows
