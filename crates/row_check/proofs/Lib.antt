@@ -1,0 +1,4 @@
+mod TalkRows
+mod StreamRows
+mod SessionRows
+mod PoolRows
