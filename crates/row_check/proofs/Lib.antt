@@ -2,3 +2,6 @@ mod TalkRows
 mod StreamRows
 mod SessionRows
 mod PoolRows
+mod PingRows
+mod IdentifyRows
+mod NodeRows
