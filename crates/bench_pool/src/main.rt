@@ -3,7 +3,7 @@
 //! differs from run to run.
 #![tactic(auto)]
 
-ghost use Rattle.std.specs.Prelude.{◌<◌, length};
+ghost use Rattle.std.specs.Prelude.{◌<◌};
 
 mod rewriting;
 

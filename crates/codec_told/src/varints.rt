@@ -1,6 +1,6 @@
 //! Varints that a caller reads and writes.
 
-ghost use Rattle.std.specs.Prelude.{◌≡◌, ℕ, ◌≤◌, List, ◌++◌, length, take, Some, Ok, IfOk, IfErr, IfSome};
+ghost use Rattle.std.specs.Prelude.{◌≡◌, ℕ, ◌≤◌, List, length, take, Some, Ok, IfOk, IfErr, IfSome};
 ghost use Rattle.varint_proto.specs.Varint.{SpellsWide, shortest};
 ghost use Rattle.codec_told.specs.Varints.{IsSettled, IsFront};
 

@@ -1,6 +1,6 @@
 //! What an end tells of its upgrade, and at its end.
 
-ghost use Rattle.std.specs.Prelude.{OnOk, OnErr, Some, Err, ◌≡◌, ℕ, Bool, true, false, List, [], ◌∷◌, ◌++◌};
+ghost use Rattle.std.specs.Prelude.{OnOk, OnErr, Some, Err, ◌≡◌, ℕ, true, false, List, [], ◌∷◌, ◌++◌};
 ghost use Rattle.peer_ids.specs.Key.{Key};
 ghost use Rattle.conn_log.specs.declared.event.ConnEvent.{ConnEvent};
 ghost use Rattle.conn_log.specs.declared.event.ConnEvent.TheVariants as event;

@@ -12,7 +12,7 @@ use Rattle.yamux_session.specs.Seen.{Seen, seen, all_heard, AgreesOn, ActsDo, Ac
 use Rattle.yamux_session.specs.State.{State}
 use Rattle.streams.specs.declared.stop.Cause.TheVariants as causes
 use Rattle.streams.specs.Streams.{Past}
-use Rattle.streams.specs.State.{Streaming, Stands, is_talking, awaits_handler, was_handed_out, kind_of, Served}
+use Rattle.streams.specs.State.{Streaming, Stands, is_talking, was_handed_out, kind_of}
 use Rattle.dispatch.specs.declared.direction.Direction.TheVariants.{Inbound, Outbound}
 use Rattle.dispatch.specs.Dispatch.{IsKnown, IsMade, makes_once}
 use Rattle.routing.specs.declared.delivered.Outcome.{Outcome}

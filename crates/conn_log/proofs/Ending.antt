@@ -18,10 +18,10 @@ use Rattle.streams.specs.State.{Streaming, Stands, StandsAt, is_talking, was_han
 use Rattle.streams.proofs.Hearing.{open_before}
 use Rattle.routing.specs.declared.delivered.Outcome.{Outcome}
 use Rattle.routing.specs.declared.delivered.Outcome.TheVariants as outcomes
-use Rattle.routing.specs.Routing.{Came, Ends}
+use Rattle.routing.specs.Routing.{Ends}
 use Rattle.conn_log.specs.declared.earlier.Earlier.{Earlier}
 use Rattle.conn_log.specs.declared.event.ConnEvent.TheVariants as event
-use Rattle.conn_log.specs.Entries.{Entry, items, agreed, is_over}
+use Rattle.conn_log.specs.Entries.{Entry, items}
 use Rattle.conn_log.specs.Entries.Entry.{Says}
 use Rattle.conn_log.specs.Due.{HasCome, IsDue}
 use Rattle.conn_log.specs.Making.{MakesNone}

@@ -24,7 +24,7 @@ use Rattle.conn_log.specs.Turns.{turn}
 use Rattle.conn_log.specs.Due.{AllDue, told_reset, was_reset, told_end, end_was_told}
 use Rattle.conn_log.specs.Held.{IsAtRest, AreLeft, earlier_of}
 use Rattle.conn_log.specs.Rests.{AreAtRest}
-use Rattle.conn_log.specs.Routes.{IsStill, IsFor, IsNoOpening, IsMoving, Around, Opening, Routes, Awaits, set_aside}
+use Rattle.conn_log.specs.Routes.{IsFor, IsNoOpening, IsMoving, Around, Routes, Awaits, set_aside}
 use Rattle.conn_log.proofs.Same.{Same, side_same, settled_same, at_rest_same, left_same}
 use Rattle.conn_log.proofs.Around.{if_some}
 use Rattle.conn_log.proofs.Views.{same}

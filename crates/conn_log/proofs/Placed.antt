@@ -20,7 +20,7 @@ use Rattle.conn_log.specs.Due.{was_reset}
 use Rattle.conn_log.specs.Held.{IsSide}
 use Rattle.conn_log.specs.EntryRows.{opened, agrees, refuses}
 use Rattle.conn_log.specs.PlaceRows as rows
-use Rattle.conn_log.specs.PlaceRows.{TalkPlaceRows, LastPlaceRows, ActPlaceRows, is_due, opens_it}
+use Rattle.conn_log.specs.PlaceRows.{TalkPlaceRows, LastPlaceRows, ActPlaceRows, is_due}
 
 front_nil : (first rest : List ℕ) → [] ≡ first ++ rest → first ≡ []
 front_nil [] rest e = refl

@@ -1,6 +1,6 @@
 //! An end of a connection over a pipe, driven to the end of its events.
 
-ghost use Rattle.std.specs.Prelude.{◌<◌, ◌-◌, ◌^◌};
+ghost use Rattle.std.specs.Prelude.{◌<◌, ◌-◌};
 
 use crate::counted::Counted;
 use conn_core::ConnCore;

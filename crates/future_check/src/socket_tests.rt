@@ -1,6 +1,6 @@
 //! A link over a socket in memory: which tries it makes, and what it answers by them.
 
-ghost use Rattle.std.specs.Prelude.{◌≡◌, ◌≤◌, ⊤};
+ghost use Rattle.std.specs.Prelude.{◌≤◌, ⊤};
 ghost use Rattle.socket_link.specs.Tries.{count_tried};
 
 use crate::scripts::{FAIL, PENDING, answer_of};

@@ -1,7 +1,7 @@
 //! What holds of every handler.
 
 ghost use Rattle.std.specs.Prelude.{◌≡◌, ℕ, Bool, true, false, List, [], ◌++◌};
-ghost use Rattle.handlers.specs.Calls.{HandlerCall, Take, Give, End, Arises, EndsAs, WasHanded, taken};
+ghost use Rattle.handlers.specs.Calls.{HandlerCall, Take, Give, End, Arises, WasHanded};
 ghost use Rattle.handlers.specs.contracts.handler.HandlerFault.{the_view};
 ghost use Rattle.handlers.specs.declared.handler.HandlerFault.TheInside.{Inside as Fields};
 ghost use Rattle.handlers.specs.Names.{NameRows};

@@ -344,7 +344,7 @@ no_memory fields a b c d e f (inl list) = no_list fields a b c list.0 list.1 lis
 no_memory fields a b c d e f (inr text) = no_text fields d e f text.0 text.1 text.2 text.3
 
 -- the fields of these bytes are these
-memory_at : (peer bytes : List ℕ) (fields : List Entry) → IsMessage bytes fields → Refuses peer bytes OutOfMemory → IsKeySpelt (last_body 1 fields) × HasField fields
+pub memory_at : (peer bytes : List ℕ) (fields : List Entry) → IsMessage bytes fields → Refuses peer bytes OutOfMemory → IsKeySpelt (last_body 1 fields) × HasField fields
 memory_at peer bytes fields message refused =
     let same = one_message bytes refused.0 fields refused.1 message in
     subst (λ (t : List Entry). IsKeySpelt (last_body 1 t) × HasField t) same (refused.2, refused.3)

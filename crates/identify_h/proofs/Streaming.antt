@@ -8,7 +8,7 @@ use Rattle.varint_proto.proofs.Pieces.{take_past}
 use Rattle.varint_proto.specs.declared.fault.IncomingRefused.{IncomingRefused}
 use Rattle.varint_proto.specs.declared.fault.IncomingRefused.TheVariants as incoming
 use Rattle.varint_proto.specs.Incoming as framed
-use Rattle.varint_proto.specs.Incoming.{Arriving, Announces, Frames, ReadsFramed, AsksMemory, RefusesRoom, IsWhole}
+use Rattle.varint_proto.specs.Incoming.{Arriving, Announces, Frames, ReadsFramed, RefusesRoom, IsWhole}
 use Rattle.varint_proto.proofs.Framed.{frames_more}
 use Rattle.varint_proto.proofs.Arriving.{known, whole_read, partial_read, behind, two_places}
 use Rattle.identify_h.specs.declared.fault.IdentifyFault.{IdentifyFault}

@@ -2,7 +2,7 @@
 use Rattle.std.specs.Prelude.{◌≡◌, ◌↔◌, ℕ, List, [], ◌++◌, length, Bool, true, false, ◌||◌, Option, Some, None, is_some}
 use Rattle.std.specs.List.{concat}
 use Rattle.varint_proto.specs.Incoming as framed
-use Rattle.varint_proto.specs.Incoming.{Arriving, IsWhole}
+use Rattle.varint_proto.specs.Incoming.{Arriving}
 use Rattle.handlers.specs.Calls.{HandlerCall, Take, Give, End, Asked, ToTake, ToGive, ToEnd}
 use Rattle.identify_h.specs.declared.fault.IdentifyFault.{IdentifyFault}
 use Rattle.identify_h.specs.declared.fault.IdentifyFault.TheVariants.{Failed}

@@ -1,11 +1,11 @@
 //! The identify message.
 
-ghost use Rattle.std.specs.Prelude.{◌≡◌, ◌≢◌, ◌⊎◌, ◌++◌, ◌<◌, ◌≤◌, ◌+◌, ◌*◌, ◌^◌, ◌-◌, ℕ, List, Option, Some, None, Ok};
-ghost use Rattle.std.specs.Prelude.{Err, IsSome, IfOk, IfErr, OnOk, OnErr, length, map, min, []};
-ghost use Rattle.std.specs.Option.{option_copied, option_map};
+ghost use Rattle.std.specs.Prelude.{◌≡◌, ◌≢◌, ◌⊎◌, ◌++◌, ◌<◌, ◌+◌, ◌*◌, ◌^◌, ◌-◌, Option, Some, None, Ok};
+ghost use Rattle.std.specs.Prelude.{Err, IsSome, IfOk, IfErr, OnOk, OnErr, length, min, []};
+ghost use Rattle.std.specs.Option.{option_map};
 ghost use Rattle.std.specs.List.{flat_map};
 ghost use Rattle.varint_proto.specs.declared.fault.WireFault.{WireFault};
-ghost use Rattle.varint_proto.specs.Message.{FaultIn, shortest_field, entry, Bytes, IsTag};
+ghost use Rattle.varint_proto.specs.Message.{FaultIn, shortest_field, IsTag};
 ghost use Rattle.peer_ids.specs.PeerId.{canonical_of};
 ghost use Rattle.identify_h.specs.Messages.{Message, IsKeyOf, RefusesKeyOf, Spells, Refuses, HasBadKey, SaysSomething};
 ghost use Rattle.identify_h.specs.Messages.{written, body_if, bodies_of, merged, newer_list};

@@ -1,7 +1,7 @@
 //! The fields of an identify message, as they lie in its bytes.
 
-ghost use Rattle.std.specs.Prelude.{◌≡◌, ℕ, List, Option, Some, None, IsSome, IfOk, IfErr, OnErr};
-ghost use Rattle.std.specs.Option.{option_copied, option_map};
+ghost use Rattle.std.specs.Prelude.{◌≡◌, List, Option, Some, None, IsSome, IfOk, IfErr, OnErr};
+ghost use Rattle.std.specs.Option.{option_copied};
 ghost use Rattle.varint_proto.specs.Message.{Entry, IsMessage, FaultIn, last_body, all_bodies};
 ghost use Rattle.identify_h.specs.Messages.{HasText};
 ghost use Rattle.identify_h.specs.Parts.{AreLast, texts, text};

@@ -1,11 +1,10 @@
 //! The end that reads a stream of messages.
 
-ghost use Rattle.std.specs.Prelude.{◌≡◌, ◌≢◌, ◌↔◌, ◌++◌, ◌+◌, ◌-◌, ◌≤◌, ◌<◌, ℕ, List, [], take, length, vec_len, IsOk};
+ghost use Rattle.std.specs.Prelude.{◌≡◌, ◌≢◌, ◌↔◌, ◌++◌, ◌+◌, ◌-◌, ◌≤◌, ◌<◌, ℕ, List, take, length, vec_len, IsOk};
 ghost use Rattle.std.specs.Prelude.{IsErr, IsSome, IfOk, IfErr, OnOk, OnErr, true, false, Some, None, is_some};
 ghost use Rattle.std.specs.Vec.{vec_capacity};
 ghost use Rattle.handlers.specs.Calls.{Take, Give, End, ToTake, ToGive, ToEnd};
-ghost use Rattle.identify_h.specs.Messages.{Message};
-ghost use Rattle.identify_h.specs.Streams.{most_messages, TakeFails, EndFails, Reads};
+ghost use Rattle.identify_h.specs.Streams.{most_messages, TakeFails};
 ghost use Rattle.varint_proto.specs.Incoming.{IsWhole};
 ghost use Rattle.identify_h.specs.Reading.{Reader, Stands, Whenever, IsFresh, ReadStep, ReadFails, is_over};
 ghost use Rattle.identify_h.specs.Room.{Holds, waiting};

@@ -4,7 +4,7 @@ ghost use Rattle.std.specs.Prelude.{◌≡◌, ◌⊎◌, ◌≤◌, ◌<◌, dr
 ghost use Rattle.std.specs.Prelude.{Err, ◌==◌};
 ghost use Rattle.handlers.specs.Calls.{Take, Give, End, ToTake, ToGive, ToEnd};
 ghost use Rattle.identify_h.specs.Messages.{written};
-ghost use Rattle.identify_h.specs.Sending.{most_bytes, framed, sending, SendStep, SendFails, is_over};
+ghost use Rattle.identify_h.specs.Sending.{most_bytes, framed, sending, SendStep, SendFails};
 
 use crate::fault::{IdentifyFault, failing};
 use crate::identify::Identify;

@@ -1,6 +1,6 @@
 //! Messages: a varint length, a text and a newline.
 
-ghost use Rattle.std.specs.Prelude.{◌≡◌, ◌≢◌, ◌-◌, ◌<◌, [], ◌∷◌, ◌++◌, length, slice_index, IfOk, IfErr};
+ghost use Rattle.std.specs.Prelude.{◌≡◌, ◌-◌, ◌<◌, [], ◌∷◌, ◌++◌, IfOk, IfErr};
 ghost use Rattle.ms_select.specs.Messages.{IsNoText};
 
 use crate::fault::SelectFault;

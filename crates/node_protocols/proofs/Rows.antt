@@ -1,5 +1,5 @@
 -- The worked rows.
-use Rattle.std.proofs.Common.{◌≡◌, inl, inr, ◌<◌, refl, sym, subst, ap, ◌∙◌, ℕ, List, [], ◌∷◌, true, replicate, arith}
+use Rattle.std.proofs.Common.{◌≡◌, inl, inr, ◌<◌, refl, sym, subst, ap, ◌∙◌, ℕ, List, true, replicate, arith}
 use Rattle.ping_h.specs.Rounds.{Round, round}
 use Rattle.ping_h.specs.Echoes.{Echo}
 use Rattle.identify_h.specs.Sending.{Sending}
@@ -11,7 +11,7 @@ use Rattle.identify_h.specs.Faults.{number_of}
 use Rattle.node_protocols.specs.Handlers.{Stops}
 use Rattle.identify_h.specs.Messages.{Message}
 use Rattle.node_protocols.specs.Makes.{LeadsOutbound}
-use Rattle.node_protocols.specs.Rows.{OwnRows, MakesRows, LeadsRows, HandlerRows, StopRows, back, counts}
+use Rattle.node_protocols.specs.Rows.{OwnRows, MakesRows, LeadsRows, HandlerRows, StopRows, counts}
 
 pub own : OwnRows
 unfolding shortest shortest_within

@@ -1,7 +1,7 @@
 //! What a node says of itself.
 
-ghost use Rattle.std.specs.Prelude.{◌≡◌, ◌≤◌, ◌<◌, ◌+◌, ◌*◌, ◌-◌, ◌^◌, ℕ, List, length, min, IfOk};
-ghost use Rattle.varint_proto.specs.Message.{shortest_field, entry, Bytes, IsTag};
+ghost use Rattle.std.specs.Prelude.{◌≡◌, ◌<◌, ◌+◌, ◌-◌, ◌^◌, length, min, IfOk};
+ghost use Rattle.varint_proto.specs.Message.{shortest_field, entry, Bytes};
 ghost use Rattle.peer_ids.specs.PeerId.{canonical_of};
 ghost use Rattle.identify_h.specs.Messages.{written};
 ghost use Rattle.identify_h.specs.Parts.{texts};

@@ -1,6 +1,6 @@
 //! Public keys.
 
-ghost use Rattle.std.specs.Prelude.{◌≡◌, ◌≢◌, ◌⊎◌, ◌↔◌, ℕ, ◌<◌, List, length, vec_len, IsSome, IfSome, IfOk, IfErr};
+ghost use Rattle.std.specs.Prelude.{◌≡◌, ◌≢◌, ◌⊎◌, ◌↔◌, ◌<◌, List, length, vec_len, IsSome, IfSome, IfOk, IfErr};
 ghost use Rattle.std.specs.Option.{option_copied};
 ghost use Rattle.varint_proto.specs.declared.fault.WireFault.{WireFault};
 ghost use Rattle.varint_proto.specs.Message.{Entry, IsMessage, FaultIn, last_varint, last_body};

@@ -1,6 +1,6 @@
 -- A round sends its ping and awaits it.
 use Rattle.std.proofs.Common.{◌≡◌, ◌↔◌, ℕ, Bool, true, ◌&&◌, ◌==◌, List, [], ◌∷◌, ◌++◌, ◌<◌, length, take, drop, refl, sym, ◌∙◌, ap, append_assoc, arith, length-append}
-use Rattle.std.proofs.lemmas.List.{length-take, append-nil, take-append-drop, nil_from_length, append_cancel_left}
+use Rattle.std.proofs.lemmas.List.{length-take, append-nil, take-append-drop, nil_from_length}
 use Rattle.std.proofs.lemmas.Bool.Decides.{nat_tests}
 use mathlib.Core.List.{IsPrefix}
 use Rattle.handlers.specs.Calls.{HandlerCall, Take, Give, End, Arises, EndsAs, taken, given}

@@ -1,7 +1,7 @@
 //! An end of an exchange.
 
-ghost use Rattle.std.specs.Prelude.{◌≡◌, ◌≢◌, ◌⊎◌, ◌↔◌, ◌≤◌, ◌<◌, ◌+◌, ℕ, Bool, true, false, List, [], ◌∷◌, ◌++◌};
-ghost use Rattle.std.specs.Prelude.{length, take, Option, Some, None, Result, Ok, Err, IsOk, IsErr, IfOk, IfErr, OnOk};
+ghost use Rattle.std.specs.Prelude.{◌≡◌, ◌≢◌, ◌↔◌, ◌≤◌, ◌<◌, ◌+◌, ℕ, true, false, List, [], ◌++◌};
+ghost use Rattle.std.specs.Prelude.{length, Some, None, Result, Ok, Err, IsOk, IfOk, IfErr};
 ghost use Rattle.std.specs.Prelude.{OnErr, IfSome};
 ghost use Rattle.peer_ids.specs.Key.{Key};
 ghost use Rattle.peer_ids.specs.PeerId.{id_of};

@@ -2,7 +2,7 @@
 
 ghost use Rattle.std.specs.Prelude.{◌≡◌, ◌==◌, false, [], map};
 ghost use Rattle.pool_state.specs.Parts.{listing, has};
-ghost use Rattle.pool_state.specs.Added.{fresh, row_after, rows_after, with_row, with_peer, without_peer, added};
+ghost use Rattle.pool_state.specs.Added.{fresh, row_after, rows_after, with_peer, without_peer, added};
 ghost use Rattle.pool_state.specs.declared.row.Row.{Row};
 
 use crate::call::{Call, Reply};

@@ -4,7 +4,7 @@
 //! each law, and breaks where one of them says less.
 #![tactic(auto)]
 
-ghost use Rattle.std.specs.Prelude.{[], ◌++◌, IfOk};
+ghost use Rattle.std.specs.Prelude.{[], IfOk};
 ghost use Rattle.pool_state.specs.declared.limits.Config.{Config};
 ghost use Rattle.pool_state.specs.At.{Stands};
 ghost use Rattle.pool_told.specs.Told.{IsTold, made};

@@ -1,5 +1,5 @@
 -- What a stream came to, by the answers of the calls below.
-use Rattle.std.proofs.Common.{◌≡◌, ◌≢◌, ◌⊎◌, inl, inr, ℕ, Bool, true, false, List, [], ◌++◌, Option, Some, None, Result, Ok, Err, refl, sym, ap, ◌∙◌, subst}
+use Rattle.std.proofs.Common.{◌≡◌, ◌⊎◌, inl, inr, ℕ, Bool, true, false, List, Result, Ok, Err, refl, sym, ap, ◌∙◌, subst}
 use Rattle.std.specs.Prelude.{IfOk, OnErr}
 use Rattle.handlers.specs.Calls.{HandlerCall, Asked}
 use Rattle.handlers.specs.declared.handler.HandlerFault.{HandlerFault}
@@ -14,7 +14,6 @@ use Rattle.streams.specs.State.{Streaming, Stands, StandsAt, is_talking, awaits_
 use Rattle.streams.specs.Stops.{FailsBy}
 use Rattle.routing.specs.declared.delivered.Outcome.{Outcome}
 use Rattle.routing.specs.declared.delivered.Outcome.TheVariants as outcomes
-use Rattle.routing.specs.declared.delivered.Delivered.{Delivered}
 
 -- ---- an answer
 

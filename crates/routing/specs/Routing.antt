@@ -1,7 +1,7 @@
 -- What a stream of a session makes of what came for it.
 -- Source: multistream-select 1.0, "Protocol Negotiation"; libp2p connections, "Opening new streams over a connection";
 -- hashicorp yamux, "Flow Control"; that a stream is served behind each piece is this project's profile.
-use Rattle.std.specs.Prelude.{◌≡◌, ◌≢◌, ◌⊎◌, ℕ, Bool, true, false, List, [], ◌++◌, Option, Some, None}
+use Rattle.std.specs.Prelude.{◌≡◌, ◌≢◌, ◌⊎◌, ℕ, Bool, true, false, List, ◌++◌, Option, Some, None}
 use Rattle.handlers.specs.Calls.{HandlerCall, Asked, ToTake, ToEnd}
 use Rattle.handlers.specs.declared.handler.HandlerFault.{HandlerFault}
 use Rattle.ms_select.specs.declared.fault.SelectFault.TheVariants as select_faults
@@ -10,7 +10,6 @@ use Rattle.yamux_session.specs.declared.event.Role.{Role}
 use Rattle.yamux_session.specs.History.{Item}
 use Rattle.yamux_session.specs.Acts.{open_credit}
 use Rattle.yamux_session.specs.State.{State}
-use Rattle.streams.specs.declared.stop.Cause.{Cause}
 use Rattle.streams.specs.declared.stop.Cause.TheVariants as causes
 use Rattle.streams.specs.declared.stop.Stop.TheVariants as stops
 use Rattle.streams.specs.declared.stage.Stage.TheVariants as stages

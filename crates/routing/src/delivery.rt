@@ -1,6 +1,6 @@
 //! Delivering what came to one stream.
 
-ghost use Rattle.std.specs.Prelude.{◌≡◌, ◌≢◌, ◌⊎◌, ℕ, ◌≤◌, true, false, List, ◌++◌, length, drop, Option, Some, None};
+ghost use Rattle.std.specs.Prelude.{◌≡◌, ◌⊎◌, ℕ, ◌≤◌, true, false, List, length, drop, Some, None};
 ghost use Rattle.std.specs.Prelude.{IfOk, OnErr};
 ghost use Rattle.yamux_session.specs.declared.event.Role.{Role};
 ghost use Rattle.yamux_session.specs.History.{Item};

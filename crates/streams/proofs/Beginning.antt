@@ -1,6 +1,5 @@
 -- What an end that answers writes first.
-use Rattle.std.proofs.Common.{◌≡◌, ℕ, List, [], ◌∷◌, ◌++◌, Some, None, Ok, refl, sym, ◌∙◌, subst, inl, arith}
-use Rattle.std.specs.List.{All}
+use Rattle.std.proofs.Common.{◌≡◌, ℕ, List, [], ◌∷◌, Some, None, Ok, refl, subst, inl, arith}
 use Rattle.std.proofs.lemmas.List.Elements.{All-nil}
 use Rattle.ms_select.specs.declared.answer.Answer.TheVariants.{Going}
 use Rattle.ms_select.specs.Messages.{header, spelled, IsShort, ReadsMessage}

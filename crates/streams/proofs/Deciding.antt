@@ -1,9 +1,8 @@
 -- What a stream answers while it talks hangs on its data alone.
-use Rattle.std.proofs.Common.{◌≡◌, ◌≢◌, ℕ, ◌+◌, ◌-◌, ◌≤◌, List, [], ◌++◌, length, take, Result, Ok, Err, refl, sym, ap, ◌∙◌, subst, append_assoc, arith}
+use Rattle.std.proofs.Common.{◌≡◌, ℕ, ◌+◌, ◌-◌, ◌≤◌, List, ◌++◌, length, take, Result, Ok, Err, refl, sym, ap, ◌∙◌, subst, append_assoc, arith}
 use Rattle.std.proofs.lemmas.List.{append_cancel_left, length-append, length-take-le, take-append-le, take-append-drop}
 use Rattle.std.proofs.Math.Seq.{take-append-add}
 use Rattle.std.specs.Prelude.{drop}
-use Rattle.std.proofs.lemmas.List.{append-nil}
 use Rattle.ms_select.specs.declared.answer.Answer.{Answer}
 use Rattle.ms_select.specs.declared.answer.Answer.TheVariants as answers
 use Rattle.ms_select.specs.declared.fault.SelectFault.{SelectFault}
@@ -17,7 +16,7 @@ use Rattle.streams.specs.declared.stop.Stop.{Stop}
 use Rattle.streams.specs.declared.stop.Stop.TheVariants.{Broken, OutOfMemory}
 use Rattle.streams.specs.Streams.{Past, HasAgreed}
 use Rattle.streams.specs.Hearing.{Hears}
-use Rattle.streams.specs.Laws.{OneAnswer, AnswerStays, CutAnywhere, OneSplit, counted_from}
+use Rattle.streams.specs.Laws.{OneAnswer, AnswerStays, CutAnywhere, OneSplit}
 
 abbrev Outcome : Type 0
 Outcome = Result Answer SelectFault

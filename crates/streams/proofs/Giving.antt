@@ -1,12 +1,11 @@
 -- What a stream gives out: what waits, and behind it what its handler gave.
-use Rattle.std.proofs.Common.{◌≡◌, ◌≢◌, ◌⊎◌, ℕ, ◌+◌, ◌-◌, ◌≤◌, ◌<◌, min, Bool, true, false, not, List, [], ◌∷◌, ◌++◌, length, Option, Some, None, refl, sym, ap, ◌∙◌, subst, append_assoc, inl, inr, arith}
+use Rattle.std.proofs.Common.{◌≡◌, ◌⊎◌, ℕ, ◌+◌, ◌-◌, ◌≤◌, min, Bool, true, false, not, List, [], ◌∷◌, ◌++◌, length, Option, Some, None, refl, sym, ap, ◌∙◌, subst, append_assoc, inl, inr, arith}
 use Rattle.std.proofs.lemmas.List.{append-nil, length-append}
 use Rattle.handlers.specs.Calls.{HandlerCall, Give}
 use Rattle.streams.specs.declared.stage.Stage.{Stage}
 use Rattle.streams.specs.declared.stage.Stage.TheVariants as stages
-use Rattle.streams.specs.Handled.{Handled}
-use Rattle.streams.specs.Streams.{Past, IsEarly, HasAgreed, IsTalking, IsServed}
-use Rattle.streams.specs.State.{StandsAt, is_open, handler_of}
+use Rattle.streams.specs.Streams.{Past, IsEarly, HasAgreed}
+use Rattle.streams.specs.State.{StandsAt, is_open}
 use Rattle.streams.specs.Giving.{Gives, StageGives}
 use Rattle.streams.proofs.Handling.{after_give}
 

@@ -1,5 +1,5 @@
 -- Where a stream stands behind a call.
-use Rattle.std.proofs.Common.{◌≡◌, ◌≢◌, ◌⊎◌, ℕ, ◌+◌, ◌≤◌, Bool, true, false, List, [], ◌∷◌, ◌++◌, length, take, Option, Some, None, Result, Ok, Err, refl, sym, ap, ◌∙◌, subst, append_assoc, inl, inr}
+use Rattle.std.proofs.Common.{◌≡◌, ◌≢◌, ◌⊎◌, ℕ, ◌+◌, Bool, true, false, List, [], ◌∷◌, ◌++◌, take, Option, Some, None, Result, Ok, Err, refl, sym, ap, ◌∙◌, subst, append_assoc, inl, inr}
 use Rattle.std.proofs.lemmas.List.{append-nil, append_cancel_left}
 use Rattle.ms_select.specs.declared.answer.Answer.{Answer}
 use Rattle.ms_select.specs.declared.answer.Answer.TheVariants as answers
@@ -17,9 +17,9 @@ use Rattle.streams.specs.declared.stop.Stop.TheVariants.{Broken, OutOfMemory}
 use Rattle.streams.specs.declared.stage.Stage.{Stage}
 use Rattle.streams.specs.declared.stage.Stage.TheVariants as stages
 use Rattle.streams.specs.Handled.{Handled}
-use Rattle.streams.specs.Streams.{Past, fresh, IsAsking, IsEarly, HasAgreed, AwaitsHandler, IsTalking, IsServed, IsDone}
-use Rattle.streams.specs.State.{Streaming, Stands, StandsAt, is_talking, awaits_handler, handler_of}
-use Rattle.streams.specs.Hearing.{Hears, HasHeard, HasNoRoom, Moves, RunsOut, used_of, served}
+use Rattle.streams.specs.Streams.{Past, fresh, IsAsking, IsEarly, HasAgreed, IsTalking, IsServed, IsDone}
+use Rattle.streams.specs.State.{Streaming, Stands, StandsAt, awaits_handler, handler_of}
+use Rattle.streams.specs.Hearing.{Hears, HasHeard, HasNoRoom, RunsOut, used_of, served}
 use Rattle.streams.specs.InTalk.{TalkHears, stage_by}
 use Rattle.streams.proofs.Hearing.{still_open}
 use Rattle.streams.proofs.Handling.{fresh_handled, forget, after_take, after_end}

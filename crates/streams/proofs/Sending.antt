@@ -1,5 +1,5 @@
 -- What a stream gives, by the parts of what waits.
-use Rattle.std.proofs.Common.{◌≡◌, ◌⊎◌, ℕ, ◌+◌, ◌-◌, ◌≤◌, min, true, false, not, Bool, List, [], ◌++◌, length, take, drop, Option, Some, None, refl, sym, ap, ◌∙◌, subst, arith}
+use Rattle.std.proofs.Common.{◌≡◌, ℕ, ◌+◌, ◌-◌, ◌≤◌, min, true, false, not, Bool, List, [], ◌++◌, length, take, drop, Some, None, sym, ap, ◌∙◌, subst, arith}
 use Rattle.std.proofs.lemmas.List.{append-nil, length-append, take-append-drop, length-take-le, take_min, drop_min}
 use Rattle.handlers.specs.Calls.{HandlerCall, Give}
 use Rattle.streams.specs.declared.stage.Stage.{Stage}

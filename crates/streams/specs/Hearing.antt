@@ -1,23 +1,21 @@
 -- What a stream makes of data while it talks.
 -- Source: multistream-select 1.0, "Protocol Negotiation"; that a stream is told its data in pieces is this project's
 -- profile.
-use Rattle.std.specs.Prelude.{◌≡◌, ◌≢◌, ◌⊎◌, ℕ, ◌≤◌, Bool, true, List, []}
+use Rattle.std.specs.Prelude.{◌≡◌, ◌≢◌, ◌⊎◌, ℕ, ◌≤◌, true, List, []}
 use Rattle.std.specs.Prelude.{◌++◌, length, take, Option, Some, None, Result, Ok, Err}
 use Rattle.ms_select.specs.declared.answer.Answer.{Answer}
-use Rattle.ms_select.specs.declared.answer.Answer.TheVariants as answers
 use Rattle.ms_select.specs.declared.fault.SelectFault.{SelectFault}
 use Rattle.ms_select.specs.declared.fault.SelectFault.TheVariants as select_faults
 use Rattle.handlers.specs.Calls.{HandlerCall}
 use Rattle.talks.specs.Talks.{Side, Talks, IsOpen, Agrees, IsTurnedDown, Faults, RunsOut as TalkRunsOut}
 use Rattle.streams.specs.declared.heard.Heard.{Heard}
 use Rattle.streams.specs.declared.heard.Heard.TheVariants.{Going, Agreed, Refused}
-use Rattle.streams.specs.declared.stop.Cause.{Cause}
 use Rattle.streams.specs.declared.stop.Cause.TheVariants.{Select, Handler, Reset, Ended}
 use Rattle.streams.specs.declared.stop.Stop.{Stop}
 use Rattle.streams.specs.declared.stop.Stop.TheVariants.{Broken, OutOfMemory}
 use Rattle.streams.specs.declared.stage.Stage.{Stage}
 use Rattle.streams.specs.declared.stage.Stage.TheVariants as stages
-use Rattle.streams.specs.Streams.{Past, IsGoing, IsEarly}
+use Rattle.streams.specs.Streams.{Past, IsEarly}
 use Rattle.streams.specs.State.{is_talking, handler_of}
 
 -- the bytes of the piece that are the talk's

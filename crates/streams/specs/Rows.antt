@@ -17,7 +17,7 @@ use Rattle.streams.specs.declared.stop.Cause.TheVariants.{Select, Handler}
 use Rattle.streams.specs.declared.stop.Stop.{Stop}
 use Rattle.streams.specs.declared.stop.Stop.TheVariants.{Broken, OutOfMemory}
 use Rattle.streams.specs.Stops.{of_select, not_now, FailsBy}
-use Rattle.streams.specs.Handled.{AskedLast, Handled}
+use Rattle.streams.specs.Handled.{AskedLast}
 use Rattle.streams.specs.Streams.{Past, IsEarly, IsServed, IsDone, fresh}
 use Rattle.streams.specs.State.{is_talking, awaits_handler, handler_of, is_open, has_closed, has_finished}
 use Rattle.streams.specs.State.{was_handed_out, kind_of, InTalk, Awaiting, Served, HandedOut, Ended}

@@ -1,6 +1,6 @@
 //! Where a stream is.
 
-ghost use Rattle.std.specs.Prelude.{◌≡◌, ℕ, ◌≤◌, length, List, Some, true, false, Ok, IfOk, IfErr, OnOk};
+ghost use Rattle.std.specs.Prelude.{◌≡◌, Some, true, false, Ok, IfOk, IfErr, OnOk};
 ghost use Rattle.handlers.specs.Calls.{ToGive};
 ghost use Rattle.streams.specs.State.{is_talking, awaits_handler, handler_of, has_closed, has_finished, was_handed_out};
 ghost use Rattle.streams.specs.State.{kind_of};

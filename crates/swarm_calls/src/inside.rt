@@ -1,6 +1,6 @@
 //! What lies under the swarm's lock.
 
-ghost use Rattle.std.specs.Prelude.{◌≡◌, ◌≢◌, ◌+◌, ◌<◌, ◌≤◌, ◌^◌, ◌++◌, ◌∷◌, [], drop, length, true, false};
+ghost use Rattle.std.specs.Prelude.{◌≡◌, ◌≢◌, ◌+◌, ◌<◌, ◌≤◌, ◌++◌, ◌∷◌, [], drop, length, true, false};
 ghost use mathlib.Core.List.{IsPrefix};
 ghost use Rattle.pool_state.specs.History.{entry};
 ghost use Rattle.pool_state.specs.Shown.{Shown, IsLegal, reply_after};

@@ -1,6 +1,6 @@
 //! A caller's pass.
 
-ghost use Rattle.std.specs.Prelude.{◌≡◌, ◌≤◌, ◌<◌, ◌^◌, IfSome};
+ghost use Rattle.std.specs.Prelude.{◌≡◌, ◌≤◌, ◌<◌, ◌^◌};
 ghost use mathlib.Core.List.{IsPrefix};
 ghost use Rattle.pool_state.specs.History.{front_of};
 ghost use Rattle.pool_state.specs.Shown.{Shown, IsLegal};

@@ -1,6 +1,6 @@
 //! What is published: a listing, with the history that it shows and the number of each caller's entries there.
 
-ghost use Rattle.std.specs.Prelude.{◌≡◌, ◌<◌, ◌≤◌, ◌^◌, []};
+ghost use Rattle.std.specs.Prelude.{◌≡◌, ◌<◌, ◌≤◌, ◌^◌};
 ghost use mathlib.Core.List.{IsPrefix};
 ghost use Rattle.pool_state.specs.Added.{more, more_at};
 ghost use Rattle.swarm_calls.specs.Snapshots.{IsShown, followed};

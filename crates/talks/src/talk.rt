@@ -1,7 +1,7 @@
 //! The talk of an end.
 
 ghost use Rattle.std.specs.Prelude.{◌≡◌, ◌≢◌, ◌⊎◌, ◌↔◌, ◌≤◌, ℕ, List, [], ◌∷◌, ◌++◌, length, take, map, Result};
-ghost use Rattle.std.specs.Prelude.{Some, None, Ok, Err, IfOk, IfErr, OnOk, OnErr};
+ghost use Rattle.std.specs.Prelude.{Some, None, Ok, Err, IfOk, IfErr, OnErr};
 ghost use Rattle.std.specs.List.{All};
 ghost use Rattle.ms_select.specs.declared.answer.Answer.{Answer};
 ghost use Rattle.ms_select.specs.declared.fault.SelectFault.{SelectFault};

@@ -1,6 +1,6 @@
 //! A whole upgrade, from the first byte on.
 
-ghost use Rattle.std.specs.Prelude.{◌≡◌, ◌≢◌, ℕ, List, Ok, Err, IfOk, IfErr};
+ghost use Rattle.std.specs.Prelude.{◌≢◌, ℕ, List, Ok, Err, IfOk, IfErr};
 ghost use Rattle.std.specs.List.{flat_map};
 ghost use Rattle.upgrade.specs.Upgrades.{ComesTo};
 

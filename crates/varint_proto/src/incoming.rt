@@ -1,6 +1,6 @@
 //! A message behind its length, that comes in any pieces.
 
-ghost use Rattle.std.specs.Prelude.{◌≡◌, ◌≢◌, ◌↔◌, ℕ, ◌+◌, ◌-◌, ◌<◌, ◌≤◌, List, [], ◌∷◌, ◌++◌, length, take, drop, min};
+ghost use Rattle.std.specs.Prelude.{◌≡◌, ◌≢◌, ◌↔◌, ℕ, ◌+◌, ◌-◌, ◌<◌, ◌≤◌, [], ◌∷◌, ◌++◌, length, take, drop, min};
 ghost use Rattle.std.specs.Prelude.{true, false, Some, None, Ok, Err, IsTrue, IsOk, IfOk, IfErr, OnOk, OnErr, IfSome};
 ghost use Rattle.std.specs.Prelude.{IfNone};
 ghost use Rattle.varint_proto.specs.Varint.{ReadsShortest};

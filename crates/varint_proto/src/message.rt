@@ -1,7 +1,7 @@
 //! The fields of a protobuf message.
 
-ghost use Rattle.std.specs.Prelude.{◌≡◌, ◌≢◌, ◌↔◌, ℕ, ◌+◌, ◌*◌, ◌^◌, ◌<◌, ◌≤◌, List, [], ◌++◌, length, vec_len, IfSome};
-ghost use Rattle.std.specs.Prelude.{IfNone, OnSome, IfOk, IfErr, OnOk, OnErr};
+ghost use Rattle.std.specs.Prelude.{◌≡◌, ◌↔◌, ℕ, ◌+◌, ◌*◌, ◌^◌, ◌<◌, ◌≤◌, List, [], ◌++◌, length, vec_len, IfSome};
+ghost use Rattle.std.specs.Prelude.{OnSome, IfOk, IfErr, OnOk, OnErr};
 
 use crate::fault::WireFault;
 use crate::varint::{read_wide, spell};

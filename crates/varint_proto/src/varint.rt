@@ -1,9 +1,9 @@
 //! Base-128 varints.
 
-ghost use Rattle.std.specs.Prelude.{◌≡◌, ◌≢◌, ◌↔◌, ℕ, ◌+◌, ◌*◌, ◌^◌, ◌<◌, ◌≤◌, List, ◌++◌, length, take, position};
-ghost use Rattle.std.specs.Prelude.{nat_lt, ◌⊎◌, Option, Result, IfSome, IfNone, IfOk, IfErr, OnOk, OnErr, MatchResult};
+ghost use Rattle.std.specs.Prelude.{◌≡◌, ◌↔◌, ℕ, ◌+◌, ◌*◌, ◌^◌, ◌<◌, ◌≤◌, ◌++◌, length, take, position};
+ghost use Rattle.std.specs.Prelude.{nat_lt, Option, Result, IfSome, IfNone, IfOk, IfErr, OnOk, OnErr};
 ghost use Rattle.varint_proto.specs.Varint.{IsSpelling, value_of, SpellsShortest, BeginsWide, IsUnended, WideFault};
-ghost use Rattle.varint_proto.specs.Varint.{ReadsShortest, shortest, EndsInZero};
+ghost use Rattle.varint_proto.specs.Varint.{ReadsShortest, shortest};
 ghost use Rattle.varint_proto.specs.declared.fault.WireFault.{WireFault};
 
 use crate::fault::{VarintRefused, WireFault};

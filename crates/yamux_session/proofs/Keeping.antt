@@ -9,7 +9,7 @@ use Rattle.yamux_session.specs.declared.event.Role.{Role}
 use Rattle.yamux_session.specs.declared.streams.Row.{Row}
 use Rattle.yamux_session.specs.Table.{Table, row_at, is_taker, Rewrites, Forgets, Opens, opened}
 use Rattle.yamux_session.specs.History.{Item, Act, arrivals, is_own, is_remote}
-use Rattle.yamux_session.specs.History.Item.{Came, Did}
+use Rattle.yamux_session.specs.History.Item.{Did}
 use Rattle.yamux_session.specs.History.Act.{Start, Write, Taken, Close, Reset}
 use Rattle.yamux_session.specs.Openings.{live, is_live, reading, finished, closed, contains, opens, finishes, closes, local_go_away, is_reading, byte_belongs}
 use Rattle.yamux_session.specs.Windows.{since_opening, data_length, update_length, written_length, arrived_length, taken_length, given_back, given_of, is_take_of, owed, accepted, acks, coming, untaken}

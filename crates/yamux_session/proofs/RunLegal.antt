@@ -8,7 +8,6 @@ use Rattle.yamux_session.specs.declared.calls.ActAnswer.{ActAnswer}
 use Rattle.yamux_session.specs.declared.calls.ActAnswer.TheVariants.{Events, Stream, Count, Done, Refused}
 use Rattle.yamux_session.specs.History.{Item, arrivals}
 use Rattle.yamux_session.specs.History as history
-use Rattle.yamux_session.specs.History.Item.{Did}
 use Rattle.yamux_session.specs.Acts.{AreAnswered}
 use Rattle.yamux_session.specs.Faults.{HasNoFault}
 use Rattle.yamux_session.specs.Runs.{Point, IsAdded, AnswersAt, Answers, AnswersAll, RunIsLegal}

@@ -31,7 +31,8 @@ use Rattle.yamux_session.specs.Runs.Point.{At, Over}
 use Rattle.yamux_session.specs.Arrives.{tellings}
 use Rattle.yamux_session.specs.declared.calls.Act as call_of
 use Rattle.yamux_session.specs.declared.calls.ActAnswer.{ActAnswer}
-use Rattle.yamux_session.specs.Rows.{bare, two_bytes, all_written, ping_bytes, answer_bytes, garbled_bytes, leaving_bytes, garbled}
+use Rattle.yamux_session.specs.Rows.{bare, two_bytes, all_written, ping_bytes, answer_bytes}
+use Rattle.yamux_session.specs.Rows.{garbled_bytes, leaving_bytes, garbled}
 
 -- a run that has come to this list, fed nothing
 abbrev pub at : List Item → Point

@@ -1,6 +1,6 @@
 //! What the head of a frame does to the streams.
 
-ghost use Rattle.std.specs.Prelude.{◌≡◌, ℕ, List, Some, None, IfOk, IfErr, true, false, not, nat_lt, ◌&&◌, ◌||◌};
+ghost use Rattle.std.specs.Prelude.{◌≡◌, List, Some, None, IfOk, IfErr, true, false, not, nat_lt, ◌&&◌, ◌||◌};
 ghost use Rattle.std.specs.Prelude.{if◌then◌else◌};
 ghost use Rattle.yamux_frames.specs.Frames.{bytes_left};
 ghost use Rattle.yamux_session.specs.declared.event.Role.{Role};

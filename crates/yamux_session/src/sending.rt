@@ -1,6 +1,6 @@
 //! The bytes that are sent: frames, appended to the output.
 
-ghost use Rattle.std.specs.Prelude.{◌≡◌, ℕ, ◌++◌, List, IfOk, OnErr, OnOk, length, vec_len, ◌<◌, ◌≤◌, ◌+◌, ◌^◌};
+ghost use Rattle.std.specs.Prelude.{◌≡◌, ◌++◌, OnErr, OnOk, length, vec_len, ◌<◌, ◌≤◌, ◌+◌, ◌^◌};
 ghost use Rattle.std.specs.Vec.{vec_capacity};
 ghost use Rattle.yamux_session.specs.Acts.{Carries, frames_length};
 ghost use Rattle.yamux_session.specs.Output.{frame};

@@ -4,8 +4,8 @@ ghost use Rattle.std.specs.Prelude.{◌≡◌, ◌≢◌, ℕ, ◌++◌, ◌∷�
 ghost use Rattle.std.specs.Prelude.{true, false, length, take, ◌<◌, ◌≤◌, ◌-◌, ◌↔◌, drop, min, IsTrue};
 ghost use Rattle.std.specs.List.{AllByRecursion};
 ghost use Rattle.yamux_session.specs.History.{Item, Act};
-ghost use Rattle.yamux_session.specs.History.Item.{Came, Did};
-ghost use Rattle.yamux_session.specs.History.Act.{Start, Write, Taken, Close, Reset};
+ghost use Rattle.yamux_session.specs.History.Item.{Did};
+ghost use Rattle.yamux_session.specs.History.Act.{Start, Taken, Close, Reset};
 ghost use Rattle.yamux_session.specs.Openings.{is_live};
 ghost use Rattle.yamux_session.specs.Acts.{open_credit, start_refusal, stream_refusal, direction_refusal, IsRefusedFor};
 ghost use Rattle.yamux_session.specs.Acts.{frames_length};

@@ -1,14 +1,11 @@
 //! The live streams of a session, with their windows, and what acts of this end do to them.
 
-ghost use Rattle.std.specs.Prelude.{◌≡◌, ℕ, ◌<◌, ◌-◌, ◌+◌, List, ◌∷◌, ◌||◌, ◌&&◌, Some, None, IfOk, IfErr, OnErr, OnOk};
-ghost use Rattle.std.specs.Prelude.{IsSome, IfSome, IfNone, is_some, ◌==◌, ◌^◌, true, false, if◌then◌else◌, nat_lt};
+ghost use Rattle.std.specs.Prelude.{◌≡◌, ◌<◌, ◌-◌, ◌+◌, List, ◌&&◌, Some, None, IfOk, OnErr, OnOk};
+ghost use Rattle.std.specs.Prelude.{IfNone, is_some, ◌==◌, ◌^◌, false, if◌then◌else◌, nat_lt};
 ghost use Rattle.std.specs.Prelude.{not};
-ghost use Rattle.yamux_session.specs.History.{Item, is_own, is_remote, is_update, syn, ack, fin, rst};
-ghost use Rattle.yamux_session.specs.History.Item.{Came};
-ghost use Rattle.yamux_frames.specs.Frames.Arrival.{Head, Tail};
-ghost use Rattle.yamux_session.specs.Faults.{fault_at};
+ghost use Rattle.yamux_session.specs.History.{Item, is_own, is_remote};
 ghost use Rattle.yamux_session.specs.Openings.{is_live};
-ghost use Rattle.yamux_session.specs.Acts.{open_credit, start_refusal, AreAnswered};
+ghost use Rattle.yamux_session.specs.Acts.{open_credit, start_refusal};
 ghost use Rattle.yamux_session.specs.Keeps.{Keeps};
 ghost use Rattle.yamux_session.specs.Windows.{initial_window};
 ghost use Rattle.yamux_session.specs.Table.{table_of, row_at, is_taker, Rewrites, Forgets, Opens};

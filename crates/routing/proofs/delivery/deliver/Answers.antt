@@ -1,6 +1,6 @@
-use Rattle.std.proofs.Common.{◌≡◌, ◌≢◌, ℕ, List, ◌++◌, Bool, true, false, Option, Some, None, Ok, Err, refl, sym, ap, ◌∙◌, subst, inl, inr, take, drop}
+use Rattle.std.proofs.Common.{◌≡◌, ◌++◌, true, false, Some, Ok, refl, sym, ap, subst, inl, take, drop}
 use Rattle.streams.specs.declared.heard.Heard.{Heard}
-use Rattle.streams.specs.State.{Streaming, is_talking, awaits_handler, kind_of}
+use Rattle.streams.specs.State.{is_talking, awaits_handler, kind_of}
 use Rattle.dispatch.specs.Dispatch.{Negotiates, makes_once}
 use Rattle.routing.specs.declared.delivered.Delivered.{Delivered}
 use Rattle.routing.specs.Routing.{Delivers, HasAgreed}

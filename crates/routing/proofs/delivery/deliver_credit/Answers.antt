@@ -1,8 +1,6 @@
-use Rattle.std.proofs.Common.{◌≡◌, ℕ, Some, Err, ap, subst}
-use Rattle.yamux_session.specs.Acts.{open_credit}
+use Rattle.std.proofs.Common.{Err, ap, subst}
 use Rattle.streams.specs.declared.stop.Stop.{Stop}
 use Rattle.serving.specs.Served.{GivesUp}
-use Rattle.routing.specs.declared.delivered.Outcome.{Outcome}
 use Rattle.routing.specs.Routing.{Came}
 use Rattle.routing.proofs.Delivering.{broken, no_memory, ran_out}
 use Rattle.routing.proofs.delivery.deliver_credit.Goals as goal

@@ -1,10 +1,5 @@
-use Rattle.std.proofs.Common.{◌≡◌, ◌⊎◌, inl, inr, ℕ, List, [], ◌++◌, true, false, Some, None, Ok, Err, ap, sym, ◌∙◌, refl, subst}
+use Rattle.std.proofs.Common.{inl, inr, true, None, ap, sym, ◌∙◌, refl}
 use Rattle.handlers.specs.Calls.{ToEnd}
-use Rattle.streams.specs.declared.stop.Cause.{Cause}
-use Rattle.streams.specs.declared.stop.Cause.TheVariants as causes
-use Rattle.streams.specs.declared.stage.Stage.TheVariants as stages
-use Rattle.streams.specs.State.{Streaming, Stands, is_talking}
-use Rattle.routing.specs.declared.delivered.Outcome.{Outcome}
 use Rattle.routing.specs.declared.delivered.Outcome.TheVariants as outcomes
 use Rattle.routing.specs.Routing.{Came, Ends}
 use Rattle.routing.proofs.Delivering.{answered, broken, quiet, handler_failed, keeps_memory, ran_out, same_stop, stop_is, same_cause}

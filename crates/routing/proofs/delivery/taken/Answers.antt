@@ -1,8 +1,5 @@
-use Rattle.std.proofs.Common.{◌≡◌, ◌⊎◌, inl, inr, ℕ, List, [], ◌++◌, false, Some, None, Ok, Err, ap, sym, ◌∙◌, refl, subst}
+use Rattle.std.proofs.Common.{inl, inr, ◌++◌, None, refl}
 use Rattle.handlers.specs.Calls.{ToTake}
-use Rattle.streams.specs.declared.stage.Stage.TheVariants as stages
-use Rattle.streams.specs.State.{Streaming, Stands, is_talking}
-use Rattle.routing.specs.declared.delivered.Outcome.{Outcome}
 use Rattle.routing.specs.Routing.{Came, Takes}
 use Rattle.routing.proofs.Delivering.{answered, broken, quiet, handler_failed, keeps_memory, ran_out, same_stop}
 use Rattle.routing.proofs.delivery.taken.Goals as goal

@@ -1,6 +1,3 @@
-use Rattle.std.proofs.Common.{None, Some, Option, refl, subst}
-use Rattle.talks.specs.Talks.{Side, Asks}
-use Rattle.streams.specs.Streams.{IsEarly, fresh}
 use Rattle.streams.proofs.Moving.{early_at_first}
 use Rattle.streams.proofs.stream.Stream.ask.Goals as goal
 

@@ -1,5 +1,4 @@
 use Rattle.std.proofs.Common.{◌≡◌}
-use Rattle.streams.specs.State.{Streaming}
 use Rattle.streams.specs.declared.stage.Stage.TheVariants as stages
 use Rattle.streams.proofs.Moving.{has_ended, served_as}
 use Rattle.streams.proofs.stream.Stream.end.Goals as goal

@@ -1,4 +1,4 @@
-use Rattle.std.proofs.Common.{◌≡◌, ℕ, ◌-◌, min, List, length, take, drop, refl, sym, ap, ◌∙◌, subst}
+use Rattle.std.proofs.Common.{◌≡◌, ◌-◌, min, length, take, drop, refl, ap, ◌∙◌, subst}
 use Rattle.streams.specs.declared.stage.Stage.{Stage}
 use Rattle.streams.specs.Giving.{StageGives}
 use Rattle.streams.specs.State.{Streaming}

@@ -1,6 +1,5 @@
 use Rattle.std.proofs.Common.{◌≡◌, ◌∙◌, Ok, Err, sym, ap}
 use Rattle.std.proofs.lemmas.Result.{err_from_is_err_and}
-use Rattle.streams.specs.State.{Streaming}
 use Rattle.streams.specs.declared.stage.Stage.TheVariants as stages
 use Rattle.streams.proofs.Hearing.{open_before}
 use Rattle.streams.proofs.Moving.{talking_as, heard_as, room_as, memory_told, has_heard, then_stands, stopped}
