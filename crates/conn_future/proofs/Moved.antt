@@ -1,12 +1,12 @@
 -- What a call of the link moved, by its answer.
-use Rattle.std.proofs.Common.{◌≡◌, ◌≢◌, ◌<◌, ◌⊎◌, inl, inr, ℕ, zero, suc, true, List, [], ◌∷◌, ◌++◌, take, drop, Result, Ok, Err, arith, refl, ap, sym, ◌∙◌, append_assoc}
+use Rattle.std.proofs.Common.{◌≡◌, ◌≢◌, ◌<◌, ◌⊎◌, inl, inr, ℕ, zero, suc, true, List, [], ◌∷◌, ◌++◌, take, drop, length, Result, Ok, Err, arith, refl, ap, sym, ◌∙◌, append_assoc}
 use Rattle.std.proofs.lemmas.List.{take-append-drop}
 use Rattle.futures.specs.declared.task.Poll.{Poll}
 use Rattle.futures.specs.declared.task.Poll.TheVariants.{Ready, Pending}
 use Rattle.conn_link.specs.declared.link.LinkFault.{LinkFault}
 use Rattle.conn_link.specs.declared.link.Link.{Ghosts as LinkGhosts}
 use Rattle.conn_link.specs.Moving.{bytes_moved, found_end, MovesNothing, MovesOn}
-use Rattle.conn_future.specs.Stages.{Drains}
+use Rattle.conn_future.specs.Stages.{Drains, Came}
 
 pub of_count : (polled : Poll (Result ℕ LinkFault)) (bytes all : List ℕ) (count : ℕ) → polled ≡ Ready (Ok count) → bytes ≡ all
     → bytes_moved polled bytes ≡ take count all
@@ -41,6 +41,31 @@ some_end_not (suc room) (suc count) some is = cc is
 pub none_ends : (room : ℕ) (polled : Poll (Result ℕ LinkFault)) → polled ≡ Ready (Ok 0) → 0 < room → found_end room polled ≡ true
 none_ends zero polled is some = absurd (omega (arith, some))
 none_ends (suc room) polled is some = ap (found_end (suc room)) is
+
+-- ---- something came
+
+-- a read that moved some
+pub some_moved : (count : ℕ) (buffer : List ℕ) → count ≢ 0 → 0 < length buffer → take count buffer ≢ []
+some_moved zero buffer some room none = some refl
+some_moved (suc count) [] some room none = absurd (omega (arith, room))
+some_moved (suc count) (byte ∷ buffer) some room none = cc none
+
+none_behind : (before behind : List ℕ) → before ++ behind ≡ [] → behind ≡ []
+none_behind [] behind none = none
+none_behind (byte ∷ before) behind none = absurd (cc none)
+
+-- in turn
+pub came_on : {L : Type 0} (link : LinkGhosts L) → MovesOn link.moves → (first mid last : L) (given took : List ℕ)
+    → link.moves first given took mid → Came link mid last → Came link first last
+came_on link on first mid last given took moved came = record {
+  given = given ++ came.given;
+  took = took ++ came.took;
+  moved = on first mid last given took came.given came.took moved came.moved;
+  some = elim came.some [
+    | inl some ↦ inl (λ none. some (none_behind given came.given none))
+    | inr ended ↦ inr ended
+  ];
+}
 
 -- ---- behind shut
 

@@ -12,7 +12,7 @@ use Rattle.conn_core.specs.declared.connection.ConnCore.{ConnCore}
 use Rattle.conn_core.specs.Connects.{is_over}
 use Rattle.conn_core.specs.Runs.{is_end}
 use Rattle.conn_future.specs.Follows.Ends.{Told, Failed, Refused, Shut}
-use Rattle.conn_future.specs.StageRows.{StageRows, WaitRows, DrainRows, Line, line, ended, shut}
+use Rattle.conn_future.specs.StageRows.{StageRows, WaitRows, CameRows, DrainRows, Line, line, ended, shut}
 use Rattle.conn_future.specs.FollowRows.{JoinRows, GoingRows, RefusedRows, EndRows, FollowRows, core_stands, joins, parts, ends}
 
 pub stage_rows : StageRows
@@ -63,6 +63,22 @@ wait_rows = record {
 not_shut : {A : Type 0} (rest : List ℕ) → (◌≡◌ {A = Bool} false true) ⊎ (rest ≡ []) → (rest ≡ [] → A) → A
 not_shut rest (inl is) then = absurd (cc is)
 not_shut rest (inr is) then = then is
+
+not_came : (given : List ℕ) → [] ≡ given → (given ≢ []) ⊎ (◌≡◌ {A = Bool} false true) → ⊥
+not_came given is (inl some) = some (sym is)
+not_came given is (inr ended) = absurd (cc ended)
+
+none_more : (given : List ℕ) → ◌≡◌ {A = List ℕ} (1 ∷ []) (1 ∷ given) → [] ≡ given
+none_more [] is = refl
+none_more (byte ∷ given) is = absurd (cc is)
+
+pub came_rows : CameRows
+came_rows = record {
+  some = record { given = 1 ∷ []; took = []; moved = (refl, refl); some = inl (λ none. cc none) };
+  the_end = record { given = []; took = []; moved = (refl, refl); some = inr refl };
+  nothing = λ it. not_came it.given it.moved.0 it.some;
+  took_alone = λ it. not_came it.given (none_more it.given it.moved.0) it.some;
+}
 
 pub drain_rows : DrainRows
 drain_rows = record {

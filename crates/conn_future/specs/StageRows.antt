@@ -6,7 +6,7 @@ use Rattle.conn_link.specs.declared.link.Link.{Ghosts as LinkGhosts}
 use Rattle.conn_log.specs.declared.event.ConnEvent.TheVariants as event
 use Rattle.conn_future.specs.declared.stage.Stage.{Stage}
 use Rattle.conn_future.specs.declared.stage.Stage.TheVariants.{Going, Shutting, Starved, Over}
-use Rattle.conn_future.specs.Stages.{is_live, shut_stage, WaitsAt, Drains}
+use Rattle.conn_future.specs.Stages.{is_live, shut_stage, WaitsAt, Came, Drains}
 use Rattle.conn_future.specs.Follows.{given_by}
 
 -- a link as what it has given and taken so far, whether a read has found its end, and whether it was shut
@@ -61,6 +61,13 @@ pub record WaitRows : Type 0 where
   pub to_shut : (source : ℕ) → waits Shutting [] source ↔ (source ≡ 3)
   pub starved_nowhere : (source : ℕ) → ¬ waits Starved [] source
   pub over_nowhere : (source : ℕ) → ¬ waits Over [] source
+
+-- Something came where bytes were given or the end was found, and nowhere else.
+pub record CameRows : Type 0 where
+  pub some : Came lines (line [] []) (line (1 ∷ []) [])
+  pub the_end : Came lines (line [] []) (ended [] [])
+  pub nothing : ¬ Came lines (line [] []) (line [] [])
+  pub took_alone : ¬ Came lines (line (1 ∷ []) []) (line (1 ∷ []) (7 ∷ []))
 
 pub record DrainRows : Type 0 where
   pub a_part : Drains lines (line (1 ∷ []) []) (7 ∷ 8 ∷ []) (line (1 ∷ []) (7 ∷ [])) (8 ∷ [])

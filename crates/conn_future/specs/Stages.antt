@@ -29,6 +29,13 @@ shut_stage Shutting = Shutting
 shut_stage Starved = Starved
 shut_stage Over = Over
 
+-- From one state of a link to another it gave some bytes, or a read has found the end of its input.
+pub record Came {L : Type 0} (link : LinkGhosts L) (old new : L) : Type 0 where
+  pub given : List ℕ
+  pub took : List ℕ
+  pub moved : link.moves old given took new
+  pub some : (given ≢ []) ⊎ link.has_ended new
+
 -- What a link goes through behind shut, from one state to another: it is read no more, takes a first part of the output
 -- that is left, and is told to shut only once it took all of it.
 pub record Drains {L : Type 0} (link : LinkGhosts L) (old : L) (left : List ℕ) (new : L) (rest : List ℕ) : Type 0 where

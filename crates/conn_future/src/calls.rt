@@ -1,6 +1,6 @@
 //! The calls of a connection over a link.
 
-ghost use Rattle.std.specs.Prelude.{◌≡◌, ◌≢◌, ◌-◌, ◌<◌, ◌^◌, ◌+◌, ◌⊎◌, ℕ, Bool, true, false, List, [], ◌∷◌, ◌++◌};
+ghost use Rattle.std.specs.Prelude.{◌≡◌, ◌≢◌, ◌-◌, ◌<◌, ◌^◌, ◌+◌, ◌⊎◌, ℕ, true, false, List, [], ◌∷◌, ◌++◌};
 ghost use Rattle.std.specs.Prelude.{length, Some, None, Ok, Err, IfOk, IfErr, OnOk, OnErr};
 ghost use Rattle.futures.specs.Poll.{OnPending};
 ghost use Rattle.futures.specs.Task.{Covers, Keeps};
@@ -11,7 +11,7 @@ ghost use Rattle.conn_log.specs.declared.event.ConnEvent.{ConnEvent};
 ghost use Rattle.conn_log.specs.declared.event.ConnEvent.TheVariants as event;
 ghost use Rattle.conn_log.specs.declared.event.ConnFault.TheVariants as fault;
 ghost use Rattle.conn_core.specs.Connects.{Stands, MayOpen, IsRefused, is_over};
-ghost use Rattle.conn_future.specs.Stages.{is_live, shut_stage, Drains, WaitsAt};
+ghost use Rattle.conn_future.specs.Stages.{is_live, shut_stage, Came, Drains, WaitsAt};
 ghost use Rattle.conn_future.specs.Follows.{Carries, Follows, given_by};
 
 use crate::conn::Conn;
@@ -165,6 +165,9 @@ impl<L: Link, P: Protocols> Stream for Conn<L, P> {
         ensures why { self.old.stage ≡ Stage.Going → self.new.stage ≡ Stage.Over
             → (is_over self.new.core.phase ≡ true) ⊎ ((result ≡ Ready (Some (event.Fault fault.Link)))
             ⊎ (result ≡ Ready (Some (event.Fault fault.OutOfMemory)))) }
+        // And only where a call of the link failed, or bytes or the end of the input came.
+        ensures came { self.old.held.items ≡ [] → self.old.stage ≡ Stage.Going → is_live self.new.stage ≡ false
+            → (result ≡ Ready (Some (event.Fault fault.Link))) ⊎ Came L.Link self.old.link self.new.link }
         // Behind shut it takes no memory: it ends by Shut, or where a call of the link fails.
         ensures closes { self.old.held.items ≡ [] → self.old.stage ≡ Stage.Shutting
             → (self.new.stage ≡ Stage.Shutting) ⊎ ((self.new.stage ≡ Stage.Over)

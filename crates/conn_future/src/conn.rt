@@ -1,6 +1,6 @@
 //! A connection over a link.
 
-ghost use Rattle.std.specs.Prelude.{◌≡◌, ◌-◌, ◌<◌, ◌^◌, true, false, []};
+ghost use Rattle.std.specs.Prelude.{◌≡◌, ◌-◌, ◌<◌, ◌^◌, true, false, [], length};
 ghost use Rattle.conn_future.specs.Stages.{is_live};
 
 use crate::stage::Stage;
@@ -22,11 +22,13 @@ pub struct Conn<L: Link, P: Protocols> {
     /// The events of the core that were not given yet, in order.
     pub(crate) held: VecDeque<ConnEvent<P::H>>,
     pub(crate) stage: Stage,
-    /// What the next read fills; empty, where one is to be made.
+    /// What the next read fills.
     pub(crate) buffer: Vec<u8>,
     pub(crate) alloc: Global,
     // A call of the link that fails is counted.
     ghost can_fail: { is_live stage ≡ true → L.failed link < 2 ^ 64 - 1 },
+    // A read always has room, so that none but the end moves nothing.
+    ghost has_room: { 0 < length buffer.items },
     // Where it makes no call more, the output that was left is dropped.
     ghost none_left: { is_live stage ≡ false → unsent ≡ [] },
 }

@@ -1,6 +1,6 @@
 //! What a read leads to.
 
-ghost use Rattle.std.specs.Prelude.{◌≡◌, ◌<◌, ◌≤◌, ℕ, Bool, true, false, List, [], ◌++◌, OnOk, take, vec_len};
+ghost use Rattle.std.specs.Prelude.{◌≡◌, ◌<◌, ℕ, Bool, true, false, List, [], ◌++◌, OnOk, take};
 ghost use Rattle.peer_ids.specs.Key.{Key};
 ghost use Rattle.upgrade.specs.declared.role.ConnRole.{ConnRole};
 ghost use Rattle.conn_log.specs.declared.event.ConnEvent.{ConnEvent};
@@ -12,7 +12,7 @@ ghost use Rattle.conn_future.specs.Turning.{OnGoing, OnWait, faults_of, Leads, E
 
 use crate::conn::Conn;
 use crate::stage::Stage;
-use crate::turns::Turn;
+use crate::turns::{Turn, buffer};
 use bytes::Bytes;
 use conn_link::Link;
 use conn_log::ConnEvent;
@@ -110,7 +110,10 @@ impl<L: Link, P: Protocols> Conn<L, P> {
         ensures why { EndsFor L.Link P.Protocols P.H.Handler result self.new }
         ensures link { self.new.link ≡ self.old.link }
     {
-        let mut piece = mem::replace(&mut self.buffer, Vec::new(self.alloc));
+        let Ok(next) = buffer(self.alloc) else {
+            return self.starve();
+        };
+        let mut piece = mem::replace(&mut self.buffer, next);
         piece.truncate(count);
         let Ok(piece) = Bytes::from_vec(piece) else {
             return self.starve();

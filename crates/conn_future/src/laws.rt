@@ -3,7 +3,7 @@
 ghost use Rattle.peer_ids.specs.Key.{Key};
 ghost use Rattle.upgrade.specs.declared.role.ConnRole.{ConnRole};
 ghost use Rattle.conn_future.specs.Follows.{EndsBehind, CarriesInTurn, UpOverLink};
-ghost use Rattle.conn_future.specs.StageRows.{StageRows, WaitRows, DrainRows};
+ghost use Rattle.conn_future.specs.StageRows.{StageRows, WaitRows, CameRows, DrainRows};
 ghost use Rattle.conn_future.specs.FollowRows.{FollowRows};
 
 use conn_link::Link;
@@ -29,6 +29,7 @@ pub fn up_over_link<L: Link, P: Protocols>()
 pub fn worked_rows<P: Protocols>()
     ensures stages { StageRows }
     ensures waits { WaitRows }
+    ensures came { CameRows }
     ensures drains { DrainRows }
     ensures follows { (start : P) (role : ConnRole) (own : Key)
         → FollowRows P.Protocols P.H.Handler start role own }

@@ -1,8 +1,8 @@
 //! A turn of a poll: at most one call of the link.
 
-ghost use Rattle.std.specs.Prelude.{◌≡◌, ◌≢◌, ◌+◌, ◌<◌, true, false, [], length, IfOk, OnOk};
+ghost use Rattle.std.specs.Prelude.{◌≡◌, ◌≢◌, ◌+◌, ◌<◌, ◌⊎◌, ℕ, List, true, false, [], length, IfOk};
 ghost use Rattle.futures.specs.Task.{Covers, Keeps};
-ghost use Rattle.conn_future.specs.Stages.{is_live, WaitsAt};
+ghost use Rattle.conn_future.specs.Stages.{is_live, WaitsAt, Came};
 ghost use Rattle.conn_future.specs.Turning.{HasWaited, OnAgain, OnGoing, OnWait, faults_of};
 ghost use Rattle.conn_future.specs.Turning.{Turns, EndsFor, ClosesBy, DrainsBy};
 
@@ -45,16 +45,6 @@ pub(crate) fn buffer(alloc: Global) -> Result<Vec<u8>, AllocError>
     vec![in alloc; 0; READ_SIZE]
 }
 
-// Makes a buffer where there is none.
-fn fill(alloc: Global, kept: &mut Vec<u8>) -> Result<(), AllocError>
-    ensures { OnOk result (0 < length kept.new.items) }
-{
-    if kept.is_empty() {
-        *kept = buffer(alloc)?;
-    }
-    Ok(())
-}
-
 impl<L: Link, P: Protocols> Conn<L, P> {
     // One call that writes.
     fn write(&mut self, cx: &mut Context<'_>, waits: &mut Waits) -> Turn<P::H>
@@ -73,6 +63,8 @@ impl<L: Link, P: Protocols> Conn<L, P> {
         ensures stage { is_live self.new.stage ≡ true → self.new.stage ≡ self.old.stage }
         ensures closes { self.old.stage ≡ Stage.Shutting → ClosesBy L.Link P.Protocols P.H.Handler result self.new }
         ensures why { self.old.stage ≡ Stage.Going → EndsFor L.Link P.Protocols P.H.Handler result self.new }
+        ensures moved { (given : List ℕ) × (took : List ℕ) × L.moves self.old.link given took self.new.link }
+        ensures came { is_live self.new.stage ≡ false → result ≡ Turn.Failed }
         ensures kept { Keeps cx.old cx.new }
     {
         match self.link.poll_write(cx, self.unsent.as_slice()) {
@@ -106,11 +98,10 @@ impl<L: Link, P: Protocols> Conn<L, P> {
             → OnAgain result (HasWaited waits.new cx.new (L.reads_at self.new.link) (L.writes_at self.new.link)) }
         ensures stage { is_live self.new.stage ≡ true → self.new.stage ≡ self.old.stage }
         ensures why { self.old.stage ≡ Stage.Going → EndsFor L.Link P.Protocols P.H.Handler result self.new }
+        ensures moved { (given : List ℕ) × (took : List ℕ) × L.moves self.old.link given took self.new.link }
+        ensures came { is_live self.new.stage ≡ false → (result ≡ Turn.Failed) ⊎ Came L.Link self.old.link self.new.link }
         ensures kept { Keeps cx.old cx.new }
     {
-        let Ok(()) = fill(self.alloc, &mut self.buffer) else {
-            return self.starve();
-        };
         match self.link.poll_read(cx, self.buffer.as_mut_slice()) {
             Poll::Ready(Ok(0)) => self.end(),
             Poll::Ready(Ok(count)) => self.hear(count),
@@ -176,6 +167,10 @@ impl<L: Link, P: Protocols> Conn<L, P> {
         ensures stage { is_live self.new.stage ≡ true → self.new.stage ≡ self.old.stage }
         ensures closes { self.old.stage ≡ Stage.Shutting → ClosesBy L.Link P.Protocols P.H.Handler result self.new }
         ensures why { self.old.stage ≡ Stage.Going → EndsFor L.Link P.Protocols P.H.Handler result self.new }
+        ensures moved { self.old.stage ≡ Stage.Going
+            → (given : List ℕ) × (took : List ℕ) × L.moves self.old.link given took self.new.link }
+        ensures came { self.old.stage ≡ Stage.Going → is_live self.new.stage ≡ false
+            → (result ≡ Turn.Failed) ⊎ Came L.Link self.old.link self.new.link }
         ensures kept { Keeps cx.old cx.new }
     {
         if !self.unsent.is_empty() && !waits.writing {

@@ -1,8 +1,8 @@
 //! The talk of a stream, and the handler that is made behind it.
 
-ghost use Rattle.std.specs.Prelude.{◌≡◌, ◌≢◌, ℕ, ◌<◌, ◌≤◌, true, false, List, length, Ok, Err};
+ghost use Rattle.std.specs.Prelude.{◌≡◌, ◌≢◌, ℕ, ◌<◌, ◌≤◌, true, false, length, Ok, Err};
 ghost use Rattle.std.specs.Prelude.{IfOk, IfErr, OnOk};
-ghost use Rattle.streams.specs.declared.stage.Stage.TheVariants.{Serving};
+ghost use Rattle.streams.specs.declared.stage.Stage.TheVariants.{Serving, Over};
 ghost use Rattle.streams.specs.Streams.{Past};
 ghost use Rattle.streams.specs.Stops.{not_now};
 ghost use Rattle.streams.specs.State.{Stands, is_talking, awaits_handler};
@@ -69,7 +69,7 @@ fn serve<P: Protocols>(
 /// The talk of a stream takes data. Where both ends agree by it, the handler of that protocol is made, unless an eager
 /// one is there; what stands behind the talk's bytes is the handler's.
 ///
-/// An error, and [`Heard::Refused`], end the stream.
+/// Behind [`Heard::Refused`] the stream is over, and behind a fault of its talk.
 pub fn negotiate<P: Protocols>(
     protocols: &mut P,
     direction: Direction,
@@ -91,6 +91,7 @@ pub fn negotiate<P: Protocols>(
         → MakingRunsOut P.H.steps so_far stream.old bytes.now stream.new.waiting }
     ensures out_of_turn { is_talking stream.old.stage ≡ false
         → (result ≡ Err not_now) × (stream.new ≡ stream.old) × (protocols.new ≡ protocols.old) }
+    ensures over { is_talking stream.old.stage ≡ true → result ≡ Ok Heard.Refused → stream.new.stage ≡ Over }
 {
     let heard = stream.hear(bytes)?;
     if let Heard::Agreed { index, .. } = heard {

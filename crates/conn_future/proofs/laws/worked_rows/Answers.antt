@@ -1,4 +1,4 @@
-use Rattle.conn_future.proofs.Rows.{stage_rows, wait_rows, drain_rows, follow_rows}
+use Rattle.conn_future.proofs.Rows.{stage_rows, wait_rows, came_rows, drain_rows, follow_rows}
 use Rattle.conn_future.proofs.laws.worked_rows.Goals as goal
 
 pub returns-clause-stages : goal.returns-clause-stages
@@ -6,6 +6,9 @@ returns-clause-stages g c = stage_rows
 
 pub returns-clause-waits : goal.returns-clause-waits
 returns-clause-waits g c = wait_rows
+
+pub returns-clause-came : goal.returns-clause-came
+returns-clause-came g c = came_rows
 
 pub returns-clause-drains : goal.returns-clause-drains
 returns-clause-drains g c = drain_rows

@@ -1,11 +1,11 @@
-use Rattle.std.proofs.Common.{◌≡◌, ◌∙◌, ℕ, List, ◌++◌, length, deque_len, arith, rules, refl, ap, sym, subst}
+use Rattle.std.proofs.Common.{◌≡◌, ◌∙◌, inl, inr, ℕ, List, [], ◌++◌, length, deque_len, arith, rules, refl, ap, sym, subst}
 use Rattle.std.proofs.lemmas.Bool.{eqb-true, eq-eqb}
 use Rattle.std.proofs.lemmas.List.{append-nil}
 use Rattle.conn_log.specs.declared.event.ConnEvent.{ConnEvent}
 use Rattle.conn_future.specs.Stages.{is_live, Drains}
 use Rattle.conn_future.specs.Follows.{Follows, given_by}
 use Rattle.conn_future.proofs.Lists.{none_of}
-use Rattle.conn_future.proofs.Moved.{drains_none, drains_on}
+use Rattle.conn_future.proofs.Moved.{drains_none, drains_on, came_on}
 use Rattle.conn_future.proofs.Stopped.{over_of}
 use Rattle.conn_future.proofs.calls.ConnStream.poll_next.Goals as goal
 use Rattle.conn_future.proofs.calls.ConnStream.poll_next.Goals.{then-not-is_empty-via-then-not-is_empty, then-not-is_empty-via-else-not-is_empty+then-not-is_live}
@@ -25,6 +25,7 @@ loop-init g c =
       follows = λ start role own first asked gave stays. stays;
       unshut = λ other shut. shut;
       shutting = λ is. drains_none g.L.Link g.met.L.Link.moves_nothing c.args.self.now.link c.args.self.now.unsent;
+      moved = λ is. ([], [], g.met.L.Link.moves_nothing c.args.self.now.link);
       waits = record { reading = λ is. absurd (cc is); writing = λ is. absurd (cc is) };
       kept = λ fact holds. holds;
     }
@@ -42,6 +43,13 @@ loop-preserved g c = record {
       let by = c.in-Again.ensures.shutting (c.loop.invariant.stage ∙ is) in
       drains_on g.L.Link g.met.L.Link.moves_on c.args.self.now.link c.loop.self.link c.turn.new.self.link c.args.self.now.unsent c.loop.self.unsent c.turn.new.self.unsent
       (c.loop.invariant.shutting is) (subst (λ (rest : List ℕ). Drains g.L.Link c.loop.self.link c.loop.self.unsent c.turn.new.self.link rest) by.2 by.1);
+  moved = λ is.
+      let before = c.loop.invariant.moved is in
+      let by = c.turn.ensures.moved (c.loop.invariant.stage ∙ is) in (
+        before.0 ++ by.0,
+        before.1 ++ by.1,
+        g.met.L.Link.moves_on c.args.self.now.link c.loop.self.link c.turn.new.self.link before.0 before.1 by.0 by.1 before.2 by.2,
+      );
   waits = c.in-Again.ensures.waits c.loop.invariant.waits;
   kept = λ fact holds. c.turn.ensures.kept fact (c.loop.invariant.kept fact holds);
 }
@@ -116,3 +124,11 @@ returns-then-not-is_empty-clause-unshut g c other shut = subst g.L.Link.is_shut 
 
 pub returns-clause-shutting : goal.returns-clause-shutting
 returns-clause-shutting g c is = (c.loop.self.unsent, c.loop.invariant.shutting is)
+
+pub returns-in-Give-clause-came : goal.returns-in-Give-clause-came
+returns-in-Give-clause-came g c empty going over =
+    let before = c.loop.invariant.moved going in
+    elim (c.turn.ensures.came (c.loop.invariant.stage ∙ going) over) [
+      | inl failed ↦ absurd (cc (failed, c.in-Give.is))
+      | inr came ↦ inr (came_on g.L.Link g.met.L.Link.moves_on c.args.self.now.link c.loop.self.link c.turn.new.self.link before.0 before.1 before.2 came)
+    ]

@@ -3,7 +3,7 @@ use Rattle.futures.specs.Task.{Keeps}
 use Rattle.peer_ids.specs.Key.{Key}
 use Rattle.upgrade.specs.declared.role.ConnRole.{ConnRole}
 use Rattle.conn_log.specs.declared.event.ConnEvent.{ConnEvent}
-use Rattle.conn_future.specs.declared.stage.Stage.TheVariants.{Shutting}
+use Rattle.conn_future.specs.declared.stage.Stage.TheVariants.{Going, Shutting}
 use Rattle.conn_future.specs.Stages.{is_live, Drains}
 use Rattle.conn_future.specs.Follows.{Follows}
 use Rattle.conn_future.specs.Turning.{HasWaited}
@@ -20,6 +20,7 @@ invariant-loop g l = record {
       → Follows g.L.Link g.P.Protocols g.P.H.Handler start role own first asked gave l.self;
   unshut : l.fn.self.stage ≢ Shutting → g.L.Link.is_shut l.self.link → g.L.Link.is_shut l.fn.self.link;
   shutting : l.fn.self.stage ≡ Shutting → Drains g.L.Link l.fn.self.link l.fn.self.unsent l.self.link l.self.unsent;
+  moved : l.fn.self.stage ≡ Going → (given : List ℕ) × (took : List ℕ) × g.L.Link.moves l.fn.self.link given took l.self.link;
   waits : HasWaited l.waits l.cx (g.L.Link.reads_at l.self.link) (g.L.Link.writes_at l.self.link);
   kept : Keeps l.fn.cx l.cx;
 }

@@ -42,7 +42,7 @@ returns-in_default-refused-clause-refused g c start role own first asked gave st
 
 pub returns-in_default-refused-clause-unchanged : goal.returns-in_default-refused-clause-unchanged
 returns-in_default-refused-clause-unchanged g c other =
-    same_core g.L.Link g.P.Protocols g.P.H.Handler c.args.self.now c.ask.new.self _ _ (c.in-Err.ensures.kept c.in_default-refused.not-OutOfMemory)
+    same_core g.L.Link g.P.Protocols g.P.H.Handler c.args.self.now c.ask.new.self _ _ _ (c.in-Err.ensures.kept c.in_default-refused.not-OutOfMemory)
 
 pub returns-in_default-collect-clause-why : goal.returns-in_default-collect-clause-why
 returns-in_default-collect-clause-why g c going = opened_wants g.P.Protocols.listed c.args.self.now.core.phase c.args.index c.in-Ok.ensures.opened

@@ -1,17 +1,11 @@
-use Rattle.std.proofs.Common.{◌∙◌, Ok, Err, List, ℕ, [], length, false, refl, ap, sym, subst}
+use Rattle.std.proofs.Common.{◌∙◌, ◌<◌, inl, inr, take, Ok, Err, List, ℕ, [], length, refl, ap, sym, subst}
 use Rattle.futures.specs.declared.task.Poll.TheVariants.{Ready, Pending}
+use Rattle.conn_link.specs.Moving.{bytes_moved}
 use Rattle.conn_future.specs.Stages.{is_live}
-use Rattle.conn_future.proofs.Moved.{of_count, of_fault, of_pending, found_none, fault_ends_not, pending_ends_not, some_end_not, none_ends}
+use Rattle.conn_future.proofs.Moved.{of_count, of_fault, of_pending, found_none, fault_ends_not, pending_ends_not, some_end_not, none_ends, some_moved}
 use Rattle.conn_future.proofs.Lists.{written_back}
-use Rattle.conn_future.proofs.Standing.{parts_of, goes_of, goes_none, stays_failed, stays_pending}
+use Rattle.conn_future.proofs.Standing.{goes_none, stays_failed, stays_pending}
 use Rattle.conn_future.proofs.conn.Conn.read.Goals as goal
-
-pub returns-in_default-clause-follows : goal.returns-in_default-clause-follows
-returns-in_default-clause-follows g c start role own first asked gave stays =
-    c.starve.ensures.follows start role own first asked gave
-    (parts_of g.L.Link g.P.Protocols g.P.H.Handler start role own first asked gave false c.args.self.now.link c.args.self.now.link c.args.self.now.core c.args.self.now.unsent c.args.self.now.held.items c.args.self.now.held.items refl refl
-    (goes_of g.L.Link g.P.Protocols g.P.H.Handler start role own first asked gave c.args.self.now.link c.args.self.now.core c.args.self.now.unsent c.args.self.now.held.items c.args.self.now.stage c.requires.going stays).goes_on
-    (goes_of g.L.Link g.P.Protocols g.P.H.Handler start role own first asked gave c.args.self.now.link c.args.self.now.core c.args.self.now.unsent c.args.self.now.held.items c.args.self.now.stage c.requires.going stays).joins)
 
 pub returns-in-Ready-Ok-eq0-clause-follows : goal.returns-in-Ready-Ok-eq0-clause-follows
 returns-in-Ready-Ok-eq0-clause-follows g c start role own first asked gave stays =
@@ -21,7 +15,7 @@ returns-in-Ready-Ok-eq0-clause-follows g c start role own first asked gave stays
     c.requires.going c.requires.none_held stays)
     (subst (λ (l : List ℕ). g.L.Link.moves c.args.self.now.link l [] c.poll_read.new.self)
     (of_count c.poll_read.result _ _ 0 (cc (c.in-Ready-Ok-eq0.is, c.in-Ready-Ok-eq0.field-0-is)) refl) c.poll_read.ensures.moved)
-    (c.poll_read.ensures.end (none_ends (length c.as_mut_slice.result.now) c.poll_read.result (cc (c.in-Ready-Ok-eq0.is, c.in-Ready-Ok-eq0.field-0-is)) (rw c.as_mut_slice.ensures.value c.in-Ok.ensures)))
+    (c.poll_read.ensures.end (none_ends (length c.as_mut_slice.result.now) c.poll_read.result (cc (c.in-Ready-Ok-eq0.is, c.in-Ready-Ok-eq0.field-0-is)) (rw c.as_mut_slice.ensures.value c.args.self.now.has_room)))
 
 pub returns-in-Ready-Err-clause-follows : goal.returns-in-Ready-Err-clause-follows
 returns-in-Ready-Err-clause-follows g c start role own first asked gave stays = record {
@@ -52,5 +46,39 @@ returns-in-Ready-Ok-clause-follows g c start role own first asked gave stays =
     c.requires.going c.requires.none_held stays)
     (subst (λ (l : List ℕ). g.L.Link.moves c.args.self.now.link l [] c.poll_read.new.self)
     (of_count c.poll_read.result c.poll_read.new.buffer _ c.in-Ready-Ok.count (cc (c.in-Ready-Ok.is, c.in-Ready-Ok.field-0-is))
-    (sym (written_back c.fill.new.kept.len c.poll_read.new.buffer c.fill.new.kept.items (c.poll_read.auto.buffer ∙ c.as_mut_slice.ensures.len)))) c.poll_read.ensures.moved)
+    (sym (written_back c.args.self.now.buffer.len c.poll_read.new.buffer c.args.self.now.buffer.items (c.poll_read.auto.buffer ∙ c.as_mut_slice.ensures.len)))) c.poll_read.ensures.moved)
     (λ there. found_none _ (length c.as_mut_slice.result.now) c.poll_read.result (Ready (Ok c.in-Ready-Ok.count)) (cc (c.in-Ready-Ok.is, c.in-Ready-Ok.field-0-is)) (some_end_not (length c.as_mut_slice.result.now) c.in-Ready-Ok.count c.in-Ready-Ok.count-test.1) (c.poll_read.ensures.found there))
+
+pub returns-in-Ready-Ok-eq0-clause-moved : goal.returns-in-Ready-Ok-eq0-clause-moved
+returns-in-Ready-Ok-eq0-clause-moved g c =
+    (bytes_moved c.poll_read.result c.poll_read.new.buffer, [], subst (λ l. g.L.Link.moves c.args.self.now.link (bytes_moved c.poll_read.result c.poll_read.new.buffer) [] l) (sym c.end.ensures.link) c.poll_read.ensures.moved)
+
+pub returns-in-Ready-Ok-clause-moved : goal.returns-in-Ready-Ok-clause-moved
+returns-in-Ready-Ok-clause-moved g c =
+    (bytes_moved c.poll_read.result c.poll_read.new.buffer, [], subst (λ l. g.L.Link.moves c.args.self.now.link (bytes_moved c.poll_read.result c.poll_read.new.buffer) [] l) (sym c.hear.ensures.link) c.poll_read.ensures.moved)
+
+pub returns-in-Ready-Err-clause-moved : goal.returns-in-Ready-Err-clause-moved
+returns-in-Ready-Err-clause-moved g c = (_, [], c.poll_read.ensures.moved)
+
+pub returns-in-Pending-clause-moved : goal.returns-in-Pending-clause-moved
+returns-in-Pending-clause-moved g c = (_, [], c.poll_read.ensures.moved)
+
+pub returns-in-Ready-Ok-eq0-clause-came : goal.returns-in-Ready-Ok-eq0-clause-came
+returns-in-Ready-Ok-eq0-clause-came g c over = inr record {
+  given = bytes_moved c.poll_read.result c.poll_read.new.buffer;
+  took = [];
+  moved = subst (λ l. g.L.Link.moves c.args.self.now.link (bytes_moved c.poll_read.result c.poll_read.new.buffer) [] l) (sym c.end.ensures.link) c.poll_read.ensures.moved;
+  some = inr (subst g.L.Link.has_ended (sym c.end.ensures.link)
+      (c.poll_read.ensures.end (none_ends (length c.as_mut_slice.result.now) c.poll_read.result (cc (c.in-Ready-Ok-eq0.is, c.in-Ready-Ok-eq0.field-0-is)) (rw c.as_mut_slice.ensures.value c.args.self.now.has_room))));
+}
+
+pub returns-in-Ready-Ok-clause-came : goal.returns-in-Ready-Ok-clause-came
+returns-in-Ready-Ok-clause-came g c over = inr record {
+  given = take c.in-Ready-Ok.count c.poll_read.new.buffer;
+  took = [];
+  moved = subst (λ l. g.L.Link.moves c.args.self.now.link (take c.in-Ready-Ok.count c.poll_read.new.buffer) [] l) (sym c.hear.ensures.link)
+      (subst (λ (l : List ℕ). g.L.Link.moves c.args.self.now.link l [] c.poll_read.new.self)
+      (of_count c.poll_read.result c.poll_read.new.buffer _ c.in-Ready-Ok.count (cc (c.in-Ready-Ok.is, c.in-Ready-Ok.field-0-is)) refl) c.poll_read.ensures.moved);
+  some = inl (some_moved c.in-Ready-Ok.count c.poll_read.new.buffer c.in-Ready-Ok.count-test.1
+      (subst (λ (n : ℕ). 0 < n) (sym c.poll_read.auto.buffer) (rw c.as_mut_slice.ensures.value c.args.self.now.has_room)));
+}

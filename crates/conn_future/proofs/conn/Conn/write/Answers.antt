@@ -58,3 +58,12 @@ returns-in-Pending-clause-shutting g c is = (
       (of_pending c.poll_write.result c.as_slice.result.now c.in-Pending.is) c.poll_write.ensures.moved) c.poll_write.ensures.not_shut,
   refl,
 )
+
+pub returns-in-Ready-Ok-clause-moved : goal.returns-in-Ready-Ok-clause-moved
+returns-in-Ready-Ok-clause-moved g c = ([], _, c.poll_write.ensures.moved)
+
+pub returns-in-Ready-Err-clause-moved : goal.returns-in-Ready-Err-clause-moved
+returns-in-Ready-Err-clause-moved g c = ([], _, c.poll_write.ensures.moved)
+
+pub returns-in-Pending-clause-moved : goal.returns-in-Pending-clause-moved
+returns-in-Pending-clause-moved g c = ([], _, c.poll_write.ensures.moved)
