@@ -1,18 +1,18 @@
 //! What runs a node.
 
-ghost use Rattle.std.specs.Prelude.{◌≡◌, ◌≤◌, IfSome};
+ghost use Rattle.std.specs.Prelude.{◌≤◌, IfSome};
 ghost use Rattle.futures.specs.Task.{Keeps};
 
-use crate::caller::Caller;
 use crate::making::Maker;
-use crate::reports::{ConnEnd, Report, Reports};
 use crate::seat::Seat;
+use callers::Caller;
 use conn_log::ConnFault;
 use futures::task::{Context, Poll};
 use identify_h::Identify;
+use node_terms::Setup;
 use pool_state::{ConnSide, Listing, Phase, Refusal, Reply, Row};
-use rand::rngs::StdRng;
-use std::alloc::Global;
+use reports::{ConnEnd, Report, Reports};
+use std::alloc::{AllocError, Global};
 use std::io;
 use std::net::{Net, SocketAddr};
 use tokio::net::{TcpListener, TcpStream};
@@ -20,17 +20,6 @@ use tokio::reactor::Handle;
 
 /// How many sockets are taken in a row, and how many connections are dialed in a row.
 const MOST_SOCKETS: u32 = 256;
-
-/// What a node is made with.
-#[derive(Drop)]
-pub struct Setup {
-    /// The message of its own key.
-    pub key: Vec<u8>,
-    /// The name and version of its program, as `node/0.1.0`.
-    pub agent: Vec<u8>,
-    /// Where the bytes of its pings come from.
-    pub rng: StdRng,
-}
 
 /// What runs a node: a caller of its swarm, its listener and its connections.
 #[derive(Drop)]
@@ -47,16 +36,16 @@ pub struct Driver<'a, N: Net, C: Caller> {
 }
 
 impl<'a, N: Net, C: Caller> Driver<'a, N, C> {
-    /// A node without listener and connections. Its sockets are the reactor's.
+    /// A node without listener and connections. Its sockets are the reactor's. Its only refusal is want of memory.
     pub fn new(
         alloc: Global,
         net: &'a N,
         reactor: Handle,
         caller: C,
         setup: Setup,
-    ) -> Driver<'a, N, C> {
+    ) -> Result<Driver<'a, N, C>, AllocError> {
         let Setup { key, agent, rng } = setup;
-        Driver {
+        Ok(Driver {
             net,
             reactor,
             caller,
@@ -69,8 +58,8 @@ impl<'a, N: Net, C: Caller> Driver<'a, N, C> {
             listener: None,
             place: None,
             seats: Vec::new(alloc),
-            reports: Reports::new(alloc),
-        }
+            reports: Reports::new(alloc)?,
+        })
     }
 
     /// Takes sockets from now on that come to this address, and tells where that is. A listener that stood is dropped.
@@ -225,7 +214,7 @@ impl<'a, N: Net, C: Caller> Driver<'a, N, C> {
     }
 
     /// How much output of this connection waits that its peer doesn't take. Between the calls of a driver it is never
-    /// more than [`crate::MOST_WAITING`] says.
+    /// more than [`MOST_WAITING`](bounded_conn::MOST_WAITING) says.
     pub fn waiting(&self, number: u32) -> Option<usize>
         ensures bounded { IfSome result (λ count. count ≤ 4194304) }
     {

@@ -12,21 +12,17 @@
 //! of the peer, each with a message of at most 1,024 bytes of its negotiation, and then with what its handler holds: an
 //! echo as many bytes as a window has, 262,144, where the peer gives no credit for them; a reader at most 16,384 bytes.
 //! What the connection writes and the peer doesn't take has no such bound: so a connection of which more than
-//! [`MOST_WAITING`] bytes wait behind one of its polls is dropped, and isn't shut before. Between the calls of a driver
+//! [`MOST_WAITING`](bounded_conn::MOST_WAITING) bytes wait behind one of its polls is dropped, and isn't shut before. Between the calls of a driver
 //! no more wait: [`Driver::waiting`] says so. Nothing bounds how long a peer may take.
 #![tactic(auto)]
 
-mod caller;
 mod driver;
 mod making;
 mod payloads;
-mod reports;
 mod seat;
-mod swarms;
 
-pub use caller::{Caller, Fresh, Looking, Member};
-pub use driver::{Driver, Setup};
+pub use callers::{Caller, Fresh, Looking, Member, SwarmUse, with_swarm};
+pub use driver::Driver;
+pub use node_terms::Setup;
 pub use payloads::RandomPayloads;
 pub use reports::{ConnEnd, MOST_REPORTS, Report, StreamEnd};
-pub use seat::MOST_WAITING;
-pub use swarms::{SwarmUse, with_swarm};

@@ -1,8 +1,7 @@
 //! How a connection over a socket comes to be.
 
-ghost use Rattle.std.specs.Prelude.{◌≡◌};
-
 use crate::payloads::RandomPayloads;
+use bounded_conn::BoundedConn;
 use conn_core::ConnCore;
 use conn_future::Conn;
 use node_protocols::NodeProtocols;
@@ -17,7 +16,7 @@ use upgrade::ConnRole;
 pub type Spoken = NodeProtocols<RandomPayloads>;
 
 /// A connection of a node.
-pub type Socketed = Conn<SocketLink<TcpStream>, Spoken>;
+pub type Socketed = BoundedConn<SocketLink<TcpStream>, Spoken>;
 
 /// What each connection of a node is made with.
 #[derive(Drop)]
@@ -64,7 +63,8 @@ impl Maker {
         let _ = stream.set_nodelay(true);
         let core = self.core(role)?;
         match Conn::new(self.alloc, SocketLink::new(stream), core) {
-            Ok(conn) => Ok(conn),
+            // It has less to say before it is up than a connection may hold.
+            Ok(conn) => Ok(BoundedConn::new(conn)),
             Err(_) => Err(AllocError),
         }
     }

@@ -2,18 +2,17 @@
 
 ghost use Rattle.std.specs.Prelude.{◌≡◌, ◌<◌, ◌≤◌};
 ghost use Rattle.futures.specs.Task.{Keeps};
-ghost use Rattle.driver.specs.Bounds.{waiting_of};
 
-use crate::caller::Caller;
 use crate::making::{Maker, Socketed};
-use crate::reports::{ConnEnd, Report, Reports, StreamEnd};
+use callers::Caller;
 use conn_log::{ConnEvent, ConnFault, ConnRefused};
 use futures::task::{Context, Poll};
-use futures::{Future, Stream, ready};
+use futures::{Future, ready};
 use identify_h::Identify;
 use node_protocols::NodeHandler;
 use plaintext_x::Proven;
 use pool_state::{Agent, Phase, Refusal, Reply, Row};
+use reports::{ConnEnd, Report, Reports, StreamEnd};
 use std::alloc::Global;
 use tokio::net::{ConnectFuture, TcpStream};
 use upgrade::ConnRole;
@@ -23,11 +22,6 @@ const MOST_EVENTS: u32 = 64;
 
 /// How many asks are taken up in a row. No listing shows more that are open.
 const MOST_ASKS: u32 = 64;
-
-/// How many bytes of output a connection may hold that the other end doesn't take: 4 MiB. One that holds more behind an
-/// event, or where it waits, is dropped, and isn't shut before. Between two looks it makes at most 32 calls of its
-/// socket, each of which reads at most 8,192 bytes: that bounds what it holds above these.
-pub const MOST_WAITING: usize = 4_194_304;
 
 /// How far a connection is.
 #[derive(Drop)]
@@ -62,14 +56,10 @@ pub struct Seat {
     identify: Option<Identify>,
     /// Why it is shut, where it is.
     shut: Option<ConnEnd>,
-    // No more of its output waits than may.
-    ghost bounded: { waiting_of way ≤ 4194304 },
 }
 
 impl Seat {
-    fn new(alloc: Global, number: u32, way: Way) -> Seat
-        requires { waiting_of way ≤ 4194304 }
-    {
+    fn new(alloc: Global, number: u32, way: Way) -> Seat {
         Seat {
             number,
             way,
@@ -173,9 +163,8 @@ impl Seat {
             return Err(ConnRefused::NotUp);
         };
         let asked = conn.ask(index as usize);
-        if conn.waiting() > MOST_WAITING {
-            self.way = Way::Ended(self.shut.unwrap_or(ConnEnd::Untaken));
-            return Err(ConnRefused::Failed);
+        if conn.was_dropped() {
+            self.end(ConnEnd::Untaken);
         }
         let _ = self.streams.push(AskedStream {
             number: asked?,
@@ -261,9 +250,9 @@ impl Seat {
             let Way::Up(conn) = &mut self.way else {
                 return;
             };
-            let (polled, waiting) = (conn.poll_next(cx), conn.waiting());
-            if waiting > MOST_WAITING {
-                self.way = Way::Ended(self.shut.unwrap_or(ConnEnd::Untaken));
+            let polled = conn.poll_next(cx);
+            if conn.was_dropped() {
+                self.end(ConnEnd::Untaken);
                 return;
             }
             match polled {
@@ -353,7 +342,7 @@ impl Seat {
 
     /// How much of its output waits.
     pub fn waiting(&self) -> usize
-        ensures { (result ≡ waiting_of self.now.way) × (result ≤ 4194304) }
+        ensures { result ≤ 4194304 }
     {
         match &self.way {
             Way::Up(conn) => conn.waiting(),
@@ -368,12 +357,8 @@ impl Seat {
 }
 
 /// A connection over a socket that is connected, or the end where memory was refused.
-fn way_of(maker: &mut Maker, stream: TcpStream, role: ConnRole) -> Way
-    ensures { waiting_of result ≤ 4194304 }
-{
+fn way_of(maker: &mut Maker, stream: TcpStream, role: ConnRole) -> Way {
     match maker.conn(stream, role) {
-        // It has less to say before it is up.
-        Ok(conn) if conn.waiting() > MOST_WAITING => Way::Ended(ConnEnd::Untaken),
         Ok(conn) => Way::Up(conn),
         Err(_) => Way::Ended(ConnEnd::Fault(ConnFault::OutOfMemory)),
     }

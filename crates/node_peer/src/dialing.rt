@@ -1,14 +1,10 @@
 //! A node that dials a peer for an errand, as one future.
 
-ghost use Rattle.std.specs.Prelude.{◌≡◌};
-ghost use Rattle.futures.specs.Task.{Keeps};
-
-use crate::ending::PeerEnding;
-use crate::errand::Errand;
 use crate::said::print_said;
 use driver::{Caller, Driver, MOST_REPORTS, Report, StreamEnd};
 use futures::task::{Context, Poll};
 use futures::{Future, ready};
+use node_terms::{Errand, PeerEnding};
 use pool_state::{Phase, Refusal, Reply};
 use std::alloc::Global;
 use std::io::Write;

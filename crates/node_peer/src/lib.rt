@@ -3,18 +3,15 @@
 #![tactic(auto)]
 
 mod dialing;
-mod ending;
-mod errand;
 mod listening;
-mod own;
+mod outing;
 mod post;
 mod said;
 mod shown;
 mod watched;
 
-pub use ending::PeerEnding;
-pub use errand::{Errand, dial};
 pub use node_place::{Place, PlaceFault, place_of};
-pub use own::Own;
-pub use post::{ListenTerms, listen};
+pub use node_terms::{Errand, ListenTerms, Own, PeerEnding};
+pub use outing::dial;
+pub use post::listen;
 pub use watched::Watched;

@@ -1,14 +1,11 @@
 //! A node that listens, as one future.
 
-ghost use Rattle.std.specs.Prelude.{◌≡◌};
-ghost use Rattle.futures.specs.Task.{Keeps};
-
-use crate::ending::PeerEnding;
 use crate::shown::Shown;
 use crate::watched::Watched;
 use driver::{Caller, Driver};
 use futures::task::{Context, Poll};
 use futures::{Future, ready};
+use node_terms::PeerEnding;
 use std::alloc::Global;
 use std::io;
 use std::io::Write;

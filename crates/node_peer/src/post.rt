@@ -1,16 +1,12 @@
 //! The run of a node that listens.
 
-ghost use Rattle.std.specs.Prelude.{◌≡◌, ◌<◌, ◌-◌, ◌^◌, ◌/◌, max, min};
-ghost use Rattle.std.specs.Duration.{as_nanos};
-
-use crate::ending::PeerEnding;
 use crate::listening::Listening;
-use crate::own::Own;
 use crate::watched::Watched;
 use driver::{Caller, Driver, Fresh, Member, SwarmUse, with_swarm};
-use node_place::{Place, addr_text};
+use node_place::addr_text;
+use node_terms::{ListenTerms, Own, PeerEnding, ticks_in};
 use peer_ids::PeerId;
-use pool_state::{Config, Limits, Refusal, Reply};
+use pool_state::Reply;
 use std::alloc::{AllocGlobal, Global};
 use std::io::Write;
 use std::net::{Net, SocketAddr};
@@ -27,30 +23,6 @@ const TICK: u64 = 50;
 /// How long connections may take to be shut, in milliseconds.
 const SHUTTING: u64 = 2000;
 
-/// What a node that listens is told.
-#[derive(Drop)]
-pub struct ListenTerms {
-    /// Where it listens.
-    pub place: Place,
-    /// What limits its connections.
-    pub limits: Limits,
-    /// Whether only allowed peers may connect.
-    pub allow_only: bool,
-    /// The peers that it blocks.
-    pub blocked: Vec<PeerId>,
-    /// The peers that it allows.
-    pub allowed: Vec<PeerId>,
-}
-
-/// How many ticks lie in a time, at least one.
-pub fn ticks_in(limit: Duration, tick: u64) -> u32
-    requires { 0 < tick }
-    ensures { result ≡ max 1 (min (2 ^ 32 - 1) (as_nanos limit / 1_000_000 / tick)) }
-{
-    let ticks = limit.as_millis() / u128::from(tick);
-    u32::try_from(ticks).unwrap_or(u32::MAX).max(1)
-}
-
 /// A node that is to listen.
 #[derive(Drop)]
 struct Post<'a, R, I: Watched + Drop, O: Write + Drop> {
@@ -60,20 +32,6 @@ struct Post<'a, R, I: Watched + Drop, O: Write + Drop> {
     input: I,
     output: O,
     runtime: LocalRuntime,
-}
-
-/// What the pool of a node of this peer is made with, where the place is its own.
-fn config_of(listen: &ListenTerms, own: PeerId) -> Result<Config, PeerEnding> {
-    match listen.place.peer {
-        Some(named) if named != own => Err(PeerEnding::Refused(Refusal::Mismatch)),
-        _ => Ok(Config {
-            own,
-            limits: listen.limits,
-            first_conn: 1,
-            first_front: 0,
-            allow_only: listen.allow_only,
-        }),
-    }
 }
 
 /// Listens and serves until the input ends, and prints where, and what its listings show.
@@ -89,7 +47,7 @@ where
     I: Watched + Drop,
     O: Write + Drop,
 {
-    let config = config_of(&listen, own.peer())?;
+    let config = listen.config(own.peer())?;
     let runtime = LocalRuntime::new(rt)?;
     let post = Post {
         rt,
@@ -172,7 +130,7 @@ where
         let mut ticks = handle.time().interval(rt, Duration::from_millis(TICK))?;
         ticks.set_missed_tick_behavior(MissedTickBehavior::Delay);
         let reactor = handle.reactor().clone()?;
-        let mut driver = Driver::new(alloc, rt, reactor, driving, setup);
+        let mut driver = Driver::new(alloc, rt, reactor, driving, setup)?;
         let bound = driver.listen(self.listen.place.addr);
         let addr = bound.map_err(|error| PeerEnding::Unbound(error.kind()))?;
         let Post {

@@ -8,7 +8,7 @@ use driver::{Caller, Driver, Looking, Member, Setup, SwarmUse, with_swarm};
 use peer_ids::{PeerId, PublicKey};
 use pool_state::{Config, Limits};
 use rand::rngs::StdRng;
-use std::alloc::AllocGlobal;
+use std::alloc::{AllocError, AllocGlobal};
 use std::io::Write;
 use std::net::Net;
 use std::random::RandomSource;
@@ -166,13 +166,13 @@ where
         setup: Setup,
         driving: C,
         calling: C,
-    ) -> Side<'a, R, C> {
-        Side {
+    ) -> Result<Side<'a, R, C>, AllocError> {
+        Ok(Side {
             name,
             peer: peer_of(name),
-            driver: Driver::new(self.rt.alloc(), self.rt, reactor, driving, setup),
+            driver: Driver::new(self.rt.alloc(), self.rt, reactor, driving, setup)?,
             caller: calling,
-        }
+        })
     }
 
     /// Makes the second swarm beside the first node, of which these are the callers.
@@ -180,7 +180,7 @@ where
         let setup = setup_of(self.rt, Name::A)?;
         let reactor = self.runtime.handle().reactor().clone()?;
         let config = config_of(Name::B)?;
-        let a = self.side(Name::A, reactor, setup, driving, calling);
+        let a = self.side(Name::A, reactor, setup, driving, calling)?;
         let rt = self.rt;
         match with_swarm(rt, config, Second { play: self, a }) {
             Ok(outcome) => outcome,
@@ -201,7 +201,7 @@ where
             .time()
             .interval(self.rt, Duration::from_millis(TICK))?;
         let reactor = handle.reactor().clone()?;
-        let b = self.side(Name::B, reactor, setup, driving, calling);
+        let b = self.side(Name::B, reactor, setup, driving, calling)?;
         let Play {
             rt,
             script,

@@ -1,8 +1,5 @@
 //! The run of a script, as one future.
 
-ghost use Rattle.std.specs.Prelude.{◌≡◌};
-ghost use Rattle.futures.specs.Task.{Keeps};
-
 use crate::ending::RunEnding;
 use crate::script::{Act, Awaited, Name, line_of};
 use crate::side::{Side, print_awaited};

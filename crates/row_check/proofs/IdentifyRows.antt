@@ -1,15 +1,15 @@
 -- What no call may leave behind, and where memory isn't asked for.
 use Rattle.std.proofs.Common.{◌≡◌, ℕ, ◌-◌, ◌<◌, ◌≤◌, List, [], length, None, true, false, inl, inr, refl, sym, ap, subst, ◌∙◌, arith}
 use Rattle.std.specs.Prelude.{is_some}
-use Rattle.varint_proto.specs.Message.{Entry, IsMessage, last_body}
+use Rattle.varint_proto.specs.Message.{Entry, last_body}
 use Rattle.handlers.specs.Calls.{End}
 use Rattle.identify_h.specs.declared.fault.IdentifyFault.TheVariants.{OutOfMemory}
-use Rattle.identify_h.specs.Messages.{HasText, HasField, IsKeySpelt, Refuses}
+use Rattle.identify_h.specs.Messages.{HasText, HasField}
 use Rattle.identify_h.specs.Streams.{Begins, IsPart, EndFails, most_messages, left_behind}
 use Rattle.identify_h.specs.Reading.{Reader, ReadStep}
 use Rattle.row_check.specs.IdentifyRows.{LeftRows}
 use Rattle.identify_h.proofs.Outcomes.{there, stops_part, stops_empty}
-use Rattle.varint_proto.proofs.OneReading.{one_message}
+use Rattle.identify_h.proofs.Rows.{memory_at}
 
 cut_asks_none : (peer input rest : List ℕ) (bodies : List (List ℕ)) → Begins input bodies rest → IsPart bodies rest
     → 0 < length rest → EndFails peer input OutOfMemory → ⊥
@@ -17,13 +17,6 @@ cut_asks_none peer input rest bodies begins part some fails =
     let same = there input bodies fails.0 rest [] begins fails.1 (stops_part (most_messages - length bodies) bodies rest part) (stops_empty (most_messages - length fails.0) (left_behind fails.0)) in
     let size = ap length same.rest_is in
     omega arith
-
--- the fields of these bytes are these
-memory_at : (peer bytes : List ℕ) (fields : List Entry) → IsMessage bytes fields → Refuses peer bytes OutOfMemory
-    → IsKeySpelt (last_body 1 fields) × HasField fields
-memory_at peer bytes fields message refused =
-    let same = one_message bytes refused.0 fields refused.1 message in
-    subst (λ (t : List Entry). IsKeySpelt (last_body 1 t) × HasField t) same (refused.2, refused.3)
 
 no_field : (fields : List Entry) → ((number : ℕ) → 1 ≤ number → number ≤ 6 → last_body number fields ≡ None) → HasField fields → ⊥
 no_field fields none (inl list) =

@@ -5,3 +5,13 @@ mod PoolRows
 mod PingRows
 mod IdentifyRows
 mod NodeRows
+mod ServedRows
+mod StandingRows
+mod CameRows
+mod CodecRows
+mod LegalRows
+mod FrameRows
+mod HistoryRows
+mod ReplyRows
+mod UpgradeRows
+mod HeldRows

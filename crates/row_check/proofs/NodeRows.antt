@@ -1,5 +1,6 @@
 -- The worked rows of a node's handlers.
 use Rattle.std.proofs.Common.{◌≡◌, true, None, refl}
+use Rattle.varint_proto.specs.Varint.{shortest, shortest_within}
 use Rattle.identify_h.specs.Reading.{Reader}
 use Rattle.node_protocols.specs.declared.handler.NodeHandler.{NodeHandler}
 use Rattle.node_protocols.specs.declared.handler.NodeHandler.TheVariants.{Reads, Sends, Pings, Echoes}
@@ -14,8 +15,11 @@ stopped reader (Pings next) h = absurd h
 stopped reader (Echoes next) h = absurd h
 
 pub any : AnyRows
+unfolding shortest shortest_within
 any = record {
-  tells = λ own handler. (λ e. e, λ e. e);
+  tells_nothing = λ handler. (λ e. e, λ e. e);
+  tells_all = λ handler. (λ e. e, λ e. e);
+  tells_long = λ handler. (λ e. e, λ e. e);
   read = λ reader. refl;
   no_sender = λ out. refl;
   no_ping = λ out. refl;

@@ -1,12 +1,31 @@
-//! What the definitions of talks, streams, sessions and the pool say of worked values.
+//! What the definitions say of worked values. Each is a function with an empty body, whose contract is the rows.
 
+ghost use Rattle.row_check.specs.CodecRows.{SpanRows, ReadingRows, SideRows, TalkEndRows, ExchangeRows};
+ghost use Rattle.row_check.specs.LegalRows.{CountedRows, LegalRows};
 ghost use Rattle.row_check.specs.TalkRows.{JoinedRows};
 ghost use Rattle.row_check.specs.StreamRows.{MoveRows, HeardRows, RoomRows, PlaceRows};
 ghost use Rattle.row_check.specs.SessionRows.{WantRows, TiedRows};
+ghost use Rattle.row_check.specs.FrameRows.{ReadRows, PartRows, StopRows, AnswerRows};
+ghost use Rattle.row_check.specs.HistoryRows.{ToldRows, OpenedRows, CountRows, SinceRows, StepRows, LawRows, BothRows};
+ghost use Rattle.row_check.specs.ReplyRows.{ReplyRows, AgainRows, LetInRows};
 ghost use Rattle.row_check.specs.PoolRows.{OrderRows};
 ghost use Rattle.row_check.specs.PingRows.{GivenRows};
 ghost use Rattle.row_check.specs.IdentifyRows.{LeftRows};
 ghost use Rattle.row_check.specs.NodeRows.{AnyRows};
+ghost use Rattle.row_check.specs.UpgradeRows.{NameRows, PieceRows, OutcomeRows, UpgradeLawRows};
+ghost use Rattle.row_check.specs.ServedRows.{NowhereRows, UnsaidRows, AloneRows, PeerRows};
+ghost use Rattle.row_check.specs.StandingRows.{AnsweredRows, UsedRows, TalkingRows, BehindRows, ServingRows};
+ghost use Rattle.row_check.specs.CameRows.{CameRows};
+ghost use Rattle.row_check.specs.HeldRows.{HeldRows};
+
+/// The definitions of what is read and written at either end say of worked bytes what they are to say.
+pub fn codecs_rows()
+    ensures spans { SpanRows }
+    ensures readings { ReadingRows }
+    ensures sides { SideRows }
+    ensures talk_ends { TalkEndRows }
+    ensures exchanges { ExchangeRows }
+{}
 
 /// The definitions of two joined ends of a talk say of worked bytes what the standard says.
 pub fn talks_rows()
@@ -19,17 +38,44 @@ pub fn streams_rows()
     ensures heard { HeardRows }
     ensures room { RoomRows }
     ensures places { PlaceRows }
+    ensures answered { AnsweredRows }
+    ensures used { UsedRows }
+    ensures talking { TalkingRows }
+    ensures behind { BehindRows }
+    ensures serving { ServingRows }
 {}
 
-/// The definitions of a session, and of two that are joined, say of worked histories what they are to say.
+/// The definitions of frames say of worked bytes what they are to say, and their laws let conclude it.
+pub fn frames_rows()
+    ensures reads { ReadRows }
+    ensures parts { PartRows }
+    ensures stops { StopRows }
+    ensures answers { AnswerRows }
+{}
+
+/// The definitions of a session, and of two that are joined, say of worked histories what they are to say, and their
+/// laws let conclude it.
 pub fn yamux_rows()
     ensures want { WantRows }
     ensures tied { TiedRows }
+    ensures came { CameRows }
+    ensures told { ToldRows }
+    ensures opened { OpenedRows }
+    ensures counts { CountRows }
+    ensures since { SinceRows }
+    ensures steps { StepRows }
+    ensures laws { LawRows }
+    ensures both { BothRows }
+    ensures replies { ReplyRows }
+    ensures again { AgainRows }
+    ensures let_in { LetInRows }
 {}
 
-/// The definitions of the lists of peers say of worked lists what they are to say.
+/// The definitions of a pool say of worked lists and histories what they are to say.
 pub fn pool_rows()
-    ensures { OrderRows }
+    ensures order { OrderRows }
+    ensures legal { LegalRows }
+    ensures counted { CountedRows }
 {}
 
 /// The definitions of what serves a stream say of worked values what they are to say.
@@ -37,4 +83,17 @@ pub fn handlers_rows()
     ensures given { GivenRows }
     ensures left { LeftRows }
     ensures any { AnyRows }
+    ensures nowhere { NowhereRows }
+    ensures unsaid { UnsaidRows }
+    ensures alone { AloneRows }
+    ensures peer { PeerRows }
+    ensures held { HeldRows }
+{}
+
+/// The definitions of an upgrade say of worked values what they are to say, and its laws let conclude it.
+pub fn upgrade_rows()
+    ensures names { NameRows }
+    ensures pieces { PieceRows }
+    ensures outcomes { OutcomeRows }
+    ensures laws { UpgradeLawRows }
 {}

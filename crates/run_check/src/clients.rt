@@ -1,7 +1,6 @@
 //! A node, and clients that speak to it in their own bytes and go away: each connection ends alone, and the node serves
 //! the next client.
 
-ghost use Rattle.std.specs.Prelude.{◌≡◌};
 ghost use Rattle.futures.specs.Task.{Keeps};
 
 use driver::{Caller, Driver, Fresh, Member, Setup, SwarmUse, with_swarm};
@@ -221,7 +220,7 @@ where
         let mut runtime = LocalRuntime::new(rt)?;
         let reactor = runtime.handle().reactor().clone()?;
         let driving = Member::new(rt, swarm, first, &Fresh);
-        let mut driver = Driver::new(rt.alloc(), rt, reactor, driving, setup(rt)?);
+        let mut driver = Driver::new(rt.alloc(), rt, reactor, driving, setup(rt)?)?;
         let serving = Serving {
             net: rt,
             reactor: runtime.handle().reactor().clone()?,

@@ -1,5 +1,12 @@
 use Rattle.row_check.proofs.PoolRows.{order_rows}
+use Rattle.row_check.proofs.LegalRows.{legal_rows, counted_rows}
 use Rattle.row_check.proofs.laws.pool_rows.Goals as goal
 
-pub returns : goal.returns
-returns c = order_rows
+pub returns-clause-order : goal.returns-clause-order
+returns-clause-order c = order_rows
+
+pub returns-clause-legal : goal.returns-clause-legal
+returns-clause-legal c = legal_rows
+
+pub returns-clause-counted : goal.returns-clause-counted
+returns-clause-counted c = counted_rows

@@ -1,0 +1,28 @@
+use Rattle.callers.proofs.swarms.with_swarm.Given as goal
+
+abbrev pub ghosts-in_swarm-J-Identity : goal.ghosts-in_swarm-J-Identity
+ghosts-in_swarm-J-Identity g a = record { book = a.history; config = a.config; callers = 2 }
+
+abbrev pub ghosts-in_swarm-L1-Ledger : goal.ghosts-in_swarm-L1-Ledger
+ghosts-in_swarm-L1-Ledger g a = record { name = a.ledgers.first.name; parts = a.ledgers.first.parts }
+
+abbrev pub ghosts-in_swarm-L2-Ledger : goal.ghosts-in_swarm-L2-Ledger
+ghosts-in_swarm-L2-Ledger g a = record { name = a.ledgers.second.name; parts = a.ledgers.second.parts }
+
+abbrev pub ghosts-in_swarm-L3-Ledger : goal.ghosts-in_swarm-L3-Ledger
+ghosts-in_swarm-L3-Ledger g a = record { name = a.ledgers.third.name; parts = a.ledgers.third.parts }
+
+abbrev pub ghosts-in_swarm-L4-Ledger : goal.ghosts-in_swarm-L4-Ledger
+ghosts-in_swarm-L4-Ledger g a = record { name = a.ledgers.fourth.name; parts = a.ledgers.fourth.parts }
+
+abbrev pub ghosts-in_swarm-L5-Ledger : goal.ghosts-in_swarm-L5-Ledger
+ghosts-in_swarm-L5-Ledger g a = record { name = a.ledgers.fifth.name; parts = a.ledgers.fifth.parts }
+
+abbrev pub ghosts-in_swarm-L6-Ledger : goal.ghosts-in_swarm-L6-Ledger
+ghosts-in_swarm-L6-Ledger g a = record { name = a.ledgers.sixth.name; parts = a.ledgers.sixth.parts }
+
+abbrev pub ghosts-in_swarm-L7-Ledger : goal.ghosts-in_swarm-L7-Ledger
+ghosts-in_swarm-L7-Ledger g a = record { name = a.ledgers.seventh.name; parts = a.ledgers.seventh.parts }
+
+abbrev pub ghosts-in_swarm-L8-Ledger : goal.ghosts-in_swarm-L8-Ledger
+ghosts-in_swarm-L8-Ledger g a = record { name = a.ledgers.eighth.name; parts = a.ledgers.eighth.parts }
