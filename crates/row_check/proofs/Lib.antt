@@ -15,3 +15,4 @@ mod HistoryRows
 mod ReplyRows
 mod UpgradeRows
 mod HeldRows
+mod RefusedRows

@@ -16,3 +16,4 @@ pub mod HistoryRows
 pub mod ReplyRows
 pub mod UpgradeRows
 pub mod HeldRows
+pub mod RefusedRows

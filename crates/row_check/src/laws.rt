@@ -17,6 +17,7 @@ ghost use Rattle.row_check.specs.ServedRows.{NowhereRows, UnsaidRows, AloneRows,
 ghost use Rattle.row_check.specs.StandingRows.{AnsweredRows, UsedRows, TalkingRows, BehindRows, ServingRows};
 ghost use Rattle.row_check.specs.CameRows.{CameRows};
 ghost use Rattle.row_check.specs.HeldRows.{HeldRows};
+ghost use Rattle.row_check.specs.RefusedRows.{RefusedRows};
 
 /// The definitions of what is read and written at either end say of worked bytes what they are to say.
 pub fn codecs_rows()
@@ -88,6 +89,7 @@ pub fn handlers_rows()
     ensures alone { AloneRows }
     ensures peer { PeerRows }
     ensures held { HeldRows }
+    ensures refused { RefusedRows }
 {}
 
 /// The definitions of an upgrade say of worked values what they are to say, and its laws let conclude it.

@@ -3,6 +3,7 @@ use Rattle.row_check.proofs.IdentifyRows.{left_rows}
 use Rattle.row_check.proofs.NodeRows.{any}
 use Rattle.row_check.proofs.ServedRows.{nowhere, unsaid, alone, peer_rows}
 use Rattle.row_check.proofs.HeldRows.{held}
+use Rattle.row_check.proofs.RefusedRows.{refused}
 use Rattle.row_check.proofs.laws.handlers_rows.Goals as goal
 
 pub returns-clause-given : goal.returns-clause-given
@@ -28,3 +29,6 @@ returns-clause-peer c = peer_rows
 
 pub returns-clause-held : goal.returns-clause-held
 returns-clause-held c = held
+
+pub returns-clause-refused : goal.returns-clause-refused
+returns-clause-refused c = refused
