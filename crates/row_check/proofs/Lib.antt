@@ -10,9 +10,11 @@ mod StandingRows
 mod CameRows
 mod CodecRows
 mod LegalRows
+mod BoundRows
 mod FrameRows
 mod HistoryRows
 mod ReplyRows
 mod UpgradeRows
 mod HeldRows
 mod RefusedRows
+mod SeenRows

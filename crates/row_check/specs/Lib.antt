@@ -1,6 +1,7 @@
 -- cited by laws
 pub mod CodecRows
 pub mod LegalRows
+pub mod BoundRows
 pub mod TalkRows
 pub mod StreamRows
 pub mod SessionRows
@@ -17,3 +18,4 @@ pub mod ReplyRows
 pub mod UpgradeRows
 pub mod HeldRows
 pub mod RefusedRows
+pub mod SeenRows

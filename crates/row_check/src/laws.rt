@@ -2,6 +2,7 @@
 
 ghost use Rattle.row_check.specs.CodecRows.{SpanRows, ReadingRows, SideRows, TalkEndRows, ExchangeRows};
 ghost use Rattle.row_check.specs.LegalRows.{CountedRows, LegalRows};
+ghost use Rattle.row_check.specs.BoundRows.{BoundRows};
 ghost use Rattle.row_check.specs.TalkRows.{JoinedRows};
 ghost use Rattle.row_check.specs.StreamRows.{MoveRows, HeardRows, RoomRows, PlaceRows};
 ghost use Rattle.row_check.specs.SessionRows.{WantRows, TiedRows};
@@ -17,6 +18,7 @@ ghost use Rattle.row_check.specs.ServedRows.{NowhereRows, UnsaidRows, AloneRows,
 ghost use Rattle.row_check.specs.StandingRows.{AnsweredRows, UsedRows, TalkingRows, BehindRows, ServingRows};
 ghost use Rattle.row_check.specs.CameRows.{CameRows};
 ghost use Rattle.row_check.specs.HeldRows.{HeldRows};
+ghost use Rattle.row_check.specs.SeenRows.{OnePlaceRows};
 ghost use Rattle.row_check.specs.RefusedRows.{RefusedRows};
 
 /// The definitions of what is read and written at either end say of worked bytes what they are to say.
@@ -77,6 +79,7 @@ pub fn pool_rows()
     ensures order { OrderRows }
     ensures legal { LegalRows }
     ensures counted { CountedRows }
+    ensures bounds { BoundRows }
 {}
 
 /// The definitions of what serves a stream say of worked values what they are to say.
@@ -98,4 +101,9 @@ pub fn upgrade_rows()
     ensures pieces { PieceRows }
     ensures outcomes { OutcomeRows }
     ensures laws { UpgradeLawRows }
+{}
+
+/// The definitions of a swarm say of what a caller has seen what they are to say.
+pub fn swarm_rows()
+    ensures { OnePlaceRows }
 {}

@@ -1,5 +1,6 @@
 use Rattle.row_check.proofs.PoolRows.{order_rows}
 use Rattle.row_check.proofs.LegalRows.{legal_rows, counted_rows}
+use Rattle.row_check.proofs.BoundRows.{bound_rows}
 use Rattle.row_check.proofs.laws.pool_rows.Goals as goal
 
 pub returns-clause-order : goal.returns-clause-order
@@ -10,3 +11,6 @@ returns-clause-legal c = legal_rows
 
 pub returns-clause-counted : goal.returns-clause-counted
 returns-clause-counted c = counted_rows
+
+pub returns-clause-bounds : goal.returns-clause-bounds
+returns-clause-bounds c = bound_rows
