@@ -18,3 +18,4 @@ mod UpgradeRows
 mod HeldRows
 mod RefusedRows
 mod SeenRows
+mod EndedRows

@@ -19,3 +19,4 @@ pub mod UpgradeRows
 pub mod HeldRows
 pub mod RefusedRows
 pub mod SeenRows
+pub mod EndedRows

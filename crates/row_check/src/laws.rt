@@ -20,6 +20,7 @@ ghost use Rattle.row_check.specs.CameRows.{CameRows};
 ghost use Rattle.row_check.specs.HeldRows.{HeldRows};
 ghost use Rattle.row_check.specs.SeenRows.{OnePlaceRows};
 ghost use Rattle.row_check.specs.RefusedRows.{RefusedRows};
+ghost use Rattle.row_check.specs.EndedRows.{EndedRows, UnaskedRows};
 
 /// The definitions of what is read and written at either end say of worked bytes what they are to say.
 pub fn codecs_rows()
@@ -93,6 +94,8 @@ pub fn handlers_rows()
     ensures peer { PeerRows }
     ensures held { HeldRows }
     ensures refused { RefusedRows }
+    ensures ended { EndedRows }
+    ensures unasked { UnaskedRows }
 {}
 
 /// The definitions of an upgrade say of worked values what they are to say, and its laws let conclude it.

@@ -4,6 +4,7 @@ use Rattle.row_check.proofs.NodeRows.{any}
 use Rattle.row_check.proofs.ServedRows.{nowhere, unsaid, alone, peer_rows}
 use Rattle.row_check.proofs.HeldRows.{held}
 use Rattle.row_check.proofs.RefusedRows.{refused}
+use Rattle.row_check.proofs.EndedRows.{ended_rows, unasked_rows}
 use Rattle.row_check.proofs.laws.handlers_rows.Goals as goal
 
 pub returns-clause-given : goal.returns-clause-given
@@ -32,3 +33,9 @@ returns-clause-held c = held
 
 pub returns-clause-refused : goal.returns-clause-refused
 returns-clause-refused c = refused
+
+pub returns-clause-ended : goal.returns-clause-ended
+returns-clause-ended c = ended_rows
+
+pub returns-clause-unasked : goal.returns-clause-unasked
+returns-clause-unasked c = unasked_rows
