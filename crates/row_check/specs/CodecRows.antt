@@ -46,8 +46,8 @@ pub record ReadingRows : Type 0 where
 -- refused since; and a listener hears nothing that its dialer hasn't written. Want of memory comes at the last byte of a
 -- length alone, and loses no output
 pub record SideRows : Type 0 where
-  pub header_is : header ≡ 47 ∷ 109 ∷ 117 ∷ 108 ∷ 116 ∷ 105 ∷ 115 ∷ 116 ∷ 114 ∷ 101 ∷ 97 ∷ 109 ∷ 47 ∷ 49 ∷ 46 ∷ 48 ∷ 46
-      ∷ 48 ∷ []
+  pub header_is : header ≡ 47 ∷ 109 ∷ 117 ∷ 108 ∷ 116 ∷ 105 ∷ 115 ∷ 116 ∷ 114 ∷ 101 ∷ 97 ∷ 109
+      ∷ 47 ∷ 49 ∷ 46 ∷ 48 ∷ 46 ∷ 48 ∷ []
   pub may_send : (names : List (List ℕ)) (answer : Answer) → MaySend names (Some answer) → CallsMore names (Ok answer)
   pub calls_turned_down : CallsMore (x ∷ []) (Ok NoneLeft)
   pub calls_refused : CallsMore (x ∷ []) (Err NotProposed)
