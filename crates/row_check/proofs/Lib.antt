@@ -11,6 +11,7 @@ mod CameRows
 mod CodecRows
 mod LegalRows
 mod BoundRows
+mod ApartRows
 mod FrameRows
 mod HistoryRows
 mod ReplyRows

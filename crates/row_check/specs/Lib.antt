@@ -2,6 +2,7 @@
 pub mod CodecRows
 pub mod LegalRows
 pub mod BoundRows
+pub mod ApartRows
 pub mod TalkRows
 pub mod StreamRows
 pub mod SessionRows

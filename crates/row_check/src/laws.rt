@@ -3,6 +3,7 @@
 ghost use Rattle.row_check.specs.CodecRows.{SpanRows, ReadingRows, SideRows, TalkEndRows, ExchangeRows};
 ghost use Rattle.row_check.specs.LegalRows.{CountedRows, LegalRows};
 ghost use Rattle.row_check.specs.BoundRows.{BoundRows};
+ghost use Rattle.row_check.specs.ApartRows.{ApartRows};
 ghost use Rattle.row_check.specs.TalkRows.{JoinedRows};
 ghost use Rattle.row_check.specs.StreamRows.{MoveRows, HeardRows, RoomRows, PlaceRows};
 ghost use Rattle.row_check.specs.SessionRows.{WantRows, TiedRows};
@@ -81,6 +82,7 @@ pub fn pool_rows()
     ensures legal { LegalRows }
     ensures counted { CountedRows }
     ensures bounds { BoundRows }
+    ensures apart { ApartRows }
 {}
 
 /// The definitions of what serves a stream say of worked values what they are to say.

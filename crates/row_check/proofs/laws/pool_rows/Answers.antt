@@ -1,6 +1,7 @@
 use Rattle.row_check.proofs.PoolRows.{order_rows}
 use Rattle.row_check.proofs.LegalRows.{legal_rows, counted_rows}
 use Rattle.row_check.proofs.BoundRows.{bound_rows}
+use Rattle.row_check.proofs.ApartRows.{apart_rows}
 use Rattle.row_check.proofs.laws.pool_rows.Goals as goal
 
 pub returns-clause-order : goal.returns-clause-order
@@ -14,3 +15,6 @@ returns-clause-counted c = counted_rows
 
 pub returns-clause-bounds : goal.returns-clause-bounds
 returns-clause-bounds c = bound_rows
+
+pub returns-clause-apart : goal.returns-clause-apart
+returns-clause-apart c = apart_rows
