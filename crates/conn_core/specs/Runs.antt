@@ -29,6 +29,8 @@ use Rattle.conn_core.specs.declared.calls.ConnAct.{ConnAct}
 use Rattle.conn_core.specs.declared.calls.ConnAct.TheVariants.{Feed, Ask, Ended}
 use Rattle.conn_core.specs.declared.calls.ConnAnswer.{ConnAnswer}
 use Rattle.conn_core.specs.declared.calls.ConnAnswer.TheVariants.{Events, Stream, Refused}
+use Rattle.held_order.specs.Orders.{arranged}
+use Rattle.conn_core.specs.Made.{made_in}
 use Rattle.conn_core.specs.Connects.{IsUp, Ends, Stands, session_role, is_over}
 
 -- Where an end is. At: this came, whether the input has ended, these streams were opened for these protocols, these
@@ -179,10 +181,11 @@ module _ {P H : Type 0} (step : H → HandlerCall → H → Type 0) (fails : H �
       × Holds input ended asked told owed output there handlers
   Leaves Spent output handlers = handlers ≡ []
 
-  -- what a run answers
+  -- what a run answers: the handlers that are held still come in the order in which they were made
   abbrev pub Runs : List ConnAct → List (ConnAnswer H) → List ℕ → List (ℕ × H) → Type 0
-  Runs calls answers output handlers = (last : Point H) × AnswersAll (At [] false [] [] []) calls answers last
-      × Leaves last output handlers
+  Runs calls answers output handlers = (last : Point H) × (held : List (ℕ × H))
+      × AnswersAll (At [] false [] [] []) calls answers last × Leaves last output held
+      × (handlers ≡ arranged (made_in listed is_eager start calls answers) held)
 
   -- the end is at this point, and none of its output was taken
   abbrev pub IsAt : Point H → ConnCore P H → Type 0

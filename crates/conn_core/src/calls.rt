@@ -6,6 +6,7 @@ ghost use Rattle.upgrade.specs.declared.role.ConnRole.{ConnRole};
 ghost use Rattle.conn_core.specs.Runs.{Point, IsAt, Answers, Runs, events_or, stream_or};
 
 use crate::connection::ConnCore;
+use crate::made::{early_asks, order_of};
 use conn_log::{ConnEvent, ConnRefused};
 use handlers::{Handler, Protocols};
 use peer_ids::PublicKey;
@@ -41,8 +42,7 @@ pub struct ConnRan<H> {
     pub answers: Vec<ConnAnswer<H>>,
     /// All output.
     pub output: Vec<u8>,
-    /// The handlers that are held still, each with the number of its stream: first those of earlier openings, in the
-    /// order in which their numbers were opened anew, and then the others by their numbers.
+    /// The handlers that are held still, each with the number of its stream, in the order in which they were made.
     pub handlers: Vec<(u32, H)>,
 }
 
@@ -97,7 +97,7 @@ fn perform<P: Protocols>(core: &mut ConnCore<P>, act: &ConnAct) -> ConnAnswer<P:
 }
 
 /// Makes these calls of a new end, in order. [`AllocError`] is answered only where a growth of its own was refused: the
-/// end couldn't be made, or the list of answers or of handlers couldn't grow.
+/// end couldn't be made, or the list of answers or of handlers couldn't grow, or what keeps their order.
 pub fn run<P: Protocols>(
     alloc: Global,
     role: ConnRole,
@@ -109,6 +109,7 @@ pub fn run<P: Protocols>(
         P.makes_outbound P.listed P.is_eager P.leads_inbound P.leads_outbound protocols role key acts.now
         ran.answers.items ran.output.items ran.handlers.items) }
 {
+    let early = early_asks(alloc, &protocols, acts)?;
     let Ok(core) = ConnCore::new(alloc, role, key, protocols) else {
         return Err(AllocError);
     };
@@ -118,7 +119,9 @@ pub fn run<P: Protocols>(
         push(&mut answers, perform(&mut core, act))?;
     }
     let output = core.take_output();
-    let handlers = core.into_handlers()?;
+    let held = core.into_handlers()?;
+    let order = order_of(alloc, &early, &answers)?;
+    let handlers = order.arrange(alloc, held)?;
     Ok(ConnRan {
         answers,
         output,

@@ -99,7 +99,8 @@ impl<L: Link, P: Protocols> Conn<L, P> {
         ensures stage { is_live self.new.stage ≡ true → self.new.stage ≡ self.old.stage }
         ensures why { self.old.stage ≡ Stage.Going → EndsFor L.Link P.Protocols P.H.Handler result self.new }
         ensures moved { (given : List ℕ) × (took : List ℕ) × L.moves self.old.link given took self.new.link }
-        ensures came { is_live self.new.stage ≡ false → (result ≡ Turn.Failed) ⊎ Came L.Link self.old.link self.new.link }
+        ensures came { is_live self.new.stage ≡ false
+            → (result ≡ Turn.Failed) ⊎ Came L.Link self.old.link self.new.link }
         ensures kept { Keeps cx.old cx.new }
     {
         match self.link.poll_read(cx, self.buffer.as_mut_slice()) {

@@ -182,10 +182,10 @@ impl Row {
         }
     }
 
-    /// The streams whose handlers are held at the end, by their numbers, whatever came first.
+    /// The streams whose handlers are held at the end, that of the handler that was made first in front.
     pub fn held(self) -> &'static [u32] {
         match self {
-            Row::Holds => &[1, 2],
+            Row::Holds => &[2, 1],
             _ => &[],
         }
     }

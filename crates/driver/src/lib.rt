@@ -12,8 +12,8 @@
 //! of the peer, each with a message of at most 1,024 bytes of its negotiation, and then with what its handler holds: an
 //! echo as many bytes as a window has, 262,144, where the peer gives no credit for them; a reader at most 16,384 bytes.
 //! What the connection writes and the peer doesn't take has no such bound: so a connection of which more than
-//! [`MOST_WAITING`](bounded_conn::MOST_WAITING) bytes wait behind one of its polls is dropped, and isn't shut before. Between the calls of a driver
-//! no more wait: [`Driver::waiting`] says so. Nothing bounds how long a peer may take.
+//! [`MOST_WAITING`](bounded_conn::MOST_WAITING) bytes wait behind one of its polls is dropped, and isn't shut before.
+//! Between the calls of a driver no more wait: [`Driver::waiting`] says so. Nothing bounds how long a peer may take.
 #![tactic(auto)]
 
 mod driver;

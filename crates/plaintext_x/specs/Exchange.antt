@@ -110,8 +110,8 @@ Exchanges input (Ok (Some key)) used =
     × (used + length rest ≡ length input)
 Exchanges input (Err fault) used = HasFault input fault × (used ≡ length input)
 
--- Memory is asked for twice: at the last byte of the length, for a body that isn't empty; and at the last byte of a
--- message that has both fields, for reading its key.
+-- Memory is asked for twice: at the last byte of the length, for a body that isn't empty; and where a message that has
+-- both fields is whole, for reading its key. (More bytes may follow it: RunsOut says at which byte memory is refused.)
 abbrev pub AsksMemory : List ℕ → Type 0
 AsksMemory input = AsksRoom longest 0 input ⊎ HasFault input OutOfMemory
 

@@ -92,6 +92,8 @@ cut_within next it (inr whole) =
 pub want_rows : WantRows
 want_rows = record {
   untold_brought = λ b. untold_by b (short_or_whole b.used unknown_bytes);
+  told_before = λ more. let m : 1 < 1 = more in omega (arith, m);
+  sent_before = λ more. let m : 12 < 12 = more in omega (arith, m);
   cut_off_within = λ bytes next is answered.
       let it = subst (λ (t : List ℕ). IsCutOff Server [] [] t next) is answered.2 in
       cut_within next it (short_or_whole it.used ping_bytes);

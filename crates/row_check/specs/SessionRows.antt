@@ -1,28 +1,33 @@
 -- Worked rows of sessions, and of two sessions at joined ends: what is said of them can be, and no more.
 -- Source: hashicorp yamux, over pipes that deliver what was sent, and this project's profile of a session.
-use Rattle.std.specs.Prelude.{◌≡◌, ◌⊎◌, ℕ, true, false, List, [], ◌∷◌, None}
+use Rattle.std.specs.Prelude.{◌≡◌, ◌⊎◌, ℕ, true, false, List, [], ◌∷◌, ◌++◌, None}
 use Rattle.std.specs.Global.{Vec}
+use Rattle.yamux_frames.specs.declared.header.FrameKind.TheVariants.{Ping, Window}
 use Rattle.yamux_session.specs.declared.event.Role.TheVariants.{Server}
 use Rattle.yamux_session.specs.declared.event.ActRefused.TheVariants as refused
 use Rattle.yamux_session.specs.declared.calls.Act.TheVariants as call
 use Rattle.yamux_session.specs.declared.calls.ActAnswer.TheVariants.{Refused}
 use Rattle.yamux_session.specs.History.Item.{Did}
 use Rattle.yamux_session.specs.History.Act.{Start}
+use Rattle.yamux_session.specs.Events.{TellsMore}
+use Rattle.yamux_session.specs.Output.{SendsMore}
 use Rattle.yamux_session.specs.State.{State, Brings}
 use Rattle.yamux_session.specs.Runs.{Point, Answers}
 use Rattle.yamux_session.specs.Runs.Point.{At, Over}
 use Rattle.yamux_session.specs.Joined.{End, at_first}
 use Rattle.yamux_session.specs.Tied.{IsNext, GoesOnBehind, StopsWithin}
-use Rattle.yamux_session.specs.Rows.{ping_bytes, answer_bytes}
+use Rattle.yamux_session.specs.Rows.{bare, ping_bytes, answer_bytes}
 
 -- credit for a stream that isn't known
 abbrev pub unknown_bytes : List ℕ
 unknown_bytes = 0 ∷ 1 ∷ 0 ∷ 0 ∷ 0 ∷ 0 ∷ 0 ∷ 9 ∷ 0 ∷ 0 ∷ 0 ∷ 5 ∷ []
 
--- Nothing is brought by a frame that tells and sends nothing. And where memory is wanting within a Ping, the session
+-- Nothing is brought by a frame that tells and sends nothing, whatever was told and sent before. And where memory is wanting within a Ping, the session
 -- has sent nothing more, or its answer
 pub record WantRows : Type 0 where
   pub untold_brought : ¬ Brings Server [] [] unknown_bytes
+  pub told_before : ¬ TellsMore Server (bare Window 1 1 0) (bare Ping 2 0 7 ++ bare Window 1 1 0)
+  pub sent_before : ¬ SendsMore Server (bare Ping 1 0 7) (bare Ping 2 0 7 ++ bare Ping 1 0 7)
   pub cut_off_within : (bytes : Vec ℕ) (next : Point) → bytes.items ≡ ping_bytes
       → Answers Server (At [] []) (call.Feed bytes) (Refused refused.OutOfMemory) next
       → (next ≡ Over []) ⊎ (next ≡ Over answer_bytes)

@@ -171,8 +171,8 @@ fn openings(alloc: Global) -> Result<Vec<ConnAct>, AllocError> {
     Ok(acts)
 }
 
-/// Those of the earlier openings in the order in which the numbers were opened anew, then the others by their numbers.
-const HELD: [u32; 4] = [3, 1, 1, 3];
+/// In the order in which they were made.
+const HELD: [u32; 4] = [3, 1, 3, 1];
 
 fn is_held(alloc: Global) -> Option<bool> {
     let key = PublicKey::read(alloc, KEY).ok()?;
@@ -188,7 +188,7 @@ fn is_held(alloc: Global) -> Option<bool> {
 }
 
 #[test]
-fn handlers_of_earlier_openings_come_first(rt: HostRuntime) -> Result<(), Fail> {
+fn handlers_come_in_the_order_in_which_they_were_made(rt: HostRuntime) -> Result<(), Fail> {
     let held = is_held(rt.alloc()) == Some(true);
     assert!(rt; held, "the handlers");
     Ok(())

@@ -1,0 +1,4 @@
+-- definitions that public clauses name
+pub mod Orders
+-- worked rows
+pub mod OrderRows

@@ -1,0 +1,13 @@
+mod VarintLaws
+mod KeyLaws
+mod AddressLaws
+mod SelectLaws
+mod ExchangeLaws
+mod TalkLaws
+mod UpgradeLaws
+mod FrameLaws
+mod SessionLaws
+mod HandlerLaws
+mod IdentifyLaws
+mod StreamLaws
+mod PoolLaws

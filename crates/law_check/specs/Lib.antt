@@ -1,0 +1,14 @@
+-- cited by laws
+pub mod VarintLaws
+pub mod KeyLaws
+pub mod AddressLaws
+pub mod SelectLaws
+pub mod ExchangeLaws
+pub mod TalkLaws
+pub mod UpgradeLaws
+pub mod FrameLaws
+pub mod SessionLaws
+pub mod HandlerLaws
+pub mod IdentifyLaws
+pub mod StreamLaws
+pub mod PoolLaws
