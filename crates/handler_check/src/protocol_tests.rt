@@ -324,3 +324,25 @@ fn payloads_that_differ_are_told_apart(rt: HostRuntime) {
         assert!(rt; payloads != FixedPayload { payload }, "byte {place}");
     }
 }
+
+/// Whether the handler of this protocol is made so often by one node.
+fn is_made_again(node: &mut NodeProtocols<FixedPayload>, index: usize, inbound: bool) -> bool
+    requires { index < 3 }
+{
+    let mut held = true;
+    for _ in 0..3 {
+        held = made(node, index, inbound).is_some() && held;
+    }
+    held
+}
+
+#[test]
+fn each_handler_is_made_again(rt: HostRuntime) -> Result<(), Fail> {
+    let mut node = node(rt.alloc(), "node/0.1.0")?;
+    for inbound in [true, false] {
+        assert!(rt; is_made_again(&mut node, IDENTIFY, inbound));
+        assert!(rt; is_made_again(&mut node, PUSH, inbound));
+        assert!(rt; is_made_again(&mut node, PING, inbound));
+    }
+    Ok(())
+}
