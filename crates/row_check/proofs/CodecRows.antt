@@ -1,5 +1,5 @@
 -- The worked rows of what is read and written at either end.
-use Rattle.std.proofs.Common.{◌≡◌, ℕ, zero, suc, ◌+◌, ◌-◌, ◌^◌, ◌<◌, List, [], ◌∷◌, ◌++◌, length, take, replicate, get_or, Option, Some, None, Ok, Err, refl, sym, ap, ◌∙◌, subst, append_assoc, append-nil, inl, inr, arith}
+use Rattle.std.proofs.Common.{◌≡◌, ℕ, zero, suc, ◌+◌, ◌-◌, ◌^◌, ◌<◌, List, [], ◌∷◌, ◌++◌, length, take, drop, replicate, get_or, Option, Some, None, Ok, Err, refl, sym, ap, ◌∙◌, subst, append_assoc, append-nil, inl, inr, ⊎_elim, arith}
 use Rattle.std.specs.Prelude.{codes, slice_get, unwrap_or}
 use Rattle.std.proofs.lemmas.List.{length-append, length-replicate}
 use Rattle.varint_proto.specs.Varint.{IsSpelling, BeginsShortest, shortest, shortest_within}
@@ -9,6 +9,9 @@ use Rattle.peer_ids.specs.declared.fault.IdFault.TheVariants.{TrailingBits}
 use Rattle.peer_ids.proofs.OneText.{one_outcome as one_text}
 use Rattle.peer_ids.proofs.WorkedRows.{text_rows}
 use Rattle.multiaddr.specs.Ip6.{SpellsGroups}
+use Rattle.multiaddr.specs.declared.protocol.Protocol.TheVariants.{P2p}
+use Rattle.multiaddr.specs.Part.{part}
+use Rattle.multiaddr.specs.Rows.{peer}
 use Rattle.multiaddr.proofs.Ip6Text.{spells_no_dot}
 use Rattle.ms_select.specs.declared.answer.Answer.{Answer}
 use Rattle.ms_select.specs.declared.answer.Answer.TheVariants.{Going, Agreed, NoneLeft}
@@ -69,6 +72,9 @@ reading_rows = record {
   no_dots_before = λ groups s. (spells_no_dot (codes "1.2.3.4::") groups s).1.0 refl;
   fewer_groups = λ s. omega (arith, eight (codes "1:2") (1 ∷ 2 ∷ []) s);
   more_groups = λ s. omega (arith, eight (codes "1:2:3:4:5:6:7:8:9") (1 ∷ 2 ∷ 3 ∷ 4 ∷ 5 ∷ 6 ∷ 7 ∷ 8 ∷ 9 ∷ []) s);
+  two_peers = λ ip port h.
+      let behind : part P2p peer ∷ part P2p peer ∷ [] ≡ h.tail = ap (drop 2) h.parts in
+      ⊎_elim (λ none. absurd (let e = behind ∙ none in cc e)) (λ one. absurd (let e = behind ∙ one.1 in cc e)) h.peer;
 }
 
 -- ---- two joined ends

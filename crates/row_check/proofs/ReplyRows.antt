@@ -7,9 +7,10 @@ use Rattle.yamux_session.specs.declared.calls.Act.TheVariants as call
 use Rattle.yamux_session.specs.declared.calls.ActAnswer.TheVariants.{Stream}
 use Rattle.yamux_session.specs.History.Item.{Did}
 use Rattle.yamux_session.specs.History.Act.{Start}
-use Rattle.yamux_session.specs.Runs.Point.{At}
+use Rattle.yamux_session.specs.Runs.{Point}
+use Rattle.yamux_session.specs.Runs.Point.{At, Over}
 use Rattle.yamux_session.specs.Rows.{header, two_bytes}
-use Rattle.row_check.specs.ReplyRows.{ReplyRows, AgainRows, LetInRows}
+use Rattle.row_check.specs.ReplyRows.{ReplyRows, FedRows, AgainRows, LetInRows, OtherAnswerRows, OverRows}
 
 pub reply_rows : ReplyRows
 reply_rows = record {
@@ -47,4 +48,29 @@ let_in_rows = record {
   twice_at_a_client = λ law past on. law Client past (record { kind = Window; flags = 1; stream = 2; length = 0 }) refl refl refl on;
   wrong_by_data = λ law past. law Client past (record { kind = Payload; flags = 1; stream = 1; length = 0 }) refl refl refl;
   of_nobody = λ law past. law Server past (record { kind = Window; flags = 1; stream = 0; length = 0 }) refl refl refl;
+}
+
+pub fed_rows : FedRows
+fed_rows = record {
+  fed = λ law client server joined bytes are sent. (law client server joined).0.fed bytes are sent;
+  fed_back = λ law client server joined bytes are sent. (law client server joined).1.fed bytes are sent;
+  some = λ law. (law.0.0, law.0.1, law.0.2.joined, law.0.2.wrote, law.0.2.arrived);
+  some_ended = λ law. (law.1.0, law.1.1, law.1.2.joined, law.1.2.wrote, law.1.2.arrived);
+}
+
+pub other_answer_rows : OtherAnswerRows
+other_answer_rows = record {
+  number = λ same. absurd (cc same);
+  reason = λ same. absurd (cc same);
+  refused_or_done = λ same. absurd (cc same);
+  done_or_counted = λ same. absurd (cc same);
+  counted_or_opened = λ same. absurd (cc same);
+  told_or_refused = λ told same. absurd (cc same);
+}
+
+pub over_rows : OverRows
+over_rows = record {
+  each_refused = λ bytes. let there : Point = Over (7 ∷ []) in
+      (there, (refl, refl), (there, (refl, refl), (there, (refl, refl), (there, (refl, refl), (there, (refl, refl), (there, (refl, refl), (there, (refl, refl), refl)))))));
+  none_left_out = λ last answered. answered;
 }

@@ -8,8 +8,8 @@ use Rattle.pool_state.specs.declared.row.ConnSide.TheVariants.{Dialer, Listener}
 use Rattle.pool_state.specs.declared.row.Phase.TheVariants as phase
 use Rattle.pool_state.specs.Bounded.{IsBounded}
 use Rattle.pool_state.specs.Parts.{listing}
-use Rattle.pool_state.specs.Rows.{busy, closing, dialing, first, guarded, living, narrow, row, rows, second, tight}
-use Rattle.pool_state.specs.Rows.{with_limits}
+use Rattle.pool_state.specs.Rows.{busy, closing, counting, dialing, first, guarded, living, narrow, row, rows, second}
+use Rattle.pool_state.specs.Rows.{tight, with_limits}
 use Rattle.row_check.specs.LegalRows.{living as all_living}
 
 -- one connection, though two may be accepted
@@ -30,5 +30,11 @@ pub record BoundRows : Type 0 where
   pub second_done_unasked : ¬ IsBounded narrow (listing 0 (busy (0 ∷ 0 ∷ 1 ∷ []) (0 ∷ 1 ∷ 0 ∷ [])) [] [])
   pub third_done_unasked : ¬ IsBounded narrow (listing 0 (busy (1 ∷ 0 ∷ 0 ∷ []) (0 ∷ 0 ∷ 1 ∷ [])) [] [])
   pub stream_of_the_closing : ¬ IsBounded narrow (listing 0 (closing (busy (1 ∷ 0 ∷ 1 ∷ []) (0 ∷ 0 ∷ 0 ∷ []))) [] [])
+  -- of streams too, though it doesn't live, or doesn't live yet
+  pub done_of_the_closing : ¬ IsBounded narrow (listing 0 (closing (busy (0 ∷ 0 ∷ 0 ∷ []) (0 ∷ 0 ∷ 1 ∷ []))) [] [])
+  pub done_of_the_pending : ¬ IsBounded narrow
+      (listing 0 (counting dialing (0 ∷ 0 ∷ 0 ∷ []) (0 ∷ 0 ∷ 1 ∷ []) ∷ []) [] [])
+  pub stream_of_the_pending : ¬ IsBounded narrow
+      (listing 0 (counting dialing (1 ∷ 0 ∷ 1 ∷ []) (0 ∷ 0 ∷ 0 ∷ []) ∷ []) [] [])
   pub living_though_blocked : ¬ IsBounded narrow (listing 0 (dialing ∷ living ∷ []) (second ∷ []) [])
   pub living_though_not_allowed : ¬ IsBounded guarded (listing 0 (living ∷ []) [] [])

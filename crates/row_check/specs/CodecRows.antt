@@ -7,6 +7,10 @@ use Rattle.peer_ids.specs.declared.fault.IdFault.{IdFault}
 use Rattle.peer_ids.specs.declared.fault.IdFault.TheVariants.{TrailingBits}
 use Rattle.peer_ids.specs.ReadsText.{ReadsId}
 use Rattle.multiaddr.specs.Ip6.{SpellsGroups}
+use Rattle.multiaddr.specs.declared.protocol.Protocol.TheVariants.{P2p}
+use Rattle.multiaddr.specs.Part.{part}
+use Rattle.multiaddr.specs.Given.{GivesSocket}
+use Rattle.multiaddr.specs.Rows.{address, local, peer, port_4001}
 use Rattle.ms_select.specs.declared.answer.Answer.{Answer}
 use Rattle.ms_select.specs.declared.answer.Answer.TheVariants.{Going, Agreed, NoneLeft}
 use Rattle.ms_select.specs.declared.fault.SelectFault.{SelectFault}
@@ -33,7 +37,7 @@ pub record SpanRows : Type 0 where
   pub one_byte_more : (n : ℕ) → ¬ ReadsShortest (5 ∷ []) (Ok (Some (n, 2)))
   pub of_64_bits : (bytes : List ℕ) (len : ℕ) → ¬ ReadsShortest bytes (Ok (Some (2 ^ 63, len)))
 
--- Texts of ids have one reading, and those of IPv6 addresses have eight groups
+-- Texts of ids have one reading, those of IPv6 addresses have eight groups, and a socket has one peer at most
 pub record ReadingRows : Type 0 where
   pub one_id : (other : Result (List ℕ) IdFault) → ReadsId (codes "bafzaaaa") other → other ≡ Ok (0 ∷ 0 ∷ [])
   pub one_fault : (other : Result (List ℕ) IdFault) → ReadsId (codes "bab") other → other ≡ Err TrailingBits
@@ -41,6 +45,8 @@ pub record ReadingRows : Type 0 where
   pub no_dots_before : (groups : List ℕ) → ¬ SpellsGroups (codes "1.2.3.4::") groups
   pub fewer_groups : ¬ SpellsGroups (codes "1:2") (1 ∷ 2 ∷ [])
   pub more_groups : ¬ SpellsGroups (codes "1:2:3:4:5:6:7:8:9") (1 ∷ 2 ∷ 3 ∷ 4 ∷ 5 ∷ 6 ∷ 7 ∷ 8 ∷ 9 ∷ [])
+  -- an address with two peers behind its socket gives none
+  pub two_peers : GivesSocket (address (local ∷ port_4001 ∷ part P2p peer ∷ part P2p peer ∷ []) []) None
 
 -- Two joined sides of a negotiation: a dialer of one name may have gone on before any answer, be it turned down or
 -- refused since; and a listener hears nothing that its dialer hasn't written. Want of memory comes at the last byte of

@@ -1,17 +1,21 @@
 -- Worked rows of what the laws on sessions let conclude of an answer: of the data that an end writes on a stream which
 -- the other has opened, of frames on the way, and of sessions that have done something already.
 -- Source: hashicorp yamux, over pipes that deliver what was sent, and this project's profile of a session.
-use Rattle.std.specs.Prelude.{◌≡◌, ◌≢◌, ℕ, ◌+◌, ◌<◌, true, false, List, [], ◌∷◌, ◌++◌, filter}
-use Rattle.std.specs.Prelude.{length, Some}
+use Rattle.std.specs.Prelude.{◌≡◌, ◌≢◌, ℕ, ◌+◌, ◌<◌, true, false, List, [], ◌∷◌, ◌++◌, filter, map}
+use Rattle.std.specs.Prelude.{length, replicate, Some}
+use Rattle.std.specs.List.{AllByRecursion}
+use Rattle.std.specs.Global.{Vec}
 use mathlib.Core.List.{IsPrefix}
 use Rattle.yamux_frames.specs.declared.header.FrameKind.TheVariants.{Payload, Window}
+use Rattle.yamux_frames.specs.Frames.{Arrival}
 use Rattle.yamux_frames.specs.Frames.Arrival.{Byte, Tail}
 use Rattle.yamux_session.specs.declared.event.Role.TheVariants.{Client, Server}
 use Rattle.yamux_session.specs.declared.event.Fault.TheVariants.{DuplicateStream, WrongParity}
 use Rattle.yamux_session.specs.declared.event.ActRefused.TheVariants as refused
+use Rattle.yamux_session.specs.declared.event.Event.{Event}
 use Rattle.yamux_session.specs.declared.calls.Act.TheVariants as call
 use Rattle.yamux_session.specs.declared.calls.ActAnswer.{ActAnswer}
-use Rattle.yamux_session.specs.declared.calls.ActAnswer.TheVariants.{Stream, Refused}
+use Rattle.yamux_session.specs.declared.calls.ActAnswer.TheVariants.{Events, Stream, Count, Done, Refused}
 use Rattle.yamux_session.specs.History.{Item, is_remote}
 use Rattle.yamux_session.specs.History.Item.{Came, Did}
 use Rattle.yamux_session.specs.History.Act.{Start}
@@ -20,13 +24,14 @@ use Rattle.yamux_session.specs.Windows.{credit, receiving_window, untaken}
 use Rattle.yamux_session.specs.Events.{Told, events}
 use Rattle.yamux_session.specs.Data.{inbound, written}
 use Rattle.yamux_session.specs.Faults.{fault_at}
+use Rattle.yamux_session.specs.Output.{output}
 use Rattle.yamux_session.specs.Limits.{NoSecondOpening, NoWrongOpening, RoomForTheOther}
 use Rattle.yamux_session.specs.State.{State, Led}
 use Rattle.yamux_session.specs.OneOutcome.{OneOutcome}
-use Rattle.yamux_session.specs.Runs.{Point, Answers, AreSame, OneCall}
-use Rattle.yamux_session.specs.Runs.Point.{At}
-use Rattle.yamux_session.specs.Joined.{AllBeforeTheEnd, Balance, End, IsOnTheWay, Joined, NoFault, NothingIsLost}
-use Rattle.yamux_session.specs.Joined.{NothingStandsStill}
+use Rattle.yamux_session.specs.Runs.{Point, Answers, AnswersAll, AreSame, OneCall}
+use Rattle.yamux_session.specs.Runs.Point.{At, Over}
+use Rattle.yamux_session.specs.Joined.{AllBeforeTheEnd, Balance, BothGoOn, End, IsOnTheWay, Joined, NoFault}
+use Rattle.yamux_session.specs.Joined.{NothingIsLost, NothingStandsStill, SomeJoined}
 use Rattle.yamux_session.specs.Rows.{header, two_bytes}
 
 -- What the server answers on the client's stream 1, and the client on the server's stream 2
@@ -74,6 +79,24 @@ pub record ReplyRows : Type 0 where
       → IsOnTheWay Server server.items client.items (Tail ∷ header Window 0 1 5 ∷ [])
       → receiving_window Server server.items 1 ≡ credit Client client.items 1 + 6
 
+-- Whatever was sent to one of two joined ends can be fed to it, and leaves what it did and read before
+pub record FedRows : Type 0 where
+  pub fed : BothGoOn → (client server : End) → Joined client server → (bytes : List ℕ)
+      → AllByRecursion (λ b. b < 256) (client.fed ++ bytes)
+      → IsPrefix (client.fed ++ bytes) (output Server server.items)
+      → (new : End) × (new.fed ≡ client.fed ++ bytes)
+      × ((came : List Arrival) × (new.items ≡ map Came came ++ client.items)) × Joined new server
+  pub fed_back : BothGoOn → (client server : End) → Joined client server → (bytes : List ℕ)
+      → AllByRecursion (λ b. b < 256) (server.fed ++ bytes)
+      → IsPrefix (server.fed ++ bytes) (output Client client.items)
+      → (new : End) × (new.fed ≡ server.fed ++ bytes)
+      × ((came : List Arrival) × (new.items ≡ map Came came ++ server.items)) × Joined client new
+  -- and there are such ends: with a byte that has come and two on the way, and with all that was written and its end
+  pub some : SomeJoined → (client server : End) × Joined client server
+      × (written Client client.items 1 ≡ 7 ∷ 8 ∷ 9 ∷ []) × (inbound Server server.items 1 ≡ 7 ∷ [])
+  pub some_ended : SomeJoined → (client server : End) × Joined client server
+      × (written Client client.items 1 ≡ 7 ∷ 8 ∷ 9 ∷ []) × (inbound Server server.items 1 ≡ 7 ∷ 8 ∷ 9 ∷ [])
+
 -- A session that has done something already: what a call is answered then, and what bytes come to
 pub record AgainRows : Type 0 where
   pub second_number : OneCall → (answer : ActAnswer) (next : Point)
@@ -96,3 +119,19 @@ pub record LetInRows : Type 0 where
       → fault_at Client past (Came (header Payload 1 1 0)) ≡ Some WrongParity
   pub of_nobody : NoWrongOpening → (past : List Item)
       → fault_at Server past (Came (header Window 1 0 0)) ≡ Some WrongParity
+
+-- Answers that aren't the same: of another number, for another reason, and of another kind
+pub record OtherAnswerRows : Type 0 where
+  pub number : ¬ AreSame (Stream 1) (Stream 3)
+  pub reason : ¬ AreSame (Refused refused.NoStream) (Refused refused.Ended)
+  pub refused_or_done : ¬ AreSame (Refused refused.NoStream) Done
+  pub done_or_counted : ¬ AreSame Done (Count 0)
+  pub counted_or_opened : ¬ AreSame (Count 1) (Stream 1)
+  pub told_or_refused : (told : Vec Event) → ¬ AreSame (Events told) (Refused refused.NoStream)
+
+-- What a run answers behind a failure: each further call, by a refusal
+pub record OverRows : Type 0 where
+  pub each_refused : (bytes : Vec ℕ) → AnswersAll Server (Over (7 ∷ []))
+      (call.Feed bytes ∷ call.Start ∷ call.Write 1 bytes ∷ call.Taken 1 1 ∷ call.Close 1 ∷ call.Reset 1 ∷ call.GoAway 0
+      ∷ []) (replicate 7 (Refused refused.Failed)) (Over (7 ∷ []))
+  pub none_left_out : (last : Point) → ¬ AnswersAll Server (Over (7 ∷ [])) (call.Close 1 ∷ []) [] last

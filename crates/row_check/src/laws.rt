@@ -9,7 +9,7 @@ ghost use Rattle.row_check.specs.StreamRows.{MoveRows, HeardRows, RoomRows, Plac
 ghost use Rattle.row_check.specs.SessionRows.{WantRows, TiedRows};
 ghost use Rattle.row_check.specs.FrameRows.{ReadRows, PartRows, StopRows, AnswerRows};
 ghost use Rattle.row_check.specs.HistoryRows.{ToldRows, OpenedRows, CountRows, SinceRows, StepRows, LawRows, BothRows};
-ghost use Rattle.row_check.specs.ReplyRows.{ReplyRows, AgainRows, LetInRows};
+ghost use Rattle.row_check.specs.ReplyRows.{ReplyRows, FedRows, AgainRows, LetInRows, OtherAnswerRows, OverRows};
 ghost use Rattle.row_check.specs.PoolRows.{OrderRows};
 ghost use Rattle.row_check.specs.PingRows.{GivenRows};
 ghost use Rattle.row_check.specs.IdentifyRows.{LeftRows};
@@ -19,7 +19,7 @@ ghost use Rattle.row_check.specs.ServedRows.{NowhereRows, UnsaidRows, AloneRows,
 ghost use Rattle.row_check.specs.StandingRows.{AnsweredRows, UsedRows, TalkingRows, BehindRows, ServingRows};
 ghost use Rattle.row_check.specs.CameRows.{CameRows};
 ghost use Rattle.row_check.specs.HeldRows.{HeldRows};
-ghost use Rattle.row_check.specs.SeenRows.{OnePlaceRows};
+ghost use Rattle.row_check.specs.SeenRows.{OnePlaceRows, MeanwhileRows};
 ghost use Rattle.row_check.specs.RefusedRows.{RefusedRows};
 ghost use Rattle.row_check.specs.EndedRows.{EndedRows, UnaskedRows};
 
@@ -74,6 +74,9 @@ pub fn yamux_rows()
     ensures replies { ReplyRows }
     ensures again { AgainRows }
     ensures let_in { LetInRows }
+    ensures fed { FedRows }
+    ensures other_answers { OtherAnswerRows }
+    ensures over { OverRows }
 {}
 
 /// The definitions of a pool say of worked lists and histories what they are to say.
@@ -110,5 +113,6 @@ pub fn upgrade_rows()
 
 /// The definitions of a swarm say of what a caller has seen what they are to say.
 pub fn swarm_rows()
-    ensures { OnePlaceRows }
+    ensures places { OnePlaceRows }
+    ensures meanwhile { MeanwhileRows }
 {}

@@ -1,7 +1,7 @@
 use Rattle.row_check.proofs.SessionRows.{want_rows, tied_rows}
 use Rattle.row_check.proofs.CameRows.{came_rows}
 use Rattle.row_check.proofs.HistoryRows.{told_rows, opened_rows, count_rows, since_rows, step_rows, law_rows, both_rows}
-use Rattle.row_check.proofs.ReplyRows.{reply_rows, again_rows, let_in_rows}
+use Rattle.row_check.proofs.ReplyRows.{reply_rows, fed_rows, again_rows, let_in_rows, other_answer_rows, over_rows}
 use Rattle.row_check.proofs.laws.yamux_rows.Goals as goal
 
 pub returns-clause-want : goal.returns-clause-want
@@ -42,3 +42,12 @@ returns-clause-again c = again_rows
 
 pub returns-clause-let_in : goal.returns-clause-let_in
 returns-clause-let_in c = let_in_rows
+
+pub returns-clause-fed : goal.returns-clause-fed
+returns-clause-fed c = fed_rows
+
+pub returns-clause-other_answers : goal.returns-clause-other_answers
+returns-clause-other_answers c = other_answer_rows
+
+pub returns-clause-over : goal.returns-clause-over
+returns-clause-over c = over_rows
