@@ -3,7 +3,12 @@ use Rattle.std.proofs.Common.{◌≡◌, ℕ, zero, suc, ◌+◌, ◌-◌, ◌^�
 use Rattle.std.specs.Prelude.{codes, slice_get, unwrap_or}
 use Rattle.std.proofs.lemmas.List.{length-append, length-replicate}
 use Rattle.varint_proto.specs.Varint.{IsSpelling, BeginsShortest, shortest, shortest_within}
-use Rattle.varint_proto.specs.Incoming.{Announces}
+use Rattle.varint_proto.specs.declared.fault.WireFault.TheVariants.{BadWire}
+use Rattle.varint_proto.specs.Message.{Entry, Leads, IsMessage, FaultIn}
+use Rattle.varint_proto.specs.Incoming.{Announces, Frames}
+use Rattle.varint_proto.proofs.Framed.{one_frame}
+use Rattle.varint_proto.proofs.OneReading.{message_or_fault}
+use Rattle.varint_proto.proofs.Rows.{fault_rows}
 use Rattle.varint_proto.proofs.Front.{inside, one_begins}
 use Rattle.peer_ids.specs.declared.fault.IdFault.TheVariants.{TrailingBits}
 use Rattle.peer_ids.proofs.OneText.{one_outcome as one_text}
@@ -29,7 +34,7 @@ use Rattle.talks.specs.Rows.{asks, answers, question}
 use Rattle.talks.proofs.Outcomes.{asked_all, by_all, decision_stays, nothing_behind}
 use Rattle.talks.proofs.Ends.{one_name, none_agrees}
 use Rattle.talks.proofs.Rows.{ask_rows, answer_rows}
-use Rattle.plaintext_x.specs.Exchange.{Exchanges, AsksMemory}
+use Rattle.plaintext_x.specs.Exchange.{Exchanges, AsksMemory, longest}
 use Rattle.plaintext_x.specs.Rows.{short_key, id_field, key_field}
 use Rattle.plaintext_x.proofs.OneOutcome.{one_outcome_of}
 use Rattle.plaintext_x.proofs.Rows.{proof_rows, stand_rows}
@@ -137,6 +142,7 @@ side_rows = record {
   may_send = may_send;
   calls_turned_down = inl refl;
   calls_refused = inl refl;
+  calls_nobody = λ may. ⊎_elim (λ one. absurd (let never : 0 ≡ 1 = one in omega (arith, never))) (λ agreed. absurd (let never = agreed.1 in cc never)) may;
   data_in_vain = record {
     used = 24;
     talk = header_bytes ++ x_bytes;
@@ -227,11 +233,47 @@ asks_none_then : (n : ℕ) → n < 1 → AsksMemory (129 ∷ take (n + 1) (64 �
 asks_none_then zero lt asks = asks_none asks
 asks_none_then (suc n) lt asks = absurd (omega arith)
 
+-- a group behind both fields
+with_group : List ℕ
+with_group = id_field ++ key_field ++ 11 ∷ []
+
+spelt : (n : ℕ) (rest : List ℕ) → n < 128 → BeginsShortest (n ∷ rest) n rest
+spelt n rest lt = (n ∷ [], record { ends = lt; within = omega arith; shortest = λ h. absurd (omega arith); value = omega arith }, refl)
+
+leads_more : (bytes more : List ℕ) (fields : List Entry) (rest : List ℕ) → Leads bytes fields rest → Leads (bytes ++ more) fields (rest ++ more)
+leads_more bytes more [] rest l = ap (λ (t : List ℕ). t ++ more) l
+leads_more bytes more (f ∷ fields) rest l =
+    (l.0 ++ more, (l.1.0, l.1.1, ap (λ (t : List ℕ). t ++ more) l.1.2 ∙ append_assoc l.1.0 l.0 more), leads_more l.0 more fields rest l.2)
+
+-- the bytes of both fields are a message, and with a group behind them they have a fault
+both_fields : (fields : List Entry) × IsMessage (id_field ++ key_field) fields
+both_fields =
+    let it = proof_rows.proven in
+    let framed : Frames longest (16 ∷ (id_field ++ key_field)) (id_field ++ key_field) [] = record { begins = spelt 16 (id_field ++ key_field) (omega arith); allowed = omega arith } in
+    let same = (one_frame longest (16 ∷ (id_field ++ key_field)) it.0 (id_field ++ key_field) it.1 [] it.2 framed).0 in
+    (it.3.0, subst (λ (t : List ℕ). IsMessage t it.3.0) same it.3.1)
+
+group_fault : FaultIn with_group BadWire
+unfolding with_group
+group_fault = (both_fields.0, 11 ∷ [], leads_more (id_field ++ key_field) (11 ∷ []) both_fields.0 [] both_fields.1, fault_rows.group)
+
+asks_behind_both : ¬ AsksMemory (17 ∷ with_group)
+unfolding with_group
+asks_behind_both (inl asks) =
+    let same = one_begins (17 ∷ (id_field ++ key_field ++ 11 ∷ [])) asks.0 17 [] (id_field ++ key_field ++ 11 ∷ []) asks.1.begins (spelt 17 _ (omega arith)) in
+    omega (arith, ap length same.1)
+asks_behind_both (inr asks) =
+    let framed : Frames longest (17 ∷ with_group) with_group [] = record { begins = spelt 17 with_group (omega arith); allowed = omega arith } in
+    let same : asks.0 ≡ with_group = (one_frame longest (17 ∷ with_group) asks.0 with_group asks.1 [] asks.2 framed).0 in
+    message_or_fault with_group asks.3.0 BadWire (subst (λ (t : List ℕ). IsMessage t asks.3.0) same asks.3.1) group_fault
+
 pub exchange_rows : ExchangeRows
+unfolding with_group
 exchange_rows = record {
   behind_the_message = λ r. whole_before r.0 r.1 r.2;
   too_long = asks_none;
   of_one_too_long = λ r. asks_none_then r.0 r.1 r.3;
+  faulty_behind_both = asks_behind_both;
   partly_taken = record { read = stand_rows.told_nothing.read; written = sym proof_rows.sent };
   told_unheard = λ own used taken s. absurd (let never = s.read.0.holds.1 in cc never);
   failed_within = λ own input used taken s. absurd (let never = s.read.0.going in cc never);

@@ -12,6 +12,8 @@ mod CodecRows
 mod LegalRows
 mod BoundRows
 mod ApartRows
+mod FollowedRows
+mod HeardOfRows
 mod FrameRows
 mod HistoryRows
 mod ReplyRows

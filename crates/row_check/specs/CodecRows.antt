@@ -48,15 +48,16 @@ pub record ReadingRows : Type 0 where
   -- an address with two peers behind its socket gives none
   pub two_peers : GivesSocket (address (local ∷ port_4001 ∷ part P2p peer ∷ part P2p peer ∷ []) []) None
 
--- Two joined sides of a negotiation: a dialer of one name may have gone on before any answer, be it turned down or
--- refused since; and a listener hears nothing that its dialer hasn't written. Want of memory comes at the last byte of
--- a length alone, and loses no output
+-- Two joined sides of a negotiation: a dialer of one name, and of no fewer, may have gone on before any answer, be it
+-- turned down or refused since; and a listener hears nothing that its dialer hasn't written. Want of memory comes at the
+-- last byte of a length alone, and loses no output
 pub record SideRows : Type 0 where
   pub header_is : header ≡ 47 ∷ 109 ∷ 117 ∷ 108 ∷ 116 ∷ 105 ∷ 115 ∷ 116 ∷ 114 ∷ 101 ∷ 97 ∷ 109
       ∷ 47 ∷ 49 ∷ 46 ∷ 48 ∷ 46 ∷ 48 ∷ []
   pub may_send : (names : List (List ℕ)) (answer : Answer) → MaySend names (Some answer) → CallsMore names (Ok answer)
   pub calls_turned_down : CallsMore (x ∷ []) (Ok NoneLeft)
   pub calls_refused : CallsMore (x ∷ []) (Err NotProposed)
+  pub calls_nobody : ¬ CallsMore [] (Ok NoneLeft)
   pub data_in_vain : Calls (x ∷ []) (header_bytes ++ na_bytes) (Ok NoneLeft) (header_bytes ++ x_bytes ++ 7 ∷ [])
   pub never_asked : ¬ JoinedSides (x ∷ y ∷ []) (y ∷ []) [] (header_bytes ++ y_bytes) (Ok Going) (Ok (Agreed 0))
   pub in_a_length : ¬ EndsLength (128 ∷ [])
@@ -89,6 +90,8 @@ pub record ExchangeRows : Type 0 where
   -- and for one that is too long none is asked for
   pub too_long : ¬ AsksMemory (129 ∷ 64 ∷ [])
   pub of_one_too_long : ¬ RunsOut (129 ∷ []) (64 ∷ [])
+  -- nor where what stands behind both fields is no field: that is a fault
+  pub faulty_behind_both : ¬ AsksMemory (17 ∷ (id_field ++ key_field ++ 11 ∷ []))
   -- what was taken stands before what waits
   pub partly_taken : Stands short_key (record at_first { pending = id_field ++ key_field }) [] 0 (16 ∷ [])
   pub told_unheard : (own : Key) (used : ℕ) (taken : List ℕ) → ¬ Stands own at_first (16 ∷ []) used taken

@@ -3,6 +3,8 @@ pub mod CodecRows
 pub mod LegalRows
 pub mod BoundRows
 pub mod ApartRows
+pub mod FollowedRows
+pub mod HeardOfRows
 pub mod TalkRows
 pub mod StreamRows
 pub mod SessionRows

@@ -4,6 +4,8 @@ ghost use Rattle.row_check.specs.CodecRows.{SpanRows, ReadingRows, SideRows, Tal
 ghost use Rattle.row_check.specs.LegalRows.{CountedRows, LegalRows};
 ghost use Rattle.row_check.specs.BoundRows.{BoundRows};
 ghost use Rattle.row_check.specs.ApartRows.{ApartRows};
+ghost use Rattle.row_check.specs.FollowedRows.{FollowedRows};
+ghost use Rattle.row_check.specs.HeardOfRows.{HeardOfRows};
 ghost use Rattle.row_check.specs.TalkRows.{JoinedRows};
 ghost use Rattle.row_check.specs.StreamRows.{MoveRows, HeardRows, RoomRows, PlaceRows};
 ghost use Rattle.row_check.specs.SessionRows.{WantRows, TiedRows};
@@ -77,6 +79,7 @@ pub fn yamux_rows()
     ensures fed { FedRows }
     ensures other_answers { OtherAnswerRows }
     ensures over { OverRows }
+    ensures heard_of { HeardOfRows }
 {}
 
 /// The definitions of a pool say of worked lists and histories what they are to say.
@@ -86,6 +89,7 @@ pub fn pool_rows()
     ensures counted { CountedRows }
     ensures bounds { BoundRows }
     ensures apart { ApartRows }
+    ensures followed { FollowedRows }
 {}
 
 /// The definitions of what serves a stream say of worked values what they are to say.
