@@ -49,8 +49,8 @@ pub record ReadingRows : Type 0 where
   pub two_peers : GivesSocket (address (local ∷ port_4001 ∷ part P2p peer ∷ part P2p peer ∷ []) []) None
 
 -- Two joined sides of a negotiation: a dialer of one name, and of no fewer, may have gone on before any answer, be it
--- turned down or refused since; and a listener hears nothing that its dialer hasn't written. Want of memory comes at the
--- last byte of a length alone, and loses no output
+-- turned down or refused since; and a listener hears nothing that its dialer hasn't written. Want of memory comes at
+-- the last byte of a length alone, and loses no output
 pub record SideRows : Type 0 where
   pub header_is : header ≡ 47 ∷ 109 ∷ 117 ∷ 108 ∷ 116 ∷ 105 ∷ 115 ∷ 116 ∷ 114 ∷ 101 ∷ 97 ∷ 109
       ∷ 47 ∷ 49 ∷ 46 ∷ 48 ∷ 46 ∷ 48 ∷ []

@@ -10,7 +10,8 @@ use Rattle.pool_state.specs.declared.row.Phase.TheVariants as phase
 use Rattle.pool_state.specs.declared.row.Row.{Row}
 use Rattle.pool_state.specs.Added.{row_after, rows_after, without_peer}
 use Rattle.pool_state.specs.At.{number_after}
-use Rattle.pool_state.specs.Rows.{Becomes, counting, dialing, first, living, naming, refused, row, rows, second, third, x}
+use Rattle.pool_state.specs.Rows.{Becomes, counting, dialing, first, living, naming, refused, row, rows, second}
+use Rattle.pool_state.specs.Rows.{third, x}
 
 -- a connection that is closing
 abbrev pub leaving : Row
@@ -26,8 +27,10 @@ pub record FollowedRows : Type 0 where
   pub dialed_number_that_stands : rows_after (Dial None) (reply.Conn 1) (rows 1 Listener None)
       ≡ row 1 Listener phase.Pending None ∷ row 1 Dialer phase.Pending None ∷ []
   pub lower_number : number_after 7 (reply.Conn 3) ≡ 4
-  pub asked_before_it_lives : row_after (Ask 1 2) reply.Done dialing ≡ counting dialing (0 ∷ 0 ∷ 1 ∷ []) (0 ∷ 0 ∷ 0 ∷ [])
-  pub asked_while_it_closes : row_after (Ask 1 2) reply.Done leaving ≡ counting leaving (0 ∷ 0 ∷ 1 ∷ []) (0 ∷ 0 ∷ 0 ∷ [])
+  pub asked_before_it_lives : row_after (Ask 1 2) reply.Done dialing
+      ≡ counting dialing (0 ∷ 0 ∷ 1 ∷ []) (0 ∷ 0 ∷ 0 ∷ [])
+  pub asked_while_it_closes : row_after (Ask 1 2) reply.Done leaving
+      ≡ counting leaving (0 ∷ 0 ∷ 1 ∷ []) (0 ∷ 0 ∷ 0 ∷ [])
   pub done_before_it_lives : row_after (Done 1 2) reply.Done dialing
       ≡ counting dialing (0 ∷ 0 ∷ 0 ∷ []) (0 ∷ 0 ∷ 1 ∷ [])
   pub done_while_it_closes : row_after (Done 1 2) reply.Done leaving

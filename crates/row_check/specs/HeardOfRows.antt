@@ -4,8 +4,8 @@ use Rattle.std.specs.Prelude.{◌≡◌, true, false, [], ◌∷◌}
 use Rattle.yamux_session.specs.Events.{Told}
 use Rattle.yamux_session.specs.Seen.{all_heard, just_opened}
 
--- The end that was told is an end still when a reset follows, and when this end has closed its direction; and an opening
--- begins anew
+-- The end that was told is an end still when a reset follows, and when this end has closed its direction; and an
+-- opening begins anew
 pub record HeardOfRows : Type 0 where
   pub ended_and_reset : all_heard 1 just_opened (Told.Ended 1 ∷ Told.Reset 1 ∷ [])
       ≡ record just_opened { live = false; ended = true }

@@ -22,8 +22,8 @@ use Rattle.yamux_session.specs.Rows.{bare, ping_bytes, answer_bytes}
 abbrev pub unknown_bytes : List ℕ
 unknown_bytes = 0 ∷ 1 ∷ 0 ∷ 0 ∷ 0 ∷ 0 ∷ 0 ∷ 9 ∷ 0 ∷ 0 ∷ 0 ∷ 5 ∷ []
 
--- Nothing is brought by a frame that tells and sends nothing, whatever was told and sent before. And where memory is wanting within a Ping, the session
--- has sent nothing more, or its answer
+-- Nothing is brought by a frame that tells and sends nothing, whatever was told and sent before. And where memory is
+-- wanting within a Ping, the session has sent nothing more, or its answer
 pub record WantRows : Type 0 where
   pub untold_brought : ¬ Brings Server [] [] unknown_bytes
   pub told_before : ¬ TellsMore Server (bare Window 1 1 0) (bare Ping 2 0 7 ++ bare Window 1 1 0)
