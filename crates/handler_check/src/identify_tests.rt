@@ -474,8 +474,9 @@ fn messages_are_sent(rt: HostRuntime) -> Result<(), Fail> {
 
 // ---- what is sent is read back
 
-/// A key of each type, a body of 200 bytes, and lists of 8192 entries, each of which has two bytes.
-static BACK: [Said<'static>; 7] = [
+/// A key of each type, a body of 200 bytes, lists of 8192 entries, each of which has two bytes, and entries of 300 bytes
+/// and of 4000.
+static BACK: [Said<'static>; 9] = [
     Said {
         key: Some((KeyType::Rsa, 294)),
         ..NOTHING
@@ -502,6 +503,14 @@ static BACK: [Said<'static>; 7] = [
     },
     Said {
         protocols: &[(8192, &[])],
+        ..NOTHING
+    },
+    Said {
+        listen: &[(2, &[7; 300]), (1, &[8; 4000])],
+        ..NOTHING
+    },
+    Said {
+        protocols: &[(2, &[7; 300]), (1, &[8; 4000])],
         ..NOTHING
     },
 ];

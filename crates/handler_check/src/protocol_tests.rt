@@ -312,6 +312,35 @@ fn a_node_says_16384_bytes_at_most(rt: HostRuntime) {
     assert_eq!(rt; fault(rt.alloc(), 16277), Some(IdentifyFault::TooLong));
 }
 
+/// Whether what a node says that has an agent of so many bytes is sent, and read whole.
+fn is_long_heard(alloc: Global, index: usize, len: usize) -> Option<bool>
+    requires { index < 3 }
+{
+    let bytes = vec![in alloc; b'x'; len].ok()?;
+    let agent = str::from_utf8(&bytes).ok()?;
+    let mut node = node(alloc, agent).ok()?;
+    let mut sender = made(&mut node, index, index != PUSH)?;
+    let mut reader = made(&mut node, index, index == PUSH)?;
+    let given = sender.give(usize::MAX).ok()?;
+    let is_read = reader.take(&given) == Ok(()) && reader.end() == Ok(());
+    let message = reader.into_message().ok()?;
+    Some(is_read && says(&message, agent))
+}
+
+#[test]
+fn all_that_a_node_says_is_read(rt: HostRuntime) {
+    for len in [300, 16276] {
+        assert!(rt;
+            is_long_heard(rt.alloc(), IDENTIFY, len) == Some(true),
+            "identify, {len}"
+        );
+        assert!(rt;
+            is_long_heard(rt.alloc(), PUSH, len) == Some(true),
+            "push, {len}"
+        );
+    }
+}
+
 #[test]
 fn payloads_that_differ_are_told_apart(rt: HostRuntime) {
     let payloads = FixedPayload { payload: PAYLOAD };

@@ -22,3 +22,4 @@ mod HeldRows
 mod RefusedRows
 mod SeenRows
 mod EndedRows
+mod AlikeRows

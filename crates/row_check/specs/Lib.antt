@@ -23,3 +23,4 @@ pub mod HeldRows
 pub mod RefusedRows
 pub mod SeenRows
 pub mod EndedRows
+pub mod AlikeRows

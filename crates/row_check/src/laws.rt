@@ -24,6 +24,7 @@ ghost use Rattle.row_check.specs.HeldRows.{HeldRows};
 ghost use Rattle.row_check.specs.SeenRows.{OnePlaceRows, MeanwhileRows};
 ghost use Rattle.row_check.specs.RefusedRows.{RefusedRows};
 ghost use Rattle.row_check.specs.EndedRows.{EndedRows, UnaskedRows};
+ghost use Rattle.row_check.specs.AlikeRows.{AlikeRows};
 
 /// The definitions of what is read and written at either end say of worked bytes what they are to say.
 pub fn codecs_rows()
@@ -105,6 +106,7 @@ pub fn handlers_rows()
     ensures refused { RefusedRows }
     ensures ended { EndedRows }
     ensures unasked { UnaskedRows }
+    ensures alike { AlikeRows }
 {}
 
 /// The definitions of an upgrade say of worked values what they are to say, and its laws let conclude it.

@@ -5,6 +5,7 @@ use Rattle.row_check.proofs.ServedRows.{nowhere, unsaid, alone, peer_rows}
 use Rattle.row_check.proofs.HeldRows.{held}
 use Rattle.row_check.proofs.RefusedRows.{refused}
 use Rattle.row_check.proofs.EndedRows.{ended_rows, unasked_rows}
+use Rattle.row_check.proofs.AlikeRows.{alike}
 use Rattle.row_check.proofs.laws.handlers_rows.Goals as goal
 
 pub returns-clause-given : goal.returns-clause-given
@@ -39,3 +40,6 @@ returns-clause-ended c = ended_rows
 
 pub returns-clause-unasked : goal.returns-clause-unasked
 returns-clause-unasked c = unasked_rows
+
+pub returns-clause-alike : goal.returns-clause-alike
+returns-clause-alike c = alike
