@@ -23,3 +23,4 @@ mod RefusedRows
 mod SeenRows
 mod EndedRows
 mod AlikeRows
+mod OrderRows

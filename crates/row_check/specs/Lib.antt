@@ -24,3 +24,4 @@ pub mod RefusedRows
 pub mod SeenRows
 pub mod EndedRows
 pub mod AlikeRows
+pub mod OrderRows

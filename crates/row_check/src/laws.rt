@@ -25,6 +25,9 @@ ghost use Rattle.row_check.specs.SeenRows.{OnePlaceRows, MeanwhileRows};
 ghost use Rattle.row_check.specs.RefusedRows.{RefusedRows};
 ghost use Rattle.row_check.specs.EndedRows.{EndedRows, UnaskedRows};
 ghost use Rattle.row_check.specs.AlikeRows.{AlikeRows};
+ghost use Rattle.row_check.specs.OrderRows.{UnmovedRows};
+
+use handlers::Handler;
 
 /// The definitions of what is read and written at either end say of worked bytes what they are to say.
 pub fn codecs_rows()
@@ -121,4 +124,9 @@ pub fn upgrade_rows()
 pub fn swarm_rows()
     ensures places { OnePlaceRows }
     ensures meanwhile { MeanwhileRows }
+{}
+
+/// The definitions of the order in which handlers were made say of what moves none what they are to say.
+pub fn order_rows<H: Handler>()
+    ensures { UnmovedRows H }
 {}
