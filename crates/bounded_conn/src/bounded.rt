@@ -65,7 +65,8 @@ impl<L: Link, P: Protocols> BoundedConn<L, P> {
         ensures asks { Bounds (λ conn. length conn.unsent) (λ before answer after.
             OnErr answer (Carries L.Link P.Protocols P.H.Handler before [] after)
             × ((start : P) (role : ConnRole) (own : Key) (first : L) (asked : List (ℕ × ℕ))
-            (gave : List (ConnEvent P.H)) → Follows L.Link P.Protocols P.H.Handler start role own first asked gave before → IfOk answer (λ number.
+            (gave : List (ConnEvent P.H))
+            → Follows L.Link P.Protocols P.H.Handler start role own first asked gave before → IfOk answer (λ number.
             Follows L.Link P.Protocols P.H.Handler start role own first (asked ++ (number, index) ∷ []) gave after)))
             (Err ConnRefused.Failed) self.old.conn result self.new.conn }
         ensures dropped { self.new.conn ≡ None → result ≡ Err ConnRefused.Failed }

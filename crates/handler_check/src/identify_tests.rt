@@ -474,8 +474,8 @@ fn messages_are_sent(rt: HostRuntime) -> Result<(), Fail> {
 
 // ---- what is sent is read back
 
-/// A key of each type, a body of 200 bytes, lists of 8192 entries, each of which has two bytes, and entries of 300 bytes
-/// and of 4000.
+/// A key of each type, a body of 200 bytes, lists of 8192 entries, each of which has two bytes, and entries of 300
+/// and of 4000 bytes.
 static BACK: [Said<'static>; 9] = [
     Said {
         key: Some((KeyType::Rsa, 294)),
