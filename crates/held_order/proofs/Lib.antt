@@ -1,1 +1,2 @@
+mod Arranging
 mod Hearing
