@@ -9,4 +9,13 @@ heard_of_rows = record {
   reset_alone = refl;
   opened_behind_a_reset = refl;
   of_another = refl;
+  kept = refl;
+  written = refl;
+  closed = refl;
+  closed_behind_the_end = refl;
+  reset = refl;
+  taken = refl;
+  gone_away = refl;
+  started = refl;
+  of_others = refl;
 }

@@ -14,6 +14,7 @@ mod BoundRows
 mod ApartRows
 mod FollowedRows
 mod HeardOfRows
+mod AckRows
 mod FrameRows
 mod HistoryRows
 mod ReplyRows

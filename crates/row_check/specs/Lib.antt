@@ -5,6 +5,7 @@ pub mod BoundRows
 pub mod ApartRows
 pub mod FollowedRows
 pub mod HeardOfRows
+pub mod AckRows
 pub mod TalkRows
 pub mod StreamRows
 pub mod SessionRows

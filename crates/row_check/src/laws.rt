@@ -6,6 +6,7 @@ ghost use Rattle.row_check.specs.BoundRows.{BoundRows};
 ghost use Rattle.row_check.specs.ApartRows.{ApartRows};
 ghost use Rattle.row_check.specs.FollowedRows.{FollowedRows};
 ghost use Rattle.row_check.specs.HeardOfRows.{HeardOfRows};
+ghost use Rattle.row_check.specs.AckRows.{AckRows};
 ghost use Rattle.row_check.specs.TalkRows.{JoinedRows};
 ghost use Rattle.row_check.specs.StreamRows.{MoveRows, HeardRows, RoomRows, PlaceRows};
 ghost use Rattle.row_check.specs.SessionRows.{WantRows, TiedRows};
@@ -84,6 +85,7 @@ pub fn yamux_rows()
     ensures other_answers { OtherAnswerRows }
     ensures over { OverRows }
     ensures heard_of { HeardOfRows }
+    ensures acks { AckRows }
 {}
 
 /// The definitions of a pool say of worked lists and histories what they are to say.

@@ -3,6 +3,7 @@ use Rattle.row_check.proofs.CameRows.{came_rows}
 use Rattle.row_check.proofs.HistoryRows.{told_rows, opened_rows, count_rows, since_rows, step_rows, law_rows, both_rows}
 use Rattle.row_check.proofs.ReplyRows.{reply_rows, fed_rows, again_rows, let_in_rows, other_answer_rows, over_rows}
 use Rattle.row_check.proofs.HeardOfRows.{heard_of_rows}
+use Rattle.row_check.proofs.AckRows.{ack_rows}
 use Rattle.row_check.proofs.laws.yamux_rows.Goals as goal
 
 pub returns-clause-want : goal.returns-clause-want
@@ -55,3 +56,6 @@ returns-clause-over c = over_rows
 
 pub returns-clause-heard_of : goal.returns-clause-heard_of
 returns-clause-heard_of c = heard_of_rows
+
+pub returns-clause-acks : goal.returns-clause-acks
+returns-clause-acks c = ack_rows
