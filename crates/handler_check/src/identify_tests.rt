@@ -235,7 +235,10 @@ const NODE: Parts<'static> = &[(1, FRONT), (1, b"*\x0aipfs/0.1.0"), (1, b"2\x0an
 
 const UNLIMITED: Parts<'static> = &[(1, FRONT), (1, &[0x32, 0xa0, 0x8d, 6]), (100_000, &[7])];
 
-static BODIES: [Body; 4] = [
+/// More entries than a stream may bring.
+const ENTRIES: Parts<'static> = &[(20_000, &[0x12, 0]), (20_000, &[0x1a, 0])];
+
+static BODIES: [Body; 5] = [
     Body {
         body: &[],
         said: NOTHING,
@@ -274,6 +277,15 @@ static BODIES: [Body; 4] = [
             ..MOST
         },
         written: UNLIMITED,
+    },
+    Body {
+        body: ENTRIES,
+        said: Said {
+            listen: &[(20_000, &[])],
+            protocols: &[(20_000, &[])],
+            ..NOTHING
+        },
+        written: ENTRIES,
     },
 ];
 
@@ -469,6 +481,27 @@ fn messages_are_sent(rt: HostRuntime) -> Result<(), Fail> {
         let held = is_sent(rt.alloc(), sending)?;
         assert!(rt; held, "row {number}");
     }
+    Ok(())
+}
+
+/// Whether a message of 16384 bytes is given whole, a byte at a time.
+fn is_given_in_bytes(alloc: Global) -> Result<bool, Fail> {
+    let said = Said {
+        agent: Some(&[(16381, &[7])]),
+        ..NOTHING
+    };
+    let mut sender = IdentifyOut::new(alloc, &message(alloc, &said)?)?;
+    let mut held = true;
+    for _ in 0..16387 {
+        held = held && !sender.finished() && sender.give(1).is_ok_and(|bytes| bytes.len() == 1);
+    }
+    Ok(held && sender.finished())
+}
+
+#[test]
+fn a_message_is_given_a_byte_at_a_time(rt: HostRuntime) -> Result<(), Fail> {
+    let held = is_given_in_bytes(rt.alloc())?;
+    assert!(rt; held);
     Ok(())
 }
 

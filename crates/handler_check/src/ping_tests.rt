@@ -108,7 +108,7 @@ fn an_echo_gives_whole_rounds_back(rt: HostRuntime) {
 
 /// More bytes than a stream may bring before any is given back, in pieces of this size.
 fn is_long(alloc: Global, size: usize) -> Result<bool, AllocError> {
-    let input = vec![in alloc; 7u8; 1048576]?;
+    let input = vec![in alloc; 7u8; 4194304]?;
     let mut echo = PingEcho::new(alloc);
     let mut held = true;
     for piece in input.chunks(size.max(1)) {
@@ -117,14 +117,29 @@ fn is_long(alloc: Global, size: usize) -> Result<bool, AllocError> {
     held = echo.end() == Ok(()) && held;
     let front = echo.give(2000).map(|given| given.len());
     let rest = echo.give(usize::MAX).map(|given| given.len());
-    Ok(held && front == Ok(2000) && rest == Ok(1046576) && echo.finished())
+    Ok(held && front == Ok(2000) && rest == Ok(4192304) && echo.finished())
 }
 
 #[test]
 fn a_long_input_is_echoed(rt: HostRuntime) {
-    for size in [131072, 1048576] {
+    for size in [131072, 4194304] {
         assert!(rt; is_long(rt.alloc(), size) == Ok(true), "pieces of {size}");
     }
+}
+
+/// Whether so many rounds come back, each before the next one is taken, and the end finishes the echo.
+fn goes_on(alloc: Global, rounds: usize) -> bool {
+    let mut echo = PingEcho::new(alloc);
+    let mut held = true;
+    for _ in 0..rounds {
+        held = held && echo.take(&PING) == Ok(()) && gives(&mut echo, 64, &PING);
+    }
+    held && echo.end() == Ok(()) && echo.finished()
+}
+
+#[test]
+fn an_echo_goes_on(rt: HostRuntime) {
+    assert!(rt; goes_on(rt.alloc(), 200_000));
 }
 
 fn is_cut(alloc: Global, size: usize) -> bool {

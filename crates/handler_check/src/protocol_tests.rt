@@ -359,7 +359,7 @@ fn is_made_again(node: &mut NodeProtocols<FixedPayload>, index: usize, inbound: 
     requires { index < 3 }
 {
     let mut held = true;
-    for _ in 0..3 {
+    for _ in 0..1000 {
         held = made(node, index, inbound).is_some() && held;
     }
     held
