@@ -17,6 +17,10 @@ Bounds {C} {R} waiting leads dropped old result new = IfSome old (λ before. (an
     × (((waiting after ≤ most) × (new ≡ Some after) × (result ≡ answer))
     ⊎ ((most < waiting after) × (new ≡ None) × (result ≡ dropped))))
 
+-- This holds of the connection before the call and behind it, where it wasn't dropped.
+abbrev pub IfStands : {C : Type 0} → (C → C → Type 0) → Option C → Option C → Type 0
+IfStands {C} fact old new = IfSome old (λ before. IfSome new (λ after. fact before after))
+
 -- How much waits of one that wasn't dropped; of one that was, nothing
 abbrev pub waiting_of : {C : Type 0} → (C → ℕ) → Option C → ℕ
 waiting_of {C} waiting None = 0

@@ -1,16 +1,21 @@
 //! A connection that is dropped where too much of its output waits.
 
-ghost use Rattle.std.specs.Prelude.{◌≡◌, ◌≤◌, ℕ, List, [], ◌∷◌, ◌++◌, length, Err, None, is_none, IfSome, IfOk, OnErr};
-ghost use Rattle.conn_future.specs.Stages.{shut_stage};
-ghost use Rattle.futures.specs.Task.{Keeps};
+ghost use Rattle.std.specs.Prelude.{◌≡◌, ◌≢◌, ◌<◌, ◌≤◌, ◌+◌, ◌⊎◌, ℕ, true, false, List, [], ◌∷◌, ◌++◌, length};
+ghost use Rattle.std.specs.Prelude.{Err, None, Some, is_none, IfSome, IfOk, IfErr, OnOk, OnErr};
+ghost use Rattle.futures.specs.Poll.{OnPending};
+ghost use Rattle.futures.specs.Task.{Covers, Keeps};
 ghost use Rattle.futures.specs.declared.task.Poll.TheVariants.{Ready};
-ghost use Rattle.conn_future.specs.Follows.{Carries, Follows, given_by};
 ghost use Rattle.conn_log.specs.declared.event.ConnEvent.{ConnEvent};
+ghost use Rattle.conn_log.specs.declared.event.ConnEvent.TheVariants as event;
+ghost use Rattle.conn_log.specs.declared.event.ConnFault.TheVariants as fault;
+ghost use Rattle.conn_core.specs.Connects.{MayOpen, IsRefused, is_over};
+ghost use Rattle.conn_future.specs.Stages.{is_live, shut_stage, Came, Drains, WaitsAt};
+ghost use Rattle.conn_future.specs.Follows.{Carries, Follows, given_by};
 ghost use Rattle.peer_ids.specs.Key.{Key};
 ghost use Rattle.upgrade.specs.declared.role.ConnRole.{ConnRole};
-ghost use Rattle.bounded_conn.specs.Bounds.{Bounds, Leaves, waiting_of};
+ghost use Rattle.bounded_conn.specs.Bounds.{Bounds, IfStands, Leaves, waiting_of};
 
-use conn_future::Conn;
+use conn_future::{Conn, Stage};
 use conn_link::Link;
 use conn_log::{ConnEvent, ConnRefused};
 use futures::Stream;
@@ -69,6 +74,22 @@ impl<L: Link, P: Protocols> BoundedConn<L, P> {
             → Follows L.Link P.Protocols P.H.Handler start role own first asked gave before → IfOk answer (λ number.
             Follows L.Link P.Protocols P.H.Handler start role own first (asked ++ (number, index) ∷ []) gave after)))
             (Err ConnRefused.Failed) self.old.conn result self.new.conn }
+        // Where it stands, the connection's own clauses hold of it.
+        ensures failed { IfStands (λ before after. before.stage ≢ Stage.Going
+            → (result ≡ Err ConnRefused.Failed) × (after ≡ before)) self.old.conn self.new.conn }
+        ensures opened { IfStands (λ before after. IfOk result (λ number.
+            MayOpen P.listed before.core.phase index)) self.old.conn self.new.conn }
+        ensures why { IfStands (λ before after. before.stage ≡ Stage.Going
+            → IfErr result (λ refused. IsRefused P.listed before.core.phase index refused))
+            self.old.conn self.new.conn }
+        ensures unchanged { IfStands (λ before after. IfErr result (λ refused.
+            refused ≢ ConnRefused.OutOfMemory → after ≡ before)) self.old.conn self.new.conn }
+        ensures memory { IfStands (λ before after. result ≡ Err ConnRefused.OutOfMemory
+            → after.stage ≡ Stage.Starved) self.old.conn self.new.conn }
+        ensures link { IfStands (λ before after. after.link ≡ before.link) self.old.conn self.new.conn }
+        ensures held { IfStands (λ before after. after.held ≡ before.held) self.old.conn self.new.conn }
+        ensures stage { IfStands (λ before after. OnOk result (after.stage ≡ before.stage))
+            self.old.conn self.new.conn }
         ensures dropped { self.new.conn ≡ None → result ≡ Err ConnRefused.Failed }
         ensures stays { self.old.conn ≡ None → self.new.conn ≡ None }
     {
@@ -103,6 +124,53 @@ impl<L: Link, P: Protocols> BoundedConn<L, P> {
         ensures polls { Bounds (λ conn. length conn.unsent) (λ before answer after.
             Carries L.Link P.Protocols P.H.Handler before (given_by answer) after) (Ready None) self.old.conn result
             self.new.conn }
+        // Where it stands, the connection's own clauses hold of it.
+        ensures rose { IfStands (λ before after. L.failed before.link < L.failed after.link
+            → result ≡ Ready (Some (event.Fault fault.Link))) self.old.conn self.new.conn }
+        ensures fault { IfStands (λ before after. (start : P) (role : ConnRole) (own : Key) (first : L)
+            (asked : List (ℕ × ℕ)) (gave : List (ConnEvent P.H))
+            → Follows L.Link P.Protocols P.H.Handler start role own first asked gave before
+            → result ≡ Ready (Some (event.Fault fault.Link))
+            → L.failed after.link ≡ L.failed before.link + 1) self.old.conn self.new.conn }
+        ensures held { IfStands (λ before after. (event : ConnEvent P.H) (rest : List (ConnEvent P.H))
+            → before.held.items ≡ event ∷ rest → (result ≡ Ready (Some event)) × (after.held.items ≡ rest)
+            × (after.stage ≡ before.stage) × (after.link ≡ before.link)) self.old.conn self.new.conn }
+        ensures starved { IfStands (λ before after. before.held.items ≡ [] → before.stage ≡ Stage.Starved
+            → (result ≡ Ready (Some (event.Fault fault.OutOfMemory))) × (after.held.items ≡ [])
+            × (after.stage ≡ Stage.Over)) self.old.conn self.new.conn }
+        ensures over { IfStands (λ before after. before.held.items ≡ [] → before.stage ≡ Stage.Over
+            → (result ≡ Ready None) × (after.held.items ≡ []) × (after.stage ≡ Stage.Over))
+            self.old.conn self.new.conn }
+        ensures ends { IfStands (λ before after. (start : P) (role : ConnRole) (own : Key) (first : L)
+            (asked : List (ℕ × ℕ)) (gave : List (ConnEvent P.H))
+            → Follows L.Link P.Protocols P.H.Handler start role own first asked gave before
+            → result ≡ Ready None → (before.held.items ≡ []) × (before.stage ≡ Stage.Over))
+            self.old.conn self.new.conn }
+        ensures stage { IfStands (λ before after. is_live after.stage ≡ true → after.stage ≡ before.stage)
+            self.old.conn self.new.conn }
+        ensures why { IfStands (λ before after. before.stage ≡ Stage.Going → after.stage ≡ Stage.Over
+            → (is_over after.core.phase ≡ true) ⊎ ((result ≡ Ready (Some (event.Fault fault.Link)))
+            ⊎ (result ≡ Ready (Some (event.Fault fault.OutOfMemory))))) self.old.conn self.new.conn }
+        ensures came { IfStands (λ before after. before.held.items ≡ [] → before.stage ≡ Stage.Going
+            → is_live after.stage ≡ false
+            → (result ≡ Ready (Some (event.Fault fault.Link))) ⊎ Came L.Link before.link after.link)
+            self.old.conn self.new.conn }
+        ensures closes { IfStands (λ before after. before.held.items ≡ [] → before.stage ≡ Stage.Shutting
+            → (after.stage ≡ Stage.Shutting) ⊎ ((after.stage ≡ Stage.Over)
+            × ((result ≡ Ready (Some (event.Fault fault.Link))) ⊎ (result ≡ Ready (Some event.Shut)))))
+            self.old.conn self.new.conn }
+        ensures no_call { IfStands (λ before after. is_live before.stage ≡ false → after.link ≡ before.link)
+            self.old.conn self.new.conn }
+        ensures unshut { IfStands (λ before after. before.stage ≢ Stage.Shutting → L.is_shut after.link
+            → L.is_shut before.link) self.old.conn self.new.conn }
+        ensures shutting { IfStands (λ before after. before.stage ≡ Stage.Shutting
+            → (rest : List ℕ) × Drains L.Link before.link before.unsent after.link rest)
+            self.old.conn self.new.conn }
+        ensures none_held { IfStands (λ before after. OnPending result
+            ((after.held.items ≡ []) × (after.stage ≡ before.stage))) self.old.conn self.new.conn }
+        ensures registered { IfStands (λ before after. OnPending result (Covers cx.new (WaitsAt
+            (L.reads_at after.link) (L.writes_at after.link) (L.shuts_at after.link) after.stage after.unsent)))
+            self.old.conn self.new.conn }
         ensures dropped { self.new.conn ≡ None → result ≡ Ready None }
         ensures stays { self.old.conn ≡ None → self.new.conn ≡ None }
     {
