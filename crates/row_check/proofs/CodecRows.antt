@@ -15,7 +15,7 @@ use Rattle.peer_ids.proofs.OneText.{one_outcome as one_text}
 use Rattle.peer_ids.proofs.WorkedRows.{text_rows}
 use Rattle.multiaddr.specs.Ip6.{SpellsGroups}
 use Rattle.multiaddr.specs.declared.protocol.Protocol.TheVariants.{P2p}
-use Rattle.multiaddr.specs.Part.{part}
+use Rattle.multiaddr.specs.Part.{part, IsName as IsHost}
 use Rattle.multiaddr.specs.Rows.{peer}
 use Rattle.multiaddr.proofs.Ip6Text.{spells_no_dot}
 use Rattle.ms_select.specs.declared.answer.Answer.{Answer}
@@ -80,6 +80,12 @@ reading_rows = record {
   two_peers = λ ip port h.
       let behind : part P2p peer ∷ part P2p peer ∷ [] ≡ h.tail = ap (drop 2) h.parts in
       ⊎_elim (λ none. absurd (let e = behind ∙ none in cc e)) (λ one. absurd (let e = behind ∙ one.1 in cc e)) h.peer;
+  any_host = λ name some within utf8 whole.
+      let is : IsHost name = record { some = some; within = within; utf8 = utf8; whole = whole } in
+      (is, is, is);
+  any_name = λ name some within. (some, within);
+  any_identity = λ digest within. (digest, inl (refl, within));
+  any_hash = λ digest long. (digest, inr (refl, long));
 }
 
 -- ---- two joined ends

@@ -1,14 +1,16 @@
 -- Worked rows of what is read and written at either end: numbers, texts, talks at joined ends and exchanges.
 -- Source: multiformats unsigned-varint; RFC 4291, section 2.2; libp2p peer ids; multistream-select 1.0; libp2p
 -- plaintext 2.0.0; where memory is asked for, and what waits, is this project's profile.
-use Rattle.std.specs.Prelude.{◌≡◌, ℕ, ◌^◌, true, List, [], ◌∷◌, ◌++◌, codes, Some, None, Result, Ok, Err}
+use Rattle.std.specs.Prelude.{◌≡◌, ◌≢◌, ℕ, ◌^◌, ◌<◌, ◌≤◌, true, List, [], ◌∷◌, ◌++◌, length, codes, All, IsUtf8, Some, None, Result}
+use Rattle.std.specs.Prelude.{Ok, Err}
 use Rattle.varint_proto.specs.Varint.{ReadsShortest}
 use Rattle.peer_ids.specs.declared.fault.IdFault.{IdFault}
 use Rattle.peer_ids.specs.declared.fault.IdFault.TheVariants.{TrailingBits}
 use Rattle.peer_ids.specs.ReadsText.{ReadsId}
+use Rattle.peer_ids.specs.PeerId.{IsMultihash}
 use Rattle.multiaddr.specs.Ip6.{SpellsGroups}
-use Rattle.multiaddr.specs.declared.protocol.Protocol.TheVariants.{P2p}
-use Rattle.multiaddr.specs.Part.{part}
+use Rattle.multiaddr.specs.declared.protocol.Protocol.TheVariants.{P2p, Dns, Dns4, Dns6}
+use Rattle.multiaddr.specs.Part.{part, IsValue}
 use Rattle.multiaddr.specs.Given.{GivesSocket}
 use Rattle.multiaddr.specs.Rows.{address, local, peer, port_4001}
 use Rattle.ms_select.specs.declared.answer.Answer.{Answer}
@@ -17,7 +19,7 @@ use Rattle.ms_select.specs.declared.fault.SelectFault.{SelectFault}
 use Rattle.ms_select.specs.declared.fault.SelectFault.TheVariants.{BadHeader, NotProposed}
 use Rattle.ms_select.specs.declared.verdict.Role.TheVariants.{Dialer, Listener}
 use Rattle.ms_select.specs.Messages.{header, na, spelled, IsShort}
-use Rattle.ms_select.specs.Listening.{choice}
+use Rattle.ms_select.specs.Listening.{choice, IsName}
 use Rattle.ms_select.specs.Dialing.{MaySend}
 use Rattle.ms_select.specs.Sides.{EndsLength, RunsOut as SideRunsOut}
 use Rattle.ms_select.specs.Joined.{CallsMore, Calls, Joined as JoinedSides}
@@ -47,6 +49,13 @@ pub record ReadingRows : Type 0 where
   pub more_groups : ¬ SpellsGroups (codes "1:2:3:4:5:6:7:8:9") (1 ∷ 2 ∷ 3 ∷ 4 ∷ 5 ∷ 6 ∷ 7 ∷ 8 ∷ 9 ∷ [])
   -- an address with two peers behind its socket gives none
   pub two_peers : GivesSocket (address (local ∷ port_4001 ∷ part P2p peer ∷ part P2p peer ∷ []) []) None
+  -- whatever is in it, a text of UTF-8 without a slash may be the name of a host, any bytes that of a protocol, and any
+  -- digest that of an id
+  pub any_host : (name : List ℕ) → 1 ≤ length name → length name ≤ 255 → IsUtf8 name → All (λ b. b ≢ 47) name
+      → IsValue Dns name × IsValue Dns4 name × IsValue Dns6 name
+  pub any_name : (name : List ℕ) → 0 < length name → length name < 1024 → IsName name
+  pub any_identity : (digest : List ℕ) → length digest ≤ 42 → IsMultihash (0 ∷ length digest ∷ digest)
+  pub any_hash : (digest : List ℕ) → length digest ≡ 32 → IsMultihash (18 ∷ 32 ∷ digest)
 
 -- Two joined sides of a negotiation: a dialer of one name, and of no fewer, may have gone on before any answer, be it
 -- turned down or refused since; and a listener hears nothing that its dialer hasn't written. Want of memory comes at
