@@ -22,7 +22,12 @@ const LONG: &[u8] = &[0xf8, 0x7f, 0x42, 0xf5, 0x7f];
 const AGENTS: &[u8] = b"\x032\x01\x00\x032\x01\x01\x032\x01\x02\x032\x01\x03\x032\x01\x04\
     \x032\x01\x05\x032\x01\x06\x032\x01\x07\x032\x01\x08\x032\x01\x09";
 
-static STREAMS: [Stream; 20] = [
+/// One of ten messages of 1638 bytes, each of which says an agent of 1635.
+const TENTH: &[u8] = &[0xe6, 0x0c, 0x32, 0xe3, 0x0c];
+
+const SEVENS: (usize, &[u8]) = (1635, &[7]);
+
+static STREAMS: [Stream; 21] = [
     // Two messages, and the same as one.
     Stream {
         input: &[(1, b"\x05*\x03abc\x032\x01x")],
@@ -125,6 +130,34 @@ static STREAMS: [Stream; 20] = [
         ],
         outcome: Ok(Said {
             agent: Some(&[(8189, &[7])]),
+            ..NOTHING
+        }),
+    },
+    Stream {
+        input: &[
+            (1, TENTH),
+            SEVENS,
+            (1, TENTH),
+            SEVENS,
+            (1, TENTH),
+            SEVENS,
+            (1, TENTH),
+            SEVENS,
+            (1, TENTH),
+            SEVENS,
+            (1, TENTH),
+            SEVENS,
+            (1, TENTH),
+            SEVENS,
+            (1, TENTH),
+            SEVENS,
+            (1, TENTH),
+            SEVENS,
+            (1, TENTH),
+            SEVENS,
+        ],
+        outcome: Ok(Said {
+            agent: Some(&[SEVENS]),
             ..NOTHING
         }),
     },
@@ -484,32 +517,39 @@ fn messages_are_sent(rt: HostRuntime) -> Result<(), Fail> {
     Ok(())
 }
 
-/// Whether a message of 16384 bytes is given whole, a byte at a time.
-fn is_given_in_bytes(alloc: Global) -> Result<bool, Fail> {
+/// Whether a message of 16384 bytes is given whole, by so much room at a time.
+fn is_given(alloc: Global, room: usize) -> Result<bool, Fail> {
     let said = Said {
         agent: Some(&[(16381, &[7])]),
         ..NOTHING
     };
     let mut sender = IdentifyOut::new(alloc, &message(alloc, &said)?)?;
     let mut held = true;
-    for _ in 0..16387 {
-        held = held && !sender.finished() && sender.give(1).is_ok_and(|bytes| bytes.len() == 1);
+    let mut rest = 16387usize;
+    for _ in 0..16387usize.div_ceil(room.max(1)) {
+        let next = room.min(rest);
+        held = held
+            && !sender.finished()
+            && sender.give(room).is_ok_and(|bytes| bytes.len() == next);
+        rest = rest.saturating_sub(next);
     }
     Ok(held && sender.finished())
 }
 
 #[test]
-fn a_message_is_given_a_byte_at_a_time(rt: HostRuntime) -> Result<(), Fail> {
-    let held = is_given_in_bytes(rt.alloc())?;
-    assert!(rt; held);
+fn a_message_is_given_in_parts(rt: HostRuntime) -> Result<(), Fail> {
+    for room in [1, 64, 1000] {
+        let held = is_given(rt.alloc(), room)?;
+        assert!(rt; held, "room {room}");
+    }
     Ok(())
 }
 
 // ---- what is sent is read back
 
-/// A key of each type, a body of 200 bytes, lists of 8192 entries, each of which has two bytes, and entries of 300
-/// and of 4000 bytes.
-static BACK: [Said<'static>; 9] = [
+/// A key of each type, a body of 200 bytes, lists of 8192 entries, each of which has two bytes, entries of 300 and of
+/// 4000 bytes, and lists of many entries that aren't empty.
+static BACK: [Said<'static>; 10] = [
     Said {
         key: Some((KeyType::Rsa, 294)),
         ..NOTHING
@@ -546,6 +586,11 @@ static BACK: [Said<'static>; 9] = [
         protocols: &[(2, &[7; 300]), (1, &[8; 4000])],
         ..NOTHING
     },
+    Said {
+        listen: &[(1000, &[4, 127, 0, 0, 1])],
+        protocols: &[(500, b"/ipfs/ping/1.0.0")],
+        ..NOTHING
+    },
 ];
 
 fn stream_of(alloc: Global, message: &Identify) -> Result<Vec<u8>, Fail> {
@@ -571,7 +616,7 @@ fn what_is_sent_comes_back(rt: HostRuntime) -> Result<(), Fail> {
     Ok(())
 }
 
-/// What says one text alone, which is the observed address, the version or the agent.
+/// What says one text alone: the observed address, the version, the agent, or the entry of a list.
 fn one_text(parts: Parts, which: usize) -> Said {
     let text = Some(parts);
     match which {
@@ -583,21 +628,52 @@ fn one_text(parts: Parts, which: usize) -> Said {
             version: text,
             ..NOTHING
         },
-        _ => Said {
+        2 => Said {
             agent: text,
+            ..NOTHING
+        },
+        3 => Said {
+            listen: parts,
+            ..NOTHING
+        },
+        _ => Said {
+            protocols: parts,
             ..NOTHING
         },
     }
 }
 
+/// Whether a text of so many bytes comes back.
+fn text_comes_back(alloc: Global, len: usize, which: usize) -> Result<bool, Fail> {
+    let bytes = vec![in alloc; 7u8; len]?;
+    let parts: [(usize, &[u8]); 1] = [(1, bytes.as_slice())];
+    comes_back(alloc, &one_text(&parts, which), 20000)
+}
+
 #[test]
 fn texts_of_many_lengths_come_back(rt: HostRuntime) -> Result<(), Fail> {
-    // The last has 16381 bytes, with which the body has 16384.
-    for step in 0..=65usize {
-        let len = if step == 65 { 16381 } else { step * 250 };
-        let parts: [(usize, &[u8]); 1] = [(len, &[7])];
-        let held = comes_back(rt.alloc(), &one_text(&parts, step % 3), 20000)?;
-        assert!(rt; held, "a text of {len} bytes");
+    // The last has 16380 bytes, with which the body has 16384.
+    for step in 0..=66usize {
+        let len = if step == 66 { 16380 } else { step * 250 };
+        for which in 0..5 {
+            let held = text_comes_back(rt.alloc(), len, which)?;
+            assert!(rt; held, "text {which} of {len} bytes");
+        }
+    }
+    Ok(())
+}
+
+#[test]
+fn keys_of_many_lengths_come_back(rt: HostRuntime) -> Result<(), Fail> {
+    for step in 1..=16usize {
+        for kind in [KeyType::Rsa, KeyType::Secp256k1, KeyType::Ecdsa] {
+            let said = Said {
+                key: Some((kind, step * 256)),
+                ..NOTHING
+            };
+            let held = comes_back(rt.alloc(), &said, 20000)?;
+            assert!(rt; held, "a key of {step} times 256 bytes");
+        }
     }
     Ok(())
 }

@@ -104,6 +104,9 @@ fn an_echo_gives_whole_rounds_back(rt: HostRuntime) {
             "pieces of {size}, room {room}"
         );
     }
+    for room in 2..64 {
+        assert!(rt; is_echoed(rt.alloc(), 64, room), "room {room}");
+    }
 }
 
 /// More bytes than a stream may bring before any is given back, in pieces of this size.
@@ -122,7 +125,8 @@ fn is_long(alloc: Global, size: usize) -> Result<bool, AllocError> {
 
 #[test]
 fn a_long_input_is_echoed(rt: HostRuntime) {
-    for size in [131072, 4194304] {
+    // Pieces of 1000 bytes begin within a round.
+    for size in [1000, 131072, 4194304] {
         assert!(rt; is_long(rt.alloc(), size) == Ok(true), "pieces of {size}");
     }
 }
@@ -220,6 +224,24 @@ fn a_ping_fills_each_room(rt: HostRuntime) {
         assert!(rt; fills(rt.alloc(), room), "room {room}");
     }
     assert!(rt; fills(rt.alloc(), usize::MAX));
+}
+
+/// Whether a ping of which so much was sent, when its echo came, sends the rest: a byte before the end, and all behind
+/// it.
+fn is_sent_behind(alloc: Global, sent: usize) -> bool {
+    let front = sent.min(32);
+    let next = sent.saturating_add(1).min(32);
+    let mut out = PingOut::new(alloc, PING);
+    let is_begun = gives(&mut out, sent, &PING[..front]) && out.take(&PING) == Ok(());
+    let is_going = gives(&mut out, 1, &PING[front..next]) && out.end() == Ok(());
+    is_begun && is_going && gives(&mut out, 64, &PING[next..]) && out.finished()
+}
+
+#[test]
+fn a_ping_is_sent_on_behind_its_echo(rt: HostRuntime) {
+    for sent in 0..=32usize {
+        assert!(rt; is_sent_behind(rt.alloc(), sent), "{sent} bytes before");
+    }
 }
 
 static REFUSED: [(&[u8], PingFault); 3] = [

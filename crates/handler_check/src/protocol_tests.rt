@@ -193,10 +193,29 @@ fn what_a_node_says_is_read(rt: HostRuntime) {
     for (index, agent) in [
         (IDENTIFY, "node/0.1.0"),
         (PUSH, "another/2"),
+        (IDENTIFY, "kn\u{f6}t/1 \u{1f310}"),
         (IDENTIFY, ""),
     ] {
         assert!(rt; is_heard(rt.alloc(), index, agent), "protocol {index}");
     }
+}
+
+/// Whether this peer, which isn't the node's own, is told what the node says: as it asks, and as it is pushed to.
+fn tells(node: &mut NodeProtocols<FixedPayload>, other: PeerId) -> bool {
+    let Ok(mut asked) = node.inbound(IDENTIFY, other) else {
+        return false;
+    };
+    let Ok(mut pushed) = node.outbound(PUSH, other) else {
+        return false;
+    };
+    heard(node, IDENTIFY, &mut asked).is_some() && heard(node, PUSH, &mut pushed).is_some()
+}
+
+#[test]
+fn another_peer_is_told(rt: HostRuntime) -> Result<(), Fail> {
+    let mut node = node(rt.alloc(), "node/0.1.0")?;
+    assert!(rt; tells(&mut node, PeerId::of_ed25519(&[11; 32])));
+    Ok(())
 }
 
 fn is_refused_by(
@@ -247,9 +266,11 @@ fn says_its_key(alloc: Global, kind: KeyType, len: usize) -> Option<bool> {
 fn a_node_says_its_key(rt: HostRuntime) {
     let keys = [
         (KeyType::Rsa, 294),
+        (KeyType::Rsa, 550),
         (KeyType::Ed25519, 32),
         (KeyType::Secp256k1, 33),
         (KeyType::Ecdsa, 91),
+        (KeyType::Ecdsa, 800),
     ];
     for (row, (kind, len)) in keys.iter().enumerate() {
         let held = says_its_key(rt.alloc(), *kind, *len) == Some(true);
