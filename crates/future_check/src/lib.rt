@@ -8,6 +8,12 @@ mod ends;
 #[cfg(test)]
 mod failing_tests;
 #[cfg(test)]
+mod held;
+#[cfg(test)]
+mod held_tests;
+#[cfg(test)]
+mod much_tests;
+#[cfg(test)]
 mod pipe_tests;
 #[cfg(test)]
 mod quiet;

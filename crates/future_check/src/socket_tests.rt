@@ -4,7 +4,7 @@ ghost use Rattle.std.specs.Prelude.{◌≤◌, ⊤};
 ghost use Rattle.socket_link.specs.Tries.{count_tried};
 
 use crate::scripts::{FAIL, PENDING, answer_of};
-use conn_link::Link;
+use conn_link::{Link, LinkFault};
 use futures::task::{Context, Poll};
 use futures::test::MockTask;
 use socket_link::{Socket, SocketLink};
@@ -15,7 +15,7 @@ use std::test::*;
 /// The code of a try that finds the end of the input.
 const END: u8 = 254;
 
-/// A socket that says it is ready, and whose tries go by a list of codes; behind the list they fail.
+/// A socket that says it is ready, and whose tries, and shutting, go by a list of codes; behind the list they fail.
 #[derive(Drop)]
 struct Scripted {
     codes: Vec<u8>,
@@ -70,37 +70,58 @@ impl Socket for Scripted {
     }
 
     fn poll_shut(&mut self, _cx: &mut Context<'_>) -> Poll<io::Result<()>> {
-        Poll::Ready(Ok(()))
+        Poll::Ready(self.take(0).map(|_none| ()))
     }
 }
 
-/// The codes of a socket's tries, and what calls in turn answer by them.
-static READS: [(&[u8], &[u8]); 5] = [
-    // A try that finds none yet is made again, once in a call.
-    (&[3, PENDING, 2], b"32f"),
-    (&[PENDING, PENDING, 3], b"p3"),
-    (&[PENDING, PENDING, PENDING, PENDING, 1], b"pp1"),
-    (&[PENDING, FAIL, 1], b"f1"),
-    // Behind the end no try is made.
-    (&[2, END, 1], b"2000"),
+/// The codes of a socket's tries, calls in turn (r reads, w writes, s shuts), and what they answer.
+static ROWS: [(&[u8], &[u8], &[u8]); 14] = [
+    // A try that moves nothing yet is made again, once in a call.
+    (&[3, PENDING, 2], b"rrr", b"32f"),
+    (&[PENDING, PENDING, 3], b"rr", b"p3"),
+    (&[PENDING, PENDING, PENDING, PENDING, 1], b"rrr", b"pp1"),
+    (&[PENDING, FAIL, 1], b"rr", b"f1"),
+    (&[9, PENDING, 2], b"www", b"42f"),
+    (&[PENDING, PENDING, 3], b"ww", b"p3"),
+    (&[PENDING, FAIL, 1], b"ww", b"f1"),
+    // Behind the end of the input no read is tried, but it is written and shut: the peer closed its direction alone.
+    (&[2, END, 1], b"rrrr", b"2000"),
+    (&[2, END, 3, 1, FAIL], b"rrwrsrw", b"203000f"),
+    // A write that takes nothing is no failure and no end, and asks for no other poll.
+    (&[END, 3, END, 2], b"wwwr", b"0302"),
+    // Behind shutting it is read and written as the socket answers.
+    (&[1, 2, 3, END, FAIL], b"srwrw", b"0230f"),
+    // Shutting fails where the socket does, and isn't tried again by itself.
+    (&[FAIL, 1], b"ss", b"f0"),
+    (&[FAIL, FAIL, 2, 1], b"ssrw", b"ff21"),
+    (&[FAIL, FAIL, 1], b"rws", b"ff0"),
 ];
 
-static WRITES: [(&[u8], &[u8]); 3] = [
-    (&[9, PENDING, 2], b"42f"),
-    (&[PENDING, PENDING, 3], b"p3"),
-    (&[PENDING, FAIL, 1], b"f1"),
-];
-
-/// Each answer is as said, a call asks for another poll exactly where it is pending, and failures are counted.
-fn answers_so<L: Link>(task: &MockTask, link: &mut L, answers: &[u8], reads: bool) -> bool {
-    let (mut is_right, mut failed) = (true, 0u64);
-    for letter in answers {
-        let polled = if reads {
+/// Makes a call. Shutting moves no byte.
+pub(crate) fn call<L: Link>(
+    task: &MockTask,
+    link: &mut L,
+    kind: u8,
+) -> Poll<Result<usize, LinkFault>> {
+    match kind {
+        b'r' => {
             let mut buffer = [0; 4];
             task.enter(|cx| link.poll_read(cx, &mut buffer))
-        } else {
-            task.enter(|cx| link.poll_write(cx, b"abcd"))
-        };
+        }
+        b'w' => task.enter(|cx| link.poll_write(cx, b"abcd")),
+        _shut => match task.enter(|cx| link.poll_shut(cx)) {
+            Poll::Ready(Ok(())) => Poll::Ready(Ok(0)),
+            Poll::Ready(Err(fault)) => Poll::Ready(Err(fault)),
+            Poll::Pending => Poll::Pending,
+        },
+    }
+}
+
+/// Each answer is as said, a call asks for another poll exactly where it is pending, and failures are counted.
+fn answers_so<L: Link>(task: &MockTask, link: &mut L, calls: &[u8], answers: &[u8]) -> bool {
+    let (mut is_right, mut failed) = (calls.len() == answers.len(), 0u64);
+    for (kind, letter) in calls.iter().zip(answers.iter()) {
+        let polled = call(task, link, *kind);
         if let Poll::Ready(Err(_)) = &polled {
             failed = failed.saturating_add(1);
         }
@@ -114,29 +135,19 @@ fn runs_so(
     alloc: Global,
     task: &MockTask,
     codes: &[u8],
+    calls: &[u8],
     answers: &[u8],
-    reads: bool,
 ) -> Option<bool> {
     let codes = codes.to_vec(alloc).ok()?;
     let mut link = SocketLink::new(Scripted { codes, tries: 0 });
-    Some(answers_so(task, &mut link, answers, reads))
+    Some(answers_so(task, &mut link, calls, answers))
 }
 
 #[test]
-fn a_socket_is_read(rt: HostRuntime) -> Result<(), Fail> {
+fn a_socket_by_tries(rt: HostRuntime) -> Result<(), Fail> {
     let task = MockTask::new(&rt)?;
-    for (row, (codes, answers)) in READS.iter().enumerate() {
-        let held = runs_so(rt.alloc(), &task, *codes, *answers, true) == Some(true);
-        assert!(rt; held, "row {row}");
-    }
-    Ok(())
-}
-
-#[test]
-fn a_socket_is_written(rt: HostRuntime) -> Result<(), Fail> {
-    let task = MockTask::new(&rt)?;
-    for (row, (codes, answers)) in WRITES.iter().enumerate() {
-        let held = runs_so(rt.alloc(), &task, *codes, *answers, false) == Some(true);
+    for (row, (codes, calls, answers)) in ROWS.iter().enumerate() {
+        let held = runs_so(rt.alloc(), &task, *codes, *calls, *answers) == Some(true);
         assert!(rt; held, "row {row}");
     }
     Ok(())
