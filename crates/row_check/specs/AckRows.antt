@@ -11,8 +11,8 @@ use Rattle.yamux_session.specs.Windows.{credit, receiving_window, untaken}
 use Rattle.yamux_session.specs.Events.{Told, events}
 use Rattle.yamux_session.specs.Rows.{bare, header, in_order}
 
--- A WindowUpdate with ACK gives credit, and may give too much, and Data with ACK uses the window, and may be too long: on
--- a stream that it accepts, and on one of the other end, where it accepts nothing
+-- A WindowUpdate with ACK gives credit, and may give too much, and Data with ACK uses the window, and may be too long:
+-- on a stream that it accepts, and on one of the other end, where it accepts nothing
 pub record AckRows : Type 0 where
   pub credit_of_the_accepted : credit Client (in_order ((Did (Start 1) ∷ []) ∷ bare Window 2 1 5 ∷ [])) 1 ≡ 262149
   pub credit_of_the_second : credit Client (in_order ((Did (Start 1) ∷ []) ∷ bare Window 2 1 0 ∷ bare Window 2 1 5 ∷

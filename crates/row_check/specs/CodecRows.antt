@@ -1,8 +1,8 @@
 -- Worked rows of what is read and written at either end: numbers, texts, talks at joined ends and exchanges.
 -- Source: multiformats unsigned-varint; RFC 4291, section 2.2; libp2p peer ids; multistream-select 1.0; libp2p
 -- plaintext 2.0.0; where memory is asked for, and what waits, is this project's profile.
-use Rattle.std.specs.Prelude.{◌≡◌, ◌≢◌, ℕ, ◌^◌, ◌<◌, ◌≤◌, true, List, [], ◌∷◌, ◌++◌, length, codes, All, IsUtf8, Some, None, Result}
-use Rattle.std.specs.Prelude.{Ok, Err}
+use Rattle.std.specs.Prelude.{◌≡◌, ◌≢◌, ℕ, ◌^◌, ◌<◌, ◌≤◌, true, List, [], ◌∷◌, ◌++◌, length, codes}
+use Rattle.std.specs.Prelude.{All, IsUtf8, Some, None, Result, Ok, Err}
 use Rattle.varint_proto.specs.Varint.{ReadsShortest}
 use Rattle.peer_ids.specs.declared.fault.IdFault.{IdFault}
 use Rattle.peer_ids.specs.declared.fault.IdFault.TheVariants.{TrailingBits}
