@@ -10,8 +10,9 @@ pub fn newest_goes()
     ensures { LetsGo }
 {}
 
-/// What [`crate::HeldOrder::arrange`] puts in order is all that it was given, each stream's handlers in their order. It
-/// is the order in which they were made, where each stream was made as often as it is held; and it is the one such list.
+/// What [`crate::HeldOrder::arrange`] puts in order is all that it was given, each stream's handlers in their order.
+/// It is the order in which they were made, where each stream was made as often as it is held; and it is the one such
+/// list.
 pub fn all_in_order<H: Handler>()
     ensures { Arranges H }
 {}
