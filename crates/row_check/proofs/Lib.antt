@@ -25,3 +25,11 @@ mod SeenRows
 mod EndedRows
 mod AlikeRows
 mod OrderRows
+mod AnyBytesRows
+mod AnyAddressRows
+mod AnyTalkRows
+mod AnyEndRows
+mod AnyInputRows
+mod AnySessionRows
+mod AnyPoolRows
+mod AnyHandlerRows

@@ -26,3 +26,11 @@ pub mod SeenRows
 pub mod EndedRows
 pub mod AlikeRows
 pub mod OrderRows
+pub mod AnyBytesRows
+pub mod AnyAddressRows
+pub mod AnyTalkRows
+pub mod AnyEndRows
+pub mod AnyInputRows
+pub mod AnySessionRows
+pub mod AnyPoolRows
+pub mod AnyHandlerRows

@@ -27,6 +27,22 @@ ghost use Rattle.row_check.specs.RefusedRows.{RefusedRows};
 ghost use Rattle.row_check.specs.EndedRows.{EndedRows, UnaskedRows};
 ghost use Rattle.row_check.specs.AlikeRows.{AlikeRows};
 ghost use Rattle.row_check.specs.OrderRows.{UnmovedRows};
+ghost use Rattle.row_check.specs.AnyBytesRows.{AnyVarintRows, AnyFieldRows, AnyWritingRows, AnyPickRows};
+ghost use Rattle.row_check.specs.AnyBytesRows.{AnyFramedRows, AnyKeyRows, AnyIdRows, AnyIdFaultRows};
+ghost use Rattle.row_check.specs.AnyAddressRows.{AnyValueRows, AnyAddressRows, AnySizedPartRows, AnyTextRows};
+ghost use Rattle.row_check.specs.AnyAddressRows.{AnyGroupRows, AnyTextFaultRows, AnyGivenRows};
+ghost use Rattle.row_check.specs.AnyTalkRows.{AnyMessageRows, AnyChoiceRows, AnyListenerRows, AnyDialerRows};
+ghost use Rattle.row_check.specs.AnyTalkRows.{AnySenderRows, AnyTalkRows, AnyJoinedRows, AnyRunsOutRows};
+ghost use Rattle.row_check.specs.AnyEndRows.{AnyExchangeRows, AnyUpgradeRows, AnyUpgradeMemoryRows, AnyCallRows};
+ghost use Rattle.row_check.specs.AnyEndRows.{AnyStarvedRows, AnyGrowthRows, AnyHandedRows};
+ghost use Rattle.row_check.specs.AnyInputRows.{AnyInputRows};
+ghost use Rattle.row_check.specs.AnySessionRows.{AnyFrameRows, AnyFlagRows, AnySentRows, AnyLeavingRows};
+ghost use Rattle.row_check.specs.AnySessionRows.{AnyToldRows, AnyWindowRows, AnyFaultRows, AnyActRows};
+ghost use Rattle.row_check.specs.AnySessionRows.{AnyReadingRows, AnyNamedRows, AnyRunRows, AnyLedRows};
+ghost use Rattle.row_check.specs.AnySessionRows.{AnyCutRows, AnyHeardRows, AnyTiedRows};
+ghost use Rattle.row_check.specs.AnyHandlerRows.{AnyWrittenRows, AnyMergedRows, AnyReadRows, AnyMadeRows};
+ghost use Rattle.row_check.specs.AnyPoolRows.{AnyRangeRows, AnyCountRows, AnyRefusalRows, AnyAnswerRows};
+ghost use Rattle.row_check.specs.AnyPoolRows.{AnyAddedRows, AnyRowRows, AnyBoundRows, AnyCallerRows};
 
 use handlers::Handler;
 
@@ -131,4 +147,101 @@ pub fn swarm_rows()
 /// The definitions of the order in which handlers were made say of what moves none what they are to say.
 pub fn order_rows<H: Handler>()
     ensures { UnmovedRows H }
+{}
+
+/// The definitions of numbers, fields, keys and ids say what they are to say, whatever is in them.
+pub fn any_bytes_rows()
+    ensures varints { AnyVarintRows }
+    ensures fields { AnyFieldRows }
+    ensures writings { AnyWritingRows }
+    ensures picks { AnyPickRows }
+    ensures framed { AnyFramedRows }
+    ensures keys { AnyKeyRows }
+    ensures ids { AnyIdRows }
+    ensures id_faults { AnyIdFaultRows }
+{}
+
+/// The definitions of addresses and their texts say what they are to say, whatever is in them.
+pub fn any_address_rows()
+    ensures values { AnyValueRows }
+    ensures addresses { AnyAddressRows }
+    ensures sized { AnySizedPartRows }
+    ensures texts { AnyTextRows }
+    ensures groups { AnyGroupRows }
+    ensures text_faults { AnyTextFaultRows }
+    ensures given { AnyGivenRows }
+{}
+
+/// The definitions of talks say what they are to say, whatever is in them.
+pub fn any_talk_rows()
+    ensures messages { AnyMessageRows }
+    ensures choices { AnyChoiceRows }
+    ensures listeners { AnyListenerRows }
+    ensures dialers { AnyDialerRows }
+    ensures senders { AnySenderRows }
+    ensures talks { AnyTalkRows }
+    ensures joined { AnyJoinedRows }
+    ensures runs_out { AnyRunsOutRows }
+{}
+
+/// The definitions of exchanges, upgrades and calls say what they are to say, whatever is in them.
+pub fn any_end_rows()
+    ensures exchanges { AnyExchangeRows }
+    ensures upgrades { AnyUpgradeRows }
+    ensures memory { AnyUpgradeMemoryRows }
+    ensures starved { AnyStarvedRows }
+    ensures growth { AnyGrowthRows }
+    ensures calls { AnyCallRows }
+{}
+
+/// The definitions of what a handler was handed say what they are to say of any handler.
+pub fn any_handed_rows<H: Handler>()
+    ensures { AnyHandedRows H.steps H.fails }
+{}
+
+/// What the definitions say wherever a message, a talk, an exchange, an upgrade, a reader or a session stands they say
+/// of any input there.
+pub fn any_input_rows()
+    ensures { AnyInputRows }
+{}
+
+/// The definitions of frames and sessions say of any length, number, flags and history what they are to say.
+pub fn any_session_rows()
+    ensures frames { AnyFrameRows }
+    ensures flags { AnyFlagRows }
+    ensures sent { AnySentRows }
+    ensures leaving { AnyLeavingRows }
+    ensures told { AnyToldRows }
+    ensures windows { AnyWindowRows }
+    ensures faults { AnyFaultRows }
+    ensures acts { AnyActRows }
+    ensures reading { AnyReadingRows }
+    ensures named { AnyNamedRows }
+    ensures runs { AnyRunRows }
+    ensures led { AnyLedRows }
+    ensures cuts { AnyCutRows }
+    ensures tied { AnyTiedRows }
+    ensures heard { AnyHeardRows }
+{}
+
+/// The definitions of a pool, and of one that is shared, say of any names, limits, listings and calls what they are to
+/// say.
+pub fn any_pool_rows()
+    ensures ranges { AnyRangeRows }
+    ensures counts { AnyCountRows }
+    ensures refusals { AnyRefusalRows }
+    ensures answers { AnyAnswerRows }
+    ensures added { AnyAddedRows }
+    ensures rows { AnyRowRows }
+    ensures bounds { AnyBoundRows }
+    ensures callers { AnyCallerRows }
+{}
+
+/// The definitions of identify messages, and of a node's handlers, say of any message and any bytes what they are to
+/// say.
+pub fn any_handler_rows()
+    ensures written { AnyWrittenRows }
+    ensures merged { AnyMergedRows }
+    ensures read { AnyReadRows }
+    ensures made { AnyMadeRows }
 {}

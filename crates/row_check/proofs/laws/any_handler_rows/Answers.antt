@@ -1,0 +1,14 @@
+use Rattle.row_check.proofs.AnyHandlerRows.{any_written_rows, any_merged_rows, any_read_rows, any_made_rows}
+use Rattle.row_check.proofs.laws.any_handler_rows.Goals as goal
+
+pub returns-clause-written : goal.returns-clause-written
+returns-clause-written c = any_written_rows
+
+pub returns-clause-merged : goal.returns-clause-merged
+returns-clause-merged c = any_merged_rows
+
+pub returns-clause-read : goal.returns-clause-read
+returns-clause-read c = any_read_rows
+
+pub returns-clause-made : goal.returns-clause-made
+returns-clause-made c = any_made_rows
