@@ -1,24 +1,27 @@
 -- The rows of identify messages and of a node's handlers, whatever they hold.
-use Rattle.std.proofs.Common.{◌≡◌, ◌≢◌, ℕ, suc, false, List, [], ◌∷◌, ◌++◌, length, Option, Some, None, refl, sym, ap, ◌∙◌, append-nil, ◌⊎◌, inl, inr, arith}
-use Rattle.std.specs.Prelude.{is_some}
+use Rattle.std.proofs.Common.{◌≡◌, ◌≢◌, ◌≤◌, subst, ℕ, suc, false, List, [], ◌∷◌, ◌++◌, length, Option, Some, None, refl, sym, ap, ◌∙◌, append-nil, ◌⊎◌, inl, inr, arith}
+use Rattle.std.specs.Prelude.{is_some, IsSome, ◌<◌, take}
+use Rattle.std.proofs.lemmas.List.{length-append}
 use Rattle.std.specs.List.{flat_map}
 use Rattle.std.specs.Option.{option_map}
 use Rattle.std.proofs.lemmas.Bool.{true≢false, or_parts}
 use Rattle.std.proofs.lemmas.List.Concat.{flat_map-append}
 use Rattle.varint_proto.specs.Varint.{shortest, shortest_within}
-use Rattle.varint_proto.specs.Message.{Entry, shortest_field}
+use Rattle.varint_proto.specs.Message.{Entry, shortest_field, last_body}
 use Rattle.peer_ids.specs.Key.{Key}
 use Rattle.peer_ids.specs.PeerId.{canonical_of, id_of}
 use Rattle.peer_ids.specs.ReadsKey.{SpellsKey, RefusesKey}
 use Rattle.peer_ids.specs.declared.fault.KeyFault.{KeyFault}
-use Rattle.identify_h.specs.Messages.{Message, IsOtherKey, newer, newer_list, body_if, bodies_of, written}
+use Rattle.identify_h.specs.Messages.{Message, HasField, HasText, SaysSomething, IsOtherKey, newer, newer_list, body_if, bodies_of, written}
+use Rattle.identify_h.specs.Streams.{AsksRoom}
 use Rattle.identify_h.specs.Reading.{Reader, is_over}
 use Rattle.identify_h.specs.Rows.{nothing}
 use Rattle.ping_h.specs.Rounds.{round}
 use Rattle.node_protocols.specs.declared.handler.NodeHandler.{NodeHandler}
 use Rattle.node_protocols.specs.declared.handler.NodeHandler.TheVariants.{Pings}
 use Rattle.node_protocols.specs.Makes.{MakesInbound, MakesOutbound, Hears, Tells}
-use Rattle.row_check.specs.AnyHandlerRows.{AnyWrittenRows, AnyMergedRows, AnyReadRows, AnyMadeRows, Gives}
+use Rattle.row_check.specs.AnyHandlerRows.{AnyWrittenRows, AnyMergedRows, AnyReadRows, AnyWantRows, AnyMadeRows, Gives}
+use Rattle.row_check.proofs.AnyBytesRows.{taken_front}
 
 -- ---- writing
 
@@ -162,4 +165,50 @@ any_made_rows = record {
   ping_out = λ own payload peer handler. (out_2 own payload peer handler, λ h. inr (inr (refl, (payload, refl, h))));
   none_out = λ own payload n peer handler. none_out own payload peer handler n;
   hears = λ peer handler h. h;
+}
+
+some_of : (x : Option (List ℕ)) → IsSome x → (body : List ℕ) × (x ≡ Some body)
+some_of None is = absurd (true≢false (sym is))
+some_of (Some body) is = (body, refl)
+
+text_of : (x : Option (List ℕ)) → HasText x → (body : List ℕ) × (x ≡ Some body) × (0 < length body)
+text_of None is = absurd is
+text_of (Some body) is = (body, refl, is)
+
+field_is : (fields : List Entry) → HasField fields → (number : ℕ) × (body : List ℕ) × (last_body number fields ≡ Some body) × (1 ≤ number) × (number ≤ 6) × ((number ≤ 3) ⊎ (0 < length body))
+field_is fields (inl h) = let it = some_of (last_body h.0 fields) h.3 in (h.0, it.0, it.1, h.1, omega (arith, h.2), inl h.2)
+field_is fields (inr h) = let it = text_of (last_body h.0 fields) h.3 in (h.0, it.0, it.1, omega (arith, h.1), h.2, inr it.2)
+
+says_nothing : SaysSomething nothing → ⊥
+says_nothing (inl h) = true≢false (sym h)
+says_nothing (inr (inl h)) = h refl
+says_nothing (inr (inr (inl h))) = h refl
+says_nothing (inr (inr (inr (inl h)))) = true≢false (sym h)
+says_nothing (inr (inr (inr (inr (inl h))))) = true≢false (sym h)
+says_nothing (inr (inr (inr (inr (inr h))))) = true≢false (sym h)
+
+pub any_want_rows : AnyWantRows
+any_want_rows = record {
+  asks = λ input rest bodies len b few s le some. (bodies, rest, b, few, (len, record { begins = s; allowed = le }, some));
+  asks_is = λ input h. (h.0, h.1, h.4.0, h.2, h.3, h.4.1.begins, h.4.1.allowed, h.4.2);
+  taken = λ input front rest some asks. (
+    length front,
+    some,
+    omega (arith, length-append front rest),
+    subst (λ (t : List ℕ). AsksRoom (input ++ t)) (sym (taken_front front rest)) asks,
+  );
+  taken_is = λ input bytes h. h;
+  list_field = λ fields number body ge le e. inl (number, ge, le, rw e refl);
+  text_field = λ fields number body ge le e some. inr (number, ge, le, rw e some);
+  field_is = field_is;
+  says_key = λ m key e. inl (rw e refl);
+  says_listen = λ m ne. inr (inl ne);
+  says_protocols = λ m ne. inr (inr (inl ne));
+  says_observed = λ m bytes e. inr (inr (inr (inl (rw e refl))));
+  says_version = λ m bytes e. inr (inr (inr (inr (inl (rw e refl)))));
+  says_agent = λ m bytes e. inr (inr (inr (inr (inr (rw e refl)))));
+  says_nothing = says_nothing;
+  cut = λ peer input rest bodies b part some. (bodies, rest, b, part, inr some);
+  cut_at_first = λ peer. ([], [], record { few = omega arith; lead = refl }, inl refl, inl refl);
+  cut_is = λ peer input h. h;
 }

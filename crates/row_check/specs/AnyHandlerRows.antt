@@ -1,10 +1,11 @@
 -- Rows of identify messages and of a node's handlers, whatever they hold.
 -- Source: libp2p identify 1.0.0 and ping 1.0.0; Protocol Buffers, "Encoding"; the order of the indexes is this
 -- project's profile.
-use Rattle.std.specs.Prelude.{◌≡◌, ◌≢◌, ◌⊎◌, ◌↔◌, ◌≤◌, ℕ, suc, false, List, [], ◌∷◌, ◌++◌, length}
-use Rattle.std.specs.Prelude.{Some, None}
+use Rattle.std.specs.Prelude.{◌≡◌, ◌≢◌, ◌⊎◌, ◌↔◌, ◌≤◌, ◌<◌, ◌-◌, ℕ, suc, false, List, [], ◌∷◌, ◌++◌, length}
+use Rattle.std.specs.Prelude.{Some, None, take}
+use Rattle.std.specs.List.{concat}
 use Rattle.varint_proto.specs.declared.fault.WireFault.{WireFault}
-use Rattle.varint_proto.specs.Varint.{shortest}
+use Rattle.varint_proto.specs.Varint.{shortest, BeginsShortest}
 use Rattle.varint_proto.specs.Message.{Entry, IsMessage, FaultIn, last_body}
 use Rattle.peer_ids.specs.Key.{Key, IsAllowed}
 use Rattle.peer_ids.specs.PeerId.{canonical_of, id_of}
@@ -12,8 +13,8 @@ use Rattle.peer_ids.specs.ReadsKey.{SpellsKey, RefusesKey}
 use Rattle.peer_ids.specs.declared.fault.KeyFault.{KeyFault}
 use Rattle.handlers.specs.Calls.{Take, End}
 use Rattle.identify_h.specs.declared.fault.IdentifyFault.TheVariants as fault
-use Rattle.identify_h.specs.Messages.{Message, HasBadKey, HasKeyOf, Refuses, merged, written}
-use Rattle.identify_h.specs.Streams.{Begins, GoesOn, IsPart, Reads as ReadsAll}
+use Rattle.identify_h.specs.Messages.{Message, HasBadKey, HasField, HasKeyOf, Refuses, SaysSomething, merged, written}
+use Rattle.identify_h.specs.Streams.{Begins, GoesOn, IsPart, AsksRoom, TakeFails, EndFails, Reads as ReadsAll}
 use Rattle.identify_h.specs.Reading.{Reader, ReadStep, IsFresh, Stands}
 use Rattle.identify_h.specs.Sending.{framed}
 use Rattle.identify_h.specs.Rows.{nothing}
@@ -97,6 +98,38 @@ pub record AnyReadRows : Type 0 where
   pub ends : (input : List ℕ) (old new : Reader) → Stands input old → ReadStep old End new
       → (m : Message) × (new ≡ record old { message = Some m }) × ReadsAll old.peer input m
   pub ends_while : (old new : Reader) → ReadStep old End new → (old.failed ≡ false) × (old.message ≡ None)
+
+-- Where memory is asked for, whatever comes: for a body of any length but 0 that there is room for, at the last byte of
+-- its length; and for any message that says something
+pub record AnyWantRows : Type 0 where
+  pub asks : (input rest : List ℕ) (bodies : List (List ℕ)) (len : ℕ) → Begins input bodies rest → length bodies < 10
+      → BeginsShortest rest len [] → len ≤ 16384 - length (concat bodies) → 0 < len → AsksRoom input
+  pub asks_is : (input : List ℕ) → AsksRoom input → (bodies : List (List ℕ)) × (rest : List ℕ) × (len : ℕ)
+      × Begins input bodies rest × (length bodies < 10) × BeginsShortest rest len []
+      × (len ≤ 16384 - length (concat bodies)) × (0 < len)
+  pub taken : (input front rest : List ℕ) → 0 < length front → AsksRoom (input ++ front)
+      → TakeFails input (front ++ rest) fault.OutOfMemory
+  pub taken_is : (input bytes : List ℕ) → TakeFails input bytes fault.OutOfMemory → (n : ℕ) × (0 < n)
+      × (n ≤ length bytes) × AsksRoom (input ++ take n bytes)
+  pub list_field : (fields : List Entry) (number : ℕ) (body : List ℕ) → 1 ≤ number → number ≤ 3
+      → last_body number fields ≡ Some body → HasField fields
+  pub text_field : (fields : List Entry) (number : ℕ) (body : List ℕ) → 4 ≤ number → number ≤ 6
+      → last_body number fields ≡ Some body → 0 < length body → HasField fields
+  pub field_is : (fields : List Entry) → HasField fields → (number : ℕ) × (body : List ℕ)
+      × (last_body number fields ≡ Some body) × (1 ≤ number) × (number ≤ 6) × ((number ≤ 3) ⊎ (0 < length body))
+  pub says_key : (m : Message) (key : Key) → m.key ≡ Some key → SaysSomething m
+  pub says_listen : (m : Message) → m.listen ≢ [] → SaysSomething m
+  pub says_protocols : (m : Message) → m.protocols ≢ [] → SaysSomething m
+  pub says_observed : (m : Message) (bytes : List ℕ) → m.observed ≡ Some bytes → SaysSomething m
+  pub says_version : (m : Message) (bytes : List ℕ) → m.version ≡ Some bytes → SaysSomething m
+  pub says_agent : (m : Message) (bytes : List ℕ) → m.agent ≡ Some bytes → SaysSomething m
+  pub says_nothing : ¬ SaysSomething nothing
+  -- and when a stream is cut: it ends within a message, or before the first
+  pub cut : (peer input rest : List ℕ) (bodies : List (List ℕ)) → Begins input bodies rest → IsPart bodies rest
+      → 0 < length rest → EndFails peer input fault.Cut
+  pub cut_at_first : (peer : List ℕ) → EndFails peer [] fault.Cut
+  pub cut_is : (peer input : List ℕ) → EndFails peer input fault.Cut → (bodies : List (List ℕ)) × (rest : List ℕ)
+      × Begins input bodies rest × IsPart bodies rest × ((bodies ≡ []) ⊎ (0 < length rest))
 
 -- these bytes are given
 abbrev pub Gives : List ℕ → List ℕ → Type 0

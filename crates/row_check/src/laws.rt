@@ -40,7 +40,7 @@ ghost use Rattle.row_check.specs.AnySessionRows.{AnyFrameRows, AnyFlagRows, AnyS
 ghost use Rattle.row_check.specs.AnySessionRows.{AnyToldRows, AnyWindowRows, AnyFaultRows, AnyActRows};
 ghost use Rattle.row_check.specs.AnySessionRows.{AnyReadingRows, AnyNamedRows, AnyRunRows, AnyLedRows};
 ghost use Rattle.row_check.specs.AnySessionRows.{AnyCutRows, AnyHeardRows, AnyTiedRows};
-ghost use Rattle.row_check.specs.AnyHandlerRows.{AnyWrittenRows, AnyMergedRows, AnyReadRows, AnyMadeRows};
+ghost use Rattle.row_check.specs.AnyHandlerRows.{AnyWrittenRows, AnyMergedRows, AnyReadRows, AnyWantRows, AnyMadeRows};
 ghost use Rattle.row_check.specs.AnyPoolRows.{AnyRangeRows, AnyCountRows, AnyRefusalRows, AnyAnswerRows};
 ghost use Rattle.row_check.specs.AnyPoolRows.{AnyAddedRows, AnyRowRows, AnyBoundRows, AnyCallerRows};
 
@@ -243,5 +243,6 @@ pub fn any_handler_rows()
     ensures written { AnyWrittenRows }
     ensures merged { AnyMergedRows }
     ensures read { AnyReadRows }
+    ensures want { AnyWantRows }
     ensures made { AnyMadeRows }
 {}

@@ -1,4 +1,4 @@
-use Rattle.row_check.proofs.AnyHandlerRows.{any_written_rows, any_merged_rows, any_read_rows, any_made_rows}
+use Rattle.row_check.proofs.AnyHandlerRows.{any_written_rows, any_merged_rows, any_read_rows, any_want_rows, any_made_rows}
 use Rattle.row_check.proofs.laws.any_handler_rows.Goals as goal
 
 pub returns-clause-written : goal.returns-clause-written
@@ -12,3 +12,6 @@ returns-clause-read c = any_read_rows
 
 pub returns-clause-made : goal.returns-clause-made
 returns-clause-made c = any_made_rows
+
+pub returns-clause-want : goal.returns-clause-want
+returns-clause-want c = any_want_rows
