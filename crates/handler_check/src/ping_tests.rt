@@ -125,8 +125,8 @@ fn is_long(alloc: Global, size: usize) -> Result<bool, AllocError> {
 
 #[test]
 fn a_long_input_is_echoed(rt: HostRuntime) {
-    // Pieces of 1000 bytes begin within a round.
-    for size in [1000, 131072, 4194304] {
+    // Pieces of 65, 100, 255, 999 and 1000 bytes begin within a round.
+    for size in [65, 100, 255, 512, 999, 1000, 131072, 4194304] {
         assert!(rt; is_long(rt.alloc(), size) == Ok(true), "pieces of {size}");
     }
 }
