@@ -33,3 +33,10 @@ mod AnyInputRows
 mod AnySessionRows
 mod AnyPoolRows
 mod AnyHandlerRows
+mod AnyLogRows
+mod AnyRestRows
+mod AnyStepRows
+mod AnyRouteRows
+mod AnyStreamRows
+mod AnyConnRows
+mod AnyPromiseRows

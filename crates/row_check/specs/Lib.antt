@@ -34,3 +34,10 @@ pub mod AnyInputRows
 pub mod AnySessionRows
 pub mod AnyPoolRows
 pub mod AnyHandlerRows
+pub mod AnyLogRows
+pub mod AnyRestRows
+pub mod AnyStepRows
+pub mod AnyRouteRows
+pub mod AnyStreamRows
+pub mod AnyConnRows
+pub mod AnyPromiseRows

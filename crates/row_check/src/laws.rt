@@ -43,8 +43,23 @@ ghost use Rattle.row_check.specs.AnySessionRows.{AnyCutRows, AnyHeardRows, AnyTi
 ghost use Rattle.row_check.specs.AnyHandlerRows.{AnyWrittenRows, AnyMergedRows, AnyReadRows, AnyWantRows, AnyMadeRows};
 ghost use Rattle.row_check.specs.AnyPoolRows.{AnyRangeRows, AnyCountRows, AnyRefusalRows, AnyAnswerRows};
 ghost use Rattle.row_check.specs.AnyPoolRows.{AnyAddedRows, AnyRowRows, AnyBoundRows, AnyCallerRows};
+ghost use Rattle.row_check.specs.AnyLogRows.{AnyListRows, AnyStreamEntryRows, AnyEarlierRows, AnyTurnRows};
+ghost use Rattle.row_check.specs.AnyLogRows.{AnyEndingRows, AnyMakingRows};
+ghost use Rattle.row_check.specs.AnyRestRows.{AnySideRows, AnyHeldRows, AnyComingRows, AnyDueRows, AnyRestRows};
+ghost use Rattle.row_check.specs.AnyConnRows.{AnyConnAnswerRows, AnyHolderRows, AnySumRows};
+ghost use Rattle.row_check.specs.AnyConnRows.{AnyConnEndRows, AnyWholeRunRows};
+ghost use Rattle.row_check.specs.AnyStreamRows.{AnyStageRows, AnyHearingRows, AnyStandingRows, AnyServingRows};
+ghost use Rattle.row_check.specs.AnyStreamRows.{AnyDirectionRows, AnyRoutingRows};
+ghost use Rattle.row_check.specs.AnyPromiseRows.{AnyOrderRows, AnyPromiseRows};
+ghost use Rattle.row_check.specs.AnyRouteRows.{AnyRouteToldRows, AnyBoardRows, AnyBoardMakingRows, AnyRouteRows};
+ghost use Rattle.row_check.specs.AnyStepRows.{AnyTalkStepRows, AnyStepRows};
+ghost use Rattle.yamux_session.specs.History.{Item};
+ghost use Rattle.std.specs.Prelude.{◌≡◌, ℕ, Bool, true, List};
+ghost use Rattle.peer_ids.specs.Key.{Key};
+ghost use Rattle.upgrade.specs.declared.role.ConnRole.{ConnRole};
+ghost use Rattle.yamux_session.specs.declared.event.Role.{Role};
 
-use handlers::Handler;
+use handlers::{Handler, Protocols};
 
 /// The definitions of what is read and written at either end say of worked bytes what they are to say.
 pub fn codecs_rows()
@@ -245,4 +260,79 @@ pub fn any_handler_rows()
     ensures read { AnyReadRows }
     ensures want { AnyWantRows }
     ensures made { AnyMadeRows }
+{}
+
+/// The definitions of a connection's list say what they are to say, whatever is in it.
+pub fn any_log_rows<P: Protocols>()
+    ensures lists { AnyListRows P.H }
+    ensures streams { AnyStreamEntryRows P.H }
+    ensures earlier { AnyEarlierRows P.H }
+    ensures turns { AnyTurnRows P.H }
+    ensures endings { AnyEndingRows P.H }
+    ensures making { (peer : List ℕ) (role : Role) → AnyMakingRows P.leads_inbound P.leads_outbound peer role }
+{}
+
+/// The definitions of the streams that a connection holds, and of which entries stand where, say what they are to say.
+pub fn any_rest_rows<P: Protocols>()
+    ensures sides { AnySideRows P.H }
+    ensures held { (names : List (List ℕ)) (role : Role)
+        → AnyHeldRows P.H.steps P.H.is_closed P.H.is_finished names role }
+    ensures coming { (eager : ℕ → Bool) (names : List (List ℕ)) (peer : List ℕ) (role : Role)
+        → AnyComingRows P.H.steps P.H.fails P.H.is_closed P.H.is_finished P.makes_inbound P.makes_outbound eager names
+        peer role }
+    ensures due { (eager : ℕ → Bool) (names : List (List ℕ)) (peer : List ℕ) (role : Role)
+        → AnyDueRows P.H.steps P.H.fails P.H.is_closed P.H.is_finished P.makes_inbound P.makes_outbound eager names peer
+        role }
+    ensures rest { (eager : ℕ → Bool) (names : List (List ℕ)) (peer : List ℕ) (role : Role)
+        → AnyRestRows P.H.steps P.H.fails P.H.is_closed P.H.is_finished P.makes_inbound P.makes_outbound eager names
+        peer role }
+{}
+
+/// The definitions of an end of a connection, and of whole runs, say what they are to say, whatever they are.
+pub fn any_conn_rows<P: Protocols>()
+    ensures calls { AnyConnAnswerRows P P.H }
+    ensures holders { AnyHolderRows P P.H }
+    ensures sums { AnySumRows P.H }
+    ensures ends { (start : P) (role : ConnRole) (own : Key)
+        → AnyConnEndRows P.H.steps P.H.fails P.H.is_closed P.H.is_finished P.makes_inbound P.makes_outbound P.listed
+        P.is_eager P.leads_inbound P.leads_outbound start role own }
+    ensures runs { (start : P) (role : ConnRole) (own : Key)
+        → AnyWholeRunRows P.H.steps P.H.fails P.H.is_closed P.H.is_finished P.makes_inbound P.makes_outbound P.listed
+        P.is_eager P.leads_inbound P.leads_outbound start role own }
+{}
+
+/// The definitions of streams, and of how they are served and routed to, say what they are to say, whatever they are.
+pub fn any_stream_rows<P: Protocols>()
+    ensures stages { AnyStageRows P.H }
+    ensures hearing { AnyHearingRows }
+    ensures standing { AnyStandingRows P.H.steps }
+    ensures serving { AnyServingRows P.H.steps P.H.fails P.H.is_closed P.H.is_finished }
+    ensures directions { AnyDirectionRows P.makes_inbound P.makes_outbound P.leads_inbound P.leads_outbound }
+    ensures routing { (role : Role) (past : List Item) (fed sent peer : List ℕ) (n : ℕ) (protocols : P) (none : Bool)
+        → AnyRoutingRows P.H.steps P.H.fails P.H.is_closed P.H.is_finished role past fed sent n
+        (λ index handler. P.makes_inbound protocols index peer handler) (none ≡ true) }
+{}
+
+/// The laws of a connection say what they are to say, and so do the definitions of the order of its handlers.
+pub fn any_promise_rows<P: Protocols>()
+    ensures orders { AnyOrderRows P.H }
+    ensures promises { (start : P) (role : ConnRole) (own : Key)
+        → AnyPromiseRows P.H.steps P.H.fails P.H.is_closed P.H.is_finished P.makes_inbound P.makes_outbound P.listed
+        P.is_eager P.leads_inbound P.leads_outbound start role own }
+{}
+
+/// The definitions of where streams stand while a frame is routed say what they are to say, whatever came.
+pub fn any_route_rows<P: Protocols>()
+    ensures told { AnyRouteToldRows P.H }
+    ensures boards { AnyBoardRows P P.H }
+    ensures making { AnyBoardMakingRows P.leads_inbound P.leads_outbound }
+    ensures routes { (eager : ℕ → Bool) (names : List (List ℕ)) (peer : List ℕ) (role : Role)
+        → AnyRouteRows P.H.steps P.H.fails P.H.is_closed P.H.is_finished P.makes_inbound P.makes_outbound eager names
+        peer role }
+{}
+
+/// The definitions of the steps by which a stream is served say what they are to say, whatever is in it.
+pub fn any_step_rows<H: Handler>()
+    ensures talks { AnyTalkStepRows H }
+    ensures steps { AnyStepRows H.steps H.is_closed H.is_finished }
 {}

@@ -1,0 +1,320 @@
+-- The rows of an end of a connection, of its calls and of whole runs.
+use Rattle.std.proofs.Common.{◌≡◌, ◌≢◌, ◌⊎◌, ℕ, ◌<◌, ◌≤◌, inl, inr, Bool, true, false, ◌&&◌, nat_lt, List, [], ◌∷◌, ◌++◌, length, map, take, Option, Some, None, Ok, Err, refl, sym, ◌∙◌, subst, arith, lt-ltb, ltb-true}
+use Rattle.handlers.specs.Calls.{HandlerCall, Asked}
+use Rattle.peer_ids.specs.Key.{Key}
+use Rattle.upgrade.specs.declared.role.ConnRole.{ConnRole}
+use Rattle.upgrade.specs.declared.fault.UpgradeFault.{UpgradeFault}
+use Rattle.upgrade.specs.Upgrades.{Upgrades, ComesTo}
+use Rattle.yamux_frames.specs.Frames.{EndsWithin}
+use Rattle.yamux_session.specs.State.{State}
+use Rattle.streams.specs.State.{Streaming}
+use Rattle.conn_log.specs.declared.earlier.Earlier.{Earlier}
+use Rattle.conn_log.specs.declared.event.ConnEvent.{ConnEvent}
+use Rattle.conn_log.specs.declared.event.ConnEvent.TheVariants as event
+use Rattle.conn_log.specs.declared.event.ConnFault.{ConnFault}
+use Rattle.conn_log.specs.declared.event.ConnFault.TheVariants as fault
+use Rattle.conn_log.specs.declared.event.ConnRefused.{ConnRefused}
+use Rattle.conn_log.specs.declared.event.ConnRefused.TheVariants as refusals
+use Rattle.yamux_session.specs.History.{Item, arrivals}
+use Rattle.yamux_session.specs.History.Item.{Came}
+use Rattle.yamux_session.specs.Events.{Told, events}
+use Rattle.yamux_session.specs.Output.{output}
+use Rattle.yamux_session.specs.State.{FirstFaults, EndsWith}
+use Rattle.conn_log.specs.Entries.{items}
+use Rattle.conn_core.specs.declared.calls.ConnAct.{ConnAct}
+use Rattle.conn_core.specs.declared.calls.ConnAct.TheVariants.{Feed, Ask, Ended}
+use Rattle.conn_core.specs.Promises.{fed_by, opened_by}
+use Rattle.conn_core.specs.declared.calls.ConnAnswer.{ConnAnswer}
+use Rattle.conn_core.specs.Connects.{told_of, session_role}
+use Rattle.conn_core.specs.Connects.Ends.{Upgrade, Session, Early, Within, Shut}
+use Rattle.conn_core.specs.Made.{answered_all}
+use Rattle.conn_core.specs.Runs.{Point, has_ended, IsTurnedAway, StaysBehind}
+use Rattle.conn_core.specs.Runs.Point.{Spent}
+use Rattle.conn_core.specs.Runs.Explains.{Coming, Up, Over}
+use Rattle.held_order.specs.Orders.{Held}
+use Rattle.row_check.specs.AnyConnRows.{AnyConnAnswerRows, AnyHolderRows, AnySumRows, AnyConnEndRows, AnyWholeRunRows, ends, explains, is_faulty, is_up}
+
+-- ---- calls
+
+turned_away : {H : Type 0} (told : List (ConnEvent H)) (reason : ConnRefused) (here next : Point H) → has_ended told ≡ true
+    → IsTurnedAway told reason here next → (reason ≡ refusals.Failed) × (next ≡ here)
+turned_away told reason here next e (inl t) = (t.1, t.2)
+turned_away told reason here next e (inr t) = absurd (let never : true ≡ false = sym e ∙ t.0 in cc never)
+
+no_memory : {H : Type 0} (told : List (ConnEvent H)) (reason : ConnRefused) (here next : Point H) → has_ended told ≡ false
+    → IsTurnedAway told reason here next → (reason ≡ refusals.OutOfMemory) × (next ≡ Spent)
+no_memory told reason here next e (inl t) = absurd (let never : true ≡ false = sym t.0 ∙ e in cc never)
+no_memory told reason here next e (inr t) = (t.1, t.2)
+
+stays : {H : Type 0} (reason : ConnRefused) (here next : Point H) → reason ≢ refusals.OutOfMemory → StaysBehind reason here next → next ≡ here
+stays reason here next ne (inl t) = t.1
+stays reason here next ne (inr t) = absurd (ne t.0)
+
+spends : {H : Type 0} (here next : Point H) → StaysBehind refusals.OutOfMemory here next → next ≡ Spent
+spends here next (inl t) = absurd (t.0 refl)
+spends here next (inr t) = t.1
+
+pub any_calls : {P H : Type 0} → AnyConnAnswerRows P H
+any_calls = record {
+  no_end = λ key n index handler cause. (refl, refl, refl, refl, refl);
+  an_end = λ reason. (refl, refl);
+  nothing_told = refl;
+  ended = λ e told is. rw is refl;
+  not_ended = λ e told is. rw is refl;
+  answers_events = λ told reason. (refl, refl);
+  answers_stream = λ n reason. (refl, refl);
+  turned_away = λ told reason here next e. (λ t. turned_away told reason here next e t, λ t. inl (e, t.0, t.1));
+  out_of_memory = λ told reason here next e. (λ t. no_memory told reason here next e t, λ t. inr (e, t.0, t.1));
+  stays = λ reason here next ne. (λ t. stays reason here next ne t, λ is. inl (ne, is));
+  spent = λ here next. (λ t. spends here next t, λ is. inr (refl, is));
+  up_opens = λ listed mux index. (λ h. h, λ h. h);
+  up_refuses_index = λ listed mux index reason le. (λ h. beyond (length (listed mux.board.protocols)) index reason le h, λ is. inl (le, is));
+  up_refuses = λ listed mux index reason lt. (λ h. within (length (listed mux.board.protocols)) index lt h, λ h. inr (lt, h));
+  owes = λ number before after. (λ h. h, λ h. h);
+  waits = λ mux written. (refl, refl);
+  waits_coming = λ x protocols written. refl;
+  holds = λ mux. refl;
+  ordered = λ mux. (λ h. h, λ h. h);
+  ordered_else = λ x protocols. (tt, tt);
+} where
+  beyond : {A : Type 0} (count index : ℕ) (reason : ConnRefused) → count ≤ index → ((count ≤ index) × (reason ≡ refusals.BadIndex)) ⊎ ((index < count) × A) → reason ≡ refusals.BadIndex
+  beyond count index reason le (inl h) = h.1
+  beyond count index reason le (inr h) = absurd (omega (arith, le, h.0))
+
+  within : {A B : Type 0} (count index : ℕ) → index < count → ((count ≤ index) × A) ⊎ ((index < count) × B) → B
+  within count index lt (inl h) = absurd (omega (arith, lt, h.0))
+  within count index lt (inr h) = h.1
+
+-- ---- holders and sums
+
+none_more : (H : Type 0) (held : Held) (early : List Bool) → answered_all {H = H} held early [] ≡ held
+none_more H held [] = refl
+none_more H held (one ∷ early) = refl
+
+both_true : (a b : Bool) → a && b ≡ true → (a ≡ true) × (b ≡ true)
+both_true true b e = (refl, e)
+both_true false b e = absurd (cc e)
+
+pub any_holders : {P H : Type 0} → AnyHolderRows P H
+any_holders = record {
+  none = (refl, refl);
+  one = λ n stream handler streams e. rw e refl;
+  without_one = λ n stream streams e. rw e refl;
+  one_past = λ it handler past e. rw e refl;
+  past_without_one = λ it past e. rw e refl;
+  are_held = λ past streams table ascend found. record { table = table; ascend = ascend; found = found; handlers_are = refl };
+  are_held_is = λ streams past handlers h. (h.table, h.ascend, h.found, h.handlers_are);
+  at_first = (refl, refl);
+  told = λ held early told. refl;
+  opened_early = λ held n. refl;
+  opened = λ held n. refl;
+  refused = λ held early reason. refl;
+  each = λ held early more answer answers. refl;
+  none_more = none_more _;
+  eager_alone = λ listed is_eager start index. (
+    λ e. (
+      ltb-true index (length (listed start)) (both_true (nat_lt index (length (listed start))) (is_eager start index) e).0,
+      (both_true (nat_lt index (length (listed start))) (is_eager start index) e).1,
+    ),
+    λ h. rw (lt-ltb index (length (listed start)) h.0) h.1,
+  );
+  asks_none = λ listed is_eager start bytes. (refl, refl);
+}
+
+no_call : {H : Type 0} (answers : List (ConnAnswer H)) → (fed_by [] answers ≡ []) × (opened_by [] answers ≡ [])
+no_call [] = (refl, refl)
+no_call (answer ∷ answers) = (refl, refl)
+
+no_answer : (H : Type 0) (calls : List ConnAct) → (fed_by {H = H} calls [] ≡ []) × (opened_by {H = H} calls [] ≡ [])
+no_answer H [] = (refl, refl)
+no_answer H (Feed bytes ∷ calls) = (refl, refl)
+no_answer H (Ask index ∷ calls) = (refl, refl)
+no_answer H (Ended ∷ calls) = (refl, refl)
+
+pub any_sums : {H : Type 0} → AnySumRows H
+any_sums = record {
+  no_call = no_call;
+  no_answer = no_answer _;
+  fed = λ bytes told calls answers. refl;
+  fed_in_vain = λ bytes reason calls answers. refl;
+  fed_nothing = λ index answer calls answers. (refl, refl);
+  opened = λ index n calls answers. refl;
+  opened_none = λ index reason calls answers. refl;
+  unasked = λ bytes answer calls answers. (refl, refl);
+  told_nothing = refl;
+  told = λ told answers. refl;
+  told_none = λ n reason answers. (refl, refl);
+}
+
+-- ---- where an end stands
+
+module _ {P H : Type 0} (step : H → HandlerCall → H → Type 0) (fails : H → Asked → ℕ → Type 0) (is_closed is_finished : H → Bool)
+    (inbound_makes outbound_makes : P → ℕ → List ℕ → H → Type 0) (listed : P → List (List ℕ)) (is_eager : P → ℕ → Bool)
+    (inbound_leads outbound_leads : P → ℕ → List ℕ → H → P → Type 0) (start : P) (role : ConnRole) (own : Key) where
+  abbrev over_by : List ℕ → Bool → List (ℕ × ℕ) → List (ConnEvent H) → List ℕ → Type 0
+  over_by = ends step fails is_closed is_finished inbound_makes outbound_makes listed is_eager inbound_leads outbound_leads start role own
+
+  abbrev up_so : List ℕ → List (ℕ × ℕ) → List (ConnEvent H) → List ℕ → State → (ℕ → Option (Streaming H)) → List (Earlier H) → Type 0
+  up_so = is_up step fails is_closed is_finished inbound_makes outbound_makes listed is_eager inbound_leads outbound_leads start role own
+
+  abbrev faulty_so : List ℕ → List (ℕ × ℕ) → List (ConnEvent H) → List ℕ → Type 0
+  faulty_so = is_faulty step fails is_closed is_finished inbound_makes outbound_makes listed is_eager inbound_leads outbound_leads start role own
+
+  ends_is : (input written : List ℕ) (ended : Bool) (asked : List (ℕ × ℕ)) (told : List (ConnEvent H)) → over_by input ended asked told written
+      → ((reason : UpgradeFault) × (named : ConnFault) × (first : List ℕ) × (told_of reason ≡ Some named)
+      × ComesTo role own input first (Err reason) written × (asked ≡ []) × (told ≡ event.Fault named ∷ []))
+      ⊎ (faulty_so input asked told written
+      ⊎ (((ended ≡ true) × Upgrades role own input (Ok None) written × (asked ≡ []) × (told ≡ event.Fault fault.EarlyEnd ∷ []))
+      ⊎ ((before : List (ConnEvent H)) × (session : State) × (streams : ℕ → Option (Streaming H)) × (past : List (Earlier H))
+      × (ended ≡ true) × (up : up_so input asked before written session streams past)
+      × ((EndsWithin up.rest × (told ≡ before ++ event.Fault fault.EarlyEnd ∷ []))
+      ⊎ (¬ EndsWithin up.rest × (told ≡ before ++ event.Shut ∷ []))))))
+  ends_is input written ended asked told (Upgrade reason named first is comes none tells) = inl (reason, named, first, is, comes, none, tells)
+  ends_is input written ended asked told (Session faulty) = inr (inl faulty)
+  ends_is input written ended asked told (Early e u none tells) = inr (inr (inl (e, u, none, tells)))
+  ends_is input written ended asked told (Within before session streams past e up within tells) =
+      inr (inr (inr (before, session, streams, past, e, up, inl (within, tells))))
+  ends_is input written ended asked told (Shut before session streams past e up between tells) =
+      inr (inr (inr (before, session, streams, past, e, up, inr (between, tells))))
+
+  pub any_ends : AnyConnEndRows step fails is_closed is_finished inbound_makes outbound_makes listed is_eager inbound_leads outbound_leads start role own
+  any_ends = record {
+    coming = λ input taken x r o s. record { role_is = r; own_is = o; protocols_are = refl; stands = s; none_told = refl };
+    coming_is = λ input taken told x protocols c. (c.role_is, c.own_is, c.protocols_are, c.stands, c.none_told);
+    up = λ first rest greeting key log session streams past now u r b e m. record {
+      key = key;
+      first = first;
+      rest = rest;
+      greeting = greeting;
+      log = log;
+      input_is = refl;
+      upgraded = u;
+      at_rest = r;
+      rested = b;
+      asks_are = refl;
+      early = e;
+      now = now;
+      makes = m;
+      told_is = refl;
+      written_is = refl;
+    };
+    up_is = λ input written asked told session streams past u.
+        (u.key, u.first, u.rest, u.greeting, u.log, u.now, u.input_is, u.upgraded, u.at_rest, u.rested, u.asks_are, u.early, u.makes, u.told_is, u.written_is);
+    faulty = λ first rest greeting sent pending key asked before now u f e. record {
+      key = key;
+      first = first;
+      rest = rest;
+      greeting = greeting;
+      sent = sent;
+      pending = pending;
+      before = before;
+      now = now;
+      input_is = refl;
+      upgraded = u;
+      faults = f;
+      early = e;
+      told_is = refl;
+      written_is = refl;
+    };
+    faulty_is = λ input written asked told f.
+        (f.key, f.first, f.rest, f.greeting, f.sent, f.pending, f.before, f.now, f.input_is, f.upgraded, f.faults, f.early, f.told_is, f.written_is);
+    upgrade_ends = λ input first written ended reason named is comes. Upgrade reason named first is comes refl refl;
+    session_ends = λ input written ended asked told f. Session f;
+    ends_early = λ input written u. Early refl u refl refl;
+    ends_within = λ input written asked before session streams past up within. Within before session streams past refl up within refl;
+    shut = λ input written asked before session streams past up between. Shut before session streams past refl up between refl;
+    ends_is = ends_is;
+    up_with = λ input written asked told mux. (λ h. h, λ h. h);
+    connects_coming = λ input taken waiting ended asked told owed x protocols. (λ h. h, λ h. h);
+    connects_up = λ input taken waiting ended asked told owed mux. (λ h. h, λ h. h);
+    connects_over = λ input taken waiting ended asked told owed. (λ h. h, λ h. h);
+    an_end_stands = λ input taken ended asked told core. (λ h. h, λ h. h);
+    breaks = λ peer now asked told newer front rest sent pending session streams past more reason used are makes rested at_rest first alone le whole out. record {
+      newer = newer;
+      told_is = refl;
+      asks_are = are;
+      makes = makes;
+      rested = rested;
+      front = front;
+      rest = rest;
+      bytes_are = refl;
+      session = session;
+      streams = streams;
+      past = past;
+      at_rest = at_rest;
+      now = map Came more ++ items (newer ++ []);
+      came = (more, refl);
+      fault = first;
+      alone = (reason, alone);
+      frames = (used, le, whole);
+      output_is = out;
+    };
+    breaks_is = λ peer now asked told before bytes sent pending f. (
+      f.newer,
+      f.front,
+      f.rest,
+      f.session,
+      f.streams,
+      f.past,
+      f.came.0,
+      f.alone.0,
+      f.frames.0,
+      f.told_is,
+      f.asks_are,
+      f.makes,
+      f.rested,
+      f.bytes_are,
+      f.at_rest,
+      subst (λ (l : List Item). FirstFaults (session_role role) l) f.came.1 f.fault,
+      subst (λ (l : List Item). events (session_role role) l ≡ events (session_role role) (items (f.newer ++ [])) ++ Told.Fault f.alone.0 ∷ []) f.came.1 f.alone.1,
+      f.frames.1,
+      subst (λ (l : List Item). EndsWith (f.front ++ take f.frames.0 f.rest) (arrivals l)) f.came.1 f.frames.2,
+      subst (λ (l : List Item). sent ++ pending ≡ output (session_role role) l) f.came.1 f.output_is,
+    );
+  }
+
+  -- ---- calls and runs
+
+  abbrev explained_by : List ℕ → Bool → List (ℕ × ℕ) → List (ConnEvent H) → List (ConnEvent H) → List ℕ → Type 0
+  explained_by = explains step fails is_closed is_finished inbound_makes outbound_makes listed is_eager inbound_leads outbound_leads start role own
+
+  explains_is : (input written : List ℕ) (ended : Bool) (asked : List (ℕ × ℕ)) (told owed : List (ConnEvent H)) → explained_by input ended asked told owed written
+      → ((ended ≡ false) × (asked ≡ []) × (told ≡ []) × (owed ≡ []) × Upgrades role own input (Ok None) written)
+      ⊎ (((ended ≡ false) × ((session : State) × (streams : ℕ → Option (Streaming H)) × (past : List (Earlier H))
+      × up_so input asked (told ++ owed) written session streams past))
+      ⊎ ((owed ≡ []) × over_by input ended asked told written))
+  explains_is input written ended asked told owed (Coming e a t o u) = inl (e, a, t, o, u)
+  explains_is input written ended asked told owed (Up session streams past e u) = inr (inl (e, (session, streams, past, u)))
+  explains_is input written ended asked told owed (Over o x) = inr (inr (o, x))
+
+  pub any_runs : AnyWholeRunRows step fails is_closed is_finished inbound_makes outbound_makes listed is_eager inbound_leads outbound_leads start role own
+  any_runs = record {
+    coming = λ input written u. Coming refl refl refl refl u;
+    up = λ input written asked told owed session streams past u. Up session streams past refl u;
+    over = λ input written ended asked told x. Over refl x;
+    explains_is = explains_is;
+    explained = λ input ended asked told owed. (λ h. h, λ h. h);
+    spent = tt;
+    coming_opens_none = λ input written ended asked told owed e a t o u index reason handlers. (λ h. h, (λ h. h, λ h. h), (λ h. h, λ h. h));
+    up_opens = λ input written ended asked told owed session streams past e u index. (λ h. h, λ h. h);
+    up_refuses = λ input written ended asked told owed session streams past e u index reason. (λ h. h, λ h. h);
+    up_holds = λ input written ended asked told owed session streams past e u handlers. (λ h. h, λ h. h);
+    over_opens_none = λ input written ended asked told owed o x index reason handlers. (λ h. h, (λ h. h, λ h. h), (λ h. h, λ h. h));
+    fed = λ input ended asked told owed bytes more next. (λ h. h, λ h. h);
+    fed_in_vain = λ input ended asked told owed bytes reason next. (λ h. h, λ h. h);
+    opened = λ input ended asked told owed index n next. (λ h. h, λ h. h);
+    not_opened = λ input ended asked told owed index reason next. (λ h. h, λ h. h);
+    ended = λ input over asked told owed more next. (λ h. h, λ h. h);
+    ended_in_vain = λ input over asked told owed reason next. (λ h. h, λ h. h);
+    other_answers = λ input over asked told owed bytes more index n next. (λ h. h, λ h. h, λ h. h);
+    call = λ input ended asked told owed act answer next. (λ h. h, λ h. h);
+    call_spent = λ act answer next. (λ h. h, λ h. h);
+    no_call = λ point last. (λ h. h, λ h. h);
+    calls = λ point last act acts answer answers. (λ h. h, λ h. h);
+    uneven = λ point last act acts answer answers. (λ h. h, λ h. h);
+    left = λ input written ended asked told owed handlers. (λ h. h, λ h. h);
+    left_spent = λ written handlers. (λ h. h, λ h. h);
+    runs = λ acts answers written handlers. (λ h. h, λ h. h);
+    at_point = λ input ended asked told owed core. (λ h. h, λ h. h);
+    at_spent = λ core. (λ h. h, λ h. h);
+  }

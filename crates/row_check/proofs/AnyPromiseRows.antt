@@ -1,0 +1,90 @@
+-- The rows of the laws of a connection, and of the order of its handlers.
+use Rattle.std.proofs.Common.{◌≡◌, ◌≢◌, ℕ, suc, ◌==◌, ◌||◌, Bool, true, false, List, [], ◌∷◌, ◌++◌, Some, None, refl, ap, ◌∙◌, ne_eqb, eq-eqb, lt-ltb, arith, length, cond, nat_lt}
+use Rattle.std.specs.List.{list_any, position, position_or_len, AllByRecursion}
+use Rattle.handlers.specs.Calls.{HandlerCall, Asked}
+use Rattle.peer_ids.specs.Key.{Key}
+use Rattle.upgrade.specs.declared.role.ConnRole.{ConnRole}
+use Rattle.held_order.specs.Orders.{arranged}
+use Rattle.row_check.specs.AnyPromiseRows.{AnyOrderRows, AnyPromiseRows}
+
+-- whether a number stands in a list
+stands_there : (n : ℕ) (before behind : List ℕ) → list_any (λ m. m == n) (before ++ n ∷ behind) ≡ true
+stands_there n [] behind = rw (eq-eqb n n refl) refl
+stands_there n (m ∷ before) behind = either (m == n) (stands_there n before behind) where
+  either : (b : Bool) → list_any (λ k. k == n) (before ++ n ∷ behind) ≡ true → b || list_any (λ k. k == n) (before ++ n ∷ behind) ≡ true
+  either true e = refl
+  either false e = e
+
+stands_nowhere : (n : ℕ) (xs : List ℕ) → AllByRecursion (λ m. m ≢ n) xs → list_any (λ m. m == n) xs ≡ false
+stands_nowhere n [] all = refl
+stands_nowhere n (m ∷ xs) all = rw (ne_eqb m n all.0) (stands_nowhere n xs all.1)
+
+none_held : (H : Type 0) (order : List ℕ) → arranged {H = H} order [] ≡ []
+none_held H [] = refl
+none_held H (n ∷ order) = none_held H order
+
+at_head : {H : Type 0} (n : ℕ) (handler : H) (held : List (ℕ × H)) → position (λ one. one.0 == n) ((n, handler) ∷ held) ≡ Some 0
+at_head {H} n handler held =
+    let none_before : position_or_len (λ (one : ℕ × H). one.0 == n) ((n, handler) ∷ held) ≡ 0 = rw (eq-eqb n n refl) refl in
+    ap (λ k. cond (nat_lt k (suc (length held))) (Some k) None) none_before ∙ ap (λ b. cond b (Some 0) None) (lt-ltb 0 (suc (length held)) (omega arith))
+
+pub any_orders : {H : Type 0} → AnyOrderRows H
+any_orders = record {
+  opened_early = λ held n. refl;
+  agreed_early = λ held n index before behind e. rw e rw (stands_there n before behind) refl;
+  agreed = λ held n index all. rw (stands_nowhere n held.early all) refl;
+  goes = λ held n handler cause. (refl, refl, refl);
+  nothing_heard = λ held. refl;
+  heard = λ held e told. refl;
+  no_order = λ held. refl;
+  first_of_all = λ n handler order held. rw (at_head n handler held) refl;
+  none_held = none_held _;
+  count_of_none = λ n. refl;
+  count_one = λ n order. rw (eq-eqb n n refl) omega arith;
+  count_another = λ n m order ne. rw (ne_eqb m n ne) refl;
+  of_none = λ n. refl;
+  of_it = λ n handler held. rw (eq-eqb n n refl) refl;
+  of_another = λ n m handler held ne. rw (ne_eqb m n ne) refl;
+  numbered = λ held. refl;
+  lets_go = λ law n newest. law n newest;
+  arranges = λ law. law.all;
+  follows = λ law. law.follows;
+  one_list = λ law. law.one_list;
+  listed_are_held = λ law. law;
+}
+
+module _ {P H : Type 0} (step : H → HandlerCall → H → Type 0) (fails : H → Asked → ℕ → Type 0) (is_closed is_finished : H → Bool)
+    (inbound_makes outbound_makes : P → ℕ → List ℕ → H → Type 0) (listed : P → List (List ℕ)) (is_eager : P → ℕ → Bool)
+    (inbound_leads outbound_leads : P → ℕ → List ℕ → H → P → Type 0) (start : P) (role : ConnRole) (own : Key) where
+  pub any_promises : AnyPromiseRows step fails is_closed is_finished inbound_makes outbound_makes listed is_eager inbound_leads outbound_leads start role own
+  any_promises = record {
+    serving_is = λ end log n stream handler s. (
+      s.side,
+      s.index,
+      s.first,
+      s.rest,
+      s.output,
+      s.gave,
+      s.made,
+      s.left,
+      s.side_is,
+      s.data_is,
+      s.agrees,
+      s.agreed_is,
+      s.made_is,
+      s.handled,
+      s.sent_is,
+      s.unfinished,
+      (s.asked_last, s.all_sent),
+    );
+    early_is = λ end log n stream handler s.
+        (s.side, s.output, s.gave, s.made, s.left, s.opened, s.side_is, s.undecided, s.made_is, s.handled, s.sent_is, (s.asked_last, s.all_sent));
+    are_serving = λ law. law;
+    are_early = λ law. law;
+    live_are_held = λ law. law;
+    up_is_split = λ law session streams past input asked told written up.
+        let s = law session streams past input asked told written up in
+        (s.key, s.first, s.rest, s.greeting, s.read.0, s.input_is, s.upgraded, s.read.1, s.no_fault, s.answered, s.told_is, s.written_is);
+    each_is_answered = λ law. law;
+    all_is_counted = λ law. law;
+  }

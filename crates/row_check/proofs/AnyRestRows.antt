@@ -1,0 +1,213 @@
+-- The rows of the streams that a connection holds, and of which entries may stand where.
+use Rattle.std.proofs.Common.{◌≡◌, ◌≢◌, ◌⊎◌, ℕ, inl, inr, Bool, List, [], ◌∷◌, Option, Some, None, IfSome, refl, sym, ap, subst, append-nil}
+use Rattle.handlers.specs.Calls.{HandlerCall, Asked}
+use Rattle.yamux_session.specs.declared.event.Role.{Role}
+use Rattle.streams.specs.declared.stop.Cause.{Cause}
+use Rattle.streams.specs.declared.stop.Cause.TheVariants as causes
+use Rattle.yamux_session.specs.Data.{inbound}
+use Rattle.talks.specs.Talks.{IsOpen}
+use Rattle.conn_log.specs.declared.event.ConnEvent.TheVariants as event
+use Rattle.conn_log.specs.Entries.{Entry, items}
+use Rattle.conn_log.specs.Entries.Entry.{Of, Says, Made, Asks}
+use Rattle.conn_log.specs.Due.{IsGivenUp}
+use Rattle.row_check.specs.AnyRestRows.{AnySideRows, AnyHeldRows, AnyComingRows, AnyDueRows, AnyRestRows, may_be_made, rests}
+
+pub any_sides : {H : Type 0} → AnySideRows H
+any_sides = record {
+  asks_for = λ role names log n name index. (λ h. h, λ h. h);
+  answers = λ role names log n known. (λ h. h, λ h. h);
+}
+
+pub any_held : {H : Type 0} (step : H → HandlerCall → H → Type 0) (is_closed is_finished : H → Bool) (names : List (List ℕ)) (role : Role)
+    → AnyHeldRows step is_closed is_finished names role
+any_held step is_closed is_finished names role = record {
+  held = λ log n got ended stream so_far h. record {
+    so_far = so_far;
+    side_is = h.0;
+    got_is = h.1;
+    ended_is = h.2;
+    sent_is = h.3;
+    made_is = h.4;
+    stands = h.5;
+    talking = h.6;
+    agreed_on = h.7;
+    over = h.8;
+    served = h.9;
+  };
+  held_is = λ log n got ended stream h.
+      (h.so_far, (h.side_is, h.got_is, h.ended_is, h.sent_is, h.made_is, h.stands, h.talking, h.agreed_on, h.over, h.served));
+  at_rest = λ log n stream held settled unfinished over. record { held = held; settled = settled; unfinished = unfinished; over_by_end = over };
+  at_rest_is = λ log n stream r. (r.held, r.settled, r.unfinished, r.over_by_end);
+  past = λ newer older n stream over kept r. record { newer = newer; older = older; log_is = refl; over = over; kept = kept; place_is = refl; at_rest = r };
+  past_is = λ log n place stream p. (p.newer, p.older, p.log_is, p.over, p.kept, p.place_is, p.at_rest);
+  left_to_none = λ log n place. (λ h. h, λ h. h);
+  left = λ log n place stream streams. (λ h. h, λ h. h);
+}
+
+given_up_is : {H : Type 0} (n : ℕ) (log : List (Entry H)) → IsGivenUp n log → (older : List (Entry H))
+    × ((log ≡ Says (event.Refused n) ∷ older) ⊎ ((cause : Cause) × (cause ≢ causes.Reset) × (log ≡ Says (event.Broken n cause) ∷ older)))
+given_up_is n [] g = absurd g
+given_up_is n (Of x ∷ log) g = absurd g
+given_up_is n (Made m handler ∷ log) g = absurd g
+given_up_is n (Asks m index ∷ log) g = absurd g
+given_up_is n (Says (event.Refused m) ∷ log) g = (log, inl (ap (λ k. Says (event.Refused k) ∷ log) g))
+given_up_is n (Says (event.Broken m cause) ∷ log) g = (log, inr (cause, g.1, ap (λ k. Says (event.Broken k cause) ∷ log) g.0))
+given_up_is n (Says (event.Upgraded key) ∷ log) g = absurd g
+given_up_is n (Says (event.Agreed m index) ∷ log) g = absurd g
+given_up_is n (Says (event.Done m handler) ∷ log) g = absurd g
+given_up_is n (Says (event.Fault fault) ∷ log) g = absurd g
+given_up_is n (Says event.Shut ∷ log) g = absurd g
+
+module _ {P H : Type 0} (step : H → HandlerCall → H → Type 0) (fails : H → Asked → ℕ → Type 0) (is_closed is_finished : H → Bool)
+    (inbound_makes outbound_makes : P → ℕ → List ℕ → H → Type 0) (eager : ℕ → Bool) (names : List (List ℕ)) (peer : List ℕ) (role : Role) where
+  pub any_coming : AnyComingRows step fails is_closed is_finished inbound_makes outbound_makes eager names peer role
+  any_coming = record {
+    come = λ log n so_far rest side got ended sent made. record { side_is = side; rest = rest; got_is = got; ended_by = ended; sent_is = sent; made_is = made };
+    come_is = λ log n so_far c. (c.rest, c.side_is, c.got_is, c.ended_by, c.sent_is, c.made_is);
+    there = λ log n so_far stream come stands. record { so_far = so_far; stream = stream; come = come; stands = stands };
+    there_is = λ log n t. (t.so_far, t.stream, t.come, t.stands);
+    asked_to_take = λ log n so_far waiting bytes. (λ h. h, λ h. h);
+    asked_to_end = λ log n so_far waiting. (λ h. h, λ h. h);
+    asked_to_give = λ log n room so_far waiting. (λ h. h, λ h. h);
+    fails_by = λ log n number there handler request held asked by.
+        record { there = there; handler = handler; held = held; request = request; asked_for = asked; fails_by = by };
+    fails_by_is = λ log n number f. (f.there, f.handler, f.request, f.held, f.asked_for, f.fails_by);
+    heard = λ log n stream held unfinished. record { stream = stream; held = held; unfinished = unfinished };
+    heard_is = λ log n h. (h.stream, h.held, h.unfinished);
+    broken_in_talk = λ log n fault. (
+      λ h. (h.0, h.1, (h.2.side, h.2.first, h.2.rest, h.2.output, (h.2.side_is, h.2.data_is), h.2.comes_to)),
+      λ h. (h.0, h.1, record { side = h.2.0; first = h.2.1; rest = h.2.2; output = h.2.3; side_is = h.2.4.0; data_is = h.2.4.1; comes_to = h.2.5 }),
+    );
+    broken_by_handler = λ log n fault. (λ h. h, λ h. h);
+    broken_by_reset = λ log n. (λ h. h, λ h. h);
+    broken_by_its_end = λ log n. (
+      λ h. (h.0, h.1, (h.2.side, h.2.output, h.2.side_is, subst (λ (t : List ℕ). IsOpen h.2.side t h.2.output) h.2.comes_to.0 h.2.comes_to.1)),
+      λ h. (
+        h.0,
+        h.1,
+        record {
+          side = h.2.0;
+          first = inbound role (items log) n;
+          rest = [];
+          output = h.2.1;
+          side_is = h.2.2;
+          data_is = sym (append-nil (inbound role (items log) n));
+          comes_to = (refl, h.2.3);
+        },
+      ),
+    );
+    done = λ log n handler so_far waiting come served finished. record { so_far = so_far; waiting = waiting; come = come; served = served; finished = finished };
+    done_is = λ log n handler d. (d.so_far, d.waiting, d.come, d.served, d.finished);
+    given = λ log n there none over. record { there = there; none_waits = none; over = over };
+    given_is = λ log n g. (g.there, g.none_waits, g.over);
+  }
+
+  made_is : (log : List (Entry H)) (n : ℕ) (handler : H) → may_be_made step fails is_closed is_finished inbound_makes outbound_makes eager names peer role log n handler
+      → (index : ℕ) × (older : List (Entry H)) × ((log ≡ Says (event.Agreed n index) ∷ older) ⊎ (log ≡ Asks n index ∷ older))
+  made_is [] n handler m = absurd m
+  made_is (Of x ∷ log) n handler m = absurd m
+  made_is (Made k other ∷ log) n handler m = absurd m
+  made_is (Asks k index ∷ log) n handler m = (index, log, inr (ap (λ it. Asks it index ∷ log) m.0))
+  made_is (Says (event.Agreed k index) ∷ log) n handler m = (index, log, inl (ap (λ it. Says (event.Agreed it index) ∷ log) m.0))
+  made_is (Says (event.Upgraded key) ∷ log) n handler m = absurd m
+  made_is (Says (event.Refused k) ∷ log) n handler m = absurd m
+  made_is (Says (event.Done k other) ∷ log) n handler m = absurd m
+  made_is (Says (event.Broken k cause) ∷ log) n handler m = absurd m
+  made_is (Says (event.Fault fault) ∷ log) n handler m = absurd m
+  made_is (Says event.Shut ∷ log) n handler m = absurd m
+
+  pub any_due : AnyDueRows step fails is_closed is_finished inbound_makes outbound_makes eager names peer role
+  any_due = record {
+    none = tt;
+    all = λ entry log. (λ h. h, λ h. h);
+    came = λ log x. (λ h. h, λ h. h);
+    unasked = λ log n code. (λ h. h, λ h. h);
+    writes = λ log n pieces. (λ h. h, λ h. h);
+    takes = λ log n count. (λ h. h, λ h. h);
+    closes = λ log n. (λ h. h, λ h. h);
+    resets_refused = λ log n m. (λ h. h, λ h. h);
+    resets_broken = λ log n m cause. (λ h. h, λ h. h);
+    resets_is = λ log n g. given_up_is n log g;
+    agrees = λ log n index. (
+      λ h. (h.0, h.1, (h.2.side, h.2.first, h.2.rest, h.2.output, (h.2.side_is, h.2.data_is), h.2.comes_to)),
+      λ h. (h.0, h.1, record { side = h.2.0; first = h.2.1; rest = h.2.2; output = h.2.3; side_is = h.2.4.0; data_is = h.2.4.1; comes_to = h.2.5 }),
+    );
+    refused = λ log n. (
+      λ h. (h.0, h.1, (h.2.side, h.2.first, h.2.rest, h.2.output, (h.2.side_is, h.2.data_is), h.2.comes_to)),
+      λ h. (h.0, h.1, record { side = h.2.0; first = h.2.1; rest = h.2.2; output = h.2.3; side_is = h.2.4.0; data_is = h.2.4.1; comes_to = h.2.5 }),
+    );
+    handed_out = λ log n handler. (λ h. h, λ h. h);
+    broken = λ log n cause. (λ h. h, λ h. h);
+    of_no_stream = λ log key fault. (λ h. h, λ h. h, λ h. h);
+    made = λ log n handler. (λ h. h, λ h. h);
+    asked_for = λ log n index. (λ h. h, λ h. h);
+    made_inbound = λ log n m index handler e. rw e (λ h. h, λ h. h);
+    made_outbound = λ log n m index handler e. rw e (λ h. h, λ h. h);
+    made_early = λ log n m index handler e. rw e (λ h. h, λ h. h);
+    made_is = made_is;
+  }
+
+  -- what is said of each stream that is there
+  some_is : {A : Type 0} (found : Option A) (fact : A → Type 0) → IfSome found fact → (x : A) → found ≡ Some x → fact x
+  some_is found fact h x e = subst (λ o. IfSome o fact) e h
+
+  if_some : {A : Type 0} (found : Option A) (fact : A → Type 0) → ((x : A) → found ≡ Some x → fact x) → IfSome found fact
+  if_some None fact h = tt
+  if_some (Some x) fact h = h x refl
+
+  pub any_rest : AnyRestRows step fails is_closed is_finished inbound_makes outbound_makes eager names peer role
+  any_rest = record {
+    at_rest = λ log fed sent session streams past. (
+      λ r. (
+        r.session_stands,
+        r.due,
+        r.in_turn,
+        (λ n stream e. some_is (streams n) (λ it. rests step is_closed is_finished names role log n it) (r.each n) stream e),
+        r.live_held,
+        r.made_held,
+        r.resets_told,
+        r.earlier,
+        r.past_is,
+      ),
+      λ h. record {
+        session_stands = h.0;
+        due = h.1;
+        in_turn = h.2;
+        each = λ n. if_some (streams n) (λ it. rests step is_closed is_finished names role log n it) (h.3 n);
+        live_held = h.4;
+        made_held = h.5;
+        resets_told = h.6;
+        earlier = h.7;
+        past_is = h.8;
+      },
+    );
+    rested = λ log. (
+      λ r. (r.fed, r.sent, r.session, r.streams, r.past, r.at_rest),
+      λ h. record { fed = h.0; sent = h.1; session = h.2; streams = h.3; past = h.4; at_rest = h.5 },
+    );
+    none = tt;
+    head = λ h log. (λ r. r, λ r. r);
+    asked_for = λ n index log. (λ r. r, λ r. r);
+    part = λ b log. (λ r. r, λ r. r);
+    tail = λ log. (λ r. r, λ r. r);
+    garbled = λ bytes log. (λ r. r, λ r. r);
+    acted = λ act log. (λ r. r, λ r. r);
+    told = λ e log. (λ r. r, λ r. r);
+    made = λ n handler log. (λ r. r, λ r. r);
+    grows = λ making newer log before fed sent session streams past unasked makes rested at_rest.
+        record { newer = newer; told_is = refl; unasked = unasked; makes = makes; rested = rested; at_rest = at_rest };
+    grows_is = λ making log before after fed sent session streams past g. (g.newer, g.told_is, g.unasked, g.makes, g.rested, g.at_rest);
+    asked = λ making index later log before fed sent session streams past alone only at_once makes rested at_rest. record {
+      later = later;
+      number_is = refl;
+      told_is = refl;
+      alone = alone;
+      only_broken = only;
+      at_once = at_once;
+      makes = makes;
+      rested = rested;
+      at_rest = at_rest;
+    };
+    asked_is = λ making number index log before after fed sent session streams past a.
+        (a.later, a.number_is, a.told_is, a.alone, a.only_broken, a.at_once, a.makes, a.rested, a.at_rest);
+  }

@@ -1,0 +1,160 @@
+-- Each law of a connection and of the order of its handlers, written out once more, and what each fact that it tells
+-- comes to: a law that comes to say less no longer lets conclude this. With rows of that order, whatever is in it.
+-- Source: libp2p connections, "Opening new streams over a connection"; this project's laws.
+use Rattle.std.specs.Prelude.{◌≡◌, ◌≢◌, ◌⊎◌, ◌↔◌, ℕ, ◌<◌, Bool, true, false, List, [], ◌∷◌, ◌++◌, length, map, Option}
+use Rattle.std.specs.Prelude.{Some}
+use Rattle.std.specs.Prelude.{Ok, ◌+◌}
+use Rattle.std.specs.List.{AllByRecursion, Contains}
+use Rattle.handlers.specs.Calls.{HandlerCall, Asked}
+use Rattle.peer_ids.specs.Key.{Key}
+use Rattle.talks.specs.State.{Talking as Talk}
+use Rattle.talks.specs.Talks.{Side, Agrees, IsOpen}
+use Rattle.upgrade.specs.declared.role.ConnRole.{ConnRole}
+use Rattle.upgrade.specs.Upgrades.{Upgrades}
+use Rattle.yamux_frames.specs.Frames.{Reads}
+use Rattle.yamux_session.specs.declared.event.Role.{Role}
+use Rattle.yamux_session.specs.History.{arrivals, is_own}
+use Rattle.yamux_session.specs.Openings.{is_live, closed, finished}
+use Rattle.yamux_session.specs.Windows.{credit}
+use Rattle.yamux_session.specs.Data.{inbound, written as written_on}
+use Rattle.yamux_session.specs.Faults.{HasNoFault}
+use Rattle.yamux_session.specs.Acts.{AreAnswered}
+use Rattle.yamux_session.specs.Output.{output}
+use Rattle.yamux_session.specs.State.{State}
+use Rattle.streams.specs.declared.stage.Stage.TheVariants.{Talking, Serving}
+use Rattle.streams.specs.declared.stop.Cause.{Cause}
+use Rattle.streams.specs.Handled.{Handled}
+use Rattle.streams.specs.State.{Streaming, handler_of, was_handed_out}
+use Rattle.conn_log.specs.declared.earlier.Earlier.{Earlier}
+use Rattle.conn_log.specs.declared.event.ConnEvent.{ConnEvent}
+use Rattle.conn_log.specs.declared.event.ConnEvent.TheVariants as event
+use Rattle.conn_log.specs.Entries.{Entry, items, said, agreed, is_over, made_of}
+use Rattle.conn_log.specs.Held.{IsSide}
+use Rattle.held_order.specs.Orders.{Held, with_early, hears, hears_all, without, arranged}
+use Rattle.held_order.specs.Laws.{LetsGo, Arranges, times, numbers, of_number}
+use Rattle.conn_core.specs.declared.calls.ConnAct.{ConnAct}
+use Rattle.conn_core.specs.declared.calls.ConnAnswer.{ConnAnswer}
+use Rattle.conn_core.specs.Connects.{session_role}
+use Rattle.conn_core.specs.Runs.{Point, AreHeld}
+use Rattle.conn_core.specs.Runs.Point.{At}
+use Rattle.conn_core.specs.Promises.{IsServing, IsEarly, ListedAreHeld, fed_by, told_by, opened_by, AreServing}
+use Rattle.conn_core.specs.Promises.{AreEarly}
+use Rattle.conn_core.specs.Promises.{LiveAreHeld, UpIsSplit, EachIsAnswered, AllIsCounted}
+use Rattle.row_check.specs.AnyConnRows.{is_up, answers_all}
+
+-- In which order handlers were made, by what is told of any stream
+pub record AnyOrderRows (H : Type 0) : Type 0 where
+  pub opened_early : (held : Held) (n : ℕ)
+      → with_early n held ≡ record { early = held.early ++ n ∷ []; newest = n ∷ held.newest }
+  pub agreed_early : (held : Held) (n index : ℕ) (before behind : List ℕ) → held.early ≡ before ++ n ∷ behind
+      → hears {H = H} held (event.Agreed n index) ≡ held
+  pub agreed : (held : Held) (n index : ℕ) → AllByRecursion (λ m. m ≢ n) held.early
+      → hears {H = H} held (event.Agreed n index) ≡ record { early = held.early; newest = n ∷ held.newest }
+  pub goes : (held : Held) (n : ℕ) (handler : H) (cause : Cause)
+      → (hears {H = H} held (event.Refused n) ≡ record { early = held.early; newest = without n held.newest })
+      × (hears held (event.Done n handler) ≡ record { early = held.early; newest = without n held.newest })
+      × (hears {H = H} held (event.Broken n cause) ≡ record { early = held.early; newest = without n held.newest })
+  pub nothing_heard : (held : Held) → hears_all {H = H} held [] ≡ held
+  pub heard : (held : Held) (e : ConnEvent H) (told : List (ConnEvent H))
+      → hears_all held (e ∷ told) ≡ hears_all (hears held e) told
+  pub no_order : (held : List (ℕ × H)) → arranged [] held ≡ held
+  pub first_of_all : (n : ℕ) (handler : H) (order : List ℕ) (held : List (ℕ × H))
+      → arranged (n ∷ order) ((n, handler) ∷ held) ≡ (n, handler) ∷ arranged order held
+  pub none_held : (order : List ℕ) → arranged {H = H} order [] ≡ []
+  pub count_of_none : (n : ℕ) → times n [] ≡ 0
+  pub count_one : (n : ℕ) (order : List ℕ) → times n (n ∷ order) ≡ times n order + 1
+  pub count_another : (n m : ℕ) (order : List ℕ) → m ≢ n → times n (m ∷ order) ≡ times n order
+  pub of_none : (n : ℕ) → of_number {H = H} n [] ≡ []
+  pub of_it : (n : ℕ) (handler : H) (held : List (ℕ × H))
+      → of_number n ((n, handler) ∷ held) ≡ handler ∷ of_number n held
+  pub of_another : (n m : ℕ) (handler : H) (held : List (ℕ × H)) → m ≢ n
+      → of_number n ((m, handler) ∷ held) ≡ of_number n held
+  pub numbered : (held : List (ℕ × H)) → numbers held ≡ map (λ one. one.0) held
+  -- its laws
+  pub lets_go : LetsGo → (n : ℕ) (newest : List ℕ)
+      → ((newer older : List ℕ) × (newest ≡ newer ++ n ∷ older) × (times n newer ≡ 0)
+      × (without n newest ≡ newer ++ older)) ⊎ ((times n newest ≡ 0) × (without n newest ≡ newest))
+  pub arranges : Arranges H → (n : ℕ) (order : List ℕ) (held : List (ℕ × H))
+      → of_number n (arranged order held) ≡ of_number n held
+  pub follows : Arranges H → (order : List ℕ) (held : List (ℕ × H))
+      → ((n : ℕ) → times n order ≡ times n (numbers held)) → numbers (arranged order held) ≡ order
+  pub one_list : Arranges H → (some other : List (ℕ × H)) → numbers some ≡ numbers other
+      → ((n : ℕ) → of_number n some ≡ of_number n other) → some ≡ other
+  pub listed_are_held : ListedAreHeld H → (streams : ℕ → Option (Streaming H)) (past : List (Earlier H))
+      (handlers : List (ℕ × H)) → AreHeld streams past handlers → (n : ℕ) (handler : H)
+      → Contains handlers (n, handler) ↔ (((it : Earlier H) × Contains past it × (it.number ≡ n)
+      × (handler_of it.stream.stage ≡ Some handler))
+      ⊎ ((stream : Streaming H) × (streams n ≡ Some stream) × (handler_of stream.stage ≡ Some handler)))
+
+module _ {P H : Type 0} (step : H → HandlerCall → H → Type 0) (fails : H → Asked → ℕ → Type 0)
+    (is_closed is_finished : H → Bool) (inbound_makes outbound_makes : P → ℕ → List ℕ → H → Type 0)
+    (listed : P → List (List ℕ)) (is_eager : P → ℕ → Bool)
+    (inbound_leads outbound_leads : P → ℕ → List ℕ → H → P → Type 0) (start : P) (role : ConnRole) (own : Key) where
+  abbrev pub up_with_streams : List ℕ → List (ℕ × ℕ) → List (ConnEvent H) → List ℕ → State
+      → (ℕ → Option (Streaming H)) → List (Earlier H) → Type 0
+  up_with_streams = is_up step fails is_closed is_finished inbound_makes outbound_makes listed is_eager inbound_leads
+      outbound_leads start role own
+
+  abbrev pub all_answered : Point H → List ConnAct → List (ConnAnswer H) → Point H → Type 0
+  all_answered = answers_all step fails is_closed is_finished inbound_makes outbound_makes listed is_eager inbound_leads
+      outbound_leads start role own
+
+  -- how a handler of a stream was asked last: while the stream is live, and this direction open
+  abbrev pub AskedSo : Role → List (Entry H) → ℕ → Streaming H → H → Option ℕ → Type 0
+  AskedSo end log n stream handler left =
+      (is_live end (items log) n ≡ true → closed end (items log) n ≡ false → is_closed handler ≡ false
+      → left ≡ Some (credit end (items log) n))
+      × (is_live end (items log) n ≡ true → closed end (items log) n ≡ false → 0 < credit end (items log) n
+      → stream.waiting ≡ [])
+
+  pub record AnyPromiseRows : Type 0 where
+    pub serving_is : (end : Role) (log : List (Entry H)) (n : ℕ) (stream : Streaming H) (handler : H)
+        → IsServing step is_closed is_finished (listed start) end log n stream handler
+        → (side : Side) × (index : ℕ) × (first rest output gave : List ℕ) × (made : H) × (left : Option ℕ)
+        × IsSide end (listed start) log n side × (inbound end (items log) n ≡ first ++ rest)
+        × Agrees side first index output × (agreed end log n ≡ Some index) × (made_of end log n ≡ Some made)
+        × Handled step made rest (finished end (items log) n) gave left handler
+        × (written_on end (items log) n ++ stream.waiting ≡ output ++ gave) × (is_finished handler ≡ false)
+        × AskedSo end log n stream handler left
+    pub early_is : (end : Role) (log : List (Entry H)) (n : ℕ) (stream : Streaming H) (handler : H)
+        → IsEarly step is_closed is_finished (listed start) end log n stream handler
+        → (side : Side) × (output gave : List ℕ) × (made : H) × (left : Option ℕ) × (is_own end n ≡ true)
+        × IsSide end (listed start) log n side × IsOpen side (inbound end (items log) n) output
+        × (made_of end log n ≡ Some made) × Handled step made [] false gave left handler
+        × (written_on end (items log) n ++ stream.waiting ≡ output ++ gave) × AskedSo end log n stream handler left
+    pub are_serving : AreServing step fails is_closed is_finished inbound_makes outbound_makes listed is_eager
+        inbound_leads outbound_leads start role own → (session : State) (streams : ℕ → Option (Streaming H))
+        (past : List (Earlier H)) (input : List ℕ) (asked : List (ℕ × ℕ)) (told : List (ConnEvent H))
+        (written : List ℕ) (up : up_with_streams input asked told written session streams past) (n : ℕ)
+        (stream : Streaming H) (handler : H) → streams n ≡ Some stream → stream.stage ≡ Serving handler
+        → IsServing step is_closed is_finished (listed start) (session_role role) up.log n stream handler
+    pub are_early : AreEarly step fails is_closed is_finished inbound_makes outbound_makes listed is_eager inbound_leads
+        outbound_leads start role own → (session : State) (streams : ℕ → Option (Streaming H))
+        (past : List (Earlier H)) (input : List ℕ) (asked : List (ℕ × ℕ)) (told : List (ConnEvent H))
+        (written : List ℕ) (up : up_with_streams input asked told written session streams past) (n : ℕ)
+        (stream : Streaming H) (handler : H) (talk : Talk) → streams n ≡ Some stream
+        → stream.stage ≡ Talking talk (Some handler)
+        → IsEarly step is_closed is_finished (listed start) (session_role role) up.log n stream handler
+    pub live_are_held : LiveAreHeld step fails is_closed is_finished inbound_makes outbound_makes listed is_eager
+        inbound_leads outbound_leads start role own → (session : State) (streams : ℕ → Option (Streaming H))
+        (past : List (Earlier H)) (input : List ℕ) (asked : List (ℕ × ℕ)) (told : List (ConnEvent H))
+        (written : List ℕ) (up : up_with_streams input asked told written session streams past) (n : ℕ)
+        → is_live (session_role role) (items up.log) n ≡ true → (stream : Streaming H) × (streams n ≡ Some stream)
+        × (is_over (session_role role) up.log n ≡ was_handed_out stream.stage)
+    pub up_is_split : UpIsSplit step fails is_closed is_finished inbound_makes outbound_makes listed is_eager
+        inbound_leads outbound_leads start role own → (session : State) (streams : ℕ → Option (Streaming H))
+        (past : List (Earlier H)) (input : List ℕ) (asked : List (ℕ × ℕ)) (told : List (ConnEvent H))
+        (written : List ℕ) (up : up_with_streams input asked told written session streams past)
+        → (key : Key) × (first rest greeting part : List ℕ) × (input ≡ first ++ rest)
+        × Upgrades role own first (Ok (Some key)) greeting × Reads rest (arrivals (items up.log)) part
+        × HasNoFault (session_role role) (items up.log) × AreAnswered (session_role role) (items up.log)
+        × (told ≡ event.Upgraded key ∷ said up.log)
+        × (written ≡ greeting ++ output (session_role role) (items up.log))
+    pub each_is_answered : EachIsAnswered step fails is_closed is_finished inbound_makes outbound_makes listed is_eager
+        inbound_leads outbound_leads start role own → (calls : List ConnAct) (answers : List (ConnAnswer H))
+        (first last : Point H) → all_answered first calls answers last → length answers ≡ length calls
+    pub all_is_counted : AllIsCounted step fails is_closed is_finished inbound_makes outbound_makes listed is_eager
+        inbound_leads outbound_leads start role own → (calls : List ConnAct) (answers : List (ConnAnswer H))
+        (input : List ℕ) (ended : Bool) (asked : List (ℕ × ℕ)) (told owed : List (ConnEvent H))
+        → all_answered (At [] false [] [] []) calls answers (At input ended asked told owed)
+        → (input ≡ fed_by calls answers) × (asked ≡ opened_by calls answers) × (told ≡ told_by answers)
