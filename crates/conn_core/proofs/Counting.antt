@@ -10,7 +10,7 @@ use Rattle.conn_core.specs.declared.calls.ConnAct.{ConnAct}
 use Rattle.conn_core.specs.declared.calls.ConnAct.TheVariants.{Feed, Ask, Ended}
 use Rattle.conn_core.specs.declared.calls.ConnAnswer.{ConnAnswer}
 use Rattle.conn_core.specs.declared.calls.ConnAnswer.TheVariants.{Events, Stream, Refused}
-use Rattle.conn_core.specs.Runs.{Point, AnswersAll, IsTurnedAway, StaysBehind}
+use Rattle.conn_core.specs.Runs.{Point, AnswersAll, IsSpent, IsTurnedAway, StaysBehind}
 use Rattle.conn_core.specs.Runs.Point.{At, Spent}
 use Rattle.conn_core.specs.Promises.{EachIsAnswered, AllIsCounted, fed_by, told_by, opened_by}
 
@@ -19,40 +19,40 @@ abbrev IsBehind : {H : Type 0} → Point H → List ConnAct → List (ConnAnswer
 IsBehind (At input ended asked told owed) calls answers (At input_then ended_then asked_then told_then owed_then) =
     (input_then ≡ input ++ fed_by calls answers) × (asked_then ≡ asked ++ opened_by calls answers)
     × (told_then ≡ told ++ told_by answers)
-IsBehind (At input ended asked told owed) calls answers Spent = Unit {0}
-IsBehind Spent calls answers (At input ended asked told owed) = ⊥
-IsBehind Spent calls answers Spent = Unit {0}
+IsBehind (At input ended asked told owed) calls answers (Spent w) = Unit {0}
+IsBehind (Spent v) calls answers (At input ended asked told owed) = ⊥
+IsBehind (Spent v) calls answers (Spent w) = Unit {0}
 
 on_from : {H : Type 0} (input between : List ℕ) (ended ended_between : Bool) (asked asked_between : List (ℕ × ℕ)) (told told_between owed owed_between : List (ConnEvent H)) (calls later : List ConnAct) (answers given : List (ConnAnswer H)) (last : Point H)
     → between ++ fed_by later given ≡ input ++ fed_by calls answers → asked_between ++ opened_by later given ≡ asked ++ opened_by calls answers
     → told_between ++ told_by given ≡ told ++ told_by answers → IsBehind (At between ended_between asked_between told_between owed_between) later given last → IsBehind (At input ended asked told owed) calls answers last
 on_from input between ended ended_between asked asked_between told told_between owed owed_between calls later answers given (At i e a t o) fed opened said it = (it.0 ∙ fed, it.1 ∙ opened, it.2 ∙ said)
-on_from input between ended ended_between asked asked_between told told_between owed owed_between calls later answers given Spent fed opened said it = tt
+on_from input between ended ended_between asked asked_between told told_between owed owed_between calls later answers given (Spent w) fed opened said it = tt
 
-from_spent : {H : Type 0} (point : Point H) (calls later : List ConnAct) (answers given : List (ConnAnswer H)) (last : Point H) → IsBehind Spent later given last → IsBehind point calls answers last
-from_spent point calls later answers given (At i e a t o) it = absurd it
-from_spent (At input ended asked told owed) calls later answers given Spent it = tt
-from_spent Spent calls later answers given Spent it = tt
+from_spent : {H : Type 0} (v : List ℕ) (point : Point H) (calls later : List ConnAct) (answers given : List (ConnAnswer H)) (last : Point H) → IsBehind (Spent v) later given last → IsBehind point calls answers last
+from_spent v point calls later answers given (At i e a t o) it = absurd it
+from_spent v (At input ended asked told owed) calls later answers given (Spent w) it = tt
+from_spent v (Spent u) calls later answers given (Spent w) it = tt
 
 at_once : {H : Type 0} (point : Point H) → IsBehind point [] [] point
 at_once (At input ended asked told owed) = (sym (append-nil input), sym (append-nil asked), sym (append-nil told))
-at_once Spent = tt
+at_once (Spent w) = tt
 
 -- behind a refusal that left all as it was, or spent the memory
 stayed : {H : Type 0} (input : List ℕ) (ended : Bool) (asked : List (ℕ × ℕ)) (told owed : List (ConnEvent H)) (calls later : List ConnAct) (answers given : List (ConnAnswer H)) (next last : Point H)
     → fed_by later given ≡ fed_by calls answers → opened_by later given ≡ opened_by calls answers → told_by given ≡ told_by answers
-    → (next ≡ At input ended asked told owed) ⊎ (next ≡ Spent) → IsBehind next later given last → IsBehind (At input ended asked told owed) calls answers last
+    → (next ≡ At input ended asked told owed) ⊎ IsSpent next → IsBehind next later given last → IsBehind (At input ended asked told owed) calls answers last
 stayed input ended asked told owed calls later answers given next last fed opened said (inl here) it =
     on_from input input ended ended asked asked told told owed owed calls later answers given last (ap (λ t. input ++ t) fed) (ap (λ t. asked ++ t) opened) (ap (λ t. told ++ t) said)
     (subst (λ (p : Point _). IsBehind p later given last) here it)
 stayed input ended asked told owed calls later answers given next last fed opened said (inr spent) it =
-    from_spent (At input ended asked told owed) calls later answers given last (subst (λ (p : Point _). IsBehind p later given last) spent it)
+    from_spent spent.0 (At input ended asked told owed) calls later answers given last (subst (λ (p : Point _). IsBehind p later given last) spent.1 it)
 
-turned_away : {H : Type 0} (told : List (ConnEvent H)) (why : ConnRefused) (here next : Point H) → IsTurnedAway told why here next → (next ≡ here) ⊎ (next ≡ Spent)
+turned_away : {H : Type 0} (told : List (ConnEvent H)) (why : ConnRefused) (here next : Point H) → IsTurnedAway told why here next → (next ≡ here) ⊎ IsSpent next
 turned_away told why here next (inl same) = inl same.2
 turned_away told why here next (inr spent) = inr spent.2
 
-stays : {H : Type 0} (why : ConnRefused) (here next : Point H) → StaysBehind why here next → (next ≡ here) ⊎ (next ≡ Spent)
+stays : {H : Type 0} (why : ConnRefused) (here next : Point H) → StaysBehind why here next → (next ≡ here) ⊎ IsSpent next
 stays why here next (inl same) = inl same.1
 stays why here next (inr spent) = inr spent.1
 
@@ -88,8 +88,8 @@ module _ {P H : Type 0} (step : H → HandlerCall → H → Type 0) (fails : H �
       stayed input ended asked told owed (Ended ∷ calls) calls (Refused why ∷ answers) answers all.0 last refl refl refl
       (turned_away told why (At input ended asked told owed) all.0 all.1.0) (counted calls answers all.0 last all.2)
   counted (Ended ∷ calls) (Stream n ∷ answers) (At input ended asked told owed) last all = absurd all.1.0
-  counted (call ∷ calls) (answer ∷ answers) Spent last all =
-      from_spent Spent (call ∷ calls) calls (answer ∷ answers) answers last (subst (λ (p : Point H). IsBehind p calls answers last) all.1.1 (counted calls answers all.0 last all.2))
+  counted (call ∷ calls) (answer ∷ answers) (Spent v) last all =
+      from_spent v (Spent v) (call ∷ calls) calls (answer ∷ answers) answers last (subst (λ (p : Point H). IsBehind p calls answers last) all.1.1 (counted calls answers all.0 last all.2))
 
   pub all_is_counted : AllIsCounted step fails is_closed is_finished inbound_makes outbound_makes listed is_eager inbound_leads outbound_leads start role own
   all_is_counted calls answers input ended asked told owed all = counted calls answers (At [] false [] [] []) (At input ended asked told owed) all

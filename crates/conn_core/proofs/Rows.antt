@@ -114,9 +114,9 @@ sum_rows {H} = record {
 
 -- ---- refused calls
 
-turned_moved : {H : Type 0} → IsTurnedAway {H = H} (event.Shut ∷ []) refusals.Failed over Spent → ⊥
-turned_moved (inl it) = cc it.2
-turned_moved (inr it) = cc it.0
+turned_moved : {H : Type 0} (written : List ℕ) → IsTurnedAway {H = H} (event.Shut ∷ []) refusals.Failed over (Spent written) → ⊥
+turned_moved written (inl it) = cc it.2
+turned_moved written (inr it) = cc it.0
 
 no_memory_over : {H : Type 0} (next : Point H) → IsTurnedAway (event.Shut ∷ []) refusals.OutOfMemory over next → ⊥
 no_memory_over next (inl it) = cc it.1
@@ -124,7 +124,7 @@ no_memory_over next (inr it) = cc it.0
 
 no_memory_stays : {H : Type 0} → IsTurnedAway {H = H} [] refusals.OutOfMemory going going → ⊥
 no_memory_stays (inl it) = cc it.0
-no_memory_stays (inr it) = cc it.2
+no_memory_stays (inr (open_still, why, (written, it))) = cc it
 
 failed_going : {H : Type 0} (next : Point H) → IsTurnedAway [] refusals.Failed going next → ⊥
 failed_going next (inl it) = cc it.0
@@ -134,13 +134,13 @@ no_other : {H : Type 0} (next : Point H) → IsTurnedAway [] refusals.NotUp goin
 no_other next (inl it) = cc it.0
 no_other next (inr it) = cc it.1
 
-stays_moved : {H : Type 0} → StaysBehind {H = H} refusals.StreamsFull going Spent → ⊥
-stays_moved (inl it) = cc it.1
-stays_moved (inr it) = cc it.0
+stays_moved : {H : Type 0} (written : List ℕ) → StaysBehind {H = H} refusals.StreamsFull going (Spent written) → ⊥
+stays_moved written (inl it) = cc it.1
+stays_moved written (inr it) = cc it.0
 
 spent_stays : {H : Type 0} → StaysBehind {H = H} refusals.OutOfMemory going going → ⊥
 spent_stays (inl it) = it.0 refl
-spent_stays (inr it) = cc it.1
+spent_stays (inr (why, (written, it))) = cc it
 
 pub made_rows : {H : Type 0} (start : Bool) → MadeRows H start
 made_rows start = record {
@@ -158,13 +158,13 @@ refused_rows {H} = record {
   turned_behind_the_end = inl (refl, refl, refl);
   turned_and_moved = turned_moved;
   no_memory_behind_the_end = no_memory_over;
-  no_memory = inr (refl, refl, refl);
+  no_memory = λ written. inr (refl, refl, (written, refl));
   no_memory_and_stays = no_memory_stays;
   failed_while_it_goes = failed_going;
   no_other_reason = no_other;
   stays = inl ((λ is. cc is), refl);
   stays_and_moved = stays_moved;
-  spent = inr (refl, refl);
+  spent = λ written. inr (refl, (written, refl));
   spent_and_stays = spent_stays;
 }
 
@@ -182,10 +182,10 @@ module _ {P H : Type 0} (step : H → HandlerCall → H → Type 0) (fails : H �
   All = answers_all step fails is_closed is_finished inbound_makes outbound_makes listed is_eager inbound_leads
       outbound_leads start role own
 
-  two_spent : (one other : ConnAct) (last : Point H)
-      → All Spent (one ∷ other ∷ []) (answers.Refused refusals.Failed ∷ answers.Refused refusals.Failed ∷ []) last → last ≡ Spent
-  two_spent one other last (next, answered, (behind, next_answered, is)) =
-      subst (λ (here : Point H). All here (other ∷ []) (answers.Refused refusals.Failed ∷ []) last → last ≡ Spent) (sym answered.1)
+  two_spent : (written : List ℕ) (one other : ConnAct) (last : Point H)
+      → All (Spent written) (one ∷ other ∷ []) (answers.Refused refusals.Failed ∷ answers.Refused refusals.Failed ∷ []) last → last ≡ Spent written
+  two_spent written one other last (next, answered, (behind, next_answered, is)) =
+      subst (λ (here : Point H). All here (other ∷ []) (answers.Refused refusals.Failed ∷ []) last → last ≡ Spent written) (sym answered.1)
       (λ rest. rest.2 ∙ rest.1.1) (behind, next_answered, is)
 
   other_broken : (cause : Cause) → Call [] [] (Ask 2) (answers.Stream 5) (At (1 ∷ []) false ((3, 0) ∷ (5, 2) ∷ []) [] (event.Broken 3 cause ∷ [])) → ⊥
@@ -207,11 +207,12 @@ module _ {P H : Type 0} (step : H → HandlerCall → H → Type 0) (fails : H �
     asked_for_events = λ more next it. it;
     opened = λ owed next it. (it.1.0, it.1.2);
     owes_of_another = other_broken;
-    spent = λ call answer next. (λ it. it, λ it. it);
+    spent = λ written call answer next. (λ it. it, λ it. it);
     no_call = λ point last. (λ is. is, λ is. is);
     unanswered = λ point last call it. it;
     uncalled = λ point last answer it. it;
-    two_spent = λ one other last. (two_spent one other last, λ is. (Spent, (refl, refl), (Spent, (refl, refl), is)));
+    two_spent = λ written one other last. (two_spent written one other last, λ is. (Spent written, (refl, refl), (Spent written, (refl, refl), is)));
+    left = λ output handlers. (λ it. it, λ it. it);
   }
 
   -- ---- ends

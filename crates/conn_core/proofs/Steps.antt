@@ -5,6 +5,7 @@ use Rattle.std.specs.Global.{Vec}
 use Rattle.handlers.specs.Calls.{HandlerCall, Asked}
 use Rattle.peer_ids.specs.Key.{Key}
 use Rattle.upgrade.specs.declared.role.ConnRole.{ConnRole}
+use Rattle.upgrade.specs.Upgrades.{Grows}
 use Rattle.conn_log.specs.declared.event.ConnEvent.{ConnEvent}
 use Rattle.conn_log.specs.declared.event.ConnRefused.{ConnRefused}
 use Rattle.conn_log.specs.declared.event.ConnRefused.TheVariants as refusals
@@ -47,6 +48,10 @@ pub err_and : {A E : Type 0} (X Y : Type 0) (r : Result A E) → Y → OnErr r X
 err_and X Y (Ok x) y none = tt
 err_and X Y (Err e) y none = (none, y)
 
+pub on_err : {A E : Type 0} (X : Type 0) (r : Result A E) → X → OnErr r X
+on_err X (Ok x) it = tt
+on_err X (Err e) it = it
+
 module _ {P H : Type 0} (step : H → HandlerCall → H → Type 0) (fails : H → Asked → ℕ → Type 0)
     (is_closed is_finished : H → Bool) (inbound_makes outbound_makes : P → ℕ → List ℕ → H → Type 0)
     (listed : P → List (List ℕ)) (is_eager : P → ℕ → Bool)
@@ -60,13 +65,16 @@ module _ {P H : Type 0} (step : H → HandlerCall → H → Type 0) (fails : H �
   leads_as point call given_call answer given new call_is answer_is leads =
       subst (λ (a : ConnAct). Leads point a answer new) (sym call_is) (subst (λ (x : ConnAnswer H). Leads point given_call x new) (sym answer_is) leads)
 
+  -- what waits there is what was written, since none of it was taken
+  written_at : (input : List ℕ) (ended : Bool) (asked : List (ℕ × ℕ)) (told owed : List (ConnEvent H)) (core : ConnCore P H) → IsAt step fails is_closed is_finished inbound_makes outbound_makes listed is_eager inbound_leads outbound_leads start role own (At input ended asked told owed) core
+      → Explains step fails is_closed is_finished inbound_makes outbound_makes listed is_eager inbound_leads outbound_leads start role own input ended asked told owed (waiting_in core.phase core.output.items)
+  written_at input ended asked told owed core at =
+      subst (λ (o : List (ConnEvent H)). Explains step fails is_closed is_finished inbound_makes outbound_makes listed is_eager inbound_leads outbound_leads start role own input ended asked told o (waiting_in core.phase core.output.items)) at.0
+      (why_there step fails is_closed is_finished inbound_makes outbound_makes listed is_eager inbound_leads outbound_leads start role own input ended asked told [] core.phase core.owed.items core.output.items at.1.1)
+
   explained_at : (point : Point H) (core : ConnCore P H) → IsAt step fails is_closed is_finished inbound_makes outbound_makes listed is_eager inbound_leads outbound_leads start role own point core → IsExplained step fails is_closed is_finished inbound_makes outbound_makes listed is_eager inbound_leads outbound_leads start role own point
-  explained_at (At input ended asked told owed) core at = (
-    waiting_in core.phase core.output.items,
-    subst (λ (o : List (ConnEvent H)). Explains step fails is_closed is_finished inbound_makes outbound_makes listed is_eager inbound_leads outbound_leads start role own input ended asked told o (waiting_in core.phase core.output.items)) at.0
-        (why_there step fails is_closed is_finished inbound_makes outbound_makes listed is_eager inbound_leads outbound_leads start role own input ended asked told [] core.phase core.owed.items core.output.items at.1.1),
-  )
-  explained_at Spent core at = tt
+  explained_at (At input ended asked told owed) core at = (waiting_in core.phase core.output.items, written_at input ended asked told owed core at)
+  explained_at (Spent w) core at = tt
 
   -- ---- a feed, or the end of the input
 
@@ -78,9 +86,10 @@ module _ {P H : Type 0} (step : H → HandlerCall → H → Type 0) (fails : H �
       → ((input : List ℕ) (asked : List (ℕ × ℕ)) (told : List (ConnEvent H)) → Stands step fails is_closed is_finished inbound_makes outbound_makes listed is_eager inbound_leads outbound_leads start role own input false asked told [] old → is_over old.phase ≡ false
       → IfOk r (λ events. Stands step fails is_closed is_finished inbound_makes outbound_makes listed is_eager inbound_leads outbound_leads start role own (after input) b asked (told ++ events.items) [] new × (new.owed.items ≡ [])))
       → (is_over old.phase ≡ false → OnErr r ((r ≡ Err refusals.OutOfMemory) × (is_over new.phase ≡ true)))
+      → OnErr r (Grows (waiting_in old.phase old.output.items) (waiting_in new.phase new.output.items))
       → (is_over old.phase ≡ true → (r ≡ Err refusals.Failed) × (new ≡ old))
       → IsAt step fails is_closed is_finished inbound_makes outbound_makes listed is_eager inbound_leads outbound_leads start role own point old → Leads point call (events_or r) new
-  tells (At input ended asked told owed) call after b old new (Ok events) shape away fed refused failed at = by_over (is_over old.phase) refl
+  tells (At input ended asked told owed) call after b old new (Ok events) shape away fed refused waits failed at = by_over (is_over old.phase) refl
     where
       by_over : (c : Bool) → is_over old.phase ≡ c → Leads (At input ended asked told owed) call (Events events) new
       by_over true over = absurd (let e = (failed over).0 in cc)
@@ -93,10 +102,11 @@ module _ {P H : Type 0} (step : H → HandlerCall → H → Type 0) (fails : H �
             (
               shape input ended asked told owed events next (told_over step fails is_closed is_finished inbound_makes outbound_makes listed is_eager inbound_leads outbound_leads start role own input ended asked told [] old.phase old.owed.items old.output.items at.1.1 ∙ going) refl,
               explained_at next new there,
+              tt,
             ),
             there,
           )
-  tells (At input ended asked told owed) call after b old new (Err why) shape away fed refused failed at = by_over (is_over old.phase) refl
+  tells (At input ended asked told owed) call after b old new (Err why) shape away fed refused waits failed at = by_over (is_over old.phase) refl
     where
       by_over : (c : Bool) → is_over old.phase ≡ c → Leads (At input ended asked told owed) call (Refused why) new
       by_over true over =
@@ -108,24 +118,27 @@ module _ {P H : Type 0} (step : H → HandlerCall → H → Type 0) (fails : H �
             (
               away input ended asked told owed why here (inl (told_over step fails is_closed is_finished inbound_makes outbound_makes listed is_eager inbound_leads outbound_leads start role own input ended asked told [] old.phase old.owed.items old.output.items at.1.1 ∙ over, why_is, refl)),
               explained_at here new there,
+              tt,
             ),
             there,
           )
       by_over false going =
           let out = refused going in
-          let why_is : why ≡ refusals.OutOfMemory = (let e = out.0 in cc) in (
-            Spent,
+          let why_is : why ≡ refusals.OutOfMemory = (let e = out.0 in cc) in
+          let written = waiting_in old.phase old.output.items in (
+            Spent written,
             (
-              away input ended asked told owed why Spent (inr (told_over step fails is_closed is_finished inbound_makes outbound_makes listed is_eager inbound_leads outbound_leads start role own input ended asked told [] old.phase old.owed.items old.output.items at.1.1 ∙ going, why_is, refl)),
+              away input ended asked told owed why (Spent written) (inr (told_over step fails is_closed is_finished inbound_makes outbound_makes listed is_eager inbound_leads outbound_leads start role own input ended asked told [] old.phase old.owed.items old.output.items at.1.1 ∙ going, why_is, (written, refl))),
               tt,
+              written_at input ended asked told owed old at,
             ),
-            out.1,
+            (out.1, waits),
           )
-  tells Spent call after b old new (Ok events) shape away fed refused failed at = absurd (let e = (failed at).0 in cc)
-  tells Spent call after b old new (Err why) shape away fed refused failed at =
-      let same = failed at in
+  tells (Spent w) call after b old new (Ok events) shape away fed refused waits failed at = absurd (let e = (failed at.0).0 in cc)
+  tells (Spent w) call after b old new (Err why) shape away fed refused waits failed at =
+      let same = failed at.0 in
       let why_is : why ≡ refusals.Failed = (let e = same.0 in cc) in
-      (Spent, (ap Refused why_is, refl), subst (λ (c : ConnCore P H). is_over c.phase ≡ true) (sym same.1) at)
+      (Spent w, (ap Refused why_is, refl), subst (λ (c : ConnCore P H). (is_over c.phase ≡ true) × Grows w (waiting_in c.phase c.output.items)) (sym same.1) at)
 
   -- what is over owes nothing
   pub over_owes : (input : List ℕ) (ended : Bool) (asked : List (ℕ × ℕ)) (told : List (ConnEvent H)) (taken : List ℕ) (phase : Phase P H) (owed : List (ConnEvent H)) (waiting : List ℕ)
@@ -145,8 +158,9 @@ module _ {P H : Type 0} (step : H → HandlerCall → H → Type 0) (fails : H �
       → IfErr r (λ why. IsRefused listed old.phase index why)
       → IfErr r (λ why. why ≢ refusals.OutOfMemory → new ≡ old)
       → (r ≡ Err refusals.OutOfMemory → is_over new.phase ≡ true)
+      → OnErr r (waiting_in new.phase new.output.items ≡ waiting_in old.phase old.output.items)
       → IsAt step fails is_closed is_finished inbound_makes outbound_makes listed is_eager inbound_leads outbound_leads start role own point old → Leads point (Ask index) (stream_or r) new
-  asks (At input ended asked told owed) index old new (Ok n) stands owes may refused kept memory at =
+  asks (At input ended asked told owed) index old new (Ok n) stands owes may refused kept memory waits at =
       let going = open_goes_on listed old.phase index may in
       let open_still = unended step fails is_closed is_finished inbound_makes outbound_makes listed is_eager inbound_leads outbound_leads start role own input ended asked told [] old.phase old.owed.items old.output.items at.1.1 going in
       let before = subst (λ (x : Bool). Stands step fails is_closed is_finished inbound_makes outbound_makes listed is_eager inbound_leads outbound_leads start role own input x asked told [] old) open_still at.1 in
@@ -163,10 +177,11 @@ module _ {P H : Type 0} (step : H → HandlerCall → H → Type 0) (fails : H �
             (more.0, more.1, refl),
           ),
           explained_at next new there,
+          tt,
         ),
         there,
       )
-  asks (At input ended asked told owed) index old new (Err why) stands owes may refused kept memory at = by_memory (is_memory why)
+  asks (At input ended asked told owed) index old new (Err why) stands owes may refused kept memory waits at = by_memory (is_memory why)
     where
       here : Point H
       here = At input ended asked told owed
@@ -178,15 +193,17 @@ module _ {P H : Type 0} (step : H → HandlerCall → H → Type 0) (fails : H �
           (waiting_in old.phase old.output.items, it.0, it.1)
 
       by_memory : (why ≡ refusals.OutOfMemory) ⊎ (why ≢ refusals.OutOfMemory) → Leads here (Ask index) (Refused why) new
-      by_memory (inl is) = (Spent, ((reason, inr (is, refl)), tt), memory (ap Err is))
+      by_memory (inl is) =
+          let written = waiting_in old.phase old.output.items in
+          (Spent written, ((reason, inr (is, (written, refl))), tt, written_at input ended asked told owed old at), (memory (ap Err is), ([], waits ∙ sym (append-nil written))))
       by_memory (inr other) =
           let there : IsAt step fails is_closed is_finished inbound_makes outbound_makes listed is_eager inbound_leads outbound_leads start role own here new = subst (IsAt step fails is_closed is_finished inbound_makes outbound_makes listed is_eager inbound_leads outbound_leads start role own here) (sym (kept other)) at in
-          (here, ((reason, inl (other, refl)), explained_at here new there), there)
-  asks Spent index old new (Ok n) stands owes may refused kept memory at = absurd (let going = open_goes_on listed old.phase index may in let both : true ≡ false = sym at ∙ going in cc both)
-  asks Spent index old new (Err why) stands owes may refused kept memory at =
-      let why_is : why ≡ refusals.Failed = over_refuses listed old.phase index why at refused in
+          (here, ((reason, inl (other, refl)), explained_at here new there, tt), there)
+  asks (Spent w) index old new (Ok n) stands owes may refused kept memory waits at = absurd (let going = open_goes_on listed old.phase index may in let both : true ≡ false = sym at.0 ∙ going in cc both)
+  asks (Spent w) index old new (Err why) stands owes may refused kept memory waits at =
+      let why_is : why ≡ refusals.Failed = over_refuses listed old.phase index why at.0 refused in
       let same : new ≡ old = kept (λ e. (let both : refusals.Failed ≡ refusals.OutOfMemory = sym why_is ∙ e in cc both)) in
-      (Spent, (ap Refused why_is, refl), subst (λ (c : ConnCore P H). is_over c.phase ≡ true) (sym same) at)
+      (Spent w, (ap Refused why_is, refl), subst (λ (c : ConnCore P H). (is_over c.phase ≡ true) × Grows w (waiting_in c.phase c.output.items)) (sym same) at)
 
   -- ---- one call after another
 
@@ -201,9 +218,9 @@ module _ {P H : Type 0} (step : H → HandlerCall → H → Type 0) (fails : H �
 
   pub leaves : (point : Point H) (old new : ConnCore P H) (output : List ℕ) (handlers : List (ℕ × H))
       → ((input : List ℕ) (ended : Bool) (asked : List (ℕ × ℕ)) (told : List (ConnEvent H)) → Stands step fails is_closed is_finished inbound_makes outbound_makes listed is_eager inbound_leads outbound_leads start role own input ended asked told [] old → Stands step fails is_closed is_finished inbound_makes outbound_makes listed is_eager inbound_leads outbound_leads start role own input ended asked told output new)
-      → waiting_in new.phase new.output.items ≡ [] → new.owed.items ≡ old.owed.items → is_over new.phase ≡ is_over old.phase
+      → output ≡ waiting_in old.phase old.output.items → waiting_in new.phase new.output.items ≡ [] → new.owed.items ≡ old.owed.items → is_over new.phase ≡ is_over old.phase
       → handlers ≡ held_in new.phase → IsOrderedIn new.phase → IsAt step fails is_closed is_finished inbound_makes outbound_makes listed is_eager inbound_leads outbound_leads start role own point old → Leaves step fails is_closed is_finished inbound_makes outbound_makes listed is_eager inbound_leads outbound_leads start role own point output handlers
-  leaves (At input ended asked told owed) old new output handlers stands none same over held ordered at =
+  leaves (At input ended asked told owed) old new output handlers stands taken none same over held ordered at =
       let now = (stands input ended asked told at.1).1 in
       let written = output ++ waiting_in new.phase new.output.items in
       let written_is : written ≡ output = ap (λ t. output ++ t) none ∙ append-nil output in
@@ -211,4 +228,4 @@ module _ {P H : Type 0} (step : H → HandlerCall → H → Type 0) (fails : H �
       (subst (λ (o : List (ConnEvent H)). (there : Explains step fails is_closed is_finished inbound_makes outbound_makes listed is_eager inbound_leads outbound_leads start role own input ended asked told o written) × Holds step fails is_closed is_finished inbound_makes outbound_makes listed is_eager inbound_leads outbound_leads start role own input ended asked told o written there handlers) (same ∙ at.0)
       (subst (λ (h : List (ℕ × H)). (there : Explains step fails is_closed is_finished inbound_makes outbound_makes listed is_eager inbound_leads outbound_leads start role own input ended asked told new.owed.items written) × Holds step fails is_closed is_finished inbound_makes outbound_makes listed is_eager inbound_leads outbound_leads start role own input ended asked told new.owed.items written there h) (sym held)
       (why_there step fails is_closed is_finished inbound_makes outbound_makes listed is_eager inbound_leads outbound_leads start role own input ended asked told output new.phase new.owed.items new.output.items now, holds step fails is_closed is_finished inbound_makes outbound_makes listed is_eager inbound_leads outbound_leads start role own input ended asked told output new.phase new.owed.items new.output.items now ordered)))
-  leaves Spent old new output handlers stands none same over held ordered at = held ∙ over_holds new.phase (over ∙ at)
+  leaves (Spent w) old new output handlers stands taken none same over held ordered at = (subst (Grows w) (sym taken) at.1, held ∙ over_holds new.phase (over ∙ at.0))

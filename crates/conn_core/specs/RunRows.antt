@@ -18,7 +18,7 @@ use Rattle.conn_core.specs.declared.calls.ConnAnswer.{ConnAnswer}
 use Rattle.conn_core.specs.declared.calls.ConnAnswer.TheVariants.{Events, Stream, Refused}
 use Rattle.conn_core.specs.Made.{asks_early, made_in}
 use Rattle.conn_core.specs.Runs.{Point, is_end, has_ended, events_or, stream_or, IsTurnedAway, StaysBehind}
-use Rattle.conn_core.specs.Runs.{AnswersAt, Answers, AnswersAll}
+use Rattle.conn_core.specs.Runs.{AnswersAt, Answers, AnswersAll, Leaves}
 use Rattle.conn_core.specs.Runs.Point.{At, Spent}
 use Rattle.conn_core.specs.Promises.{fed_by, told_by, opened_by}
 
@@ -83,15 +83,16 @@ over = At (1 ∷ []) true [] (event.Shut ∷ []) []
 -- which point a refused call leads to
 pub record RefusedRows (H : Type 0) : Type 0 where
   pub turned_behind_the_end : IsTurnedAway {H = H} (event.Shut ∷ []) refusals.Failed over over
-  pub turned_and_moved : ¬ IsTurnedAway {H = H} (event.Shut ∷ []) refusals.Failed over Spent
+  pub turned_and_moved : (written : List ℕ)
+      → ¬ IsTurnedAway {H = H} (event.Shut ∷ []) refusals.Failed over (Spent written)
   pub no_memory_behind_the_end : (next : Point H) → ¬ IsTurnedAway (event.Shut ∷ []) refusals.OutOfMemory over next
-  pub no_memory : IsTurnedAway {H = H} [] refusals.OutOfMemory going Spent
+  pub no_memory : (written : List ℕ) → IsTurnedAway {H = H} [] refusals.OutOfMemory going (Spent written)
   pub no_memory_and_stays : ¬ IsTurnedAway {H = H} [] refusals.OutOfMemory going going
   pub failed_while_it_goes : (next : Point H) → ¬ IsTurnedAway [] refusals.Failed going next
   pub no_other_reason : (next : Point H) → ¬ IsTurnedAway [] refusals.NotUp going next
   pub stays : StaysBehind {H = H} refusals.StreamsFull going going
-  pub stays_and_moved : ¬ StaysBehind {H = H} refusals.StreamsFull going Spent
-  pub spent : StaysBehind {H = H} refusals.OutOfMemory going Spent
+  pub stays_and_moved : (written : List ℕ) → ¬ StaysBehind {H = H} refusals.StreamsFull going (Spent written)
+  pub spent : (written : List ℕ) → StaysBehind {H = H} refusals.OutOfMemory going (Spent written)
   pub spent_and_stays : ¬ StaysBehind {H = H} refusals.OutOfMemory going going
 
 module _ {P H : Type 0} (step : H → HandlerCall → H → Type 0) (fails : H → Asked → ℕ → Type 0)
@@ -128,13 +129,17 @@ module _ {P H : Type 0} (step : H → HandlerCall → H → Type 0) (fails : H �
         × (next ≡ At (1 ∷ []) false ((3, 0) ∷ (5, 2) ∷ []) [] (event_owed ∷ more))
     pub owes_of_another : (cause : Cause) → ¬ answers_at [] [] (Ask 2) (Stream 5)
         (At (1 ∷ []) false ((3, 0) ∷ (5, 2) ∷ []) [] (event.Broken 3 cause ∷ []))
-    pub spent : (call : ConnAct) (answer : ConnAnswer H) (next : Point H)
+    pub spent : (written : List ℕ) (call : ConnAct) (answer : ConnAnswer H) (next : Point H)
         → Answers step fails is_closed is_finished inbound_makes outbound_makes listed is_eager inbound_leads
-        outbound_leads start role own Spent call answer next
-        ↔ ((answer ≡ Refused refusals.Failed) × (next ≡ Spent))
+        outbound_leads start role own (Spent written) call answer next
+        ↔ ((answer ≡ Refused refusals.Failed) × (next ≡ Spent written))
     pub no_call : (point last : Point H) → answers_all point [] [] last ↔ (last ≡ point)
     pub unanswered : (point last : Point H) (call : ConnAct) → ¬ answers_all point (call ∷ []) [] last
     pub uncalled : (point last : Point H) (answer : ConnAnswer H) → ¬ answers_all point [] (answer ∷ []) last
-    pub two_spent : (one other : ConnAct) (last : Point H)
-        → answers_all Spent (one ∷ other ∷ []) (Refused refusals.Failed ∷ Refused refusals.Failed ∷ []) last
-        ↔ (last ≡ Spent)
+    pub two_spent : (written : List ℕ) (one other : ConnAct) (last : Point H)
+        → answers_all (Spent written) (one ∷ other ∷ []) (Refused refusals.Failed ∷ Refused refusals.Failed ∷ []) last
+        ↔ (last ≡ Spent written)
+    -- what was written stands at the front of the output, and no handler is left
+    pub left : (output : List ℕ) (handlers : List (ℕ × H)) → Leaves step fails is_closed is_finished inbound_makes
+        outbound_makes listed is_eager inbound_leads outbound_leads start role own (Spent (7 ∷ 8 ∷ [])) output handlers
+        ↔ (((more : List ℕ) × (output ≡ 7 ∷ 8 ∷ more)) × (handlers ≡ []))

@@ -12,7 +12,7 @@ use Rattle.std.specs.BTreeMap as tree
 use Rattle.handlers.specs.Calls.{HandlerCall, Asked}
 use Rattle.peer_ids.specs.Key.{Key}
 use Rattle.upgrade.specs.declared.role.ConnRole.{ConnRole}
-use Rattle.upgrade.specs.Upgrades.{Upgrades}
+use Rattle.upgrade.specs.Upgrades.{Upgrades, Grows}
 use Rattle.yamux_session.specs.Acts.{start_refusal}
 use Rattle.yamux_session.specs.State.{State}
 use Rattle.streams.specs.State.{Streaming}
@@ -31,13 +31,14 @@ use Rattle.conn_core.specs.declared.calls.ConnAnswer.{ConnAnswer}
 use Rattle.conn_core.specs.declared.calls.ConnAnswer.TheVariants.{Events, Stream, Refused}
 use Rattle.held_order.specs.Orders.{arranged}
 use Rattle.conn_core.specs.Made.{made_in}
-use Rattle.conn_core.specs.Connects.{IsUp, Ends, Stands, session_role, is_over}
+use Rattle.conn_core.specs.Connects.{IsUp, Ends, Stands, session_role, is_over, waiting_in}
 
 -- Where an end is. At: this came, whether the input has ended, these streams were opened for these protocols, these
--- events were told, and these are owed: they are told by the next call. Spent: memory was refused.
+-- events were told, and these are owed: they are told by the next call. Spent: memory was refused, and this had been
+-- written before the call that met it.
 pub data Point (H : Type 0) : Type 0 where
   At : List ℕ → Bool → List (ℕ × ℕ) → List (ConnEvent H) → List (ConnEvent H) → Point H
-  Spent : Point H
+  Spent : List ℕ → Point H
 
 -- a connection tells nothing behind it
 abbrev pub is_end : {H : Type 0} → ConnEvent H → Bool
@@ -64,16 +65,20 @@ abbrev pub stream_or : {H : Type 0} → Result ℕ ConnRefused → ConnAnswer H
 stream_or (Ok n) = Stream n
 stream_or (Err why) = Refused why
 
+-- memory was refused
+abbrev pub IsSpent : {H : Type 0} → Point H → Type 0
+IsSpent next = (written : List ℕ) × (next ≡ Spent written)
+
 -- a feed, or the end of the input, is refused where the connection is over, and where memory is
 abbrev pub IsTurnedAway : {H : Type 0} → List (ConnEvent H) → ConnRefused → Point H → Point H → Type 0
 IsTurnedAway told why here next =
     ((has_ended told ≡ true) × (why ≡ refusals.Failed) × (next ≡ here))
-    ⊎ ((has_ended told ≡ false) × (why ≡ refusals.OutOfMemory) × (next ≡ Spent))
+    ⊎ ((has_ended told ≡ false) × (why ≡ refusals.OutOfMemory) × IsSpent next)
 
 -- behind a refusal all is as before, but where memory was refused
 abbrev pub StaysBehind : {H : Type 0} → ConnRefused → Point H → Point H → Type 0
 StaysBehind why here next = ((why ≢ refusals.OutOfMemory) × (next ≡ here))
-    ⊎ ((why ≡ refusals.OutOfMemory) × (next ≡ Spent))
+    ⊎ ((why ≡ refusals.OutOfMemory) × IsSpent next)
 
 -- The handlers of the streams that are held, each with its stream's number: those of earlier openings in the order in
 -- which their numbers were opened anew, then the others by their numbers.
@@ -105,7 +110,12 @@ module _ {P H : Type 0} (step : H → HandlerCall → H → Type 0) (fails : H �
 
   abbrev pub IsExplained : Point H → Type 0
   IsExplained (At input ended asked told owed) = (written : List ℕ) × Explains input ended asked told owed written
-  IsExplained Spent = Unit {0}
+  IsExplained (Spent written) = Unit {0}
+
+  -- where memory is refused there, what had been written until then is kept
+  abbrev pub KeepsWritten : List ℕ → Bool → List (ℕ × ℕ) → List (ConnEvent H) → List (ConnEvent H) → Point H → Type 0
+  KeepsWritten input ended asked told owed (Spent written) = Explains input ended asked told owed written
+  KeepsWritten input ended asked told owed (At now over opened said owes) = Unit {0}
 
   -- a stream may be opened for the protocol of this index
   abbrev pub MayBeAsked : (input : List ℕ) (ended : Bool) (asked : List (ℕ × ℕ)) (told owed : List (ConnEvent H))
@@ -151,11 +161,12 @@ module _ {P H : Type 0} (step : H → HandlerCall → H → Type 0) (fails : H �
       IsTurnedAway told why (At input ended asked told owed) next
   AnswersAt input ended asked told owed call answer next = ⊥
 
-  -- wherever a call leads to is explained
+  -- wherever a call leads to is explained, and what was written is not lost
   abbrev pub Answers : Point H → ConnAct → ConnAnswer H → Point H → Type 0
   Answers (At input ended asked told owed) call answer next =
       AnswersAt input ended asked told owed call answer next × IsExplained next
-  Answers Spent call answer next = (answer ≡ Refused refusals.Failed) × (next ≡ Spent)
+      × KeepsWritten input ended asked told owed next
+  Answers (Spent written) call answer next = (answer ≡ Refused refusals.Failed) × (next ≡ Spent written)
 
   -- one call after another
   abbrev pub AnswersAll : Point H → List ConnAct → List (ConnAnswer H) → Point H → Type 0
@@ -175,11 +186,12 @@ module _ {P H : Type 0} (step : H → HandlerCall → H → Type 0) (fails : H �
       AreHeld streams past handlers
   Holds input ended asked told owed written (Over none_owed ends) handlers = handlers ≡ []
 
-  -- all that was written until the last call is this, and these handlers are held still
+  -- all that was written until the last call is this, and these handlers are held still; where memory was refused, what
+  -- had been written before stands at its front
   abbrev pub Leaves : Point H → List ℕ → List (ℕ × H) → Type 0
   Leaves (At input ended asked told owed) output handlers = (there : Explains input ended asked told owed output)
       × Holds input ended asked told owed output there handlers
-  Leaves Spent output handlers = handlers ≡ []
+  Leaves (Spent written) output handlers = Grows written output × (handlers ≡ [])
 
   -- what a run answers: the handlers that are held still come in the order in which they were made
   abbrev pub Runs : List ConnAct → List (ConnAnswer H) → List ℕ → List (ℕ × H) → Type 0
@@ -192,4 +204,5 @@ module _ {P H : Type 0} (step : H → HandlerCall → H → Type 0) (fails : H �
   IsAt (At input ended asked told owed) core = (core.owed.items ≡ owed)
       × Stands step fails is_closed is_finished inbound_makes outbound_makes listed is_eager inbound_leads
       outbound_leads start role own input ended asked told [] core
-  IsAt Spent core = is_over core.phase ≡ true
+  IsAt (Spent written) core = (is_over core.phase ≡ true)
+      × Grows written (waiting_in core.phase core.output.items)

@@ -20,6 +20,9 @@ pub enum Played {
 
 type Ran = ConnRan<NodeHandler>;
 
+/// What each end writes before any byte comes.
+const HEADER: &[u8] = b"\x13/multistream/1.0.0\n";
+
 /// The bytes of each ping.
 const PAYLOAD: [u8; 32] = [7; 32];
 
@@ -62,6 +65,8 @@ struct Reader {
     played: Played,
     /// The call was refused memory, so each later one fails.
     is_over: bool,
+    /// It was told that the end is up: all of its upgrade was written.
+    was_up: bool,
 }
 
 impl Reader {
@@ -81,6 +86,9 @@ impl Reader {
 
     /// What is said is what comes next; what names the stream is left out once that was broken for want of memory.
     fn expect(&mut self, said: Said) {
+        if said == Said::Upgraded {
+            self.was_up = true;
+        }
         let rest = self.rest;
         for (at, next) in rest.iter().enumerate() {
             if *next == said {
@@ -120,7 +128,8 @@ impl Reader {
 }
 
 /// Whether the output is the row's, and the handlers are its. Where memory was refused to the end, the output begins
-/// the row's; where it was refused to a handler, its stream was reset.
+/// the row's, and has what was written before the call that met it; where it was refused to a handler, its stream was
+/// reset.
 fn are_left(ran: &Ran, row: Row, reader: &Reader) -> bool {
     let whole = row.output().iter().flat_map(|part| part.iter());
     let held = ran.handlers.iter().map(|(number, _)| *number);
@@ -132,7 +141,12 @@ fn are_left(ran: &Ran, row: Row, reader: &Reader) -> bool {
                 .iter()
                 .zip(whole)
                 .all(|(one, other)| one == other);
-            begins && ran.handlers.is_empty()
+            let written = if reader.was_up {
+                UPGRADE.len()
+            } else {
+                HEADER.len()
+            };
+            begins && ran.output.len() >= written && ran.handlers.is_empty()
         }
         Played::Refused => {
             let is_up = ran.output.starts_with(UPGRADE);
@@ -155,6 +169,7 @@ pub fn play(alloc: Global, row: Row) -> Played {
         rest: row.said(),
         played: Played::AsSaid,
         is_over: false,
+        was_up: false,
     };
     for answer in &ran.answers {
         reader.read(answer);

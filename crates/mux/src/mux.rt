@@ -1,7 +1,7 @@
 //! The session of a connection that is up, with its streams.
 
 ghost use Rattle.std.specs.Prelude.{◌≡◌, ◌≢◌, ℕ, ◌<◌, ◌≤◌, ◌-◌, true, false, List, [], ◌++◌, length, take, drop};
-ghost use Rattle.std.specs.Prelude.{None, Err, OnOk, IfOk, IfErr};
+ghost use Rattle.std.specs.Prelude.{None, Ok, Err, OnOk, IfOk, IfErr};
 ghost use Rattle.std.specs.Ordering.{nat_cmp};
 ghost use Rattle.std.specs.BTreeMap as tree;
 ghost use Rattle.conn_log.specs.Entries.{Entry};
@@ -132,6 +132,8 @@ impl<P: Protocols> Mux<P> {
             (P.is_eager self.old.board.protocols) (P.listed self.old.board.protocols) self.old.board.peer
             self.old.board.role (MakesOnBoard P.leads_inbound P.leads_outbound self.old.board self.new.board) log []
             told.old.items told.new.items fed piece.now sent self.new.session.pending) }
+        ensures failed { self.old.session.failed ≡ true
+            → (result ≡ Ok tt) × (self.new ≡ self.old) × (told.new ≡ told.old) }
     {
         let mut events = Vec::new(self.alloc);
         let mut at = 0;
@@ -165,6 +167,8 @@ impl<P: Protocols> Mux<P> {
         // Where several reasons hold, the session's own order decides.
         ensures refused { index < length (P.listed self.old.board.protocols) → IfErr result (λ refused.
             Whenever self.old.session (λ role past. IsRefusedAs (start_refusal role past) refused)) }
+        ensures failed { index < length (P.listed self.old.board.protocols) → self.old.session.failed ≡ true
+            → result ≡ Err ConnRefused.Failed }
         ensures kept { IfErr result (λ refused. refused ≢ ConnRefused.OutOfMemory
             → (self.new ≡ self.old) × (owed.new ≡ owed.old)) }
     {

@@ -12,7 +12,7 @@ use Rattle.multiaddr.specs.declared.fault.AddrFault.{AddrFault}
 use Rattle.multiaddr.specs.declared.fault.AddrFault.TheVariants as addr
 use Rattle.multiaddr.specs.Part.{Part, Address, part, spelling, code_of, IsOpaque, IsValue, BodyFault, ValueFault}
 use Rattle.multiaddr.specs.Ip6.{SpellsGroups}
-use Rattle.multiaddr.specs.Text.{ReadsValue, name_of}
+use Rattle.multiaddr.specs.Text.{ReadsValue, RefusesPrint, name_of}
 use Rattle.multiaddr.specs.Given.{host_part, last_peer, peer_in, port_part, IsSocket, GivesPeer}
 use Rattle.multiaddr.specs.Rows.{address}
 use Rattle.multiaddr.proofs.Parts.{some_code}
@@ -186,6 +186,13 @@ any_groups = record {
   );
 }
 
+printing_fault : (bytes : List ℕ) (fault : AddrFault) → RefusesPrint bytes fault → (fault ≡ addr.UnknownProtocol) ⊎ (fault ≡ addr.OutOfMemory)
+printing_fault bytes addr.UnknownProtocol r = inl refl
+printing_fault bytes addr.OutOfMemory r = inr refl
+printing_fault bytes addr.Empty r = absurd r
+printing_fault bytes addr.Cut r = absurd r
+printing_fault bytes addr.BadValue r = absurd r
+
 pub any_text_faults : AnyTextFaultRows
 any_text_faults = record {
   other_name = λ text name parts leads whole other. inr (inr (parts, name, leads, inl (inl (refl, name, None, whole, sym (append-nil name), λ p e. other p (sym e)))));
@@ -199,6 +206,7 @@ any_text_faults = record {
   memory = λ text parts r. (parts, r);
   opaque_unprinted = λ bytes a s o. (a, s, o);
   printing_memory = λ bytes a s e. (a, s, e);
+  no_other_printing_fault = printing_fault;
 }
 
 -- ---- what is given

@@ -29,8 +29,7 @@ use Rattle.conn_core.specs.declared.calls.ConnAnswer.{ConnAnswer}
 use Rattle.conn_core.specs.Connects.{told_of, session_role}
 use Rattle.conn_core.specs.Connects.Ends.{Upgrade, Session, Early, Within, Shut}
 use Rattle.conn_core.specs.Made.{answered_all}
-use Rattle.conn_core.specs.Runs.{Point, has_ended, IsTurnedAway, StaysBehind}
-use Rattle.conn_core.specs.Runs.Point.{Spent}
+use Rattle.conn_core.specs.Runs.{Point, has_ended, IsSpent, IsTurnedAway, StaysBehind}
 use Rattle.conn_core.specs.Runs.Explains.{Coming, Up, Over}
 use Rattle.held_order.specs.Orders.{Held}
 use Rattle.row_check.specs.AnyConnRows.{AnyConnAnswerRows, AnyHolderRows, AnySumRows, AnyConnEndRows, AnyWholeRunRows, ends, explains, is_faulty, is_up}
@@ -43,7 +42,7 @@ turned_away told reason here next e (inl t) = (t.1, t.2)
 turned_away told reason here next e (inr t) = absurd (let never : true ≡ false = sym e ∙ t.0 in cc never)
 
 no_memory : {H : Type 0} (told : List (ConnEvent H)) (reason : ConnRefused) (here next : Point H) → has_ended told ≡ false
-    → IsTurnedAway told reason here next → (reason ≡ refusals.OutOfMemory) × (next ≡ Spent)
+    → IsTurnedAway told reason here next → (reason ≡ refusals.OutOfMemory) × IsSpent next
 no_memory told reason here next e (inl t) = absurd (let never : true ≡ false = sym t.0 ∙ e in cc never)
 no_memory told reason here next e (inr t) = (t.1, t.2)
 
@@ -51,7 +50,7 @@ stays : {H : Type 0} (reason : ConnRefused) (here next : Point H) → reason ≢
 stays reason here next ne (inl t) = t.1
 stays reason here next ne (inr t) = absurd (ne t.0)
 
-spends : {H : Type 0} (here next : Point H) → StaysBehind refusals.OutOfMemory here next → next ≡ Spent
+spends : {H : Type 0} (here next : Point H) → StaysBehind refusals.OutOfMemory here next → IsSpent next
 spends here next (inl t) = absurd (t.0 refl)
 spends here next (inr t) = t.1
 
@@ -296,7 +295,7 @@ module _ {P H : Type 0} (step : H → HandlerCall → H → Type 0) (fails : H �
     over = λ input written ended asked told x. Over refl x;
     explains_is = explains_is;
     explained = λ input ended asked told owed. (λ h. h, λ h. h);
-    spent = tt;
+    spent = λ written. tt;
     coming_opens_none = λ input written ended asked told owed e a t o u index reason handlers. (λ h. h, (λ h. h, λ h. h), (λ h. h, λ h. h));
     up_opens = λ input written ended asked told owed session streams past e u index. (λ h. h, λ h. h);
     up_refuses = λ input written ended asked told owed session streams past e u index reason. (λ h. h, λ h. h);
@@ -310,13 +309,15 @@ module _ {P H : Type 0} (step : H → HandlerCall → H → Type 0) (fails : H �
     ended_in_vain = λ input over asked told owed reason next. (λ h. h, λ h. h);
     other_answers = λ input over asked told owed bytes more index n next. (λ h. h, λ h. h, λ h. h);
     call = λ input ended asked told owed act answer next. (λ h. h, λ h. h);
-    call_spent = λ act answer next. (λ h. h, λ h. h);
+    kept_where_spent = λ input written ended asked told owed. (λ h. h, λ h. h);
+    kept_elsewhere = λ input now ended over asked opened told owed said owes. tt;
+    call_spent = λ written act answer next. (λ h. h, λ h. h);
     no_call = λ point last. (λ h. h, λ h. h);
     calls = λ point last act acts answer answers. (λ h. h, λ h. h);
     uneven = λ point last act acts answer answers. (λ h. h, λ h. h);
     left = λ input written ended asked told owed handlers. (λ h. h, λ h. h);
-    left_spent = λ written handlers. (λ h. h, λ h. h);
+    left_spent = λ written output handlers. (λ h. h, λ h. h);
     runs = λ acts answers written handlers. (λ h. h, λ h. h);
     at_point = λ input ended asked told owed core. (λ h. h, λ h. h);
-    at_spent = λ core. (λ h. h, λ h. h);
+    at_spent = λ written core. (λ h. h, λ h. h);
   }

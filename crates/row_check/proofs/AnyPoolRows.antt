@@ -370,6 +370,7 @@ any_caller_rows = record {
   out_of_memory = λ config callers c old new it. (λ front. not_spent ((it.spent (inr refl)).1 front), it.unmade (inr refl));
   whole = λ config callers passes h w. (w.legal, w.begins, w.own, w.callers_are);
   here = λ callers caller passes all. all caller;
+  any_here = λ callers passes all. all;
   no_newcomer = refl;
   one_newcomer_more = λ n. refl;
 }

@@ -19,7 +19,7 @@ use Rattle.yamux_session.specs.History.{Item, syn, ack, fin, rst, is_data, is_up
 use Rattle.yamux_session.specs.History.Item.{Came, Did}
 use Rattle.yamux_session.specs.History.Act.{Taken}
 use Rattle.yamux_session.specs.Openings.{live, is_live, contains, opens, finished, closed, reading, local_go_away, is_let_in, is_for_stream, head_belongs, is_reading, byte_belongs}
-use Rattle.yamux_session.specs.Windows.{credit, owed, receiving_window, since_opening, given_of, given_back, update_length, data_length, accepted}
+use Rattle.yamux_session.specs.Windows.{credit, owed, receiving_window, since_opening, given_of, given_back, update_length, data_length, accepted, acks}
 use Rattle.yamux_session.specs.Faults.{fault_at, or_else, syn_fault, window_fault}
 use Rattle.yamux_session.specs.Events.{Told, events, when, head_events, taker, byte_told, tail_events, tail_told, events_unless, item_events}
 use Rattle.yamux_session.specs.Output.{output, frame, answer_to, item_output, output_unless}
@@ -33,6 +33,7 @@ use Rattle.std.specs.List.{concat}
 use Rattle.std.specs.Prelude.{sum_by}
 use Rattle.yamux_session.specs.Seen.{just_opened}
 use Rattle.yamux_session.specs.Endings.{EndsOnce, told_opened}
+use Rattle.yamux_session.proofs.Endings.{opened_by_the_other}
 use Rattle.yamux_session.specs.Acts.{IsRefusedFor}
 use Rattle.yamux_session.specs.Runs.{Point, GoesOn, Ends}
 use Rattle.yamux_session.specs.Runs.Point.{At, Over}
@@ -692,6 +693,40 @@ credits_it : (role : Role) (past : List Item) (h : Header) → head_belongs role
     → (head_belongs role past h h.stream && is_update h.kind && nat_lt 0 h.length) ≡ true
 credits_it role past h belongs updates some = both (head_belongs role past h h.stream && is_update h.kind) (nat_lt 0 h.length) (both (head_belongs role past h h.stream) (is_update h.kind) belongs updates) some
 
+or_with_true : (b : Bool) → b || true ≡ true
+or_with_true true = refl
+or_with_true false = refl
+
+accepts_no_more : (role : Role) (past : List Item) (h : Header) → (accepted role past h.stream ≡ true) ⊎ (is_own role h.stream ≡ false)
+    → (head_belongs role past h h.stream && ack h && is_own role h.stream && not (accepted role past h.stream)) ≡ false
+accepts_no_more role past h (inl before) = second_not (head_belongs role past h h.stream && ack h && is_own role h.stream) (not (accepted role past h.stream)) (ap not before)
+accepts_no_more role past h (inr theirs) = first_not (head_belongs role past h h.stream && ack h && is_own role h.stream) (not (accepted role past h.stream)) (second_not (head_belongs role past h h.stream && ack h) (is_own role h.stream) theirs)
+
+accepts_late : (role : Role) (past : List Item) (h : Header) → head_belongs role past h h.stream ≡ false → (head_belongs role past h h.stream && ack h && is_own role h.stream && not (accepted role past h.stream)) ≡ false
+accepts_late role past h late = first_not (head_belongs role past h h.stream && ack h && is_own role h.stream) (not (accepted role past h.stream)) (first_not (head_belongs role past h h.stream && ack h) (is_own role h.stream) (first_not (head_belongs role past h h.stream) (ack h) late))
+
+-- what opens a stream is of the other end
+opens_theirs : (role : Role) (past : List Item) (h : Header) (n : ℕ) → opens role past (Came (Head h)) n ≡ true → is_own role n ≡ false
+opens_theirs role past h n e = opened_by_the_other role past (Head h ∷ []) n (ap (λ b. b || false) e)
+
+-- what the head of a frame tells that opens a stream and has no fault
+opening_told : (role : Role) (past : List Item) (h : Header) (credits : Bool) → is_go_away h.kind ≡ false → opens role past (Came (Head h)) h.stream ≡ true
+    → fault_at role past (Came (Head h)) ≡ None → (head_belongs role past h h.stream && is_update h.kind && nat_lt 0 h.length) ≡ credits
+    → events role (Came (Head h) ∷ past) ≡ events role past ++ (Told.Opened h.stream ∷ when credits (Told.Credit h.stream))
+opening_told role past h credits stays opening sound credits_is =
+    sound_events role past (Came (Head h)) sound
+    ∙ ap (λ g. events role past ++ (when g (Told.GoAway h.length)
+    ++ when (opens role past (Came (Head h)) h.stream) (Told.Opened h.stream)
+    ++ when (head_belongs role past h h.stream && ack h && is_own role h.stream && not (accepted role past h.stream)) (Told.Accepted h.stream)
+    ++ when (head_belongs role past h h.stream && is_update h.kind && nat_lt 0 h.length) (Told.Credit h.stream))) stays
+    ∙ ap (λ o. events role past ++ ([]
+    ++ when o (Told.Opened h.stream)
+    ++ when (head_belongs role past h h.stream && ack h && is_own role h.stream && not (accepted role past h.stream)) (Told.Accepted h.stream)
+    ++ when (head_belongs role past h h.stream && is_update h.kind && nat_lt 0 h.length) (Told.Credit h.stream))) opening
+    ∙ ap (λ a. events role past ++ ((Told.Opened h.stream ∷ []) ++ when a (Told.Accepted h.stream)
+    ++ when (head_belongs role past h h.stream && is_update h.kind && nat_lt 0 h.length) (Told.Credit h.stream))) (accepts_no_more role past h (inr (opens_theirs role past h h.stream opening)))
+    ∙ ap (λ c. events role past ++ (Told.Opened h.stream ∷ when c (Told.Credit h.stream))) credits_is
+
 pub any_reading_rows : AnyReadingRows
 any_reading_rows = record {
   of_the_live = λ role past h about plain lives. read_as role past h true (for_plain role past h true about plain lives);
@@ -732,6 +767,38 @@ any_reading_rows = record {
       (accepts_none role past (head Payload flags n len) none)
       (credits_no_data role past (head Payload flags n len) refl)
       ∙ append-nil (events role past);
+  accepted_no_more = λ role past flags n plain why sound.
+      plain_told role past (head Window flags n 0) false false refl plain sound
+      (accepts_no_more role past (head Window flags n 0) why)
+      (credits_none role past (head Window flags n 0) (le-ltb 0 0 (omega arith)))
+      ∙ append-nil (events role past);
+  credit_and_no_more = λ role past flags n len plain lives why sound.
+      plain_told role past (head Window flags n (suc len)) false true refl plain sound
+      (accepts_no_more role past (head Window flags n (suc len)) why)
+      (credits_it role past (head Window flags n (suc len)) (window_belongs role past flags n (suc len) plain lives) refl (lt-ltb 0 (suc len) (omega arith)));
+  data_accepts_no_more = λ role past flags n len plain why sound.
+      plain_told role past (head Payload flags n len) false false refl plain sound
+      (accepts_no_more role past (head Payload flags n len) why)
+      (credits_no_data role past (head Payload flags n len) refl)
+      ∙ append-nil (events role past);
+  late_data_accepts_nothing = λ role past flags n len plain over.
+      plain_told role past (head Payload flags n len) false false refl plain
+      (off_fault role past (head Payload flags n len) (data_is_late role past flags n len plain over) plain)
+      (accepts_late role past (head Payload flags n len) (data_is_late role past flags n len plain over))
+      (credits_no_data role past (head Payload flags n len) refl)
+      ∙ append-nil (events role past);
+  accepted_stays = λ role past x n e before.
+      ap (λ o. not o && (acks role past x n || accepted role past n)) e ∙ ap (λ a. acks role past x n || a) before ∙ or_with_true (acks role past x n);
+  accepted_anew = λ role past x n e. ap (λ o. not o && (acks role past x n || accepted role past n)) e;
+  accepted_by_heads_alone = λ role past b n. (refl, refl);
+  accepted_by_no_act = λ role past act n e. ap (λ o. not o && (false || accepted role past n)) e;
+  opened_told = λ role past flags n opening sound.
+      opening_told role past (head Window flags n 0) false refl opening sound (credits_none role past (head Window flags n 0) (le-ltb 0 0 (omega arith)));
+  opened_and_credit_told = λ role past flags n len opening sound.
+      opening_told role past (head Window flags n (suc len)) true refl opening sound
+      (credits_it role past (head Window flags n (suc len)) (belongs_here role past (head Window flags n (suc len)) (for_opened role past (head Window flags n (suc len)) n opening) refl) refl (lt-ltb 0 (suc len) (omega arith)));
+  opened_by_data_told = λ role past flags n len opening sound.
+      opening_told role past (head Payload flags n len) false refl opening sound (credits_no_data role past (head Payload flags n len) refl);
 }
 
 pub any_named_rows : AnyNamedRows

@@ -15,6 +15,7 @@ use Rattle.multiaddr.specs.declared.protocol.Protocol.{Protocol}
 use Rattle.multiaddr.specs.declared.protocol.Protocol.TheVariants.{Ip4, Tcp, Ip6, Dns, Dns4, Dns6, P2p}
 use Rattle.multiaddr.specs.declared.socket.Ip.{Ip}
 use Rattle.multiaddr.specs.declared.socket.Ip.TheVariants.{V4, V6}
+use Rattle.multiaddr.specs.declared.fault.AddrFault.{AddrFault}
 use Rattle.multiaddr.specs.declared.fault.AddrFault.TheVariants as addr
 use Rattle.multiaddr.specs.Part.{Part, part, spelling, IsValue, IsOpaque, Address, SpellsAddress, AddressFault}
 use Rattle.multiaddr.specs.Part.{RefusesAddress}
@@ -168,6 +169,8 @@ pub record AnyTextFaultRows : Type 0 where
       → RefusesPrint bytes addr.UnknownProtocol
   pub printing_memory : (bytes : List ℕ) (a : Address) → SpellsAddress bytes a → a.opaque ≡ []
       → RefusesPrint bytes addr.OutOfMemory
+  pub no_other_printing_fault : (bytes : List ℕ) (fault : AddrFault) → RefusesPrint bytes fault
+      → (fault ≡ addr.UnknownProtocol) ⊎ (fault ≡ addr.OutOfMemory)
 
 -- What any address gives: the socket of any host and port, and the peer of its last part
 pub record AnyGivenRows : Type 0 where

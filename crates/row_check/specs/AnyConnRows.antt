@@ -54,7 +54,7 @@ use Rattle.conn_core.specs.Connects.{is_over, MayOpen, IsRefused, OwesOf, waitin
 use Rattle.conn_core.specs.Made.{none_held, answered, answered_all, asks_early, made_in}
 use Rattle.conn_core.specs.Runs.{Point, is_end, has_ended, events_or, stream_or, IsTurnedAway, StaysBehind, AreHeld}
 use Rattle.conn_core.specs.Runs.{Explains, IsExplained, MayBeAsked, IsNotOpened, AnswersAt, Answers, AnswersAll, Holds}
-use Rattle.conn_core.specs.Runs.{Leaves, Runs, IsAt}
+use Rattle.conn_core.specs.Runs.{KeepsWritten, Leaves, Runs, IsAt}
 use Rattle.conn_core.specs.Runs.Point.{At, Spent}
 use Rattle.conn_core.specs.Runs.Explains.{Coming, Up, Over}
 use Rattle.conn_core.specs.Promises.{fed_by, told_by, opened_by}
@@ -77,10 +77,11 @@ pub record AnyConnAnswerRows (P H : Type 0) : Type 0 where
   pub turned_away : (told : List (ConnEvent H)) (why : ConnRefused) (here next : Point H) → has_ended told ≡ true
       → IsTurnedAway told why here next ↔ ((why ≡ refusals.Failed) × (next ≡ here))
   pub out_of_memory : (told : List (ConnEvent H)) (why : ConnRefused) (here next : Point H) → has_ended told ≡ false
-      → IsTurnedAway told why here next ↔ ((why ≡ refusals.OutOfMemory) × (next ≡ Spent))
+      → IsTurnedAway told why here next ↔ ((why ≡ refusals.OutOfMemory) × ((written : List ℕ) × (next ≡ Spent written)))
   pub stays : (why : ConnRefused) (here next : Point H) → why ≢ refusals.OutOfMemory
       → StaysBehind why here next ↔ (next ≡ here)
-  pub spent : (here next : Point H) → StaysBehind refusals.OutOfMemory here next ↔ (next ≡ Spent)
+  pub spent : (here next : Point H) → StaysBehind refusals.OutOfMemory here next
+      ↔ ((written : List ℕ) × (next ≡ Spent written))
   -- in a phase
   pub up_opens : (listed : P → List (List ℕ)) (mux : Mux P H) (index : ℕ) → MayOpen listed (phases.Up mux) index
       ↔ ((index < length (listed mux.board.protocols))
@@ -351,6 +352,10 @@ module _ {P H : Type 0} (step : H → HandlerCall → H → Type 0) (fails : H �
   is_explained = IsExplained step fails is_closed is_finished inbound_makes outbound_makes listed is_eager
       inbound_leads outbound_leads start role own
 
+  abbrev pub keeps_written : List ℕ → Bool → List (ℕ × ℕ) → List (ConnEvent H) → List (ConnEvent H) → Point H → Type 0
+  keeps_written = KeepsWritten step fails is_closed is_finished inbound_makes outbound_makes listed is_eager
+      inbound_leads outbound_leads start role own
+
   abbrev pub answers_at : List ℕ → Bool → List (ℕ × ℕ) → List (ConnEvent H) → List (ConnEvent H) → ConnAct
       → ConnAnswer H → Point H → Type 0
   answers_at = AnswersAt step fails is_closed is_finished inbound_makes outbound_makes listed is_eager inbound_leads
@@ -390,7 +395,7 @@ module _ {P H : Type 0} (step : H → HandlerCall → H → Type 0) (fails : H �
     pub explained : (input : List ℕ) (ended : Bool) (asked : List (ℕ × ℕ)) (told owed : List (ConnEvent H))
         → is_explained (At input ended asked told owed)
         ↔ ((written : List ℕ) × explains input ended asked told owed written)
-    pub spent : is_explained Spent
+    pub spent : (written : List ℕ) → is_explained (Spent written)
     -- whether a stream may be opened there, and which handlers are held
     pub coming_opens_none : (input written : List ℕ) (ended : Bool) (asked : List (ℕ × ℕ))
         (told owed : List (ConnEvent H)) (e : ended ≡ false) (a : asked ≡ []) (t : told ≡ []) (o : owed ≡ [])
@@ -455,9 +460,17 @@ module _ {P H : Type 0} (step : H → HandlerCall → H → Type 0) (fails : H �
         × ¬ answers_at input over asked told owed Ended (Stream n) next
     pub call : (input : List ℕ) (ended : Bool) (asked : List (ℕ × ℕ)) (told owed : List (ConnEvent H)) (act : ConnAct)
         (answer : ConnAnswer H) (next : Point H) → answers_one (At input ended asked told owed) act answer next
-        ↔ (answers_at input ended asked told owed act answer next × is_explained next)
-    pub call_spent : (act : ConnAct) (answer : ConnAnswer H) (next : Point H) → answers_one Spent act answer next
-        ↔ ((answer ≡ Refused refusals.Failed) × (next ≡ Spent))
+        ↔ (answers_at input ended asked told owed act answer next × is_explained next
+        × keeps_written input ended asked told owed next)
+    pub kept_where_spent : (input written : List ℕ) (ended : Bool) (asked : List (ℕ × ℕ))
+        (told owed : List (ConnEvent H)) → keeps_written input ended asked told owed (Spent written)
+        ↔ explains input ended asked told owed written
+    pub kept_elsewhere : (input now : List ℕ) (ended over : Bool) (asked opened : List (ℕ × ℕ))
+        (told owed said owes : List (ConnEvent H))
+        → keeps_written input ended asked told owed (At now over opened said owes)
+    pub call_spent : (written : List ℕ) (act : ConnAct) (answer : ConnAnswer H) (next : Point H)
+        → answers_one (Spent written) act answer next
+        ↔ ((answer ≡ Refused refusals.Failed) × (next ≡ Spent written))
     pub no_call : (point last : Point H) → answers_all point [] [] last ↔ (last ≡ point)
     pub calls : (point last : Point H) (act : ConnAct) (acts : List ConnAct) (answer : ConnAnswer H)
         (answers : List (ConnAnswer H)) → answers_all point (act ∷ acts) (answer ∷ answers) last
@@ -469,7 +482,8 @@ module _ {P H : Type 0} (step : H → HandlerCall → H → Type 0) (fails : H �
         (handlers : List (ℕ × H)) → leaves (At input ended asked told owed) written handlers
         ↔ ((there : explains input ended asked told owed written)
         × holds input ended asked told owed written there handlers)
-    pub left_spent : (written : List ℕ) (handlers : List (ℕ × H)) → leaves Spent written handlers ↔ (handlers ≡ [])
+    pub left_spent : (written output : List ℕ) (handlers : List (ℕ × H)) → leaves (Spent written) output handlers
+        ↔ (((more : List ℕ) × (output ≡ written ++ more)) × (handlers ≡ []))
     pub runs : (acts : List ConnAct) (answers : List (ConnAnswer H)) (written : List ℕ) (handlers : List (ℕ × H))
         → Runs step fails is_closed is_finished inbound_makes outbound_makes listed is_eager inbound_leads
         outbound_leads start role own acts answers written handlers
@@ -478,4 +492,5 @@ module _ {P H : Type 0} (step : H → HandlerCall → H → Type 0) (fails : H �
     pub at_point : (input : List ℕ) (ended : Bool) (asked : List (ℕ × ℕ)) (told owed : List (ConnEvent H))
         (core : ConnCore P H) → is_at (At input ended asked told owed) core
         ↔ ((core.owed.items ≡ owed) × stands input ended asked told [] core)
-    pub at_spent : (core : ConnCore P H) → is_at Spent core ↔ (is_over core.phase ≡ true)
+    pub at_spent : (written : List ℕ) (core : ConnCore P H) → is_at (Spent written) core ↔ ((is_over core.phase ≡ true)
+        × ((more : List ℕ) × (waiting_in core.phase core.output.items ≡ written ++ more)))

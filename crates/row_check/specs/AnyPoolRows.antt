@@ -379,5 +379,8 @@ pub record AnyCallerRows : Type 0 where
       × All (λ p. mine p.number h ≡ mine p.number p.seen) passes × IsOf callers h
   pub here : (callers caller : ℕ) (passes : List Past) → AllHere callers passes → 1 ≤ caller → caller ≤ callers
       → list_any (λ p. p.number == caller) passes ≡ true
+  pub any_here : (callers : ℕ) (passes : List Past)
+      → ((caller : ℕ) → 1 ≤ caller → caller ≤ callers → list_any (λ p. p.number == caller) passes ≡ true)
+      → AllHere callers passes
   pub no_newcomer : newcomers 0 ≡ []
   pub one_newcomer_more : (n : ℕ) → newcomers (suc n) ≡ newcomers n ++ past (suc n) [] ∷ []

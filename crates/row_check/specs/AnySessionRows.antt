@@ -414,6 +414,46 @@ pub record AnyReadingRows : Type 0 where
   pub data_told_later : (role : Role) (past : List Item) (flags n len : ℕ) → syn (head Payload flags n len) ≡ false
       → ack (head Payload flags n len) ≡ false → fault_at role past (Came (Head (head Payload flags n len))) ≡ None
       → events role (Came (Head (head Payload flags n len)) ∷ past) ≡ events role past
+  -- an ACK behind the first, or on a stream of the other end, accepts nothing, nor does one on data behind the end
+  pub accepted_no_more : (role : Role) (past : List Item) (flags n : ℕ) → syn (head Window flags n 0) ≡ false
+      → (accepted role past n ≡ true) ⊎ (is_own role n ≡ false)
+      → fault_at role past (Came (Head (head Window flags n 0))) ≡ None
+      → events role (Came (Head (head Window flags n 0)) ∷ past) ≡ events role past
+  pub credit_and_no_more : (role : Role) (past : List Item) (flags n len : ℕ)
+      → syn (head Window flags n (suc len)) ≡ false → is_live role past n ≡ true
+      → (accepted role past n ≡ true) ⊎ (is_own role n ≡ false)
+      → fault_at role past (Came (Head (head Window flags n (suc len)))) ≡ None
+      → events role (Came (Head (head Window flags n (suc len))) ∷ past) ≡ events role past ++ Told.Credit n ∷ []
+  pub data_accepts_no_more : (role : Role) (past : List Item) (flags n len : ℕ) → syn (head Payload flags n len) ≡ false
+      → (accepted role past n ≡ true) ⊎ (is_own role n ≡ false)
+      → fault_at role past (Came (Head (head Payload flags n len))) ≡ None
+      → events role (Came (Head (head Payload flags n len)) ∷ past) ≡ events role past
+  pub late_data_accepts_nothing : (role : Role) (past : List Item) (flags n len : ℕ)
+      → syn (head Payload flags n len) ≡ false → finished role past n ≡ true
+      → events role (Came (Head (head Payload flags n len)) ∷ past) ≡ events role past
+  pub accepted_stays : (role : Role) (past : List Item) (x : Item) (n : ℕ) → opens role past x n ≡ false
+      → accepted role past n ≡ true → accepted role (x ∷ past) n ≡ true
+  pub accepted_anew : (role : Role) (past : List Item) (x : Item) (n : ℕ) → opens role past x n ≡ true
+      → accepted role (x ∷ past) n ≡ false
+  pub accepted_by_heads_alone : (role : Role) (past : List Item) (b n : ℕ)
+      → (accepted role (Came (Byte b) ∷ past) n ≡ accepted role past n)
+      × (accepted role (Came Tail ∷ past) n ≡ accepted role past n)
+  pub accepted_by_no_act : (role : Role) (past : List Item) (act : Act) (n : ℕ) → opens role past (Did act) n ≡ false
+      → accepted role (Did act ∷ past) n ≡ accepted role past n
+  -- what opens a stream tells that, whatever its other flags are, and the credit that it brings
+  pub opened_told : (role : Role) (past : List Item) (flags n : ℕ)
+      → opens role past (Came (Head (head Window flags n 0))) n ≡ true
+      → fault_at role past (Came (Head (head Window flags n 0))) ≡ None
+      → events role (Came (Head (head Window flags n 0)) ∷ past) ≡ events role past ++ Told.Opened n ∷ []
+  pub opened_and_credit_told : (role : Role) (past : List Item) (flags n len : ℕ)
+      → opens role past (Came (Head (head Window flags n (suc len)))) n ≡ true
+      → fault_at role past (Came (Head (head Window flags n (suc len)))) ≡ None
+      → events role (Came (Head (head Window flags n (suc len))) ∷ past)
+      ≡ events role past ++ (Told.Opened n ∷ Told.Credit n ∷ [])
+  pub opened_by_data_told : (role : Role) (past : List Item) (flags n len : ℕ)
+      → opens role past (Came (Head (head Payload flags n len))) n ≡ true
+      → fault_at role past (Came (Head (head Payload flags n len))) ≡ None
+      → events role (Came (Head (head Payload flags n len)) ∷ past) ≡ events role past ++ Told.Opened n ∷ []
 
 -- What events say, of any stream, data and code; and what is counted of the frames on the way
 pub record AnyNamedRows : Type 0 where

@@ -127,15 +127,17 @@ fn said(answer: &ConnAnswer<Mute>) -> Option<u8> {
 fn acts(alloc: Global) -> Result<Vec<ConnAct>, AllocError> {
     let mut acts = Vec::new(alloc);
     acts.push(ConnAct::Ask(0))?;
+    acts.push(ConnAct::Feed(Vec::new(alloc)))?;
     acts.push(ConnAct::Feed(Vec::from_slice(alloc, OTHER)?))?;
+    acts.push(ConnAct::Feed(Vec::new(alloc)))?;
     acts.push(ConnAct::Ask(0))?;
     acts.push(ConnAct::Ended)?;
     acts.push(ConnAct::Ended)?;
     Ok(acts)
 }
 
-/// NotUp, Upgraded, BadIndex, Shut, Failed.
-const SAID: [Option<u8>; 5] = [Some(2), Some(101), Some(3), Some(102), Some(1)];
+/// NotUp, nothing of an empty piece, Upgraded, nothing of another, BadIndex, Shut, Failed.
+const SAID: [Option<u8>; 7] = [Some(2), None, Some(101), None, Some(3), Some(102), Some(1)];
 
 fn is_told(alloc: Global) -> Option<bool> {
     let key = PublicKey::read(alloc, KEY).ok()?;

@@ -1,9 +1,10 @@
-use Rattle.std.proofs.Common.{ℕ, true, false, List, [], ◌++◌, IfOk, refl, subst}
+use Rattle.std.proofs.Common.{ℕ, true, false, List, [], ◌++◌, IfOk, refl, sym, ◌∙◌, subst}
+use Rattle.std.proofs.lemmas.List.{append-nil}
 use Rattle.conn_core.specs.declared.calls.ConnAct.TheVariants as act
 use Rattle.conn_core.specs.Connects.{Stands}
 use Rattle.conn_core.specs.Runs.{events_or, stream_or}
 use Rattle.conn_core.proofs.Asking.{ok_on}
-use Rattle.conn_core.proofs.Steps.{leads_as, and_then, err_and, tells, over_owes, asks}
+use Rattle.conn_core.proofs.Steps.{leads_as, and_then, err_and, on_err, tells, over_owes, asks}
 use Rattle.conn_core.proofs.calls.perform.Goals as goal
 
 pub returns-in-Feed : goal.returns-in-Feed
@@ -18,7 +19,7 @@ returns-in-Feed g c = λ start role own point at.
     (λ input asked told stands going. and_then _ _ c.feed.result c.feed.ensures.none_owed
     (subst (λ (bytes : List ℕ). IfOk c.feed.result (λ events. Stands H.steps H.fails H.is_closed H.is_finished makes.makes_inbound makes.makes_outbound makes.listed makes.is_eager makes.leads_inbound makes.leads_outbound start role own (input ++ bytes) false asked (told ++ events.items) [] c.feed.new.self)) c.deref.ensures.value
     (c.feed.ensures.fed role own start input [] asked told stands going)))
-    c.feed.ensures.refused c.feed.ensures.failed at)
+    c.feed.ensures.refused c.feed.ensures.waits c.feed.ensures.failed at)
 
 pub returns-in-Ended : goal.returns-in-Ended
 returns-in-Ended g c = λ start role own point at.
@@ -32,7 +33,8 @@ returns-in-Ended g c = λ start role own point at.
     (λ input asked told stands going. ok_on _ _ c.ended.result c.ended.result refl
     (λ events there. (there, over_owes H.steps H.fails H.is_closed H.is_finished makes.makes_inbound makes.makes_outbound makes.listed makes.is_eager makes.leads_inbound makes.leads_outbound start role own input true asked (told ++ events.items) [] new.phase new.owed.items new.output.items c.ended.ensures.over there.1))
     (c.ended.ensures.ends role own start input [] asked told stands going))
-    (λ going. err_and _ _ c.ended.result c.ended.ensures.over (c.ended.ensures.refused going)) c.ended.ensures.failed at)
+    (λ going. err_and _ _ c.ended.result c.ended.ensures.over (c.ended.ensures.refused going))
+    (on_err _ c.ended.result ([], c.ended.ensures.waits ∙ sym (append-nil _))) c.ended.ensures.failed at)
 
 pub returns-in-Ask : goal.returns-in-Ask
 returns-in-Ask g c = λ start role own point at.
@@ -43,4 +45,4 @@ returns-in-Ask g c = λ start role own point at.
     (asks H.steps H.fails H.is_closed H.is_finished makes.makes_inbound makes.makes_outbound makes.listed makes.is_eager makes.leads_inbound makes.leads_outbound start role own point index c.args.core.now c.ask.new.self c.ask.result
     (λ input asked told stands. c.ask.ensures.asked role own start input [] asked told stands)
     (λ input asked told stands. c.ask.ensures.owes role own start input [] asked told stands)
-    c.ask.ensures.opened c.ask.ensures.refused c.ask.ensures.kept c.ask.ensures.memory at)
+    c.ask.ensures.opened c.ask.ensures.refused c.ask.ensures.kept c.ask.ensures.memory c.ask.ensures.waits at)

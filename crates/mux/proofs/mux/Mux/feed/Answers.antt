@@ -1,4 +1,5 @@
-use Rattle.std.proofs.Common.{◌≡◌, ℕ, ◌+◌, true, false, List, [], ◌++◌, length, ◌≤◌, take, drop, sym, ap, ◌∙◌, subst, arith}
+use Rattle.std.proofs.Common.{◌≡◌, ℕ, ◌+◌, true, false, List, [], ◌++◌, length, ◌≤◌, take, drop, sym, ap, ◌∙◌, subst, arith, refl}
+use Rattle.mux.specs.declared.mux.Mux.{Mux}
 use Rattle.std.proofs.lemmas.List.{append_assoc, take_all, take-append-drop}
 use Rattle.std.specs.Ordering.{nat_cmp}
 use Rattle.std.specs.BTreeMap as tree
@@ -23,6 +24,7 @@ loop-at-init g c =
       goes = λ log fed sent rests still. grows_none H.steps H.fails H.is_closed H.is_finished makes.makes_inbound makes.makes_outbound (makes.is_eager board.protocols) (makes.listed board.protocols) board.peer
           board.role (MakesOnBoard makes.leads_inbound makes.leads_outbound board board) log (λ first was. was) c.args.told.now.items fed sent c.args.self.now.session (tree.get nat_cmp board.streams) board.past.items rests;
       faults = λ log fed sent rests failed. absurd (let both : true ≡ false = sym failed ∙ rests.session_stands.going in cc both);
+      failed = λ was. (refl, refl);
     }
 
 pub loop-at-preserved : goal.loop-at-preserved
@@ -38,6 +40,7 @@ loop-at-preserved g c =
     let going : c.loop-at.self.session.failed ≡ false = sym c.has_failed.ensures ∙ c.if-not-has_failed.true in
     let bytes : take at piece ++ more ≡ take (at + used) piece = sym (take_on piece at used inv.within) in
     record {
+      failed = λ was. absurd (let both : true ≡ false = sym was ∙ ap (λ (m : Mux _ _). m.session.failed) (sym (inv.failed was).0) ∙ going in cc both);
       within = (let fits = c.in_ok-at.ensures.within in omega (arith, inv.within));
       keeps = keeps_on makes.listed makes.is_eager board c.loop-at.self.board c.feed_frame.new.self.board inv.keeps c.in_ok-at.ensures.keeps;
       goes = λ log fed sent rests still.
@@ -103,3 +106,6 @@ returns-clause-goes g c = λ log fed sent rests still.
     board.role (MakesOnBoard makes.leads_inbound makes.leads_outbound board c.loop-at.self.board) log c.args.told.now.items c.loop-at.told.items (fed ++ t) sent c.loop-at.self.session (tree.get nat_cmp c.loop-at.self.board.streams) c.loop-at.self.board.past.items)
     (take_all c.loop-at.at c.args.piece.now (read_all g c still))
     (c.loop-at.invariant.goes log fed sent rests still)
+
+pub returns-clause-failed : goal.returns-clause-failed
+returns-clause-failed g c = λ was. let same = c.loop-at.invariant.failed was in (refl, same.0, same.1)
