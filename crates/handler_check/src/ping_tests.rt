@@ -226,21 +226,26 @@ fn a_ping_fills_each_room(rt: HostRuntime) {
     assert!(rt; fills(rt.alloc(), usize::MAX));
 }
 
-/// Whether a ping of which so much was sent, when its echo came, sends the rest: a byte before the end, and all behind
-/// it.
-fn is_sent_behind(alloc: Global, sent: usize) -> bool {
+/// Whether a ping of which so much was sent, when its echo came, sends the rest: so much more before the end, and all
+/// behind it.
+fn is_sent_behind(alloc: Global, sent: usize, more: usize) -> bool {
     let front = sent.min(32);
-    let next = sent.saturating_add(1).min(32);
+    let next = sent.saturating_add(more).min(32);
     let mut out = PingOut::new(alloc, PING);
     let is_begun = gives(&mut out, sent, &PING[..front]) && out.take(&PING) == Ok(());
-    let is_going = gives(&mut out, 1, &PING[front..next]) && out.end() == Ok(());
+    let is_going = gives(&mut out, more, &PING[front..next]) && out.end() == Ok(());
     is_begun && is_going && gives(&mut out, 64, &PING[next..]) && out.finished()
 }
 
 #[test]
 fn a_ping_is_sent_on_behind_its_echo(rt: HostRuntime) {
     for sent in 0..=32usize {
-        assert!(rt; is_sent_behind(rt.alloc(), sent), "{sent} bytes before");
+        for more in [0, 1] {
+            assert!(rt;
+                is_sent_behind(rt.alloc(), sent, more),
+                "{sent} bytes before, {more} more"
+            );
+        }
     }
 }
 

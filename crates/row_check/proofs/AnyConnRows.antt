@@ -1,5 +1,4 @@
 -- The rows of an end of a connection, of its calls and of whole runs.
-use Rattle.std.proofs.lemmas.List.{reverse-append}
 use Rattle.std.proofs.Common.{◌≡◌, ◌≢◌, ◌⊎◌, ℕ, ◌<◌, ◌≤◌, inl, inr, Bool, true, false, ◌&&◌, nat_lt, List, [], ◌∷◌, ◌++◌, length, map, take, Option, Some, None, Ok, Err, refl, sym, ◌∙◌, subst, arith, lt-ltb, ltb-true}
 use Rattle.handlers.specs.Calls.{HandlerCall, Asked}
 use Rattle.peer_ids.specs.Key.{Key}
@@ -119,7 +118,7 @@ any_holders = record {
     λ h. rw (lt-ltb index (length (listed start)) h.0) h.1,
   );
   asks_none = λ listed is_eager start bytes. (refl, refl);
-  oldest_first = λ listed is_eager start calls answers newest n e. rw e (reverse-append (n ∷ []) newest);
+  made = λ listed is_eager start calls answers. refl;
 }
 
 no_call : {H : Type 0} (answers : List (ConnAnswer H)) → (fed_by [] answers ≡ []) × (opened_by [] answers ≡ [])

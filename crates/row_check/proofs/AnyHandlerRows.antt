@@ -19,7 +19,8 @@ use Rattle.identify_h.specs.Rows.{nothing}
 use Rattle.ping_h.specs.Rounds.{round}
 use Rattle.node_protocols.specs.declared.handler.NodeHandler.{NodeHandler}
 use Rattle.node_protocols.specs.declared.handler.NodeHandler.TheVariants.{Pings}
-use Rattle.node_protocols.specs.Makes.{MakesInbound, MakesOutbound, Hears, Tells}
+use Rattle.node_protocols.specs.Makes.{Node, MakesInbound, MakesOutbound, LeadsOutbound, Hears, Tells}
+use Rattle.node_protocols.specs.Rows.{counts}
 use Rattle.row_check.specs.AnyHandlerRows.{AnyWrittenRows, AnyMergedRows, AnyReadRows, AnyWantRows, AnyMadeRows, Gives}
 use Rattle.row_check.proofs.AnyBytesRows.{taken_front}
 
@@ -135,6 +136,12 @@ none_in own n peer handler (inl it) = let is = it.0 in omega (arith, is)
 none_in own n peer handler (inr (inl it)) = let is = it.0 in omega (arith, is)
 none_in own n peer handler (inr (inr it)) = let is = it.0 in omega (arith, is)
 
+none_left : (node next : Node ℕ) (n : ℕ) (peer : List ℕ) (handler : NodeHandler)
+    → LeadsOutbound counts node (suc (suc (suc n))) peer handler next → ⊥
+none_left node next n peer handler (inl it) = let is = it.0 in omega (arith, is)
+none_left node next n peer handler (inr (inl it)) = let is = it.0 in omega (arith, is)
+none_left node next n peer handler (inr (inr it)) = let is = it.0 in omega (arith, is)
+
 module _ (own : Message) (payload : List ℕ) (peer : List ℕ) (handler : NodeHandler) where
   none_out : (n : ℕ) → MakesOutbound own (Gives payload) (suc (suc (suc n))) peer handler → ⊥
   none_out n (inl it) = let is = it.0 in omega (arith, is)
@@ -164,6 +171,7 @@ any_made_rows = record {
   push_out = λ own payload peer handler. (out_1 own payload peer handler, λ h. inr (inl (refl, h)));
   ping_out = λ own payload peer handler. (out_2 own payload peer handler, λ h. inr (inr (refl, (payload, refl, h))));
   none_out = λ own payload n peer handler. none_out own payload peer handler n;
+  none_left = none_left;
   hears = λ peer handler h. h;
 }
 

@@ -138,11 +138,10 @@ pub record AnyHolderRows (P H : Type 0) : Type 0 where
       ↔ ((index < length (listed start)) × (is_eager start index ≡ true))
   pub asks_none : (listed : P → List (List ℕ)) (is_eager : P → ℕ → Bool) (start : P) (bytes : Vec ℕ)
       → (asks_early listed is_eager start (Feed bytes) ≡ false) × (asks_early listed is_eager start Ended ≡ false)
-  -- and of all calls that of the oldest handler comes first
-  pub oldest_first : (listed : P → List (List ℕ)) (is_eager : P → ℕ → Bool) (start : P) (calls : List ConnAct)
-      (answers : List (ConnAnswer H)) (newest : List ℕ) (n : ℕ)
-      → (answered_all none_held (map (asks_early listed is_eager start) calls) answers).newest ≡ n ∷ newest
-      → made_in listed is_eager start calls answers ≡ reverse newest ++ n ∷ []
+  -- and of all calls, each with its answer, that of the oldest handler comes first
+  pub made : (listed : P → List (List ℕ)) (is_eager : P → ℕ → Bool) (start : P) (calls : List ConnAct)
+      (answers : List (ConnAnswer H)) → made_in listed is_eager start calls answers
+      ≡ reverse (answered_all none_held (map (asks_early listed is_eager start) calls) answers).newest
 
 -- What a run has fed, told and opened: at any call and answer
 pub record AnySumRows (H : Type 0) : Type 0 where

@@ -20,7 +20,8 @@ use Rattle.identify_h.specs.Sending.{framed}
 use Rattle.identify_h.specs.Rows.{nothing}
 use Rattle.node_protocols.specs.declared.handler.NodeHandler.{NodeHandler}
 use Rattle.node_protocols.specs.declared.handler.NodeHandler.TheVariants.{Reads, Sends, Pings}
-use Rattle.node_protocols.specs.Makes.{Tells, Hears, MakesInbound, MakesOutbound}
+use Rattle.node_protocols.specs.Makes.{Node, Tells, Hears, MakesInbound, MakesOutbound, LeadsOutbound}
+use Rattle.node_protocols.specs.Rows.{counts}
 
 -- Whatever a message says, it is written as its fields one after another, by rising number, each behind its number and
 -- its length, and nothing else
@@ -157,5 +158,7 @@ pub record AnyMadeRows : Type 0 where
       }))
   pub none_out : (own : Message) (payload : List ℕ) (n : ℕ) (peer : List ℕ) (handler : NodeHandler)
       → ¬ MakesOutbound own (Gives payload) (suc (suc (suc n))) peer handler
+  pub none_left : (node next : Node ℕ) (n : ℕ) (peer : List ℕ) (handler : NodeHandler)
+      → ¬ LeadsOutbound counts node (suc (suc (suc n))) peer handler next
   pub hears : (peer : List ℕ) (handler : NodeHandler) → Hears peer handler
       → (reader : Reader) × (handler ≡ Reads reader) × IsFresh peer reader

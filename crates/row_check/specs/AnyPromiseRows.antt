@@ -3,8 +3,8 @@
 -- Source: libp2p connections, "Opening new streams over a connection"; this project's laws.
 use Rattle.std.specs.Prelude.{◌≡◌, ◌≢◌, ◌⊎◌, ◌↔◌, ℕ, ◌<◌, Bool, true, false, List, [], ◌∷◌, ◌++◌, length, map, Option}
 use Rattle.std.specs.Prelude.{Some}
-use Rattle.std.specs.Prelude.{Ok, ◌+◌}
-use Rattle.std.specs.List.{AllByRecursion, Contains}
+use Rattle.std.specs.Prelude.{Ok, ◌+◌, ◌==◌, None, take, drop}
+use Rattle.std.specs.List.{AllByRecursion, Contains, position, remove}
 use Rattle.handlers.specs.Calls.{HandlerCall, Asked}
 use Rattle.peer_ids.specs.Key.{Key}
 use Rattle.talks.specs.State.{Talking as Talk}
@@ -60,6 +60,11 @@ pub record AnyOrderRows (H : Type 0) : Type 0 where
   pub no_order : (held : List (ℕ × H)) → arranged [] held ≡ held
   pub first_of_all : (n : ℕ) (handler : H) (order : List ℕ) (held : List (ℕ × H))
       → arranged (n ∷ order) ((n, handler) ∷ held) ≡ (n, handler) ∷ arranged order held
+  -- what isn't held is passed over, and of what is held the first is taken out
+  pub passed_over : (n : ℕ) (order : List ℕ) (held : List (ℕ × H)) → position (λ one. one.0 == n) held ≡ None
+      → arranged (n ∷ order) held ≡ arranged order held
+  pub taken_out : (n at : ℕ) (order : List ℕ) (held : List (ℕ × H)) → position (λ one. one.0 == n) held ≡ Some at
+      → arranged (n ∷ order) held ≡ take 1 (drop at held) ++ arranged order (remove held at)
   pub none_held : (order : List ℕ) → arranged {H = H} order [] ≡ []
   pub count_of_none : (n : ℕ) → times n [] ≡ 0
   pub count_one : (n : ℕ) (order : List ℕ) → times n (n ∷ order) ≡ times n order + 1
