@@ -22,6 +22,8 @@ pub(crate) struct Held {
     /// It isn't held up for writes, and takes all that it is offered.
     takes: bool,
     fails: bool,
+    /// It says once that it is ready, and isn't.
+    is_stale: bool,
 }
 
 impl Held {
@@ -31,6 +33,9 @@ impl Held {
         ensures registered { OnPending result (Covers cx.new (λ source. source ≡ canceled_source self.new.hold)) }
         ensures kept { Keeps cx.old cx.new }
     {
+        if self.is_stale {
+            return Poll::Ready(Ok(()));
+        }
         ready!(self.hold.poll_canceled(cx));
         if self.fails {
             return Poll::Ready(Err(io::Error::from(io::ErrorKind::ConnectionReset)));
@@ -66,10 +71,18 @@ impl Socket for Held {
     }
 
     fn try_read(&mut self, buffer: &mut [u8]) -> io::Result<usize> {
+        if self.is_stale {
+            self.is_stale = false;
+            return Err(io::Error::from(io::ErrorKind::WouldBlock));
+        }
         Ok(buffer.len())
     }
 
     fn try_write(&mut self, bytes: &[u8]) -> io::Result<usize> {
+        if self.is_stale {
+            self.is_stale = false;
+            return Err(io::Error::from(io::ErrorKind::WouldBlock));
+        }
         Ok(bytes.len())
     }
 
@@ -83,7 +96,14 @@ pub(crate) fn held_link(
     alloc: Global,
     takes: bool,
     fails: bool,
+    is_stale: bool,
 ) -> Option<(SocketLink<Held>, Hold)> {
     let (hold, holder) = channel(alloc).ok()?;
-    Some((SocketLink::new(Held { hold, takes, fails }), holder))
+    let held = Held {
+        hold,
+        takes,
+        fails,
+        is_stale,
+    };
+    Some((SocketLink::new(held), holder))
 }

@@ -26,8 +26,14 @@ fn waits_so<L: Link>(task: &MockTask, link: &mut L, holder: Hold, kind: u8, answ
 }
 
 fn is_held(alloc: Global, task: &MockTask, fails: bool, kind: u8, answer: u8) -> Option<bool> {
-    let (mut link, holder) = held_link(alloc, false, fails)?;
+    let (mut link, holder) = held_link(alloc, false, fails, false)?;
     Some(waits_so(task, &mut link, holder, kind, answer))
+}
+
+/// One that says first that it is ready, and then isn't, is asked again, and waits.
+fn is_held_behind_a_try(alloc: Global, task: &MockTask, kind: u8) -> Option<bool> {
+    let (mut link, holder) = held_link(alloc, false, false, true)?;
+    Some(waits_so(task, &mut link, holder, kind, b'4'))
 }
 
 #[test]
@@ -37,6 +43,10 @@ fn a_socket_that_waits(rt: HostRuntime) -> Result<(), Fail> {
         let held = is_held(rt.alloc(), &task, false, kind, answer) == Some(true);
         let fails = is_held(rt.alloc(), &task, true, kind, b'f') == Some(true);
         assert!(rt; held && fails, "call {kind}");
+    }
+    for kind in [b'r', b'w'] {
+        let held = is_held_behind_a_try(rt.alloc(), &task, kind) == Some(true);
+        assert!(rt; held, "call {kind} of a socket that isn't ready");
     }
     Ok(())
 }
@@ -76,7 +86,7 @@ fn ends_by(
 }
 
 fn shuts_so(alloc: Global, task: &MockTask, fails: bool, last: Said) -> Option<bool> {
-    let (link, holder) = held_link(alloc, true, fails)?;
+    let (link, holder) = held_link(alloc, true, fails, false)?;
     let mut conn = connect(alloc, ConnRole::Dialer, link)?;
     let waits = is_asked_to_shut(alloc, task, &mut conn)?;
     drop(holder);

@@ -4,6 +4,7 @@ use crate::counted::Counted;
 use crate::ends::{End, Gave, Plan, Said, UPGRADE, connect, drive, poll_once, written};
 use crate::quiet::Quiet;
 use crate::scripts::{PENDING, in_turn, steps_of};
+use bounded_conn::BoundedConn;
 use conn_link::Pipe;
 use futures::task::Poll;
 use futures::test::MockTask;
@@ -197,7 +198,7 @@ fn is_asked_once(
     takes: bool,
 ) -> Option<bool> {
     let first = conn.waiting();
-    let gave = drive(alloc, task, conn, Plan::Listen, 10)?;
+    let gave = drive(alloc, task, conn, Plan::Listen, 1)?;
     let left = if takes { 0 } else { first };
     let is_right = gave.is_idle && gave.said.is_empty() && gave.most == 2 && conn.waiting() == left;
     conn.shut();
@@ -215,12 +216,21 @@ fn waits_quietly(alloc: Global, task: &MockTask, takes: bool) -> Option<bool> {
     is_asked_once(alloc, task, &mut conn, takes)
 }
 
+/// So too where it is bounded: the first poll waits for the link, and asks for no other.
+fn waits_bounded(alloc: Global, task: &MockTask, takes: bool) -> Option<bool> {
+    let mut conn = BoundedConn::new(connect(alloc, ConnRole::Dialer, Quiet::new(takes))?);
+    let polled = task.enter(|cx| conn.poll_next(cx));
+    Some(polled.is_pending() && !task.is_woken() && !conn.was_dropped())
+}
+
 #[test]
 fn a_link_that_waits(rt: HostRuntime) -> Result<(), Fail> {
     let task = MockTask::new(&rt)?;
     for takes in [true, false] {
         let held = waits_quietly(rt.alloc(), &task, takes) == Some(true);
         assert!(rt; held, "a link that takes bytes: {takes}");
+        let bounded = waits_bounded(rt.alloc(), &task, takes) == Some(true);
+        assert!(rt; bounded, "a bounded one, whose link takes bytes: {takes}");
     }
     Ok(())
 }

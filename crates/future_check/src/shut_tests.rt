@@ -72,6 +72,25 @@ fn shuts_behind_a_fault(alloc: Global, task: &MockTask) -> Option<bool> {
     stays_over(alloc, task, &mut conn)
 }
 
+/// Behind `shut`, where each write takes a byte, a poll asks for another exactly behind its 32nd call: 32 writes, and
+/// then those that are left, and shutting.
+fn is_shut_by_32(alloc: Global, task: &MockTask, conn: &mut End<Pipe>) -> Option<bool> {
+    let left = u32::try_from(conn.waiting()).ok()?;
+    conn.shut();
+    let first = drive(alloc, task, conn, Plan::Listen, 1)?;
+    let has_waited = first.said.is_empty() && !first.is_idle && first.least_pending == 32;
+    let rest = drive(alloc, task, conn, Plan::Listen, 3)?;
+    let calls = conn.link().calls;
+    Some(has_waited && rest.is(&[Said::Shut]) && calls == left.saturating_add(1))
+}
+
+fn shuts_by_32(alloc: Global, task: &MockTask) -> Option<bool> {
+    let writes = in_turn(alloc, 1, 1, 100)?;
+    let pipe = pipe(alloc, ConnRole::Dialer, &[FAIL], &writes)?;
+    let mut conn = connect(alloc, ConnRole::Dialer, pipe)?;
+    is_shut_by_32(alloc, task, &mut conn)
+}
+
 #[test]
 fn shut(rt: HostRuntime) -> Result<(), Fail> {
     let task = MockTask::new(&rt)?;
@@ -80,6 +99,7 @@ fn shut(rt: HostRuntime) -> Result<(), Fail> {
         assert!(rt; held, "called {times} times");
     }
     assert_eq!(rt; shuts_behind_a_fault(rt.alloc(), &task), Some(true));
+    assert_eq!(rt; shuts_by_32(rt.alloc(), &task), Some(true));
     for turn in 0..60u32 {
         let poll = turn.saturating_mul(3);
         let held = shuts_within(rt.alloc(), &task, poll) == Some(true);

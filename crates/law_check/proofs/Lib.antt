@@ -11,3 +11,4 @@ mod HandlerLaws
 mod IdentifyLaws
 mod StreamLaws
 mod PoolLaws
+mod ToldLaws

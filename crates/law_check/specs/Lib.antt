@@ -12,3 +12,4 @@ pub mod HandlerLaws
 pub mod IdentifyLaws
 pub mod StreamLaws
 pub mod PoolLaws
+pub mod ToldLaws

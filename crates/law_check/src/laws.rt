@@ -1,5 +1,6 @@
 //! What the laws say, word by word. Each is a function with an empty body.
 
+ghost use Rattle.law_check.specs.ToldLaws.{CodecTold, SessionTold, PoolTold};
 ghost use Rattle.law_check.specs.VarintLaws.{VarintLaws};
 ghost use Rattle.law_check.specs.KeyLaws.{KeyLaws};
 ghost use Rattle.law_check.specs.AddressLaws.{AddressLaws};
@@ -77,4 +78,11 @@ pub fn stream_laws()
 /// The laws of the swarm of one thread.
 pub fn pool_laws()
     ensures { PoolLaws }
+{}
+
+/// What callers conclude of codecs, sessions and the pool.
+pub fn told_laws()
+    ensures codecs { CodecTold }
+    ensures sessions { SessionTold }
+    ensures pools { PoolTold }
 {}

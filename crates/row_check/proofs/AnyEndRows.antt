@@ -187,6 +187,7 @@ pub any_handed : {H : Type 0} (step : H → HandlerCall → H → Type 0) (fails
 any_handed step fails = record {
   no_calls = λ made value. (λ e. e, λ e. e);
   call_more = λ made middle value call calls s a. (middle, s, a);
+  call_first = λ made value call calls a. a;
   handed_is = λ made value bytes ended w. (w.calls, w.arises, w.joined, w.ends);
   failed_is = λ number value f. (f.answers, f.refuses);
   ended_is = λ number value e. (e.takes, e.ends, e.refuses, e.refuses_an_end);

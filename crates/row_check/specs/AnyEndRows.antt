@@ -216,6 +216,9 @@ pub record AnyHandedRows {H : Type 0} (step : H → HandlerCall → H → Type 0
   pub no_calls : (made value : H) → Arises step made [] value ↔ (made ≡ value)
   pub call_more : (made middle value : H) (call : HandlerCall) (calls : List HandlerCall) → step made call middle
       → Arises step middle calls value → Arises step made (call ∷ calls) value
+  -- each call of the list was answered, the first on what was made: none is passed over
+  pub call_first : (made value : H) (call : HandlerCall) (calls : List HandlerCall)
+      → Arises step made (call ∷ calls) value → (middle : H) × step made call middle × Arises step middle calls value
   pub handed_is : (made value : H) (bytes : List ℕ) (ended : Bool) → WasHanded step made bytes ended value
       → (calls : List HandlerCall) × Arises step made calls value × (taken calls ≡ bytes) × EndsAs calls ended
   pub failed_is : (number : ℕ) (value : H) → HasFailed step fails number value
