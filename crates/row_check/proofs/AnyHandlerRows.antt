@@ -1,6 +1,6 @@
 -- The rows of identify messages and of a node's handlers, whatever they hold.
 use Rattle.std.proofs.Common.{◌≡◌, ◌≢◌, ◌≤◌, subst, ℕ, suc, false, List, [], ◌∷◌, ◌++◌, length, Option, Some, None, refl, sym, ap, ◌∙◌, append-nil, ◌⊎◌, inl, inr, arith}
-use Rattle.std.specs.Prelude.{is_some, IsSome, ◌<◌, take}
+use Rattle.std.specs.Prelude.{is_some, IsSome, ◌<◌}
 use Rattle.std.proofs.lemmas.List.{length-append}
 use Rattle.std.specs.List.{flat_map}
 use Rattle.std.specs.Option.{option_map}

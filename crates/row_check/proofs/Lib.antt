@@ -31,6 +31,7 @@ mod AnyTalkRows
 mod AnyEndRows
 mod AnyInputRows
 mod AnySessionRows
+mod AnySessionRunRows
 mod AnyPoolRows
 mod AnyHandlerRows
 mod AnyLogRows

@@ -1,4 +1,5 @@
-use Rattle.row_check.proofs.AnySessionRows.{any_frame_rows, any_flag_rows, any_sent_rows, any_leaving_rows, any_told_rows, any_window_rows, any_fault_rows, any_call_rows, any_reading_rows, any_named_rows, any_run_rows, any_led_rows, any_cut_rows, any_joined_rows, any_heard_rows}
+use Rattle.row_check.proofs.AnySessionRows.{any_frame_rows, any_flag_rows, any_sent_rows, any_leaving_rows, any_told_rows, any_window_rows, any_fault_rows, any_call_rows}
+use Rattle.row_check.proofs.AnySessionRunRows.{any_reading_rows, any_named_rows, any_run_rows, any_led_rows, any_cut_rows, any_joined_rows, any_heard_rows}
 use Rattle.row_check.proofs.laws.any_session_rows.Goals as goal
 
 pub returns-clause-frames : goal.returns-clause-frames
