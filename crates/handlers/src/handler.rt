@@ -35,7 +35,7 @@ pub trait Handler: Drop {
     /// The call may fail with this number.
     ghost fails: { Self → Asked → ℕ → Type 0 };
 
-    /// It gives no more.
+    /// It is asked to give no more.
     ghost is_closed: { Self → Bool };
 
     /// Its work is done.
@@ -57,7 +57,7 @@ pub trait Handler: Drop {
         ensures step { IfOk result (λ bytes. steps self.old (Give room bytes.items) self.new) }
         ensures fault { IfErr result (λ fault. fails self.old (ToGive room) fault.number) };
 
-    /// Whether it gives no more: then this end's direction of the stream is closed.
+    /// Whether it is asked to give no more: then this end's direction of the stream is closed.
     fn closed(&self) -> bool
         ensures { result ≡ is_closed self.now };
 
