@@ -12,3 +12,4 @@ mod IdentifyLaws
 mod StreamLaws
 mod PoolLaws
 mod ToldLaws
+mod BothToldLaws

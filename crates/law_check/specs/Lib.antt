@@ -13,3 +13,4 @@ pub mod IdentifyLaws
 pub mod StreamLaws
 pub mod PoolLaws
 pub mod ToldLaws
+pub mod BothToldLaws

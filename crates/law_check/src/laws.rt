@@ -1,6 +1,7 @@
 //! What the laws say, word by word. Each is a function with an empty body.
 
 ghost use Rattle.law_check.specs.ToldLaws.{CodecTold, SessionTold, PoolTold};
+ghost use Rattle.law_check.specs.BothToldLaws.{OneOutcome, TalksTold, OwnersTold, SessionsHeard, DialsSeen};
 ghost use Rattle.law_check.specs.VarintLaws.{VarintLaws};
 ghost use Rattle.law_check.specs.KeyLaws.{KeyLaws};
 ghost use Rattle.law_check.specs.AddressLaws.{AddressLaws};
@@ -85,4 +86,13 @@ pub fn told_laws()
     ensures codecs { CodecTold }
     ensures sessions { SessionTold }
     ensures pools { PoolTold }
+{}
+
+/// What callers conclude of one outcome, and of two ends of a negotiation, a session or a swarm.
+pub fn both_told_laws()
+    ensures outcome { OneOutcome }
+    ensures talks { TalksTold }
+    ensures owners { OwnersTold }
+    ensures sessions { SessionsHeard }
+    ensures dials { DialsSeen }
 {}

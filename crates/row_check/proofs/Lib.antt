@@ -30,6 +30,7 @@ mod AnyAddressRows
 mod AnyTalkRows
 mod AnyEndRows
 mod AnyInputRows
+mod AnyPairRows
 mod AnySessionRows
 mod AnySessionRunRows
 mod AnyPoolRows

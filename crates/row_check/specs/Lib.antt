@@ -31,6 +31,7 @@ pub mod AnyAddressRows
 pub mod AnyTalkRows
 pub mod AnyEndRows
 pub mod AnyInputRows
+pub mod AnyPairRows
 pub mod AnySessionRows
 pub mod AnyPoolRows
 pub mod AnyHandlerRows

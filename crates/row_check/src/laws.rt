@@ -35,7 +35,8 @@ ghost use Rattle.row_check.specs.AnyTalkRows.{AnyMessageRows, AnyChoiceRows, Any
 ghost use Rattle.row_check.specs.AnyTalkRows.{AnySenderRows, AnyTalkRows, AnyJoinedRows, AnyRunsOutRows};
 ghost use Rattle.row_check.specs.AnyEndRows.{AnyExchangeRows, AnyUpgradeRows, AnyUpgradeMemoryRows, AnyCallRows};
 ghost use Rattle.row_check.specs.AnyEndRows.{AnyStarvedRows, AnyGrowthRows, AnyHandedRows};
-ghost use Rattle.row_check.specs.AnyInputRows.{AnyInputRows};
+ghost use Rattle.row_check.specs.AnyInputRows.{AnyInputRows, AnyHistoryRows};
+ghost use Rattle.row_check.specs.AnyPairRows.{AnyPairRows, SomePairRows};
 ghost use Rattle.row_check.specs.AnySessionRows.{AnyFrameRows, AnyFlagRows, AnySentRows, AnyLeavingRows};
 ghost use Rattle.row_check.specs.AnySessionRows.{AnyToldRows, AnyWindowRows, AnyFaultRows, AnyActRows};
 ghost use Rattle.row_check.specs.AnySessionRows.{AnyReadingRows, AnyNamedRows, AnyRunRows, AnyLedRows};
@@ -215,9 +216,13 @@ pub fn any_handed_rows<H: Handler>()
 {}
 
 /// What the definitions say wherever a message, a talk, an exchange, an upgrade, a reader or a session stands they say
-/// of any input there.
+/// of any input there; what they say of a session's history they say of each item of it, and what they say of two joined
+/// sessions of any stream.
 pub fn any_input_rows()
-    ensures { AnyInputRows }
+    ensures inputs { AnyInputRows }
+    ensures histories { AnyHistoryRows }
+    ensures pairs { AnyPairRows }
+    ensures some_pairs { SomePairRows }
 {}
 
 /// The definitions of frames and sessions say of any length, number, flags and history what they are to say.
