@@ -23,7 +23,7 @@ ghost use Rattle.row_check.specs.StandingRows.{AnsweredRows, UsedRows, TalkingRo
 ghost use Rattle.row_check.specs.CameRows.{CameRows};
 ghost use Rattle.row_check.specs.HeldRows.{HeldRows};
 ghost use Rattle.row_check.specs.SeenRows.{OnePlaceRows, MeanwhileRows};
-ghost use Rattle.row_check.specs.RefusedRows.{RefusedRows};
+ghost use Rattle.row_check.specs.RefusedRows.{RefusedRows, WithinRows};
 ghost use Rattle.row_check.specs.EndedRows.{EndedRows, UnaskedRows};
 ghost use Rattle.row_check.specs.AlikeRows.{AlikeRows};
 ghost use Rattle.row_check.specs.OrderRows.{UnmovedRows};
@@ -141,6 +141,7 @@ pub fn handlers_rows()
     ensures peer { PeerRows }
     ensures held { HeldRows }
     ensures refused { RefusedRows }
+    ensures within { WithinRows }
     ensures ended { EndedRows }
     ensures unasked { UnaskedRows }
     ensures alike { AlikeRows }

@@ -3,7 +3,7 @@ use Rattle.row_check.proofs.IdentifyRows.{left_rows}
 use Rattle.row_check.proofs.NodeRows.{any}
 use Rattle.row_check.proofs.ServedRows.{nowhere, unsaid, alone, peer_rows}
 use Rattle.row_check.proofs.HeldRows.{held}
-use Rattle.row_check.proofs.RefusedRows.{refused}
+use Rattle.row_check.proofs.RefusedRows.{refused, within_rows}
 use Rattle.row_check.proofs.EndedRows.{ended_rows, unasked_rows}
 use Rattle.row_check.proofs.AlikeRows.{alike}
 use Rattle.row_check.proofs.laws.handlers_rows.Goals as goal
@@ -34,6 +34,9 @@ returns-clause-held c = held
 
 pub returns-clause-refused : goal.returns-clause-refused
 returns-clause-refused c = refused
+
+pub returns-clause-within : goal.returns-clause-within
+returns-clause-within c = within_rows
 
 pub returns-clause-ended : goal.returns-clause-ended
 returns-clause-ended c = ended_rows
