@@ -38,6 +38,19 @@ key_comes : (bytes : List ℕ) (outcome : Result Key KeyFault) → Comes bytes o
 key_comes bytes (Ok key) comes = (comes, tt)
 key_comes bytes (Err fault) comes = (tt, comes.1)
 
+one_key : (bytes : List ℕ) (outcome : Result Key KeyFault) → Comes bytes outcome → ((other : Result Key KeyFault) → Comes bytes other → other ≡ outcome)
+    → ((key : Key) × SpellsKey bytes key × ((other : Key) → SpellsKey bytes other → other ≡ key)
+    × ((fault : KeyFault) → fault ≢ key_fault.OutOfMemory → ¬ RefusesKey bytes fault))
+    ⊎ ((fault : KeyFault) × (fault ≢ key_fault.OutOfMemory) × RefusesKey bytes fault
+    × ((other : KeyFault) → other ≢ key_fault.OutOfMemory → RefusesKey bytes other → other ≡ fault))
+one_key bytes (Ok key) comes only = inl (
+  key,
+  comes,
+  λ other spells. cc (only (Ok other) spells),
+  λ fault fit refuses. absurd (cc (only (Err fault) (fit, refuses))),
+)
+one_key bytes (Err fault) comes only = inr (fault, comes.0, comes.1, λ other fit refuses. cc (only (Err other) (fit, refuses)))
+
 no_other_key : (bytes : List ℕ) (result : Result Key KeyFault) (it : IsOneKey bytes result) → (result ≡ it.outcome) ⊎ (result ≡ Err key_fault.OutOfMemory) → result ≢ Err key_fault.OutOfMemory → IfOk result (SpellsKey bytes) × IfErr result (RefusesKey bytes)
 no_other_key bytes result it (inl e) ne = rw e (key_comes bytes it.outcome it.comes)
 no_other_key bytes result it (inr e) ne = absurd (ne e)
@@ -61,6 +74,7 @@ one_outcome = record {
   key = λ bytes result it key spells. key_known bytes result it (Ok key) spells;
   key_refused = λ bytes result it fault refuses ne. key_known bytes result it (Err fault) (ne, refuses);
   no_other_key = λ bytes result it ne. no_other_key bytes result it it.answered ne;
+  one_key = λ bytes result it. one_key bytes it.outcome it.comes it.only;
   read = λ bytes. one_address (SpellsAddress bytes) (AddressFault bytes) bytes_of;
   parsed = λ text. one_address (ReadsParts text) (TextFault text) (flat_map spelling);
 }
@@ -145,6 +159,7 @@ sessions_heard = record {
   asked = λ question answer pair it. it.asked;
   answered = λ question answer pair it. it.answered;
   joined = λ role here there sent session it. (it.joined, it.stands, it.are_bytes);
+  any_joined = λ role here there sent session joined stands bytes. record { joined = joined; stands = stands; are_bytes = bytes };
   asks = λ n bytes client it. (it.pieces, it.written, it.is_joined);
   hears = λ old bytes told new it role here there sent joined front.
       let more = it role here there sent joined front in

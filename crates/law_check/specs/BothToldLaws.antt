@@ -87,6 +87,12 @@ pub record OneOutcome : Type 0 where
   pub no_other_key : (bytes : List ℕ) (result : Result Key KeyFault) → IsOneKey bytes result
       → result ≢ Err key_fault.OutOfMemory
       → IfOk result (SpellsKey bytes) × IfErr result (RefusesKey bytes)
+  -- whatever was answered, the bytes spell one key or have one fault
+  pub one_key : (bytes : List ℕ) (result : Result Key KeyFault) → IsOneKey bytes result
+      → ((key : Key) × SpellsKey bytes key × ((other : Key) → SpellsKey bytes other → other ≡ key)
+      × ((fault : KeyFault) → fault ≢ key_fault.OutOfMemory → ¬ RefusesKey bytes fault))
+      ⊎ ((fault : KeyFault) × (fault ≢ key_fault.OutOfMemory) × RefusesKey bytes fault
+      × ((other : KeyFault) → other ≢ key_fault.OutOfMemory → RefusesKey bytes other → other ≡ fault))
   pub read : (bytes : List ℕ) → OneAddress (SpellsAddress bytes) (AddressFault bytes) bytes_of
   pub parsed : (text : List ℕ) → OneAddress (ReadsParts text) (TextFault text) (flat_map spelling)
 
@@ -170,6 +176,10 @@ pub record SessionsHeard : Type 0 where
   pub joined : (role : Role) (here there : End) (sent : List ℕ) (session : State)
       → IsJoined role here there sent session → AreJoined role here there
       × Stands role here.items here.fed sent session × AllByRecursion (λ b. b < 256) here.fed
+  -- and each session that stands at one of two joined ends is one
+  pub any_joined : (role : Role) (here there : End) (sent : List ℕ) (session : State) → AreJoined role here there
+      → Stands role here.items here.fed sent session → AllByRecursion (λ b. b < 256) here.fed
+      → IsJoined role here there sent session
   pub asks : (n : ℕ) (bytes : List ℕ) (client : State) → Asks n bytes client → (pieces : List (List ℕ))
       × (concat pieces ≡ bytes)
       × IsJoined Client (record { items = Did (Write n pieces) ∷ Did (Start n) ∷ []; fed = [] }) at_first [] client

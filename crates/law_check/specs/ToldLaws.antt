@@ -25,9 +25,10 @@ use Rattle.yamux_session.specs.declared.calls.Act.{Act}
 use Rattle.yamux_session.specs.declared.calls.ActAnswer.{ActAnswer}
 use Rattle.yamux_session.specs.History.{Item, is_own, is_remote}
 use Rattle.yamux_session.specs.Openings.{live}
-use Rattle.yamux_session.specs.Windows.{untaken}
+use Rattle.yamux_session.specs.Windows.{receiving_window, untaken}
 use Rattle.yamux_session.specs.Arrives.{tellings}
-use Rattle.yamux_session.specs.Seen.{Seen}
+use Rattle.yamux_session.specs.Seen.{Seen, all_heard}
+use Rattle.yamux_session.specs.State.{State, Stands}
 use Rattle.yamux_session.specs.Runs.{AnswersAll, output_at_point}
 use Rattle.yamux_session.specs.Runs.Point.{At}
 use Rattle.session_told.specs.declared.flow.Flow.{Flow}
@@ -58,6 +59,8 @@ pub record CodecTold : Type 0 where
       × (answer ≢ Ok None → last ≡ answer)
   pub front : (bytes spelling : List ℕ) → IsFront bytes spelling → (other behind : List ℕ) → IsSpelling other
       → bytes ≡ other ++ behind → other ≡ spelling
+  pub at_the_front : (bytes spelling : List ℕ) → IsFront bytes spelling → (rest : List ℕ)
+      × (bytes ≡ spelling ++ rest)
   pub framed : (limit : ℕ) (bytes more body rest : List ℕ) → IsFramedEarly limit bytes (Ok (Some (body, rest)))
       → (last : Result (Option (List ℕ × List ℕ)) IncomingRefused) × ReadsFramed limit (bytes ++ more) last
       × (last ≡ Ok (Some (body, rest ++ more)))
@@ -75,6 +78,13 @@ pub record CodecTold : Type 0 where
       → (outcome : Result (Option Key) ExchangeFault) × (used : ℕ) × Exchanges input outcome used
       × (outcome ≢ Err exchange_fault.OutOfMemory)
       × (outcome_of result ≢ Err exchange_fault.OutOfMemory → outcome_of result ≡ outcome)
+  -- the input has no other outcome, and what an end answers is its own key, or its own fault
+  pub no_other_exchange : (input : List ℕ) (result : Result Exchanged ExchangeFault) → IsOneExchange input result
+      → (outcome other : Result (Option Key) ExchangeFault) (used more : ℕ) → outcome ≢ Err exchange_fault.OutOfMemory
+      → other ≢ Err exchange_fault.OutOfMemory → Exchanges input outcome used → Exchanges input other more
+      → (outcome ≡ other) × (used ≡ more)
+  pub outcome_is : (done : Exchanged) (fault : ExchangeFault) → (outcome_of (Ok done) ≡ Ok done.proven)
+      × (outcome_of (Err fault) ≡ Err fault)
   pub proven_by : (input : List ℕ) (key : Key) → IsProvenBy input key → (first : List ℕ) × (rest : List ℕ)
       × (input ≡ first ++ rest) × ((more : List ℕ) → Exchanges (first ++ more) (Ok (Some key)) (length first))
   pub alike : (done other : Exchanged) → AreExchangesAlike (Ok done) (Ok other)
@@ -98,6 +108,14 @@ pub record SessionTold : Type 0 where
       × (it.server.failed ≡ false) × ((flow.heard it).came ≡ take it.asked question)
       × (it.rest.items ≡ [] → IfSome it.credit (λ left. HasWindow Server it.stream left it.server))
       × (it.rest.items ≡ [] → (flow.heard it).ended ≡ false → IfSome it.credit (λ left. 131072 < left))
+  -- what the server heard is what it was told, of a stream of which it had heard nothing; and a window is that of the
+  -- stream where the session stands
+  pub heard_is : (it : Flow) → flow.heard it
+      ≡ all_heard it.stream (record { live = false; closed = false; ended = false; came = []; sent = [] })
+      (tellings it.told.items)
+  pub window_is : (role : Role) (n window : ℕ) (session : State) → HasWindow role n window session
+      → (past : List Item) × (fed sent : List ℕ) × Stands role past fed sent session
+      × (receiving_window role past n ≡ window)
   pub ended : (heard : Seen) (closed reset : Result (Unit {0}) ActRefused) → EndKnown heard closed reset
       → (heard.live ≡ false → (closed ≡ Err NoStream) × (reset ≡ Err NoStream))
       × (heard.live ≡ true → IsDone closed)

@@ -1,5 +1,22 @@
 //! What the laws say, word by word. Each is a function with an empty body.
 
+ghost use Rattle.std.specs.Prelude.{◌≡◌, ◌≢◌, ◌++◌, ◌∷◌, [], ℕ, List, Result, length};
+ghost use Rattle.std.specs.List.Sorted.{IsStrictlyIncreasing};
+ghost use Rattle.peer_ids.specs.declared.fault.IdFault.{IdFault};
+ghost use Rattle.peer_ids.specs.ReadsText.{ReadsId};
+ghost use Rattle.pool_state.specs.declared.limits.Config.{Config};
+ghost use Rattle.pool_state.specs.declared.listing.Listing.{Listing};
+ghost use Rattle.pool_state.specs.declared.call.Call.{Call};
+ghost use Rattle.pool_state.specs.declared.call.Reply.{Reply};
+ghost use Rattle.pool_state.specs.declared.call.Reply.TheVariants.{Conn, Refused};
+ghost use Rattle.pool_state.specs.declared.call.Refusal.TheVariants.{Spent};
+ghost use Rattle.pool_state.specs.History.{Entry, entry, allowed, blocked, next_number};
+ghost use Rattle.pool_state.specs.Table.{may_refuse};
+ghost use Rattle.pool_state.specs.Shown.{Shown, IsLegal, ShowsHistory, reply_after};
+ghost use Rattle.pool_state.specs.Added.{added};
+ghost use Rattle.pool_state.specs.Bounded.{IsBounded, refusal_numbers};
+ghost use Rattle.pool_state.specs.Ordered.{IsEachOnce};
+ghost use Rattle.swarm_calls.specs.History.{IsOf, calls_of};
 ghost use Rattle.law_check.specs.ToldLaws.{CodecTold, SessionTold, PoolTold};
 ghost use Rattle.law_check.specs.BothToldLaws.{OneOutcome, TalksTold, OwnersTold, SessionsHeard, DialsSeen};
 ghost use Rattle.law_check.specs.VarintLaws.{VarintLaws};
@@ -15,6 +32,13 @@ ghost use Rattle.law_check.specs.HandlerLaws.{HandlerLaws};
 ghost use Rattle.law_check.specs.IdentifyLaws.{IdentifyLaws};
 ghost use Rattle.law_check.specs.StreamLaws.{StreamLaws};
 ghost use Rattle.law_check.specs.PoolLaws.{PoolLaws};
+
+use peer_ids::laws::one_reading;
+use pool_state::laws::{
+    added_is_shown, beginning_is_legal, bounded, each_peer_once, last_reply, lowest_first,
+    next_number_is_given, table_asks_history,
+};
+use swarm_calls::laws::calls_add_up;
 
 /// The laws of varints, messages and what comes behind its length.
 pub fn varint_laws()
@@ -96,3 +120,38 @@ pub fn both_told_laws()
     ensures sessions { SessionsHeard }
     ensures dials { DialsSeen }
 {}
+
+/// The laws that no definition names, each as its clause has it: a clause that comes to say less no longer answers this.
+pub fn clause_laws()
+    ensures text { (text : List ℕ) (some other : Result (List ℕ) IdFault) → ReadsId text some → ReadsId text other
+        → some ≡ other }
+    ensures bounded { (config : Config) (history : List Entry) → IsLegal config history
+        → IsBounded config (Shown config history) }
+    ensures asks { (config : Config) (history : List Entry) → IsLegal config history → ShowsHistory config history }
+    ensures lowest { (config : Config) (next : ℕ) (shown : Listing) (call : Call)
+        → IsStrictlyIncreasing (refusal_numbers (may_refuse config next shown call)) }
+    ensures added { (config : Config) (history : List Entry) (caller : ℕ) (call : Call) (reply : Reply)
+        → IsLegal config (history ++ entry caller call reply ∷ [])
+        → added (Shown config history) call reply ≡ Shown config (history ++ entry caller call reply ∷ []) }
+    ensures beginning { (config : Config) (beginning later : List Entry) → IsLegal config (beginning ++ later)
+        → IsLegal config beginning }
+    ensures last { (config : Config) (history : List Entry) (last : Entry) → IsLegal config (history ++ last ∷ [])
+        → (last.reply ≡ reply_after config history last.call) × (last.reply ≢ Refused Spent) }
+    ensures number { (config : Config) (history : List Entry) (call : Call) (number : ℕ)
+        → reply_after config history call ≡ Conn number → number ≡ next_number config history }
+    ensures blocked_once { (history : List Entry) → IsEachOnce (blocked history) }
+    ensures allowed_once { (history : List Entry) → IsEachOnce (allowed history) }
+    ensures sum { (callers : ℕ) (history : List Entry) → IsOf callers history
+        → length history ≡ calls_of callers history }
+{
+    one_reading();
+    bounded();
+    table_asks_history();
+    lowest_first();
+    added_is_shown();
+    beginning_is_legal();
+    last_reply();
+    next_number_is_given();
+    each_peer_once();
+    calls_add_up();
+}

@@ -1,5 +1,5 @@
 -- The rows of pools, whatever stands in them.
-use Rattle.std.proofs.Common.{◌≡◌, ◌≢◌, ℕ, suc, ◌+◌, ◌-◌, ◌<◌, ◌==◌, nat_le, nat_lt, Bool, true, false, not, ◌&&◌, ◌||◌, cond, List, [], ◌∷◌, ◌++◌, length, map, Option, Some, None, refl, ap, ◌∙◌, inl, inr, arith}
+use Rattle.std.proofs.Common.{true≢false, ◌≡◌, ◌≢◌, ℕ, suc, ◌+◌, ◌-◌, ◌<◌, ◌==◌, nat_le, nat_lt, Bool, true, false, not, ◌&&◌, ◌||◌, cond, List, [], ◌∷◌, ◌++◌, length, map, Option, Some, None, refl, ap, ◌∙◌, inl, inr, arith}
 use Rattle.std.specs.Prelude.{slice_index}
 use Rattle.std.specs.Bool.{if◌then◌else◌}
 use Rattle.std.specs.List.{count_by}
@@ -28,7 +28,7 @@ use Rattle.pool_state.proofs.Law.{count_cons}
 use Rattle.pool_state.proofs.Legal.{legal_more, legal_less}
 use Rattle.swarm_calls.specs.Calls.{IsTurnedAway}
 use Rattle.swarm_calls.specs.History.{mine}
-use Rattle.row_check.specs.AnyPoolRows.{AnyRangeRows, AnyCountRows, AnyRefusalRows, AnyAnswerRows, AnyAddedRows, AnyRowRows, AnyBoundRows, AnyCallerRows}
+use Rattle.row_check.specs.AnyPoolRows.{is_own_reply, AnyRangeRows, AnyCountRows, AnyRefusalRows, AnyAnswerRows, AnyAddedRows, AnyRowRows, AnyBoundRows, AnyCallerRows}
 
 pub any_range_rows : AnyRangeRows
 any_range_rows = record {
@@ -258,9 +258,64 @@ with_room : (l : Listing) (row : Row) → length l.conns.items < 256
     → listing (more l.front) (with_row l.conns.items row) l.blocked.items l.allowed.items ≡ listing (more l.front) (l.conns.items ++ row ∷ []) l.blocked.items l.allowed.items
 with_room l row room = ap (λ (b : Bool). listing (more l.front) (if b then l.conns.items ++ row ∷ [] else l.conns.items) l.blocked.items l.allowed.items) (lt-ltb (length l.conns.items) 256 room)
 
+still : (l : Listing) → listing (more l.front) (map (λ (row : Row). row) l.conns.items) l.blocked.items l.allowed.items
+    ≡ listing (more l.front) l.conns.items l.blocked.items l.allowed.items
+still l = ap (λ (t : List Row). listing (more l.front) t l.blocked.items l.allowed.items) (unmoved (λ row. row) (λ row. refl) l.conns.items)
+
+other_at : (l : Listing) (c : Call) (r : Reply) → is_own_reply c r ≡ false → added l c r ≡ listing (more l.front) l.conns.items l.blocked.items l.allowed.items
+other_at l (call.Dial o) (reply.Conn m) e = absurd (true≢false e)
+other_at l (call.Dial o) reply.Done e = still l
+other_at l (call.Dial o) (reply.Count k) e = still l
+other_at l (call.Dial o) (reply.Refused w) e = still l
+other_at l call.Accept (reply.Conn m) e = absurd (true≢false e)
+other_at l call.Accept reply.Done e = still l
+other_at l call.Accept (reply.Count k) e = still l
+other_at l call.Accept (reply.Refused w) e = still l
+other_at l (call.Settle n q) (reply.Conn m) e = still l
+other_at l (call.Settle n q) reply.Done e = absurd (true≢false e)
+other_at l (call.Settle n q) (reply.Count k) e = still l
+other_at l (call.Settle n q) (reply.Refused w) e = still l
+other_at l (call.Ask n i) (reply.Conn m) e = still l
+other_at l (call.Ask n i) reply.Done e = absurd (true≢false e)
+other_at l (call.Ask n i) (reply.Count k) e = still l
+other_at l (call.Ask n i) (reply.Refused w) e = still l
+other_at l (call.Done n i) (reply.Conn m) e = still l
+other_at l (call.Done n i) reply.Done e = absurd (true≢false e)
+other_at l (call.Done n i) (reply.Count k) e = still l
+other_at l (call.Done n i) (reply.Refused w) e = still l
+other_at l (call.Gone n) (reply.Conn m) e = still l
+other_at l (call.Gone n) reply.Done e = absurd (true≢false e)
+other_at l (call.Gone n) (reply.Count k) e = still l
+other_at l (call.Gone n) (reply.Refused w) e = still l
+other_at l (call.Note n a) (reply.Conn m) e = still l
+other_at l (call.Note n a) reply.Done e = absurd (true≢false e)
+other_at l (call.Note n a) (reply.Count k) e = still l
+other_at l (call.Note n a) (reply.Refused w) e = still l
+other_at l (call.HangUp q) (reply.Conn m) e = still l
+other_at l (call.HangUp q) reply.Done e = still l
+other_at l (call.HangUp q) (reply.Count k) e = absurd (true≢false e)
+other_at l (call.HangUp q) (reply.Refused w) e = still l
+other_at l (call.Block q) (reply.Conn m) e = still l
+other_at l (call.Block q) reply.Done e = still l
+other_at l (call.Block q) (reply.Count k) e = absurd (true≢false e)
+other_at l (call.Block q) (reply.Refused w) e = still l
+other_at l (call.Unblock q) (reply.Conn m) e = still l
+other_at l (call.Unblock q) reply.Done e = still l
+other_at l (call.Unblock q) (reply.Count k) e = absurd (true≢false e)
+other_at l (call.Unblock q) (reply.Refused w) e = still l
+other_at l (call.Allow q) (reply.Conn m) e = still l
+other_at l (call.Allow q) reply.Done e = still l
+other_at l (call.Allow q) (reply.Count k) e = absurd (true≢false e)
+other_at l (call.Allow q) (reply.Refused w) e = still l
+other_at l (call.Disallow q) (reply.Conn m) e = still l
+other_at l (call.Disallow q) reply.Done e = still l
+other_at l (call.Disallow q) (reply.Count k) e = absurd (true≢false e)
+other_at l (call.Disallow q) (reply.Refused w) e = still l
+
 pub any_added_rows : AnyAddedRows
 any_added_rows = record {
   refused = refused_at;
+  other_reply = other_at;
   dial = λ l p n room. with_room l (fresh n Dialer p) room;
   accept = λ l n room. with_room l (fresh n Listener None) room;
   settle = λ l n p. refl;

@@ -4,34 +4,37 @@ use Rattle.std.specs.Bool.{if◌then◌else◌}
 use Rattle.std.proofs.lemmas.Bool.{false≢true, lt-ltb, le-ltb, ne_eqb}
 use Rattle.yamux_frames.specs.declared.header.Header.{Header}
 use Rattle.yamux_frames.specs.declared.header.FrameKind.TheVariants.{Payload, Window}
-use Rattle.yamux_frames.specs.Frames.Arrival.{Head, Byte, Tail}
+use Rattle.yamux_frames.specs.Frames.Arrival.{Head, Byte, Tail, Garbled}
 use Rattle.yamux_session.specs.declared.event.Role.{Role}
 use Rattle.yamux_session.specs.declared.event.ActRefused.{ActRefused}
 use Rattle.yamux_session.specs.declared.event.ActRefused.TheVariants as refused
-use Rattle.yamux_session.specs.History.{Item, syn, ack, is_data, is_update, is_go_away, is_of_stream, is_own}
+use Rattle.yamux_session.specs.History.{Item, syn, ack, is_data, is_update, is_go_away, is_of_stream, is_own, arrivals}
 use Rattle.yamux_session.specs.History.Item.{Came}
 use Rattle.yamux_session.specs.Openings.{live, contains, opens, reading, head_belongs}
 use Rattle.yamux_session.specs.Windows.{accepted, acks}
-use Rattle.yamux_session.specs.Faults.{fault_at}
+use Rattle.yamux_session.specs.Faults.{fault_at, HasNoFault}
 use Rattle.yamux_session.specs.Events.{Told, events, when}
 use Rattle.yamux_session.specs.Output.{output}
 use Rattle.yamux_frames.specs.declared.header.FrameFault.{FrameFault}
 use Rattle.yamux_frames.specs.Place.{Place, is_within_at}
 use Rattle.yamux_frames.specs.Spelling.{payload_length}
-use Rattle.yamux_frames.specs.Frames.{Arrival, EndsWithin, IsMidFrame, Reads}
-use Rattle.yamux_frames.specs.Frames.Arrival.{Garbled}
+use Rattle.yamux_frames.specs.Frames.{Arrival, EndsWithin, IsMidFrame, Reads, AreFrames, spelled}
 use Rattle.yamux_frames.proofs.Readings.{one_reading}
 use Rattle.std.specs.List.{concat}
-use Rattle.std.specs.Prelude.{sum_by}
+use Rattle.std.specs.Prelude.{sum_by, ◌≤◌, take}
 use Rattle.yamux_session.specs.Seen.{just_opened}
 use Rattle.yamux_session.specs.Endings.{EndsOnce, told_opened}
 use Rattle.yamux_session.proofs.Endings.{opened_by_the_other}
 use Rattle.yamux_session.specs.Acts.{IsRefusedFor}
-use Rattle.yamux_session.specs.Runs.{Point, GoesOn, Ends}
+use Rattle.std.specs.Global.{Vec}
+use Rattle.yamux_session.specs.declared.event.Event.{Event}
+use Rattle.yamux_session.specs.declared.calls.ActAnswer.{ActAnswer}
+use Rattle.yamux_session.specs.declared.calls.ActAnswer.TheVariants.{Events, Stream, Count, Done, Refused}
+use Rattle.yamux_session.specs.Runs.{AreSame, Point, GoesOn, Ends}
 use Rattle.yamux_session.specs.Runs.Point.{At, Over}
 use Rattle.yamux_session.specs.State.{FirstFaults}
-use Rattle.yamux_session.specs.Faults.{HasNoFault}
-use Rattle.row_check.specs.AnySessionRows.{AnyReadingRows, AnyNamedRows, AnyRunRows, AnyLedRows, AnyCutRows, AnyTiedRows, AnyHeardRows, head}
+use Rattle.row_check.specs.AnySessionRows.{head}
+use Rattle.row_check.specs.AnySessionRunRows.{AnyReadingRows, AnyNamedRows, AnyRunRows, AnyLedRows, AnyCutRows, AnyTiedRows, AnyHeardRows}
 use Rattle.row_check.proofs.AnySessionRows.{both, first_not, second_not, same, sound_events, window_belongs, data_belongs, data_is_late, lets_in, is_for, plain_opens, belongs_here, for_plain, for_dead, for_opened, off_fault, for_refused}
 
 -- ---- what is being read, and what heads tell
@@ -230,6 +233,19 @@ reason why refused.StreamsExhausted ne is = is
 reason why refused.StreamsFull ne is = is
 reason why refused.Failed ne is = is
 
+same_others : (answer other : ActAnswer) → ((told : Vec Event) → answer ≢ Events told) → AreSame answer other → answer ≡ other
+same_others (Events told) other not is = absurd (not told refl)
+same_others (Stream n) other not is = is
+same_others (Count n) other not is = is
+same_others Done other not is = is
+same_others (Refused why) other not is = is
+
+read_to : (role : Role) (fed bytes : List ℕ) (now : List Item) (next : Point) → GoesOn role fed bytes now next ⊎ Ends role fed bytes now next
+    → (((rest : List ℕ) × Reads (fed ++ bytes) (arrivals now) rest) × (next ≡ At now (fed ++ bytes)))
+    ⊎ (((used : ℕ) × (used ≤ length bytes) × (fed ++ take used bytes ≡ spelled (arrivals now)) × AreFrames (arrivals now)) × (next ≡ Over (output role now)))
+read_to role fed bytes now next (inl on) = inl (on.read, on.next_is)
+read_to role fed bytes now next (inr end) = inr ((end.read.0, end.read.1, end.read.2.whole, end.read.2.frames_are), end.next_is)
+
 pub any_run_rows : AnyRunRows
 any_run_rows = record {
   started = λ role past fed n next a. (a.0.0, a.0.1, a.1);
@@ -249,6 +265,16 @@ any_run_rows = record {
   no_room_to_write = λ role past fed n bytes next a. a.1 refl;
   no_room_to_give_back = λ role past fed n count next a. a.1 refl;
   feed_refused = λ role past fed bytes why next a. (a.0, a.1, (a.2.now, a.2.no_fault, a.2.came, a.2.next_is));
+  cut_off = λ role past fed bytes why next a. (a.2.used, a.2.within, a.2.now, a.2.read, a.2.came, a.2.no_fault, a.2.next_is);
+  filled = λ role past fed bytes told next a. a.1.filled;
+  read = λ role past fed bytes told next a. (a.0, read_to role fed bytes.items a.0 next a.2);
+  no_call = λ role point last. ((λ is. is), (λ is. is));
+  first_call = λ role point last call calls answer answers. ((λ all. all), (λ all. all));
+  as_many = λ role point last call calls answer answers. ((λ all. absurd all), (λ all. absurd all));
+  all_output = λ role past fed out. (refl, refl);
+  same_events = λ told said. ((λ is. is), (λ is. is));
+  same_others = same_others;
+  room = λ bytes. refl;
   no_memory = λ why is. is;
   reasons = reason;
 }

@@ -236,9 +236,28 @@ pub record AnyAnswerRows : Type 0 where
       → IsLegal config h × (pool.config ≡ config) × (pool.listing ≡ Shown config h)
       × (pool.next ≡ next_number config h)
 
+-- whether a call that isn't refused is answered so
+abbrev pub is_own_reply : Call → Reply → Bool
+is_own_reply (Dial p) (reply.Conn n) = true
+is_own_reply Accept (reply.Conn n) = true
+is_own_reply (Settle n p) reply.Done = true
+is_own_reply (Ask n i) reply.Done = true
+is_own_reply (Done n i) reply.Done = true
+is_own_reply (Gone n) reply.Done = true
+is_own_reply (Note n agent) reply.Done = true
+is_own_reply (HangUp p) (reply.Count k) = true
+is_own_reply (Block p) (reply.Count k) = true
+is_own_reply (Unblock p) (reply.Count k) = true
+is_own_reply (Allow p) (reply.Count k) = true
+is_own_reply (Disallow p) (reply.Count k) = true
+is_own_reply call r = false
+
 -- Whatever stands in a listing, it becomes so by each call: the front is one more, and what the call names is another
 pub record AnyAddedRows : Type 0 where
   pub refused : (l : Listing) (call : Call) (why : Refusal) → added l call (reply.Refused why)
+      ≡ listing (more l.front) l.conns.items l.blocked.items l.allowed.items
+  -- behind any other reply than its own a call changes nothing either
+  pub other_reply : (l : Listing) (call : Call) (r : Reply) → is_own_reply call r ≡ false → added l call r
       ≡ listing (more l.front) l.conns.items l.blocked.items l.allowed.items
   pub dial : (l : Listing) (p : Option Peer) (n : ℕ) → length l.conns.items < 256 → added l (Dial p) (reply.Conn n)
       ≡ listing (more l.front) (l.conns.items ++ row n Dialer phase.Pending p ∷ []) l.blocked.items l.allowed.items

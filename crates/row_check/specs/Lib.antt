@@ -33,6 +33,7 @@ pub mod AnyEndRows
 pub mod AnyInputRows
 pub mod AnyPairRows
 pub mod AnySessionRows
+pub mod AnySessionRunRows
 pub mod AnyPoolRows
 pub mod AnyHandlerRows
 pub mod AnyLogRows
