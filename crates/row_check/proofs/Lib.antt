@@ -35,6 +35,7 @@ mod AnySessionRows
 mod AnySessionRunRows
 mod AnyPoolRows
 mod AnyHandlerRows
+mod AnySourceRows
 mod AnyLogRows
 mod AnyRestRows
 mod AnyStepRows

@@ -36,6 +36,7 @@ pub mod AnySessionRows
 pub mod AnySessionRunRows
 pub mod AnyPoolRows
 pub mod AnyHandlerRows
+pub mod AnySourceRows
 pub mod AnyLogRows
 pub mod AnyRestRows
 pub mod AnyStepRows

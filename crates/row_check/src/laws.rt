@@ -42,6 +42,7 @@ ghost use Rattle.row_check.specs.AnySessionRows.{AnyToldRows, AnyWindowRows, Any
 ghost use Rattle.row_check.specs.AnySessionRunRows.{AnyReadingRows, AnyNamedRows, AnyRunRows, AnyLedRows};
 ghost use Rattle.row_check.specs.AnySessionRunRows.{AnyCutRows, AnyHeardRows, AnyTiedRows};
 ghost use Rattle.row_check.specs.AnyHandlerRows.{AnyWrittenRows, AnyMergedRows, AnyReadRows, AnyWantRows, AnyMadeRows};
+ghost use Rattle.row_check.specs.AnySourceRows.{AnySourceRows};
 ghost use Rattle.row_check.specs.AnyPoolRows.{AnyRangeRows, AnyCountRows, AnyRefusalRows, AnyAnswerRows};
 ghost use Rattle.row_check.specs.AnyPoolRows.{AnyAddedRows, AnyRowRows, AnyBoundRows, AnyCallerRows};
 ghost use Rattle.row_check.specs.AnyLogRows.{AnyListRows, AnyStreamEntryRows, AnyEarlierRows, AnyTurnRows};
@@ -61,6 +62,7 @@ ghost use Rattle.upgrade.specs.declared.role.ConnRole.{ConnRole};
 ghost use Rattle.yamux_session.specs.declared.event.Role.{Role};
 
 use handlers::{Handler, Protocols};
+use node_protocols::Payloads;
 
 /// The definitions of what is read and written at either end say of worked bytes what they are to say.
 pub fn codecs_rows()
@@ -266,6 +268,11 @@ pub fn any_handler_rows()
     ensures read { AnyReadRows }
     ensures want { AnyWantRows }
     ensures made { AnyMadeRows }
+{}
+
+/// The definitions of the handlers that a node makes say what they are to say, wherever its pings' bytes come from.
+pub fn any_source_rows<R: Payloads>()
+    ensures { AnySourceRows R.steps R.gives }
 {}
 
 /// The definitions of a connection's list say what they are to say, whatever is in it.
