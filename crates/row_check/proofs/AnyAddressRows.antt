@@ -1,7 +1,9 @@
 -- The rows of addresses and their texts, whatever is in them.
-use Rattle.std.proofs.Common.{◌≡◌, ◌≢◌, ◌⊎◌, ℕ, ◌-◌, ◌<◌, inl, inr, List, [], ◌∷◌, ◌++◌, length, replicate, Option, Some, None, refl, sym, ap, subst, ◌∙◌, arith, append-nil, ◌^◌}
+use Rattle.std.proofs.Common.{◌≡◌, ◌≢◌, ◌⊎◌, ℕ, ◌+◌, ◌-◌, ◌<◌, false, inl, inr, List, [], ◌∷◌, ◌++◌, length, replicate, Option, Some, None, refl, sym, ap, subst, ◌∙◌, arith, append-nil, ◌^◌}
 use Rattle.std.specs.List.{flat_map}
+use Rattle.std.specs.Prelude.{codes}
 use Rattle.std.specs.Net.Addr.{octets_of}
+use Rattle.std.specs.Net.Grammar.{IsGroups}
 use Rattle.std.proofs.lemmas.List.{length-append, length-replicate}
 use Rattle.varint_proto.specs.Varint.{shortest, shortest_within}
 use Rattle.multiaddr.specs.declared.protocol.Protocol.{Protocol}
@@ -158,9 +160,16 @@ any_texts = record {
   no_slash = λ first rest ne. inr (inl (refl, λ e. absurd (cc e), λ behind e. ne (cc e)));
 }
 
+other_groups : (text groups : List ℕ) → SpellsGroups text groups → (IsGroups false text groups × (length groups ≡ 8))
+    ⊎ ((head_text : List ℕ) × (tail_text : List ℕ) × (head : List ℕ) × (tail : List ℕ) × IsGroups false head_text head × IsGroups false tail_text tail
+    × (length head + length tail < 8) × (text ≡ head_text ++ codes "::" ++ tail_text) × (groups ≡ head ++ replicate (8 - length head - length tail) 0 ++ tail))
+other_groups text groups (inl h) = inl h
+other_groups text groups (inr h) = inr (h.head_text, h.tail_text, h.head, h.tail, h.head_groups, h.tail_groups, h.room, h.spelled, h.value)
+
 pub any_groups : AnyGroupRows
 any_groups = record {
   eight = λ text groups g e. inl (g, e);
+  no_other_groups = other_groups;
   elided = λ head_text tail_text head tail g h room. inr (record {
     head_text = head_text;
     tail_text = tail_text;

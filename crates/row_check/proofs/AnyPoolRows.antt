@@ -1,6 +1,6 @@
 -- The rows of pools, whatever stands in them.
 use Rattle.std.proofs.Common.{true≢false, ◌≡◌, ◌≢◌, ℕ, suc, ◌+◌, ◌-◌, ◌<◌, ◌==◌, nat_le, nat_lt, Bool, true, false, not, ◌&&◌, ◌||◌, cond, List, [], ◌∷◌, ◌++◌, length, map, Option, Some, None, refl, ap, ◌∙◌, inl, inr, arith}
-use Rattle.std.specs.Prelude.{slice_index}
+use Rattle.std.specs.Prelude.{slice_index, ◌≤◌}
 use Rattle.std.specs.Bool.{if◌then◌else◌}
 use Rattle.std.specs.List.{count_by}
 use Rattle.std.specs.Str.{bytes_eq}
@@ -21,7 +21,7 @@ use Rattle.pool_state.specs.declared.row.Phase.{Phase}
 use Rattle.pool_state.specs.declared.row.Phase.TheVariants as phase
 use Rattle.pool_state.specs.Parts.{Peer, listing, is_peer, is_phase, is_side, has}
 use Rattle.pool_state.specs.Table.{answer, closable, first_that_holds, may_refuse, refused_or, reply_to, row_is}
-use Rattle.pool_state.specs.Added.{added, more, more_at, settled, without_peer, with_row, fresh}
+use Rattle.pool_state.specs.Added.{added, more, more_at, settled, with_peer, without_peer, with_row, fresh}
 use Rattle.pool_state.specs.History.{entry}
 use Rattle.pool_state.specs.Shown.{reply_after}
 use Rattle.pool_state.proofs.Law.{count_cons}
@@ -312,12 +312,30 @@ other_at l (call.Disallow q) reply.Done e = still l
 other_at l (call.Disallow q) (reply.Count k) e = absurd (true≢false e)
 other_at l (call.Disallow q) (reply.Refused w) e = still l
 
+-- where there is no room
+without_room : (l : Listing) (row : Row) → 256 ≤ length l.conns.items
+    → listing (more l.front) (with_row l.conns.items row) l.blocked.items l.allowed.items ≡ listing (more l.front) l.conns.items l.blocked.items l.allowed.items
+without_room l row full =
+    ap (λ (b : Bool). listing (more l.front) (if b then l.conns.items ++ row ∷ [] else l.conns.items) l.blocked.items l.allowed.items) (le-ltb (length l.conns.items) 256 full)
+
+same_peers : (known : Bool) (peers : List Peer) → (if known then peers else peers) ≡ peers
+same_peers true peers = refl
+same_peers false peers = refl
+
+full_list : (peers : List Peer) (p : Peer) → 64 ≤ length peers → with_peer peers p ≡ peers
+full_list peers p full =
+    ap (λ (b : Bool). if has peers p then peers else if b then peers ++ p ∷ [] else peers) (le-ltb (length peers) 64 full)
+    ∙ same_peers (has peers p) peers
+
 pub any_added_rows : AnyAddedRows
 any_added_rows = record {
   refused = refused_at;
   other_reply = other_at;
   dial = λ l p n room. with_room l (fresh n Dialer p) room;
   accept = λ l n room. with_room l (fresh n Listener None) room;
+  dial_full = λ l p n full. without_room l (fresh n Dialer p) full;
+  accept_full = λ l n full. without_room l (fresh n Listener None) full;
+  list_full = full_list;
   settle = λ l n p. refl;
   ask = λ l n i. refl;
   finish = λ l n i. refl;
@@ -333,6 +351,7 @@ any_added_rows = record {
   more_of_the_first = λ a b c. refl;
   more_of_the_second = λ a b c. refl;
   more_of_the_third = λ a b c. refl;
+  more_of_none = λ a b c i. refl;
   comes = λ peers p new room.
       ap (λ (b : Bool). if b then peers else if nat_lt (length peers) 64 then peers ++ p ∷ [] else peers) new
       ∙ ap (λ (b : Bool). if b then peers ++ p ∷ [] else peers) (lt-ltb (length peers) 64 room);
@@ -428,4 +447,7 @@ any_caller_rows = record {
   any_here = λ callers passes all. all;
   no_newcomer = refl;
   one_newcomer_more = λ n. refl;
+  front_is = λ config h. refl;
+  no_calls = λ h. refl;
+  calls_of_one_more = λ n h. refl;
 }

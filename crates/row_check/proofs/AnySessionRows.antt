@@ -207,10 +207,10 @@ module _ (role : Role) (past : List Item) (h : Header) where
   belongs_not : (n : ℕ) → is_for ≡ false → head_belongs role past h n ≡ false
   belongs_not n e = first_not (h.stream == n && is_for) (not (is_late n)) (second_not (h.stream == n) is_for e)
 
-  belongs_beside : (n : ℕ) → is_of_stream h ≡ false → head_belongs role past h n ≡ false
+  pub belongs_beside : (n : ℕ) → is_of_stream h ≡ false → head_belongs role past h n ≡ false
   belongs_beside n none = belongs_not n (first_not (is_of_stream h) (if syn h then lets_in else contains (live role past) h.stream) none)
 
-  belongs_to_another : (n : ℕ) → h.stream ≢ n → head_belongs role past h n ≡ false
+  pub belongs_to_another : (n : ℕ) → h.stream ≢ n → head_belongs role past h n ≡ false
   belongs_to_another n ne = first_not (h.stream == n && is_for) (not (is_late n)) (first_not (h.stream == n) is_for (ne_eqb h.stream n ne))
 
   belongs_late : (n : ℕ) → is_late n ≡ true → head_belongs role past h n ≡ false

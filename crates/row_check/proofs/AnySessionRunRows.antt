@@ -35,7 +35,7 @@ use Rattle.yamux_session.specs.Runs.Point.{At, Over}
 use Rattle.yamux_session.specs.State.{FirstFaults}
 use Rattle.row_check.specs.AnySessionRows.{head}
 use Rattle.row_check.specs.AnySessionRunRows.{AnyReadingRows, AnyNamedRows, AnyRunRows, AnyLedRows, AnyCutRows, AnyTiedRows, AnyHeardRows}
-use Rattle.row_check.proofs.AnySessionRows.{both, first_not, second_not, same, sound_events, window_belongs, data_belongs, data_is_late, lets_in, is_for, plain_opens, belongs_here, for_plain, for_dead, for_opened, off_fault, for_refused}
+use Rattle.row_check.proofs.AnySessionRows.{both, first_not, second_not, same, sound_events, window_belongs, data_belongs, data_is_late, lets_in, is_for, beside, plain_opens, belongs_beside, belongs_to_another, belongs_here, for_plain, for_dead, for_opened, off_fault, for_refused}
 
 -- ---- what is being read, and what heads tell
 
@@ -47,6 +47,18 @@ accepted_as : (role : Role) (past : List Item) (h : Header) (n : ℕ) (o b : Boo
 accepted_as role past h n o b opens_is acks_is =
     ap (λ t. not t && ((head_belongs role past h n && ack h) || accepted role past n)) opens_is
     ∙ ap (λ t. not o && (t || accepted role past n)) acks_is
+
+-- a head opens no stream but its own
+opened_other : (b : Bool) (m n : ℕ) → (m == n) ≡ false → contains (if b then m ∷ [] else []) n ≡ false
+opened_other true m n e = ap (λ t. t || false) e
+opened_other false m n e = refl
+
+opens_no_other : (role : Role) (past : List Item) (h : Header) (n : ℕ) → h.stream ≢ n → opens role past (Came (Head h)) n ≡ false
+opens_no_other role past h n ne = opened_other (is_of_stream h && syn h && lets_in role past h) h.stream n (ne_eqb h.stream n ne)
+
+accepted_off : (role : Role) (past : List Item) (h : Header) (n : ℕ) → opens role past (Came (Head h)) n ≡ false → head_belongs role past h n ≡ false
+    → accepted role (Came (Head h) ∷ past) n ≡ accepted role past n
+accepted_off role past h n opens_is off = accepted_as role past h n false false opens_is (first_not (head_belongs role past h n) (ack h) off)
 
 -- what the head of a frame without SYN tells that is about a stream and has no fault
 plain_told : (role : Role) (past : List Item) (h : Header) (accepts credits : Bool) → is_go_away h.kind ≡ false → syn h ≡ false
@@ -188,6 +200,10 @@ any_reading_rows = record {
   accepted_anew = λ role past x n e. ap (λ o. not o && (acks role past x n || accepted role past n)) e;
   accepted_by_heads_alone = λ role past b n. (refl, refl);
   accepted_by_no_act = λ role past act n e. ap (λ o. not o && (false || accepted role past n)) e;
+  accepted_by_no_other = λ role past h n ne. accepted_off role past h n (opens_no_other role past h n ne) (belongs_to_another role past h n ne);
+  accepted_by_no_stream = λ role past h n none. accepted_off role past h n (beside role past h n none) (belongs_beside role past h n none);
+  accepted_by_no_late_data = λ role past flags n len plain over.
+      accepted_off role past (head Payload flags n len) n (plain_opens role past (head Payload flags n len) n plain) (data_is_late role past flags n len plain over);
   opened_told = λ role past flags n opening sound.
       opening_told role past (head Window flags n 0) false refl opening sound (credits_none role past (head Window flags n 0) (le-ltb 0 0 (omega arith)));
   opened_and_credit_told = λ role past flags n len opening sound.

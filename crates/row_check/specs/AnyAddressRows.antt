@@ -134,6 +134,12 @@ pub record AnyGroupRows : Type 0 where
   pub elided : (head_text tail_text head tail : List ℕ) → IsGroups false head_text head → IsGroups false tail_text tail
       → length head + length tail < 8 → SpellsGroups (head_text ++ codes "::" ++ tail_text)
       (head ++ replicate (8 - length head - length tail) 0 ++ tail)
+  pub no_other_groups : (text groups : List ℕ) → SpellsGroups text groups
+      → (IsGroups false text groups × (length groups ≡ 8))
+      ⊎ ((head_text : List ℕ) × (tail_text : List ℕ) × (head : List ℕ) × (tail : List ℕ) × IsGroups false head_text head
+      × IsGroups false tail_text tail × (length head + length tail < 8)
+      × (text ≡ head_text ++ codes "::" ++ tail_text)
+      × (groups ≡ head ++ replicate (8 - length head - length tail) 0 ++ tail))
   pub printed_whole : (groups : List ℕ)
       → ((start len : ℕ) → start + len ≤ length groups → take len (drop start groups) ≡ replicate len 0 → len < 2)
       → PrintsGroups (groups_text groups) groups

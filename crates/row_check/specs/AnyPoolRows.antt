@@ -36,7 +36,7 @@ use Rattle.pool_state.specs.Shown.{Shown, IsLegal, ShowsHistory, reply_after, ro
 use Rattle.pool_state.specs.Bounded.{IsBounded}
 use Rattle.pool_state.specs.At.{Stands, followed, number_after}
 use Rattle.pool_state.specs.Rows.{row, refused}
-use Rattle.swarm_calls.specs.History.{mine, IsOf}
+use Rattle.swarm_calls.specs.History.{mine, IsOf, calls_of}
 use Rattle.swarm_calls.specs.Calls.{Past, past, Later, IsMade, IsCalled, AllHere, IsWhole, newcomers}
 
 -- Whatever is in it, a text of 1 to 64 printable bytes is the name of an agent; and limits in their ranges are allowed,
@@ -264,6 +264,12 @@ pub record AnyAddedRows : Type 0 where
   pub accept : (l : Listing) (n : ℕ) → length l.conns.items < 256 → added l Accept (reply.Conn n)
       ≡ listing (more l.front) (l.conns.items ++ row n Listener phase.Pending None ∷ []) l.blocked.items
       l.allowed.items
+  -- a table that is full stays as it is, whatever comes, and so does a list
+  pub dial_full : (l : Listing) (p : Option Peer) (n : ℕ) → 256 ≤ length l.conns.items → added l (Dial p) (reply.Conn n)
+      ≡ listing (more l.front) l.conns.items l.blocked.items l.allowed.items
+  pub accept_full : (l : Listing) (n : ℕ) → 256 ≤ length l.conns.items → added l Accept (reply.Conn n)
+      ≡ listing (more l.front) l.conns.items l.blocked.items l.allowed.items
+  pub list_full : (peers : List Peer) (p : Peer) → 64 ≤ length peers → with_peer peers p ≡ peers
   pub settle : (l : Listing) (n : ℕ) (p : Peer) → added l (Settle n p) reply.Done
       ≡ listing (more l.front) (map (row_after (Settle n p) reply.Done) l.conns.items) l.blocked.items l.allowed.items
   pub ask : (l : Listing) (n i : ℕ) → added l (Ask n i) reply.Done
@@ -293,6 +299,7 @@ pub record AnyAddedRows : Type 0 where
   pub more_of_the_first : (a b c : ℕ) → more_at (a ∷ b ∷ c ∷ []) 0 ≡ more a ∷ b ∷ c ∷ []
   pub more_of_the_second : (a b c : ℕ) → more_at (a ∷ b ∷ c ∷ []) 1 ≡ a ∷ more b ∷ c ∷ []
   pub more_of_the_third : (a b c : ℕ) → more_at (a ∷ b ∷ c ∷ []) 2 ≡ a ∷ b ∷ more c ∷ []
+  pub more_of_none : (a b c i : ℕ) → more_at (a ∷ b ∷ c ∷ []) (suc (suc (suc i))) ≡ a ∷ b ∷ c ∷ []
   pub comes : (peers : List Peer) (p : Peer) → has peers p ≡ false → length peers < 64
       → with_peer peers p ≡ peers ++ p ∷ []
   pub there : (peers : List Peer) (p : Peer) → has peers p ≡ true → with_peer peers p ≡ peers
@@ -403,3 +410,8 @@ pub record AnyCallerRows : Type 0 where
       → AllHere callers passes
   pub no_newcomer : newcomers 0 ≡ []
   pub one_newcomer_more : (n : ℕ) → newcomers (suc n) ≡ newcomers n ++ past (suc n) [] ∷ []
+  -- a front counts the calls
+  pub front_is : (config : Config) (h : List Entry) → front_of config h ≡ config.first_front + length h
+  -- the calls of so many callers, added up one caller after another
+  pub no_calls : (h : List Entry) → calls_of 0 h ≡ 0
+  pub calls_of_one_more : (n : ℕ) (h : List Entry) → calls_of (suc n) h ≡ calls_of n h + length (mine (suc n) h)

@@ -129,6 +129,14 @@ pub record AnyReadingRows : Type 0 where
       × (accepted role (Came Tail ∷ past) n ≡ accepted role past n)
   pub accepted_by_no_act : (role : Role) (past : List Item) (act : Act) (n : ℕ) → opens role past (Did act) n ≡ false
       → accepted role (Did act ∷ past) n ≡ accepted role past n
+  -- nor is a stream accepted by the head of another one, or of none, nor by data behind its end
+  pub accepted_by_no_other : (role : Role) (past : List Item) (h : Header) (n : ℕ) → h.stream ≢ n
+      → accepted role (Came (Head h) ∷ past) n ≡ accepted role past n
+  pub accepted_by_no_stream : (role : Role) (past : List Item) (h : Header) (n : ℕ) → is_of_stream h ≡ false
+      → accepted role (Came (Head h) ∷ past) n ≡ accepted role past n
+  pub accepted_by_no_late_data : (role : Role) (past : List Item) (flags n len : ℕ)
+      → syn (head Payload flags n len) ≡ false → finished role past n ≡ true
+      → accepted role (Came (Head (head Payload flags n len)) ∷ past) n ≡ accepted role past n
   -- what opens a stream tells that, whatever its other flags are, and the credit that it brings
   pub opened_told : (role : Role) (past : List Item) (flags n : ℕ)
       → opens role past (Came (Head (head Window flags n 0))) n ≡ true
