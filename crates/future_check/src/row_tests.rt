@@ -189,6 +189,22 @@ fn thirty_two_calls(rt: HostRuntime) -> Result<(), Fail> {
     Ok(())
 }
 
+/// Polls that follow make so many calls each, and ask for no other poll.
+fn is_idle_again(
+    alloc: Global,
+    task: &MockTask,
+    conn: &mut End<Quiet>,
+    calls: u32,
+) -> Option<bool> {
+    for _ in 0..3u32 {
+        let gave = drive(alloc, task, conn, Plan::Listen, 1)?;
+        if !gave.is_idle || !gave.said.is_empty() || gave.most != calls {
+            return Some(false);
+        }
+    }
+    Some(true)
+}
+
 /// A link whose reads wait for ever is asked to write what is left and to read, and no more: the poll asks for no
 /// other. Behind `shut` it is shut, where it takes what it is offered, and else the output that is left waits.
 fn is_asked_once(
@@ -201,6 +217,7 @@ fn is_asked_once(
     let gave = drive(alloc, task, conn, Plan::Listen, 1)?;
     let left = if takes { 0 } else { first };
     let is_right = gave.is_idle && gave.said.is_empty() && gave.most == 2 && conn.waiting() == left;
+    let stays_idle = is_idle_again(alloc, task, conn, if takes { 1 } else { 2 })?;
     conn.shut();
     let later = drive(alloc, task, conn, Plan::Listen, 10)?;
     let is_shut = if takes {
@@ -208,7 +225,7 @@ fn is_asked_once(
     } else {
         later.is_idle && later.said.is_empty() && later.most == 1 && conn.waiting() == first
     };
-    Some(is_right && is_shut)
+    Some(is_right && stays_idle && is_shut)
 }
 
 fn waits_quietly(alloc: Global, task: &MockTask, takes: bool) -> Option<bool> {
@@ -216,11 +233,16 @@ fn waits_quietly(alloc: Global, task: &MockTask, takes: bool) -> Option<bool> {
     is_asked_once(alloc, task, &mut conn, takes)
 }
 
-/// So too where it is bounded: the first poll waits for the link, and asks for no other.
+/// So too where it is bounded: each poll waits for the link, and asks for no other.
 fn waits_bounded(alloc: Global, task: &MockTask, takes: bool) -> Option<bool> {
     let mut conn = BoundedConn::new(connect(alloc, ConnRole::Dialer, Quiet::new(takes))?);
-    let polled = task.enter(|cx| conn.poll_next(cx));
-    Some(polled.is_pending() && !task.is_woken() && !conn.was_dropped())
+    for _ in 0..3u32 {
+        let polled = task.enter(|cx| conn.poll_next(cx));
+        if !polled.is_pending() || task.is_woken() || conn.was_dropped() {
+            return Some(false);
+        }
+    }
+    Some(true)
 }
 
 #[test]

@@ -153,8 +153,8 @@ fn script_of(alloc: Global, number: u32) -> Option<Script> {
     Some(Script { bytes, pipe, plan })
 }
 
-/// Whether the events are those of the core that is fed the same pieces directly, and what is written begins its
-/// output.
+/// Whether the events are those of the core that is fed the same pieces directly, what is written begins its output, and
+/// what the link didn't take is dropped.
 fn follows_core(
     alloc: Global,
     task: &MockTask,
@@ -168,7 +168,8 @@ fn follows_core(
     let may_shut = plan != Plan::Listen;
     let is_told = are_told(&gave.said, &direct.told, has_failed, may_shut);
     let is_written = direct.output.starts_with(written(conn));
-    Some(is_told && is_written && gave.has_ended && gave.most <= 32)
+    let is_over = gave.has_ended && conn.waiting() == 0;
+    Some(is_told && is_written && is_over && gave.most <= 32)
 }
 
 fn runs(alloc: Global, task: &MockTask, number: u32) -> Option<bool> {

@@ -15,11 +15,38 @@ use std::test::*;
 /// The code of a try that finds the end of the input.
 const END: u8 = 254;
 
-/// A socket that says it is ready, and whose tries, and shutting, go by a list of codes; behind the list they fail.
+/// Why a call of a socket may fail.
+static KINDS: [io::ErrorKind; 12] = [
+    io::ErrorKind::ConnectionReset,
+    io::ErrorKind::ConnectionAborted,
+    io::ErrorKind::ConnectionRefused,
+    io::ErrorKind::NotConnected,
+    io::ErrorKind::BrokenPipe,
+    io::ErrorKind::TimedOut,
+    io::ErrorKind::HostUnreachable,
+    io::ErrorKind::NetworkDown,
+    io::ErrorKind::UnexpectedEof,
+    io::ErrorKind::WriteZero,
+    io::ErrorKind::Interrupted,
+    io::ErrorKind::Other,
+];
+
+/// The code of a try that fails by the first of these; those of the others are behind it.
+const FIRST_KIND: u8 = 200;
+
+/// A socket that says it is ready, or that it failed, and whose tries, and shutting, go by a list of codes; behind the
+/// list they fail.
 #[derive(Drop)]
 struct Scripted {
     codes: Vec<u8>,
     tries: usize,
+    /// Why it isn't ready.
+    fails_by: Option<io::ErrorKind>,
+}
+
+fn kind_of(code: u8) -> Option<io::ErrorKind> {
+    let at = code.checked_sub(FIRST_KIND)?;
+    KINDS.get(usize::from(at)).copied()
 }
 
 impl Scripted {
@@ -29,11 +56,21 @@ impl Scripted {
     {
         let code = self.codes.get(self.tries).copied().unwrap_or(FAIL);
         self.tries = self.tries.saturating_add(1);
+        if let Some(kind) = kind_of(code) {
+            return Err(io::Error::from(kind));
+        }
         match code {
             PENDING => Err(io::Error::from(io::ErrorKind::WouldBlock)),
             FAIL => Err(io::Error::from(io::ErrorKind::ConnectionReset)),
             END => Ok(0),
             count => Ok(usize::from(count).min(most)),
+        }
+    }
+
+    fn is_ready(&self) -> io::Result<()> {
+        match self.fails_by {
+            Some(kind) => Err(io::Error::from(kind)),
+            None => Ok(()),
         }
     }
 }
@@ -54,11 +91,11 @@ impl Socket for Scripted {
     ghost stays_shut = { λ _ _ _ _ _ is. is };
 
     fn poll_readable(&mut self, _cx: &mut Context<'_>) -> Poll<io::Result<()>> {
-        Poll::Ready(Ok(()))
+        Poll::Ready(self.is_ready())
     }
 
     fn poll_writable(&mut self, _cx: &mut Context<'_>) -> Poll<io::Result<()>> {
-        Poll::Ready(Ok(()))
+        Poll::Ready(self.is_ready())
     }
 
     fn try_read(&mut self, buffer: &mut [u8]) -> io::Result<usize> {
@@ -75,7 +112,7 @@ impl Socket for Scripted {
 }
 
 /// The codes of a socket's tries, calls in turn (r reads, w writes, s shuts), and what they answer.
-static ROWS: [(&[u8], &[u8], &[u8]); 14] = [
+static ROWS: [(&[u8], &[u8], &[u8]); 15] = [
     // A try that moves nothing yet is made again, once in a call.
     (&[3, PENDING, 2], b"rrr", b"32f"),
     (&[PENDING, PENDING, 3], b"rr", b"p3"),
@@ -95,6 +132,8 @@ static ROWS: [(&[u8], &[u8], &[u8]); 14] = [
     (&[FAIL, 1], b"ss", b"f0"),
     (&[FAIL, FAIL, 2, 1], b"ssrw", b"ff21"),
     (&[FAIL, FAIL, 1], b"rws", b"ff0"),
+    // A write that failed isn't the end of the input, and a read that failed isn't that of the output.
+    (&[FAIL, 2, FAIL, 3], b"wrrw", b"f2f3"),
 ];
 
 /// Makes a call. Shutting moves no byte.
@@ -139,7 +178,11 @@ fn runs_so(
     answers: &[u8],
 ) -> Option<bool> {
     let codes = codes.to_vec(alloc).ok()?;
-    let mut link = SocketLink::new(Scripted { codes, tries: 0 });
+    let mut link = SocketLink::new(Scripted {
+        codes,
+        tries: 0,
+        fails_by: None,
+    });
     Some(answers_so(task, &mut link, calls, answers))
 }
 
@@ -149,6 +192,37 @@ fn a_socket_by_tries(rt: HostRuntime) -> Result<(), Fail> {
     for (row, (codes, calls, answers)) in ROWS.iter().enumerate() {
         let held = runs_so(rt.alloc(), &task, *codes, *calls, *answers) == Some(true);
         assert!(rt; held, "row {row}");
+    }
+    Ok(())
+}
+
+/// A call that fails is a failure of the link, whatever the kind, and the next call is tried.
+fn fails_by_try(alloc: Global, task: &MockTask, code: u8) -> Option<bool> {
+    let codes = [code, 2];
+    let reads = runs_so(alloc, task, &codes, b"rr", b"f2")?;
+    let writes = runs_so(alloc, task, &codes, b"ww", b"f2")?;
+    let shuts = runs_so(alloc, task, &codes, b"sr", b"f2")?;
+    Some(reads && writes && shuts)
+}
+
+/// So too where the socket says that it failed instead of that it is ready.
+fn fails_unready(alloc: Global, task: &MockTask, code: u8) -> bool {
+    let mut link = SocketLink::new(Scripted {
+        codes: Vec::new(alloc),
+        tries: 0,
+        fails_by: kind_of(code),
+    });
+    answers_so(task, &mut link, b"rwr", b"fff")
+}
+
+#[test]
+fn each_kind_is_a_failure(rt: HostRuntime) -> Result<(), Fail> {
+    let task = MockTask::new(&rt)?;
+    for number in 0..12u8 {
+        let code = FIRST_KIND.saturating_add(number);
+        let tried = fails_by_try(rt.alloc(), &task, code) == Some(true);
+        let unready = fails_unready(rt.alloc(), &task, code);
+        assert!(rt; tried && unready, "kind {number}");
     }
     Ok(())
 }
