@@ -36,6 +36,7 @@ mod AnySessionRunRows
 mod AnyPoolRows
 mod AnyHandlerRows
 mod AnySourceRows
+mod AnyStateRows
 mod AnyLogRows
 mod AnyRestRows
 mod AnyStepRows

@@ -37,6 +37,7 @@ pub mod AnySessionRunRows
 pub mod AnyPoolRows
 pub mod AnyHandlerRows
 pub mod AnySourceRows
+pub mod AnyStateRows
 pub mod AnyLogRows
 pub mod AnyRestRows
 pub mod AnyStepRows

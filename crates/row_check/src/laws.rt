@@ -43,6 +43,7 @@ ghost use Rattle.row_check.specs.AnySessionRunRows.{AnyReadingRows, AnyNamedRows
 ghost use Rattle.row_check.specs.AnySessionRunRows.{AnyCutRows, AnyHeardRows, AnyTiedRows};
 ghost use Rattle.row_check.specs.AnyHandlerRows.{AnyWrittenRows, AnyMergedRows, AnyReadRows, AnyWantRows, AnyMadeRows};
 ghost use Rattle.row_check.specs.AnySourceRows.{AnySourceRows};
+ghost use Rattle.row_check.specs.AnyStateRows.{AnyPingStateRows, AnyIdentifyStateRows};
 ghost use Rattle.row_check.specs.AnyPoolRows.{AnyRangeRows, AnyCountRows, AnyRefusalRows, AnyAnswerRows};
 ghost use Rattle.row_check.specs.AnyPoolRows.{AnyAddedRows, AnyRowRows, AnyBoundRows, AnyCallerRows};
 ghost use Rattle.row_check.specs.AnyLogRows.{AnyListRows, AnyStreamEntryRows, AnyEarlierRows, AnyTurnRows};
@@ -261,13 +262,15 @@ pub fn any_pool_rows()
 {}
 
 /// The definitions of identify messages, and of a node's handlers, say of any message and any bytes what they are to
-/// say.
+/// say; and what each call of a ping, an echo, a reader and a sender does they say of any state.
 pub fn any_handler_rows()
     ensures written { AnyWrittenRows }
     ensures merged { AnyMergedRows }
     ensures read { AnyReadRows }
     ensures want { AnyWantRows }
     ensures made { AnyMadeRows }
+    ensures ping_states { AnyPingStateRows }
+    ensures identify_states { AnyIdentifyStateRows }
 {}
 
 /// The definitions of the handlers that a node makes say what they are to say, wherever its pings' bytes come from.
