@@ -121,7 +121,8 @@ pub fn both_told_laws()
     ensures dials { DialsSeen }
 {}
 
-/// The laws that no definition names, each as its clause has it: a clause that comes to say less no longer answers this.
+/// The laws that no definition names, each as its clause has it: a clause that comes to say less no longer answers
+/// this.
 pub fn clause_laws()
     ensures text { (text : List ℕ) (some other : Result (List ℕ) IdFault) → ReadsId text some → ReadsId text other
         → some ≡ other }

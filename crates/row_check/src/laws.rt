@@ -220,8 +220,8 @@ pub fn any_handed_rows<H: Handler>()
 {}
 
 /// What the definitions say wherever a message, a talk, an exchange, an upgrade, a reader or a session stands they say
-/// of any input there; what they say of a session's history they say of each item of it, and what they say of two joined
-/// sessions of any stream.
+/// of any input there; what they say of a session's history they say of each item of it, and what they say of two
+/// joined sessions of any stream.
 pub fn any_input_rows()
     ensures inputs { AnyInputRows }
     ensures histories { AnyHistoryRows }
