@@ -1,4 +1,5 @@
-//! What the laws say, word by word. Each is a function with an empty body.
+//! What the laws say, word by word: functions with an empty body, but for `clause_laws`, which calls the laws that it
+//! says.
 
 ghost use Rattle.std.specs.Prelude.{◌≡◌, ◌≢◌, ◌++◌, ◌∷◌, [], ℕ, List, Result, length};
 ghost use Rattle.std.specs.List.Sorted.{IsStrictlyIncreasing};
