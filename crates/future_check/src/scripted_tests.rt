@@ -153,8 +153,8 @@ fn script_of(alloc: Global, number: u32) -> Option<Script> {
     Some(Script { bytes, pipe, plan })
 }
 
-/// Whether the events are those of the core that is fed the same pieces directly, what is written begins its output, and
-/// what the link didn't take is dropped.
+/// Whether the events are those of the core that is fed the same pieces directly, what is written begins its output,
+/// and what the link didn't take is dropped.
 fn follows_core(
     alloc: Global,
     task: &MockTask,
