@@ -1,10 +1,10 @@
 -- What a caller knows of the varint at the front of bytes.
-use Rattle.std.proofs.Common.{◌≡◌, ℕ, ◌+◌, ◌<◌, ◌≤◌, List, [], ◌∷◌, ◌++◌, length, drop, get_or, Option, Some, None, Result, Ok, sym, ap, ◌∙◌, subst, arith, length-append}
+use Rattle.std.proofs.Common.{◌≡◌, ◌≢◌, ℕ, ◌+◌, ◌<◌, ◌≤◌, List, [], ◌∷◌, ◌++◌, length, drop, get_or, Option, Some, None, Result, Ok, sym, ap, ◌∙◌, subst, arith, length-append}
 use Rattle.std.specs.List.{All}
 use Rattle.std.proofs.lemmas.List.{append-nil, drop_all, get_or_append_left}
 use Rattle.std.proofs.lemmas.List.Elements.{All-from_get_or}
 use Rattle.varint_proto.specs.declared.fault.WireFault.{WireFault}
-use Rattle.varint_proto.specs.Varint.{IsSpelling, SpellsShortest, ReadsShortest, Takes, Again, Stays, EndsAt, OneOutcome, SomeOutcome, NoneIsShorter, NoSpellingBeginsAnother, shortest}
+use Rattle.varint_proto.specs.Varint.{IsSpelling, SpellsShortest, ReadsShortest, BeginsShortest, Takes, Again, Stays, EndsAt, OneOutcome, SomeOutcome, NoneIsShorter, NoSpellingBeginsAnother, shortest}
 use Rattle.codec_told.specs.Varints.{IsSettled, IsFront}
 
 pub settled : Stays → OneOutcome → SomeOutcome → (bytes : List ℕ) (answer : Result (Option (ℕ × ℕ)) WireFault)
@@ -31,6 +31,7 @@ front_is takes least one bytes written n len below reads is =
     subst (λ (xs : List ℕ). IsFront bytes xs) (sym is) (record {
       rest = drop len bytes;
       parts = found.0;
+      spells = found.1;
       only = λ other behind ends parts. (one other (shortest n) behind (drop len bytes) ends found.1 (sym parts ∙ found.0)).0;
     })
 
@@ -47,3 +48,11 @@ pub back : Again → OneOutcome → (n : ℕ) (bytes behind : List ℕ) (answer 
 back again one n bytes behind answer spells parts reads =
     one bytes answer (Ok (Some (n, length (shortest n)))) reads
     (subst (λ (xs : List ℕ). ReadsShortest xs (Ok (Some (n, length (shortest n))))) (sym parts) (again (shortest n) behind n spells))
+
+-- where no number was read, none stands at the front
+pub none_begins : Again → (bytes : List ℕ) (answer : Result (Option (ℕ × ℕ)) WireFault)
+    → ((other : Result (Option (ℕ × ℕ)) WireFault) → ReadsShortest bytes other → answer ≡ other)
+    → ((n len : ℕ) → answer ≢ Ok (Some (n, len))) → (n : ℕ) (rest : List ℕ) → BeginsShortest bytes n rest → ⊥
+none_begins again bytes answer only not n rest begins =
+    not n (length begins.0) (only (Ok (Some (n, length begins.0)))
+    (subst (λ (xs : List ℕ). ReadsShortest xs (Ok (Some (n, length begins.0)))) (sym begins.2) (again begins.0 rest n begins.1)))

@@ -10,8 +10,9 @@ IsSettled bytes answer =
     (more : List ℕ) → (last : Result (Option (ℕ × ℕ)) WireFault) × ReadsShortest (bytes ++ more) last
     × (answer ≢ Ok None → last ≡ answer)
 
--- This stands at the front, and no other spelling does.
+-- This is a spelling and stands at the front, and no other spelling does.
 pub record IsFront (bytes spelling : List ℕ) : Type 0 where
   pub rest : List ℕ
   pub parts : bytes ≡ spelling ++ rest
+  pub spells : IsSpelling spelling
   pub only : (other behind : List ℕ) → IsSpelling other → bytes ≡ other ++ behind → other ≡ spelling

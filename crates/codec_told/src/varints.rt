@@ -1,7 +1,7 @@
 //! Varints that a caller reads and writes.
 
-ghost use Rattle.std.specs.Prelude.{◌≡◌, ℕ, ◌≤◌, List, length, take, Some, Ok, IfOk, IfErr, IfSome};
-ghost use Rattle.varint_proto.specs.Varint.{SpellsWide, shortest};
+ghost use Rattle.std.specs.Prelude.{◌≡◌, ℕ, ◌≤◌, List, length, take, Some, None, Ok, IfOk, IfErr, IfSome};
+ghost use Rattle.varint_proto.specs.Varint.{SpellsWide, BeginsShortest, shortest};
 ghost use Rattle.codec_told.specs.Varints.{IsSettled, IsFront};
 
 use std::alloc::Global;
@@ -43,9 +43,11 @@ pub fn read_to_the_end(bytes: &[u8]) -> Option<u64>
 /// Writes the number at the front of the bytes, where there is one. Only memory may be wanting.
 pub fn written_again(alloc: Global, bytes: &[u8]) -> Result<Option<Vec<u8>>, VarintRefused>
     ensures front { IfOk result (λ read. IfSome read (λ spelling. IsFront bytes.now spelling.items)) }
+    ensures none { result ≡ Ok None → (n : ℕ) (rest : List ℕ) → BeginsShortest bytes.now n rest → ⊥ }
     ensures fits { IfErr result (λ why. why ≡ VarintRefused.OutOfMemory) }
 {
     takes();
+    again();
     inside();
     none_is_shorter();
     no_spelling_begins_another();

@@ -65,9 +65,11 @@ impl<L: Link, P: Protocols> Conn<L, P> {
         &self.link
     }
 
-    /// How many bytes of the output the link hasn't taken yet.
+    /// How many bytes of the output the link hasn't taken yet. Where it makes no link call more, none: what was left
+    /// was dropped.
     pub fn waiting(&self) -> usize
-        ensures { result ≡ length self.now.unsent }
+        ensures waiting { result ≡ length self.now.unsent }
+        ensures dropped { is_live self.now.stage ≡ false → result ≡ 0 }
     {
         self.unsent.len()
     }

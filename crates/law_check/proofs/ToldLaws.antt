@@ -5,7 +5,7 @@ pub codec_told : CodecTold
 codec_told = record {
   settled = λ bytes more answer it. it more;
   front = λ bytes spelling it. it.only;
-  at_the_front = λ bytes spelling it. (it.rest, it.parts);
+  at_the_front = λ bytes spelling it. (it.rest, it.parts, it.spells);
   framed = λ limit bytes more body rest it. it more;
   framed_fault = λ limit bytes more why it. it more;
   count = λ bytes result it. it.fields;

@@ -60,7 +60,7 @@ pub record CodecTold : Type 0 where
   pub front : (bytes spelling : List ℕ) → IsFront bytes spelling → (other behind : List ℕ) → IsSpelling other
       → bytes ≡ other ++ behind → other ≡ spelling
   pub at_the_front : (bytes spelling : List ℕ) → IsFront bytes spelling → (rest : List ℕ)
-      × (bytes ≡ spelling ++ rest)
+      × (bytes ≡ spelling ++ rest) × IsSpelling spelling
   pub framed : (limit : ℕ) (bytes more body rest : List ℕ) → IsFramedEarly limit bytes (Ok (Some (body, rest)))
       → (last : Result (Option (List ℕ × List ℕ)) IncomingRefused) × ReadsFramed limit (bytes ++ more) last
       × (last ≡ Ok (Some (body, rest ++ more)))

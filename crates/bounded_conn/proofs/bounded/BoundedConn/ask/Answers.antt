@@ -8,7 +8,7 @@ returns-then-waiting-gt-MOST_WAITING-clause-asks g c =
       c.ask-asked.result,
       c.ask-asked.new.self,
       (c.ask-asked.ensures.refused, c.ask-asked.ensures.asked),
-      inr (omega (arith, c.if-waiting-gt-MOST_WAITING.true, c.waiting.ensures), refl, refl),
+      inr (omega (arith, c.if-waiting-gt-MOST_WAITING.true, c.waiting.ensures.waiting), refl, refl),
     )
 
 pub returns-clause-asks : goal.returns-clause-asks
@@ -17,5 +17,5 @@ returns-clause-asks g c =
       c.ask-asked.result,
       c.ask-asked.new.self,
       (c.ask-asked.ensures.refused, c.ask-asked.ensures.asked),
-      inl (omega (arith, c.if-waiting-gt-MOST_WAITING.false, c.waiting.ensures), refl, refl),
+      inl (omega (arith, c.if-waiting-gt-MOST_WAITING.false, c.waiting.ensures.waiting), refl, refl),
     )

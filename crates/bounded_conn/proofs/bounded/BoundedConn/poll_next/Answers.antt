@@ -8,7 +8,7 @@ returns-then-waiting-gt-MOST_WAITING-clause-polls g c =
       c.poll_next-polled.result,
       c.poll_next-polled.new.self,
       c.poll_next-polled.ensures.follows,
-      inr (omega (arith, c.if-waiting-gt-MOST_WAITING.true, c.waiting-waiting.ensures), refl, refl),
+      inr (omega (arith, c.if-waiting-gt-MOST_WAITING.true, c.waiting-waiting.ensures.waiting), refl, refl),
     )
 
 pub returns-clause-polls : goal.returns-clause-polls
@@ -17,5 +17,5 @@ returns-clause-polls g c =
       c.poll_next-polled.result,
       c.poll_next-polled.new.self,
       c.poll_next-polled.ensures.follows,
-      inl (omega (arith, c.if-waiting-gt-MOST_WAITING.false, c.waiting-waiting.ensures), refl, refl),
+      inl (omega (arith, c.if-waiting-gt-MOST_WAITING.false, c.waiting-waiting.ensures.waiting), refl, refl),
     )
