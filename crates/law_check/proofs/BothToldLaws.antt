@@ -67,6 +67,9 @@ one_address Spells Faulty spelt = record {
   answered = λ result it a spells. address_known Spells Faulty spelt result it (Ok a) spells;
   refused = λ result it fault faulty. address_known Spells Faulty spelt result it (Err fault) faulty;
   some = λ result it. some_address Spells Faulty it.outcome it.comes;
+  no_other = λ result it a b one other. cc (it.only (Ok a) one ∙ sym (it.only (Ok b) other));
+  no_other_fault = λ result it fault also one other. cc (it.only (Err fault) one ∙ sym (it.only (Err also) other));
+  not_both = λ result it a fault one other. absurd (cc (it.only (Ok a) one ∙ sym (it.only (Err fault) other)));
 }
 
 pub one_outcome : OneOutcome
@@ -113,6 +116,9 @@ one_talk Tells = record {
         subst (λ (s : Result Step SelectFault). (outcome ≡ standing s) × (used ≡ used_of s input) × (also ≡ written)) e same,
   );
   some = λ input step written it. (it.outcome, it.used, it.written, it.comes);
+  no_other = λ input step written it a b used more also other one two.
+      let (x, y, z) = it.only a used also one in let (u, v, w) = it.only b more other two in
+      (x ∙ sym u, y ∙ sym v, z ∙ sym w);
   decided = λ input more written step it ne. it ne more;
   faulty = λ input more written fault it ne. it ne more;
 }
@@ -124,6 +130,7 @@ talks_told = record {
   alike = λ talk also fault other. ((λ it. it), (λ it. it), (λ it. it), (λ it. it));
   greeted = λ bytes step it ne reading reads. greets bytes reading step (rw (it.only reading reads) (it.answered ne));
   read = λ bytes step it. (it.reading, it.reads);
+  one_message = λ bytes step it reading other one two. it.only reading one ∙ sym (it.only other two);
   came = λ dialed served ends it. it;
   one_name = λ dialed served ends it. it;
   goes_on = λ dialer listener dialing listening ends it. (

@@ -76,6 +76,13 @@ pub record OneAddress {A : Type 0} (Spells : A → Type 0) (Faulty : AddrFault �
         → Faulty fault → result ≡ Err fault
     pub some : (result : Result (List ℕ) AddrFault) → IsOneAddress Spells Faulty spelt result
         → ((a : A) × Spells a) ⊎ ((fault : AddrFault) × Faulty fault)
+    -- and nothing else is spelt, nor wrong, whatever was answered
+    pub no_other : (result : Result (List ℕ) AddrFault) → IsOneAddress Spells Faulty spelt result → (a b : A)
+        → Spells a → Spells b → a ≡ b
+    pub no_other_fault : (result : Result (List ℕ) AddrFault) → IsOneAddress Spells Faulty spelt result
+        → (fault other : AddrFault) → Faulty fault → Faulty other → fault ≡ other
+    pub not_both : (result : Result (List ℕ) AddrFault) → IsOneAddress Spells Faulty spelt result → (a : A)
+        (fault : AddrFault) → Spells a → ¬ Faulty fault
 
 -- What is known of a key, and of an address, that was read
 pub record OneOutcome : Type 0 where
@@ -106,6 +113,10 @@ pub record OneTalk (Tells : List ℕ → Result Answer SelectFault → ℕ → L
       → (outcome ≡ Err fault) × (used ≡ length input) × (also ≡ written))
   pub some : (input : List ℕ) (step : Result Step SelectFault) (written : List ℕ) → IsOneTalk Tells input step written
       → (outcome : Result Answer SelectFault) × (used : ℕ) × (also : List ℕ) × Tells input outcome used also
+  -- whatever was answered, want of memory too
+  pub no_other : (input : List ℕ) (step : Result Step SelectFault) (written : List ℕ)
+      → IsOneTalk Tells input step written → (a b : Result Answer SelectFault) (used more : ℕ) (also other : List ℕ)
+      → Tells input a used also → Tells input b more other → (a ≡ b) × (used ≡ more) × (also ≡ other)
   pub decided : (input more written : List ℕ) (step : Step) → IsDecided Tells input step written
       → step.answer ≢ Going → Tells (take step.used input ++ more) (Ok step.answer) step.used written
   pub faulty : (input more written : List ℕ) (fault : SelectFault) → IsFaulty Tells input fault written
@@ -129,6 +140,9 @@ pub record TalksTold : Type 0 where
       × ((fault : SelectFault) → reading ≡ Err fault → step ≡ Err fault)
   pub read : (bytes : List ℕ) (step : Result Step SelectFault) → IsGreeted bytes step
       → (reading : Result (Option (List ℕ)) SelectFault) × ReadsMessage bytes reading
+  pub one_message : (bytes : List ℕ) (step : Result Step SelectFault) → IsGreeted bytes step
+      → (reading other : Result (Option (List ℕ)) SelectFault) → ReadsMessage bytes reading → ReadsMessage bytes other
+      → reading ≡ other
   pub came : (dialed served : List (List ℕ)) (ends : Ends) → CameTo dialed served ends
       → (to_dialer : List ℕ) × (to_listener : List ℕ)
       × Joined dialed served to_dialer to_listener (Ok ends.dialer) (Ok ends.listener)

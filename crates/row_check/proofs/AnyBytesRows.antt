@@ -11,7 +11,7 @@ use Rattle.sha2.specs.Sha256.{sha256}
 use Rattle.varint_proto.specs.declared.fault.WireFault.TheVariants.{TooLong, NotShortest}
 use Rattle.varint_proto.specs.Varint.{IsSpelling, IsUnended, value_of, SpellsShortest, SpellsWide, EndsInZero, ReadsShortest, WideFault, shortest, shortest_within}
 use Rattle.varint_proto.specs.Message.{entry, Varint, Bytes, varint_at, body_at, all_varints, all_bodies, last_varint, last_body}
-use Rattle.varint_proto.specs.Incoming.{ReadsFramed, AsksMemory}
+use Rattle.varint_proto.specs.Incoming.{ReadsFramed, AsksMemory, Holds}
 use Rattle.varint_proto.proofs.Shortest.{small, large, spelling_cons, shortest_small, spells_shortest}
 use Rattle.varint_proto.proofs.Writing.{begins_written}
 use Rattle.varint_proto.proofs.Reading.{last_on}
@@ -248,6 +248,11 @@ any_framed = record {
   whole = λ message. (λ h. h, λ h. h);
   stands_in_the_length = λ limit room input r. record { going = refl; holds = (r, refl, refl) };
   stands_in_the_body = λ limit room len input spelling body b le few. record { going = refl; holds = (record { begins = b; allowed = le }, few) };
+  stands_unfailed = λ message input s. s.going;
+  held_of_the_length = λ message input s e. subst (λ (o : Option ℕ). Holds o message input) e s.holds;
+  held_of_the_body = λ message input len s e.
+      let h : Holds (Some len) message input = subst (λ (o : Option ℕ). Holds o message input) e s.holds in
+      (h.0.begins, h.0.allowed, h.1);
   too_long = λ limit len rest over lt. (len, rest, begins_written len rest lt, over);
   in_the_body = λ limit len rest le lt few. inr (len, rest, record { begins = begins_written len rest lt; allowed = le }, few);
   in_the_length = λ limit input r. inl r;

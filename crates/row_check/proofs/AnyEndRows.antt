@@ -49,6 +49,7 @@ any_exchanges = record {
   );
   runs_out_is = λ input piece r. r;
   asks_is = asks_is;
+  written_in_all = λ own exchange input used taken s. s.written;
   any_is_proven = λ proven. refl;
 }
 

@@ -1,5 +1,5 @@
 -- The rows of identify messages and of a node's handlers, whatever they hold.
-use Rattle.std.proofs.Common.{◌≡◌, ◌≢◌, ◌≤◌, subst, ℕ, suc, false, List, [], ◌∷◌, ◌++◌, length, Option, Some, None, refl, sym, ap, ◌∙◌, append-nil, ◌⊎◌, inl, inr, arith}
+use Rattle.std.proofs.Common.{◌≡◌, ◌≢◌, ◌≤◌, subst, ℕ, suc, Bool, false, ◌||◌, List, [], ◌∷◌, ◌++◌, length, Option, Some, None, refl, sym, ap, ◌∙◌, append-nil, ◌⊎◌, inl, inr, arith}
 use Rattle.std.specs.Prelude.{is_some, IsSome, ◌<◌}
 use Rattle.std.proofs.lemmas.List.{length-append}
 use Rattle.std.specs.List.{flat_map}
@@ -127,6 +127,24 @@ any_read_rows = record {
   takes_while = λ bytes old new step. while_going old step.going;
   ends = λ input old new stands step. (step.1.0, step.1.1, step.1.2 input stands);
   ends_while = λ old new step. while_going old step.0;
+  stands = λ input rest bodies reader begins part going count joined next limit. record {
+    going = going;
+    bodies = bodies;
+    rest = rest;
+    begins = begins;
+    part = part;
+    count = count;
+    joined = joined;
+    next = next;
+    limit = limit;
+  };
+  stands_is = λ input reader at. (at.bodies, at.rest, at.begins, at.part, at.going, at.count, at.joined, at.next, at.limit);
+  any_taken = λ bytes old new going unread peer message stands. record {
+    going = ap (λ (b : Bool). b || is_some old.message) going ∙ ap is_some unread;
+    peer = peer;
+    message = message;
+    stands = stands;
+  };
 }
 
 -- ---- what a node makes
@@ -173,6 +191,7 @@ any_made_rows = record {
   none_out = λ own payload n peer handler. none_out own payload peer handler n;
   none_left = none_left;
   hears = λ peer handler h. h;
+  any_heard = λ peer reader fresh. (reader, refl, fresh);
 }
 
 some_of : (x : Option (List ℕ)) → IsSome x → (body : List ℕ) × (x ≡ Some body)

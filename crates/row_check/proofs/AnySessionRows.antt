@@ -8,6 +8,7 @@ use Rattle.std.proofs.lemmas.Nat.Bits.{and_high}
 use Rattle.yamux_frames.specs.declared.header.Header.{Header}
 use Rattle.yamux_frames.specs.declared.header.FrameKind.{FrameKind}
 use Rattle.yamux_frames.specs.declared.header.FrameKind.TheVariants.{Payload, Window, Ping, GoAway}
+use Rattle.yamux_frames.specs.Frames.{spelled}
 use Rattle.yamux_frames.specs.Frames.Arrival.{Head, Byte, Tail}
 use Rattle.yamux_session.specs.declared.event.Role.{Role}
 use Rattle.yamux_session.specs.declared.event.Role.TheVariants.{Client, Server}
@@ -76,6 +77,13 @@ any_frame_rows = record {
   left_behind = λ b past. refl;
   stream_is = λ h past. refl;
   stream_stays = λ b past. refl;
+  nothing_spelt = refl;
+  head_spelt = λ h past. refl;
+  byte_spelt = λ b past. refl;
+  tail_spelt = λ past. append-nil (spelled past);
+  garbled_spelt = λ bytes past. refl;
+  bare_read = λ h fits none. record { whole = refl; frames_are = (tt, none, (tt, fits, tt)); rest_is = omega arith };
+  head_read = λ h fits some. record { whole = refl; frames_are = (tt, fits, tt); rest_is = (some, refl) };
 }
 
 -- ---- flags
@@ -338,6 +346,28 @@ beside_told role past h none =
     ++ when (b && ack h && is_own role h.stream && not (accepted role past h.stream)) (Told.Accepted h.stream)
     ++ when (b && is_update h.kind && nat_lt 0 h.length) (Told.Credit h.stream)) (belongs_beside role past h h.stream none)
 
+no_leaving : (kind : FrameKind) → is_data kind || is_update kind ≡ true → is_go_away kind ≡ false
+no_leaving Payload e = refl
+no_leaving Window e = refl
+no_leaving Ping e = refl
+no_leaving GoAway e = absurd (false≢true e)
+
+nothing_told_of : (role : Role) (past : List Item) (h : Header) → is_of_stream h ≡ true → opens role past (Came (Head h)) h.stream ≡ false
+    → head_belongs role past h h.stream ≡ false → fault_at role past (Came (Head h)) ≡ None → events role (Came (Head h) ∷ past) ≡ events role past
+nothing_told_of role past h about closed off sound =
+    sound_events role past (Came (Head h)) sound
+    ∙ ap (λ g. events role past ++ (when g (Told.GoAway h.length)
+    ++ when (opens role past (Came (Head h)) h.stream) (Told.Opened h.stream)
+    ++ when (head_belongs role past h h.stream && ack h && is_own role h.stream && not (accepted role past h.stream)) (Told.Accepted h.stream)
+    ++ when (head_belongs role past h h.stream && is_update h.kind && nat_lt 0 h.length) (Told.Credit h.stream))) (no_leaving h.kind about)
+    ∙ ap (λ o. events role past ++ ([]
+    ++ when o (Told.Opened h.stream)
+    ++ when (head_belongs role past h h.stream && ack h && is_own role h.stream && not (accepted role past h.stream)) (Told.Accepted h.stream)
+    ++ when (head_belongs role past h h.stream && is_update h.kind && nat_lt 0 h.length) (Told.Credit h.stream))) closed
+    ∙ ap (λ b. events role past ++ (when (b && ack h && is_own role h.stream && not (accepted role past h.stream)) (Told.Accepted h.stream)
+    ++ when (b && is_update h.kind && nat_lt 0 h.length) (Told.Credit h.stream))) off
+    ∙ append-nil (events role past)
+
 not_ping : (kind : FrameKind) → is_data kind || is_update kind ≡ true → is_ping kind ≡ false
 not_ping Payload e = refl
 not_ping Window e = refl
@@ -457,6 +487,11 @@ late_tail h e plain over =
 
 pub any_told_rows : AnyToldRows
 any_told_rows = record {
+  head_of_the_dead = λ role past h about plain dead.
+      nothing_told_of role past h about (plain_opens role past h h.stream plain) (belongs_not role past h h.stream (for_dead role past h plain dead))
+      (off_fault role past h (belongs_not role past h h.stream (for_dead role past h plain dead)) plain);
+  head_of_the_refused = λ role past h about with closed sound.
+      nothing_told_of role past h about closed (belongs_not role past h h.stream (for_refused role past h true about with closed)) sound;
   of_data = λ role past h b is lives going. byte_events role past h b true is (byte_is_its role past h is lives going);
   data_behind_the_end = λ role past h b is over. byte_events role past h b false is (byte_of_ended role past h.stream over) ∙ append-nil (events role past);
   data_of_the_dead = λ role past h b is dead. byte_events role past h b false is (byte_of_dead role past h.stream dead) ∙ append-nil (events role past);

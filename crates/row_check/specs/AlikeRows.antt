@@ -9,3 +9,6 @@ pub record AlikeRows : Type 0 where
   pub all : (one other : Reader) → Alike one other
       → (one.peer ≡ other.peer) × (one.message ≡ other.message) × (one.failed ≡ other.failed)
       × ((input : List ℕ) → Stands input one ↔ Stands input other)
+  -- and nothing else: what these are the same of is alike, be it that both have failed, or have ended
+  pub any : (one other : Reader) → one.peer ≡ other.peer → one.message ≡ other.message → one.failed ≡ other.failed
+      → ((input : List ℕ) → Stands input one ↔ Stands input other) → Alike one other

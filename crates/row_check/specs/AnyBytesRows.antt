@@ -175,6 +175,13 @@ pub record AnyFramedRows : Type 0 where
       → Stands input (held limit room input None [])
   pub stands_in_the_body : (limit room len : ℕ) (input spelling body : List ℕ) → BeginsShortest input len body
       → len ≤ limit → length body ≤ len → Stands input (held limit room spelling (Some len) body)
+  -- and nothing else is held of what has come: of a body nothing before its length is known
+  pub stands_unfailed : (message : Arriving) (input : List ℕ) → Stands input message → message.failed ≡ false
+  pub held_of_the_length : (message : Arriving) (input : List ℕ) → Stands input message → message.expected ≡ None
+      → ReadsShortest input (Ok None) × (message.spelling ≡ input) × (message.body ≡ [])
+  pub held_of_the_body : (message : Arriving) (input : List ℕ) (len : ℕ) → Stands input message
+      → message.expected ≡ Some len
+      → BeginsShortest input len message.body × (len ≤ message.limit) × (length message.body ≤ len)
 
 -- Keys: of Ed25519 with 32 bytes alone, of the others with 1 to 4096, whatever they are; and their message as it is
 -- written

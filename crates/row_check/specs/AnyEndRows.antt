@@ -21,6 +21,7 @@ use Rattle.talks.specs.Talks.{Asks, Answers, Talks, RunsOut as TalkRunsOut}
 use Rattle.plaintext_x.specs.declared.fault.ExchangeFault.{ExchangeFault}
 use Rattle.plaintext_x.specs.declared.fault.ExchangeFault.TheVariants as exchange
 use Rattle.plaintext_x.specs.Exchange.{SpellsExchange, Exchanges, AsksMemory, RunsOut, message_of, body_of, is_proven}
+use Rattle.plaintext_x.specs.Exchange.{Exchanging, Stands}
 use Rattle.upgrade.specs.declared.role.ConnRole.{ConnRole}
 use Rattle.upgrade.specs.declared.role.ConnRole.TheVariants.{Dialer, Listener}
 use Rattle.upgrade.specs.declared.fault.UpgradeFault.{UpgradeFault}
@@ -80,6 +81,9 @@ pub record AnyExchangeRows : Type 0 where
       → ((len : ℕ) × BeginsShortest input len [] × (0 < len) × (len ≤ 8192))
       ⊎ ((body rest : List ℕ) × (fields : List Entry) × ReadsFramed 8192 input (Ok (Some (body, rest)))
       × IsMessage body fields × IsSome (last_body 1 fields) × IsSome (last_body 2 fields))
+  -- whatever was taken of it, an end has written its message, and no more
+  pub written_in_all : (own : Key) (exchange : Exchanging) (input : List ℕ) (used : ℕ) (taken : List ℕ)
+      → Stands own exchange input used taken → taken ++ exchange.pending ≡ message_of own
   pub any_is_proven : (proven : Key) → is_proven (Some (Some proven)) ≡ true
 
 -- An upgrade with any key and any parts: each part in its place, and the connection is up behind all three

@@ -6,6 +6,7 @@ use Rattle.std.specs.Prelude.{Some, None, take}
 use Rattle.std.specs.List.{concat}
 use Rattle.varint_proto.specs.declared.fault.WireFault.{WireFault}
 use Rattle.varint_proto.specs.Varint.{shortest, BeginsShortest}
+use Rattle.varint_proto.specs.Incoming.{Stands as ArrivingStands}
 use Rattle.varint_proto.specs.Message.{Entry, IsMessage, FaultIn, last_body}
 use Rattle.peer_ids.specs.Key.{Key, IsAllowed}
 use Rattle.peer_ids.specs.PeerId.{canonical_of, id_of}
@@ -99,6 +100,17 @@ pub record AnyReadRows : Type 0 where
   pub ends : (input : List ℕ) (old new : Reader) → Stands input old → ReadStep old End new
       → (m : Message) × (new ≡ record old { message = Some m }) × ReadsAll old.peer input m
   pub ends_while : (old new : Reader) → ReadStep old End new → (old.failed ≡ false) × (old.message ≡ None)
+  -- where a reader stands, whatever it has heard: there alone, and wherever these facts hold
+  pub stands : (input rest : List ℕ) (bodies : List (List ℕ)) (reader : Reader) → Begins input bodies rest
+      → IsPart bodies rest → reader.failed ≡ false → reader.count ≡ length bodies → reader.joined ≡ concat bodies
+      → ArrivingStands rest reader.next → reader.next.limit ≡ 16384 - length (concat bodies) → Stands input reader
+  pub stands_is : (input : List ℕ) (reader : Reader) → Stands input reader → (bodies : List (List ℕ)) × (rest : List ℕ)
+      × Begins input bodies rest × IsPart bodies rest × (reader.failed ≡ false) × (reader.count ≡ length bodies)
+      × (reader.joined ≡ concat bodies) × ArrivingStands rest reader.next
+      × (reader.next.limit ≡ 16384 - length (concat bodies))
+  pub any_taken : (bytes : List ℕ) (old new : Reader) → old.failed ≡ false → old.message ≡ None → new.peer ≡ old.peer
+      → new.message ≡ None → ((input : List ℕ) → Stands input old → Stands (input ++ bytes) new)
+      → ReadStep old (Take bytes) new
 
 -- Where memory is asked for, whatever comes: for a body of any length but 0 that there is room for, at the last byte of
 -- its length; and for any message that says something
@@ -162,3 +174,4 @@ pub record AnyMadeRows : Type 0 where
       → ¬ LeadsOutbound counts node (suc (suc (suc n))) peer handler next
   pub hears : (peer : List ℕ) (handler : NodeHandler) → Hears peer handler
       → (reader : Reader) × (handler ≡ Reads reader) × IsFresh peer reader
+  pub any_heard : (peer : List ℕ) (reader : Reader) → IsFresh peer reader → Hears peer (Reads reader)

@@ -10,7 +10,7 @@ use Rattle.yamux_frames.specs.declared.header.FrameKind.{FrameKind}
 use Rattle.yamux_frames.specs.declared.header.FrameKind.TheVariants.{Payload, Window, Ping, GoAway}
 use Rattle.yamux_frames.specs.declared.header.FrameFault.TheVariants.{BadVersion, BadType}
 use Rattle.yamux_frames.specs.Spelling.{header_bytes, payload_length, IsHeader, HasFault}
-use Rattle.yamux_frames.specs.Frames.{Arrival, bytes_left, last_stream}
+use Rattle.yamux_frames.specs.Frames.{Arrival, bytes_left, last_stream, spelled, Reads}
 use Rattle.yamux_frames.specs.Frames.Arrival.{Head, Byte, Tail, Garbled}
 use Rattle.yamux_session.specs.declared.event.Role.{Role}
 use Rattle.yamux_session.specs.declared.event.Role.TheVariants.{Client, Server}
@@ -40,7 +40,8 @@ abbrev pub bytes_of : ℕ → ℕ → ℕ → ℕ → List ℕ
 bytes_of kind flags stream len = 0 ∷ kind ∷ (to_be_bytes w16 flags ++ to_be_bytes w32 stream ++ to_be_bytes w32 len)
 
 -- Whatever its flags, stream and length are, a header is spelt so; of any twelve bytes the first two decide what is
--- none; and Data alone is followed by bytes
+-- none; and Data alone is followed by bytes. What has arrived is spelt one arrival behind another, each by its own bytes:
+-- so whatever a header says, it is read from the bytes that spell it
 pub record AnyFrameRows : Type 0 where
   pub of_data : (flags stream len : ℕ) → header_bytes (head Payload flags stream len) ≡ bytes_of 0 flags stream len
   pub window : (flags stream len : ℕ) → header_bytes (head Window flags stream len) ≡ bytes_of 1 flags stream len
@@ -63,6 +64,13 @@ pub record AnyFrameRows : Type 0 where
   pub left_behind : (b : ℕ) (past : List Arrival) → bytes_left (Byte b ∷ past) ≡ bytes_left past - 1
   pub stream_is : (h : Header) (past : List Arrival) → last_stream (Head h ∷ past) ≡ h.stream
   pub stream_stays : (b : ℕ) (past : List Arrival) → last_stream (Byte b ∷ past) ≡ last_stream past
+  pub nothing_spelt : spelled [] ≡ []
+  pub head_spelt : (h : Header) (past : List Arrival) → spelled (Head h ∷ past) ≡ spelled past ++ header_bytes h
+  pub byte_spelt : (b : ℕ) (past : List Arrival) → spelled (Byte b ∷ past) ≡ spelled past ++ b ∷ []
+  pub tail_spelt : (past : List Arrival) → spelled (Tail ∷ past) ≡ spelled past
+  pub garbled_spelt : (bytes : List ℕ) (past : List Arrival) → spelled (Garbled bytes ∷ past) ≡ spelled past ++ bytes
+  pub bare_read : (h : Header) → IsHeader h → payload_length h ≡ 0 → Reads (header_bytes h) (Tail ∷ Head h ∷ []) []
+  pub head_read : (h : Header) → IsHeader h → 0 < payload_length h → Reads (header_bytes h) (Head h ∷ []) []
 
 -- Whatever stands beside it, each flag is one bit; a client's streams are the odd ones, a server's the even ones, and 0
 -- is nobody's; Data and WindowUpdate are about a stream
@@ -196,6 +204,12 @@ pub record AnyToldRows : Type 0 where
       → is_live role past h.stream ≡ false → events role (Came Tail ∷ past) ≡ events role past
   pub none : (role : Role) (past : List Item) → reading role past ≡ None
       → events role (Came Tail ∷ past) ≡ events role past
+  -- nor is anything told of a head that is for no stream here, whatever it says and whichever others are live
+  pub head_of_the_dead : (role : Role) (past : List Item) (h : Header) → is_of_stream h ≡ true → syn h ≡ false
+      → is_live role past h.stream ≡ false → events role (Came (Head h) ∷ past) ≡ events role past
+  pub head_of_the_refused : (role : Role) (past : List Item) (h : Header) → is_of_stream h ≡ true → syn h ≡ true
+      → opens role past (Came (Head h)) h.stream ≡ false → fault_at role past (Came (Head h)) ≡ None
+      → events role (Came (Head h) ∷ past) ≡ events role past
 
 -- What the windows count, of any length and beside any flags: a WindowUpdate of a live stream is credit, Data uses the
 -- window until the end has come, and each byte of it may be taken
