@@ -40,8 +40,8 @@ abbrev pub bytes_of : ℕ → ℕ → ℕ → ℕ → List ℕ
 bytes_of kind flags stream len = 0 ∷ kind ∷ (to_be_bytes w16 flags ++ to_be_bytes w32 stream ++ to_be_bytes w32 len)
 
 -- Whatever its flags, stream and length are, a header is spelt so; of any twelve bytes the first two decide what is
--- none; and Data alone is followed by bytes. What has arrived is spelt one arrival behind another, each by its own bytes:
--- so whatever a header says, it is read from the bytes that spell it
+-- none; and Data alone is followed by bytes. What has arrived is spelt one arrival behind another, each by its own
+-- bytes: so whatever a header says, it is read from the bytes that spell it
 pub record AnyFrameRows : Type 0 where
   pub of_data : (flags stream len : ℕ) → header_bytes (head Payload flags stream len) ≡ bytes_of 0 flags stream len
   pub window : (flags stream len : ℕ) → header_bytes (head Window flags stream len) ≡ bytes_of 1 flags stream len
@@ -338,6 +338,12 @@ pub record AnyActRows : Type 0 where
       × AllByRecursion IsPiece pieces × (sum_by length pieces ≤ credit role past n)
   pub no_other_take : (role : Role) (past : List Item) (n count : ℕ) → IsAnswered role past (Taken n count)
       → (stream_refusal role past n ≡ None) × (count ≤ untaken role past n)
+  pub no_other_close : (role : Role) (past : List Item) (n : ℕ) → IsAnswered role past (Close n)
+      → direction_refusal role past n ≡ None
+  pub no_other_reset : (role : Role) (past : List Item) (n : ℕ) → IsAnswered role past (Reset n)
+      → stream_refusal role past n ≡ None
+  pub no_other_leaving : (role : Role) (past : List Item) (code : ℕ) → IsAnswered role past (Act.GoAway code)
+      → code < 2 ^ 32
   -- and what is said of one stream hangs on no other
   pub quiet : (m n b : ℕ) → m ≢ n
       → IsQuiet n (Told.Opened m) × IsQuiet n (Told.Credit m) × IsQuiet n (Told.Payload m b)
