@@ -2,4 +2,8 @@
 //! less, what stands here is no longer proved.
 #![tactic(auto)]
 
+pub mod handler_clauses;
+pub mod identify_clauses;
 pub mod laws;
+pub mod node_clauses;
+pub mod ping_clauses;

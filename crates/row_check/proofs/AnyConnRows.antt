@@ -200,6 +200,8 @@ module _ {P H : Type 0} (step : H → HandlerCall → H → Type 0) (fails : H �
     };
     up_is = λ input written asked told session streams past u.
         (u.key, u.first, u.rest, u.greeting, u.log, u.now, u.input_is, u.upgraded, u.at_rest, u.rested, u.asks_are, u.early, u.makes, u.told_is, u.written_is);
+    up_by_name = λ input written asked told session streams past u.
+        (u.input_is, u.upgraded, u.at_rest, u.rested, u.asks_are, u.early, u.makes, u.told_is, u.written_is);
     faulty = λ first rest greeting sent pending key asked before now u f e. record {
       key = key;
       first = first;
@@ -271,6 +273,7 @@ module _ {P H : Type 0} (step : H → HandlerCall → H → Type 0) (fails : H �
       subst (λ (l : List Item). EndsWith (f.front ++ take f.frames.0 f.rest) (arrivals l)) f.came.1 f.frames.2,
       subst (λ (l : List Item). sent ++ pending ≡ output (session_role role) l) f.came.1 f.output_is,
     );
+    breaks_by_name = λ peer now asked told before bytes sent pending f. (f.told_is, f.asks_are, f.makes, f.bytes_are, f.at_rest);
   }
 
   -- ---- calls and runs

@@ -3,6 +3,7 @@ use Rattle.std.proofs.Common.{◌≡◌, ◌⊎◌, ◌↔◌, ℕ, inl, inr, Bo
 use Rattle.std.proofs.lemmas.Bool.{and_right}
 use Rattle.yamux_session.specs.declared.event.Role.{Role}
 use Rattle.yamux_frames.specs.Frames.Arrival.{Head}
+use Rattle.yamux_session.specs.History.{Item}
 use Rattle.yamux_session.specs.History.Item.{Came}
 use Rattle.yamux_session.specs.Openings.{opens}
 use Rattle.yamux_session.specs.Events.{events_at}
@@ -19,8 +20,16 @@ use Rattle.row_check.specs.AnyLogRows.{AnyListRows, AnyStreamEntryRows, AnyEarli
 
 -- ---- lists
 
+entries : {H : Type 0} (entry : Entry H) → ((x : Item) × (entry ≡ Of x)) ⊎ (((e : ConnEvent H) × (entry ≡ Says e))
+    ⊎ (((n : ℕ) × (handler : H) × (entry ≡ Made n handler)) ⊎ ((n : ℕ) × (index : ℕ) × (entry ≡ Asks n index))))
+entries (Of x) = inl (x, refl)
+entries (Says e) = inr (inl (e, refl))
+entries (Made n handler) = inr (inr (inl (n, handler, refl)))
+entries (Asks n index) = inr (inr (inr (n, index, refl)))
+
 pub any_lists : {H : Type 0} → AnyListRows H
 any_lists = record {
+  entries = entries;
   none = (refl, refl, refl);
   an_item = λ x log. (refl, refl, refl);
   told = λ e log. (refl, refl, refl);

@@ -36,6 +36,8 @@ any_held step is_closed is_finished names role = record {
   };
   held_is = λ log n got ended stream h.
       (h.so_far, (h.side_is, h.got_is, h.ended_is, h.sent_is, h.made_is, h.stands, h.talking, h.agreed_on, h.over, h.served));
+  held_by_name = λ log n got ended stream h.
+      (h.side_is, h.got_is, h.ended_is, h.sent_is, h.made_is, h.stands, h.talking, h.agreed_on, h.over, h.served);
   at_rest = λ log n stream held settled unfinished over. record { held = held; settled = settled; unfinished = unfinished; over_by_end = over };
   at_rest_is = λ log n stream r. (r.held, r.settled, r.unfinished, r.over_by_end);
   past = λ newer older n stream over kept r. record { newer = newer; older = older; log_is = refl; over = over; kept = kept; place_is = refl; at_rest = r };
@@ -66,6 +68,7 @@ module _ {P H : Type 0} (step : H → HandlerCall → H → Type 0) (fails : H �
     come_is = λ log n so_far c. (c.rest, c.side_is, c.got_is, c.ended_by, c.sent_is, c.made_is);
     there = λ log n so_far stream come stands. record { so_far = so_far; stream = stream; come = come; stands = stands };
     there_is = λ log n t. (t.so_far, t.stream, t.come, t.stands);
+    there_by_name = λ log n t. (t.come, t.stands);
     asked_to_take = λ log n so_far waiting bytes. (λ h. h, λ h. h);
     asked_to_end = λ log n so_far waiting. (λ h. h, λ h. h);
     asked_to_give = λ log n room so_far waiting. (λ h. h, λ h. h);

@@ -188,6 +188,7 @@ module _ {H : Type 0} (step : H → HandlerCall → H → Type 0) (fails : H →
     has_agreed = λ so_far bytes index front rest middle made agrees is stands serving.
         record { agrees = agrees; made = made; is_made = is; stands = stands; serving = serving };
     has_agreed_is = λ so_far bytes index front rest middle h. (h.made, h.agrees, h.is_made, h.stands, h.serving);
+    agreed_by_name = λ so_far bytes index front rest middle h. (h.is_made, h.stands);
     stops_refused = λ so_far bytes. (λ h. h, λ h. h);
     stops_broken = λ so_far bytes fault. (λ h. h, λ h. h);
     stops_so_alone = λ so_far bytes fault handler. (λ h. h, λ h. h, λ h. h, λ h. h, λ h. h);

@@ -1,5 +1,5 @@
 -- The rows of talks, whatever is in them.
-use Rattle.std.proofs.Common.{◌≡◌, ◌≢◌, ℕ, ◌+◌, ◌-◌, ◌/◌, ◌%◌, ◌<◌, ◌≤◌, Bool, true, false, not, nat_lt, inl, inr, List, [], ◌∷◌, ◌++◌, length, get_or, replicate, Option, Some, None, Result, Ok, Err, refl, sym, ap, subst, ◌∙◌, arith, append-nil, lit<, lt-ltb, le-ltb, if◌then◌else◌}
+use Rattle.std.proofs.Common.{◌≡◌, ◌≢◌, ◌⊎◌, ℕ, ◌+◌, ◌-◌, ◌/◌, ◌%◌, ◌<◌, ◌≤◌, Bool, true, false, not, nat_lt, inl, inr, List, [], ◌∷◌, ◌++◌, length, get_or, replicate, Option, Some, None, Result, Ok, Err, refl, sym, ap, subst, ◌∙◌, arith, append-nil, lit<, lt-ltb, le-ltb, if◌then◌else◌}
 use Rattle.std.specs.Prelude.{slice_get}
 use Rattle.std.specs.List.{All, position, position_or_len}
 use Rattle.std.specs.Str.{bytes_eq}
@@ -21,6 +21,7 @@ use Rattle.ms_select.specs.Dialing.{Answered, Proposing, refused, proposals}
 use Rattle.ms_select.specs.Joined.{CallsMore}
 use Rattle.ms_select.specs.Sides.{Comes, EndsLength}
 use Rattle.ms_select.proofs.Lists.{chosen}
+use Rattle.talks.specs.Talks.{Side, Asks, Answers}
 use Rattle.row_check.specs.AnyTalkRows.{refused_by, proposing, AnyMessageRows, AnyChoiceRows, AnyListenerRows, AnyDialerRows, AnySenderRows, AnyTalkRows, AnyJoinedRows, AnyRunsOutRows}
 use Rattle.row_check.proofs.AnyBytesRows.{two_bytes, taken_front, one_taken}
 
@@ -259,8 +260,13 @@ any_senders = record {
   any_serves = λ names input talk more index used l. record { used = used; talk = talk; more = more; listens = l; written_is = refl; silent = λ silent. absurd (silent (index, refl)) };
 }
 
+sides : (side : Side) → ((name : List ℕ) × (index : ℕ) × (side ≡ Asks name index)) ⊎ ((names : List (List ℕ)) × (side ≡ Answers names))
+sides (Asks name index) = inl (name, index, refl)
+sides (Answers names) = inr (names, refl)
+
 pub any_talks : AnyTalkRows
 any_talks = record {
+  sides = sides;
   asks_agreed = λ name index given input output. (λ h. h, λ h. h);
   asks_going = λ name index input output. (λ h. h, λ h. h);
   asks_in_vain = λ name index input output. (λ h. h, λ h. h);

@@ -8,6 +8,8 @@ mod NodeRows
 mod ServedRows
 mod StandingRows
 mod CameRows
+mod DefinedHandlers
+mod DefinedIdentify
 mod CodecRows
 mod LegalRows
 mod BoundRows

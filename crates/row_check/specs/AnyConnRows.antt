@@ -245,6 +245,16 @@ module _ {P H : Type 0} (step : H → HandlerCall → H → Type 0) (fails : H �
         × streams_rested (id_of key) log × (asks log ≡ asked) × AreMadeEarly (is_eager start) log
         × AreMadeInTurn inbound_leads outbound_leads (id_of key) (session_role role) start log now
         × (told ≡ event.Upgraded key ∷ said log) × (written ≡ greeting ++ output (session_role role) (items log))
+    -- what it names is what these facts are about: the bytes of the session, by which it ends within a frame or between
+    -- two, and the list, by which a stream may be opened
+    pub up_by_name : (input written : List ℕ) (asked : List (ℕ × ℕ)) (told : List (ConnEvent H)) (session : State)
+        (streams : ℕ → Option (Streaming H)) (past : List (Earlier H))
+        (u : is_up input asked told written session streams past) → (input ≡ u.first ++ u.rest)
+        × Upgrades role own u.first (Ok (Some u.key)) u.greeting
+        × streams_rest (id_of u.key) u.log u.rest (output (session_role role) (items u.log)) session streams past
+        × streams_rested (id_of u.key) u.log × (asks u.log ≡ asked) × AreMadeEarly (is_eager start) u.log
+        × AreMadeInTurn inbound_leads outbound_leads (id_of u.key) (session_role role) start u.log u.now
+        × (told ≡ event.Upgraded u.key ∷ said u.log) × (written ≡ u.greeting ++ output (session_role role) (items u.log))
     pub faulty : (first rest greeting sent pending : List ℕ) (key : Key) (asked : List (ℕ × ℕ))
         (before : List (ConnEvent H)) (now : P) → Upgrades role own first (Ok (Some key)) greeting
         → (f : faults (id_of key) now asked (event.Upgraded key ∷ []) before rest sent pending)
@@ -327,6 +337,11 @@ module _ {P H : Type 0} (step : H → HandlerCall → H → Type 0) (fails : H �
         ≡ events (session_role role) (items (newer ++ [])) ++ Told.Fault why ∷ []) × (used ≤ length rest)
         × EndsWith (front ++ take used rest) (arrivals (map Came more ++ items (newer ++ [])))
         × (sent ++ pending ≡ output (session_role role) (map Came more ++ items (newer ++ [])))
+    -- the list that it names, of which the eager handlers were made
+    pub breaks_by_name : (peer : List ℕ) (now : P) (asked : List (ℕ × ℕ)) (told before : List (ConnEvent H))
+        (bytes sent pending : List ℕ) (f : faults peer now asked told before bytes sent pending)
+        → (before ≡ told ++ said f.newer) × (asks f.newer ≡ asked) × makes_on peer now [] (f.newer ++ [])
+        × (bytes ≡ f.front ++ f.rest) × streams_rest peer (f.newer ++ []) f.front sent f.session f.streams f.past
 
   abbrev pub explains : List ℕ → Bool → List (ℕ × ℕ) → List (ConnEvent H) → List (ConnEvent H) → List ℕ → Type 0
   explains = Explains step fails is_closed is_finished inbound_makes outbound_makes listed is_eager inbound_leads

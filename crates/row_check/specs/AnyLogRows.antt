@@ -35,6 +35,9 @@ use Rattle.conn_log.specs.Asked.{IsEarly, told_of, AreMadeEarly, IsBrokenOf}
 
 -- The session's list, what was told, and what this end opened: at any entry
 pub record AnyListRows (H : Type 0) : Type 0 where
+  -- there is no other entry
+  pub entries : (entry : Entry H) → ((x : Item) × (entry ≡ Of x)) ⊎ (((e : ConnEvent H) × (entry ≡ Says e))
+      ⊎ (((n : ℕ) × (handler : H) × (entry ≡ Made n handler)) ⊎ ((n : ℕ) × (index : ℕ) × (entry ≡ Asks n index))))
   pub none : (items {H = H} [] ≡ []) × (said {H = H} [] ≡ []) × (asks {H = H} [] ≡ [])
   pub an_item : (x : Item) (log : List (Entry H))
       → (items (Of x ∷ log) ≡ x ∷ items log) × (said (Of x ∷ log) ≡ said log) × (asks (Of x ∷ log) ≡ asks log)

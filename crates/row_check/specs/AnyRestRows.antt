@@ -72,6 +72,9 @@ module _ {H : Type 0} (step : H → HandlerCall → H → Type 0) (is_closed is_
         → HeldSo log n got ended stream so_far → held_by log n got ended stream
     pub held_is : (log : List (Entry H)) (n : ℕ) (got : List ℕ) (ended : Bool) (stream : Streaming H)
         → held_by log n got ended stream → (so_far : Past H) × HeldSo log n got ended stream so_far
+    -- of the past that it names, by which a stream at rest was asked last
+    pub held_by_name : (log : List (Entry H)) (n : ℕ) (got : List ℕ) (ended : Bool) (stream : Streaming H)
+        (h : held_by log n got ended stream) → HeldSo log n got ended stream h.so_far
     pub at_rest : (log : List (Entry H)) (n : ℕ) (stream : Streaming H)
         (held : held_by log n (inbound role (items log) n) (finished role (items log) n) stream)
         → (is_live role (items log) n ≡ true
@@ -153,6 +156,9 @@ module _ {P H : Type 0} (step : H → HandlerCall → H → Type 0) (fails : H �
         → Stands step stream so_far → is_there log n
     pub there_is : (log : List (Entry H)) (n : ℕ) → is_there log n
         → (so_far : Past H) × (stream : Streaming H) × has_come log n so_far × Stands step stream so_far
+    -- it is the stream that it names which stands there: its handler failed, and it gives no more
+    pub there_by_name : (log : List (Entry H)) (n : ℕ) (t : is_there log n)
+        → has_come log n t.so_far × Stands step t.stream t.so_far
     pub asked_to_take : (log : List (Entry H)) (n : ℕ) (so_far : Past H) (waiting bytes : List ℕ)
         → asked_with log n so_far waiting (ToTake bytes)
         ↔ ((rest : List ℕ) × (inbound role (items log) n ≡ so_far.got ++ bytes ++ rest))

@@ -2,7 +2,7 @@
 -- Source: hashicorp yamux, "Framing", "Flag Field", "Stream ID" and "Flow Control"; when a window is given back, and
 -- the order of refusals, is this project's profile.
 use Rattle.std.specs.Prelude.{◌≡◌, ◌≢◌, ◌≤◌, ◌<◌, ◌+◌, ◌-◌, ◌*◌, ◌^◌, ℕ, true, false, List, [], ◌∷◌, ◌++◌, filter}
-use Rattle.std.specs.Prelude.{length, take, Some, None, get_or, sum_by}
+use Rattle.std.specs.Prelude.{length, Some, None, get_or, sum_by}
 use Rattle.std.specs.List.{AllByRecursion, concat, flat_map}
 use Rattle.std.specs.Int.{w16, w32, to_be_bytes}
 use Rattle.yamux_frames.specs.declared.header.Header.{Header}
@@ -22,7 +22,7 @@ use Rattle.yamux_session.specs.History.Item.{Came, Did}
 use Rattle.yamux_session.specs.History.Act.{Start, Write, Taken, Close, Reset}
 use Rattle.yamux_session.specs.Openings.{live, is_live, opens, finished, closed, reading, local_go_away}
 use Rattle.yamux_session.specs.Windows.{arrived_length, credit, data_length, owed, receiving_window, since_opening}
-use Rattle.yamux_session.specs.Windows.{taken_length, untaken, update_length, written_length, given_back, accepted}
+use Rattle.yamux_session.specs.Windows.{taken_length, untaken, update_length, written_length, given_back}
 use Rattle.yamux_session.specs.Faults.{fault_at}
 use Rattle.yamux_session.specs.Events.{Told, events}
 use Rattle.yamux_session.specs.Output.{output, data_frame}
@@ -30,7 +30,6 @@ use Rattle.yamux_session.specs.Acts.{IsAnswered, IsPiece, direction_refusal, nex
 use Rattle.yamux_session.specs.Acts.{start_refusal, stream_refusal, Carries, frames_length}
 use Rattle.yamux_session.specs.Seen.{IsQuiet}
 use Rattle.yamux_session.specs.Endings.{IsUntold}
-use Rattle.yamux_session.specs.Data.{written}
 
 -- a header, and its frame's first twelve bytes
 abbrev pub head : FrameKind → ℕ → ℕ → ℕ → Header

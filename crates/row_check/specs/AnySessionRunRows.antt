@@ -20,7 +20,7 @@ use Rattle.yamux_session.specs.declared.event.ActRefused.TheVariants as refused
 use Rattle.yamux_session.specs.History.{Item, Act, syn, ack, is_of_stream, is_own, arrivals}
 use Rattle.yamux_session.specs.History.Item.{Came, Did}
 use Rattle.yamux_session.specs.History.Act.{Start, Write, Taken, Close, Reset}
-use Rattle.yamux_session.specs.Openings.{live, is_live, opens, finished, closed, reading}
+use Rattle.yamux_session.specs.Openings.{is_live, opens, finished, reading}
 use Rattle.yamux_session.specs.Windows.{credit, receiving_window, untaken, given_back, accepted}
 use Rattle.yamux_session.specs.Faults.{fault_at, HasNoFault}
 use Rattle.yamux_session.specs.Events.{Told, events, TellsMore}

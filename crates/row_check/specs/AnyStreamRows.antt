@@ -405,6 +405,9 @@ module _ {H : Type 0} (step : H → HandlerCall → H → Type 0) (fails : H →
         × IsMade makes none_made so_far index made
         × Stands step middle (record so_far { got = so_far.got ++ front; made = Some made })
         × (kind_of middle.stage ≡ Served)
+    pub agreed_by_name : (so_far : Past H) (bytes : List ℕ) (index : ℕ) (front rest : List ℕ) (middle : Streaming H)
+        (h : agreed_on so_far bytes index front rest middle) → IsMade makes none_made so_far index h.made
+        × Stands step middle (record so_far { got = so_far.got ++ front; made = Some h.made })
     pub stops_refused : (so_far : Past H) (bytes : List ℕ) → stops_by so_far bytes outcomes.Refused
         ↔ ((front rest output : List ℕ) × (bytes ≡ front ++ rest)
         × IsTurnedDown so_far.side (so_far.got ++ front) output × none_made)

@@ -1,6 +1,6 @@
 -- Rows of talks, whatever is in them.
 -- Source: multistream-select 1.0, "Protocol Negotiation"; limits, and which refusal comes, are this project's profile.
-use Rattle.std.specs.Prelude.{◌≡◌, ◌≢◌, ◌↔◌, ℕ, ◌+◌, ◌/◌, ◌%◌, ◌^◌, ◌<◌, ◌≤◌, List, []}
+use Rattle.std.specs.Prelude.{◌≡◌, ◌≢◌, ◌⊎◌, ◌↔◌, ℕ, ◌+◌, ◌/◌, ◌%◌, ◌^◌, ◌<◌, ◌≤◌, List, []}
 use Rattle.std.specs.Prelude.{◌∷◌, ◌++◌, length, map, take, replicate, slice_get, Some, None, Result, Ok, Err}
 use Rattle.std.specs.List.{All}
 use Rattle.varint_proto.specs.declared.fault.WireFault.{WireFault}
@@ -151,6 +151,9 @@ pub record AnySenderRows : Type 0 where
 
 -- A talk of either end: any one name that it asks for, with any index, and any names that it answers with
 pub record AnyTalkRows : Type 0 where
+  -- there is no other side
+  pub sides : (side : Side) → ((name : List ℕ) × (index : ℕ) × (side ≡ Asks name index))
+      ⊎ ((names : List (List ℕ)) × (side ≡ Answers names))
   pub asks_agreed : (name : List ℕ) (index given : ℕ) (input output : List ℕ)
       → Talks (Asks name index) input (Ok (Agreed given)) output
       ↔ ((given ≡ index) × Dials (name ∷ []) input (Ok (Agreed 0)) (length input) output)

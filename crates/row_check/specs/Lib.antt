@@ -1,4 +1,6 @@
 -- cited by laws
+pub mod DefinedHandlers
+pub mod DefinedIdentify
 pub mod CodecRows
 pub mod LegalRows
 pub mod BoundRows

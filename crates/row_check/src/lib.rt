@@ -2,4 +2,6 @@
 //! proved.
 #![tactic(auto)]
 
+pub mod called;
+pub mod defined_handlers;
 pub mod laws;
