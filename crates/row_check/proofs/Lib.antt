@@ -10,6 +10,7 @@ mod StandingRows
 mod CameRows
 mod DefinedHandlers
 mod DefinedIdentify
+mod DefinedPool
 mod CodecRows
 mod LegalRows
 mod BoundRows

@@ -1,6 +1,8 @@
 -- cited by laws
 pub mod DefinedHandlers
+pub mod DefinedHistory
 pub mod DefinedIdentify
+pub mod DefinedPool
 pub mod CodecRows
 pub mod LegalRows
 pub mod BoundRows

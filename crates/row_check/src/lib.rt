@@ -4,4 +4,5 @@
 
 pub mod called;
 pub mod defined_handlers;
+pub mod defined_pools;
 pub mod laws;
