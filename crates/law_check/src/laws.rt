@@ -1,10 +1,8 @@
 //! What the laws say, word by word: functions with an empty body, but for `clause_laws`, which calls the laws that it
 //! says.
 
-ghost use Rattle.std.specs.Prelude.{◌≡◌, ◌≢◌, ◌++◌, ◌∷◌, [], ℕ, List, Result, length};
+ghost use Rattle.std.specs.Prelude.{◌≡◌, ◌≢◌, ◌++◌, ◌∷◌, [], ℕ, List, length};
 ghost use Rattle.std.specs.List.Sorted.{IsStrictlyIncreasing};
-ghost use Rattle.peer_ids.specs.declared.fault.IdFault.{IdFault};
-ghost use Rattle.peer_ids.specs.ReadsText.{ReadsId};
 ghost use Rattle.pool_state.specs.declared.limits.Config.{Config};
 ghost use Rattle.pool_state.specs.declared.listing.Listing.{Listing};
 ghost use Rattle.pool_state.specs.declared.call.Call.{Call};
@@ -34,7 +32,6 @@ ghost use Rattle.law_check.specs.IdentifyLaws.{IdentifyLaws};
 ghost use Rattle.law_check.specs.StreamLaws.{StreamLaws};
 ghost use Rattle.law_check.specs.PoolLaws.{PoolLaws};
 
-use peer_ids::laws::one_reading;
 use pool_state::laws::{
     added_is_shown, beginning_is_legal, bounded, each_peer_once, last_reply, lowest_first,
     next_number_is_given, table_asks_history,
@@ -122,11 +119,9 @@ pub fn both_told_laws()
     ensures dials { DialsSeen }
 {}
 
-/// The laws that no definition names, each as its clause has it: a clause that comes to say less no longer answers
-/// this.
+/// The laws of pools, and of what callers have seen of one, which no definition names, each by a call of it: one whose
+/// clause comes to say less no longer answers this.
 pub fn clause_laws()
-    ensures text { (text : List ℕ) (some other : Result (List ℕ) IdFault) → ReadsId text some → ReadsId text other
-        → some ≡ other }
     ensures bounded { (config : Config) (history : List Entry) → IsLegal config history
         → IsBounded config (Shown config history) }
     ensures asks { (config : Config) (history : List Entry) → IsLegal config history → ShowsHistory config history }
@@ -146,7 +141,6 @@ pub fn clause_laws()
     ensures sum { (callers : ℕ) (history : List Entry) → IsOf callers history
         → length history ≡ calls_of callers history }
 {
-    one_reading();
     bounded();
     table_asks_history();
     lowest_first();

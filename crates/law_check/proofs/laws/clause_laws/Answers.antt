@@ -1,8 +1,5 @@
 use Rattle.law_check.proofs.laws.clause_laws.Goals as goal
 
-pub returns-clause-text : goal.returns-clause-text
-returns-clause-text c = c.one_reading.ensures
-
 pub returns-clause-bounded : goal.returns-clause-bounded
 returns-clause-bounded c = c.bounded.ensures
 
