@@ -3,6 +3,7 @@
 #![tactic(auto)]
 
 pub mod called;
+pub mod defined_codecs;
 pub mod defined_handlers;
 pub mod defined_pools;
 pub mod laws;
