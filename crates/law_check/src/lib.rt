@@ -13,4 +13,5 @@ pub mod node_clauses;
 pub mod ping_clauses;
 pub mod select_clauses;
 pub mod session_clauses;
+pub mod trait_clauses;
 pub mod varint_clauses;

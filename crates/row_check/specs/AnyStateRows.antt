@@ -28,8 +28,12 @@ pub record AnyPingStateRows : Type 0 where
       × ((e.failed || e.ended) ≡ false → (n ≡ 4) × (0 < length bytes))
   pub echo_fails_to_give : (e : Echo) (room n : ℕ) → EchoFails e (ToGive room) n → (e.failed ≡ true → n ≡ 1)
       × (e.failed ≡ false → (n ≡ 4) × (0 < min room (length e.owed - e.begun)))
+  -- memory may be wanting wherever bytes are to be given, how many they may be
+  pub echo_wants_to_give : (e : Echo) (room n : ℕ) → e.failed ≡ false → 0 < min room (length e.owed - e.begun)
+      → n ≡ 4 → EchoFails e (ToGive room) n
   pub echo_fails_to_end : (e : Echo) (n : ℕ) → EchoFails e ToEnd n → ((e.failed || e.ended) ≡ true → n ≡ 1)
       × ((e.failed || e.ended) ≡ false → (n ≡ 3) × (0 < e.begun))
+  pub echo_is_cut : (e : Echo) (n : ℕ) → (e.failed || e.ended) ≡ false → 0 < e.begun → n ≡ 3 → EchoFails e ToEnd n
   pub ping_takes : (r s : Round) (bytes : List ℕ) → RoundStep r (Take bytes) s ↔ (((r.failed || r.ended) ≡ false)
       × IsPrefix bytes r.awaited × (s ≡ record r { awaited = drop (length bytes) r.awaited }))
   pub ping_gives : (r s : Round) (room : ℕ) (bytes : List ℕ) → RoundStep r (Give room bytes) s
@@ -43,6 +47,12 @@ pub record AnyPingStateRows : Type 0 where
       × (r.failed ≡ false → (n ≡ 4) × (0 < min room (length r.unsent)))
   pub ping_fails_to_end : (r : Round) (n : ℕ) → RoundFails r ToEnd n → ((r.failed || r.ended) ≡ true → n ≡ 1)
       × ((r.failed || r.ended) ≡ false → (n ≡ 3) × (0 < length r.awaited))
+  pub ping_is_wrong : (r : Round) (bytes : List ℕ) (n : ℕ) → (r.failed || r.ended) ≡ false
+      → ¬ IsPrefix bytes r.awaited → n ≡ 2 → RoundFails r (ToTake bytes) n
+  pub ping_wants_to_give : (r : Round) (room n : ℕ) → r.failed ≡ false → 0 < min room (length r.unsent) → n ≡ 4
+      → RoundFails r (ToGive room) n
+  pub ping_is_cut : (r : Round) (n : ℕ) → (r.failed || r.ended) ≡ false → 0 < length r.awaited → n ≡ 3
+      → RoundFails r ToEnd n
 
 -- A reader and a sender of identify
 pub record AnyIdentifyStateRows : Type 0 where
@@ -74,5 +84,7 @@ pub record AnyIdentifyStateRows : Type 0 where
       ↔ ((n ≡ 1) × ((s.failed || s.ended) ≡ true))
   pub sender_fails_to_give : (s : Sending) (room n : ℕ) → SendFails s (ToGive room) n → (s.failed ≡ true → n ≡ 1)
       × (s.failed ≡ false → (n ≡ 7) × (0 < min room (length s.unsent)))
+  pub sender_wants_to_give : (s : Sending) (room n : ℕ) → s.failed ≡ false → 0 < min room (length s.unsent) → n ≡ 7
+      → SendFails s (ToGive room) n
   pub sender_fails_to_end : (s : Sending) (n : ℕ) → SendFails s ToEnd n
       ↔ ((n ≡ 1) × ((s.failed || s.ended) ≡ true))
