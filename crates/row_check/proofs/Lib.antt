@@ -63,3 +63,9 @@ mod DefinedCodecAddressTexts
 mod DefinedCodecKeys
 mod DefinedCodecIds
 mod DefinedCodecWhenever
+mod DefinedSessionFrames
+mod DefinedSessionHistory
+mod DefinedSessionTold
+mod DefinedSessionCalls
+mod DefinedSessionRuns
+mod DefinedSessionJoined

@@ -65,3 +65,9 @@ pub mod DefinedCodecAddressTexts
 pub mod DefinedCodecKeys
 pub mod DefinedCodecIds
 pub mod DefinedCodecWhenever
+pub mod DefinedSessionFrames
+pub mod DefinedSessionHistory
+pub mod DefinedSessionTold
+pub mod DefinedSessionCalls
+pub mod DefinedSessionRuns
+pub mod DefinedSessionJoined

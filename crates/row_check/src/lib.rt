@@ -6,4 +6,5 @@ pub mod called;
 pub mod defined_codecs;
 pub mod defined_handlers;
 pub mod defined_pools;
+pub mod defined_sessions;
 pub mod laws;
