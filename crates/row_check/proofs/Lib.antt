@@ -8,6 +8,7 @@ mod NodeRows
 mod ServedRows
 mod StandingRows
 mod CameRows
+mod DefinedCore
 mod DefinedHandlers
 mod DefinedIdentify
 mod DefinedPool

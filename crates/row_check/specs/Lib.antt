@@ -1,4 +1,5 @@
 -- cited by laws
+pub mod DefinedCore
 pub mod DefinedHandlers
 pub mod DefinedHistory
 pub mod DefinedIdentify
