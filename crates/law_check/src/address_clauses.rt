@@ -1,4 +1,5 @@
-//! What the laws of `multiaddr` say, each by a call of it: one whose clause comes to say less no longer answers this.
+//! What the laws of `multiaddr` say, each by a call of it: one whose clause comes to say less no longer answers
+//! this.
 
 ghost use Rattle.multiaddr.specs.Laws.{OneReading, OneTextReading, Printing};
 

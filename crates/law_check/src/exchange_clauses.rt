@@ -1,4 +1,5 @@
-//! What the laws of `plaintext_x` say, each by a call of it: one whose clause comes to say less no longer answers this.
+//! What the laws of `plaintext_x` say, each by a call of it: one whose clause comes to say less no longer answers
+//! this.
 
 ghost use Rattle.plaintext_x.specs.Exchange.{OneOutcome, SomeOutcome, OwnIsProven, ProofStays, FaultStays};
 ghost use Rattle.plaintext_x.specs.Exchange.{NothingBehind};

@@ -1,4 +1,5 @@
-//! What the laws of `yamux_frames` say, each by a call of it: one whose clause comes to say less no longer answers this.
+//! What the laws of `yamux_frames` say, each by a call of it: one whose clause comes to say less no longer answers
+//! this.
 
 ghost use Rattle.std.specs.Prelude.{◌≡◌};
 ghost use Rattle.yamux_frames.specs.Frames.{OneReading, SomeReading};

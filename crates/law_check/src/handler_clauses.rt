@@ -1,4 +1,5 @@
-//! What the laws of `handlers` say, each by a call of it: one whose clause comes to say less no longer answers this.
+//! What the laws of `handlers` say, each by a call of it: one whose clause comes to say less no longer answers
+//! this.
 
 ghost use Rattle.std.specs.Prelude.{◌≡◌, ℕ, Bool, true, false, List, [], ◌++◌};
 ghost use Rattle.handlers.specs.Calls.{HandlerCall, Take, Give, End, Arises, WasHanded};
@@ -10,7 +11,8 @@ use handlers::laws::{calls_in_turn, calls_split, handed_on, one_handing};
 pub fn handing<H: Handler>()
     ensures calls_in_turn { (made mid value : H) (first second : List HandlerCall) → Arises H.steps made first mid
         → Arises H.steps mid second value → Arises H.steps made (first ++ second) value }
-    ensures calls_split { (made value : H) (first second : List HandlerCall) → Arises H.steps made (first ++ second) value
+    ensures calls_split { (made value : H) (first second : List HandlerCall)
+        → Arises H.steps made (first ++ second) value
         → (mid : H) × Arises H.steps made first mid × Arises H.steps mid second value }
     ensures one_handing { (made value : H) (some other : List ℕ) (ended end : Bool)
         (one : WasHanded H.steps made some ended value)

@@ -1,4 +1,5 @@
-//! What the laws of `identify_h` say, each by a call of it: one whose clause comes to say less no longer answers this.
+//! What the laws of `identify_h` say, each by a call of it: one whose clause comes to say less no longer answers
+//! this.
 
 ghost use Rattle.std.specs.Prelude.{◌≡◌, ◌↔◌, ◌<◌, ℕ, Bool, List, [], ◌∷◌, ◌++◌, length, true, false, IsSome, IfSome};
 ghost use Rattle.std.specs.Prelude.{is_some};
@@ -86,11 +87,13 @@ pub fn readers()
     ensures reading_refuses_give { (old new : Reader) (room : ℕ) (bytes : List ℕ) (n : ℕ)
         → ⟦<IdentifyIn as Handler>⟧.steps old (Give room bytes) new
         → ¬ ⟦<IdentifyIn as Handler>⟧.fails old (ToGive room) n }
-    ensures reading_tells_its_stream_take { (peer : List ℕ) (calls : List HandlerCall) (made reader : Reader) → IsFresh peer made
+    ensures reading_tells_its_stream_take { (peer : List ℕ) (calls : List HandlerCall) (made reader : Reader)
+        → IsFresh peer made
         → EndsAs calls false → Arises ⟦<IdentifyIn as Handler>⟧.steps made calls reader → (bytes : List ℕ) (n : ℕ)
         → ⟦<IdentifyIn as Handler>⟧.fails reader (ToTake bytes) n
         → (fault : IdentifyFault) × (n ≡ number_of fault) × TakeFails (taken calls) bytes fault }
-    ensures reading_tells_its_stream_end { (peer : List ℕ) (calls : List HandlerCall) (made reader : Reader) → IsFresh peer made
+    ensures reading_tells_its_stream_end { (peer : List ℕ) (calls : List HandlerCall) (made reader : Reader)
+        → IsFresh peer made
         → EndsAs calls false → Arises ⟦<IdentifyIn as Handler>⟧.steps made calls reader → (n : ℕ)
         → ⟦<IdentifyIn as Handler>⟧.fails reader ToEnd n
         → (fault : IdentifyFault) × (n ≡ number_of fault) × EndFails peer (taken calls) fault }
@@ -114,7 +117,8 @@ pub fn readers()
         → HasFailed ⟦<IdentifyIn as Handler>⟧.steps ⟦<IdentifyIn as Handler>⟧.fails (number_of Failed) reader }
     ensures reading_stops_ended { (reader : Reader) → IsSome reader.message
         → HasEnded ⟦<IdentifyIn as Handler>⟧.steps ⟦<IdentifyIn as Handler>⟧.fails (number_of Failed) reader }
-    ensures reading_stops_finished { (reader : Reader) → ⟦<IdentifyIn as Handler>⟧.is_finished reader ≡ is_some reader.message }
+    ensures reading_stops_finished { (reader : Reader)
+        → ⟦<IdentifyIn as Handler>⟧.is_finished reader ≡ is_some reader.message }
 {
     identify_is_read();
     reading_refuses();
@@ -129,7 +133,8 @@ pub fn readers()
 pub fn senders()
     ensures identify_is_sent_part { (message : List ℕ) (calls : List HandlerCall) (out : Sending)
         → Arises ⟦<IdentifyOut as Handler>⟧.steps (sending message) calls out → IsPrefix (given calls) message }
-    ensures identify_is_sent_all { (message : List ℕ) (calls : List HandlerCall) (room : ℕ) (bytes : List ℕ) (out : Sending)
+    ensures identify_is_sent_all { (message : List ℕ) (calls : List HandlerCall) (room : ℕ) (bytes : List ℕ)
+        (out : Sending)
         → Arises ⟦<IdentifyOut as Handler>⟧.steps (sending message) (calls ++ Give room bytes ∷ []) out
         → length bytes < room → given calls ++ bytes ≡ message }
     ensures identify_is_sent_closed { (message : List ℕ) (calls : List HandlerCall) (out : Sending)
@@ -142,7 +147,8 @@ pub fn senders()
         → ⟦<IdentifyOut as Handler>⟧.steps old call new ↔ SendStep old call new }
     ensures sending_calls_fails { (out : Sending) (asked : Asked) (n : ℕ)
         → ⟦<IdentifyOut as Handler>⟧.fails out asked n ↔ SendFails out asked n }
-    ensures sending_refuses_take { (old new : Sending) (bytes : List ℕ) (n : ℕ) → ⟦<IdentifyOut as Handler>⟧.steps old (Take bytes) new
+    ensures sending_refuses_take { (old new : Sending) (bytes : List ℕ) (n : ℕ)
+        → ⟦<IdentifyOut as Handler>⟧.steps old (Take bytes) new
         → ¬ ⟦<IdentifyOut as Handler>⟧.fails old (ToTake bytes) n }
     ensures sending_refuses_end { (old new : Sending) (n : ℕ) → ⟦<IdentifyOut as Handler>⟧.steps old End new
         → ¬ ⟦<IdentifyOut as Handler>⟧.fails old ToEnd n }
@@ -168,7 +174,8 @@ pub fn senders()
         → HasEnded ⟦<IdentifyOut as Handler>⟧.steps ⟦<IdentifyOut as Handler>⟧.fails (number_of Failed) out }
     ensures sending_stops_closed { (out : Sending) → ⟦<IdentifyOut as Handler>⟧.is_closed (record out { failed = true })
         ≡ ⟦<IdentifyOut as Handler>⟧.is_closed out }
-    ensures sending_stops_finished { (out : Sending) → ⟦<IdentifyOut as Handler>⟧.is_finished (record out { failed = true })
+    ensures sending_stops_finished { (out : Sending)
+        → ⟦<IdentifyOut as Handler>⟧.is_finished (record out { failed = true })
         ≡ ⟦<IdentifyOut as Handler>⟧.is_finished out }
 {
     identify_is_sent();

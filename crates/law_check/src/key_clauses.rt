@@ -1,4 +1,5 @@
-//! What the laws of `peer_ids` say, each by a call of it: one whose clause comes to say less no longer answers this.
+//! What the laws of `peer_ids` say, each by a call of it: one whose clause comes to say less no longer answers
+//! this.
 
 ghost use Rattle.std.specs.Prelude.{◌≡◌, ℕ, List, Result};
 ghost use Rattle.peer_ids.specs.declared.fault.IdFault.{IdFault};
@@ -16,7 +17,8 @@ pub fn keys_and_ids()
     ensures canonical_is_read { CanonicalIsRead }
     ensures ids_are_multihashes { IdsAreMultihashes }
     ensures one_text { OneText }
-    ensures one_reading { (text : List ℕ) (some other : Result (List ℕ) IdFault) → ReadsId text some → ReadsId text other
+    ensures one_reading { (text : List ℕ) (some other : Result (List ℕ) IdFault) → ReadsId text some
+        → ReadsId text other
         → some ≡ other }
 {
     one_key();

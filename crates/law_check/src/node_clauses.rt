@@ -1,4 +1,5 @@
-//! What the laws of `node_protocols` say, each by a call of it: one whose clause comes to say less no longer answers this.
+//! What the laws of `node_protocols` say, each by a call of it: one whose clause comes to say less no longer answers
+//! this.
 
 ghost use Rattle.std.specs.Prelude.{◌≡◌, ◌↔◌, ℕ, List, Bool, true, IfSome};
 ghost use Rattle.handlers.specs.Calls.{HandlerCall, Asked, Arises, WasHanded};
@@ -91,7 +92,8 @@ pub fn protocols<R: Payloads>()
         → WasHanded ⟦<NodeHandler as Handler>⟧.steps made bytes ended value
         → IfSome (message_of value) (SaysAll peer bytes) }
     ensures protocols_of_a_node_indexes { (IDENTIFY ≡ 0) × (PUSH ≡ 1) × (PING ≡ 2) }
-    ensures protocols_of_a_node_names { (node : Node R) → ⟦<NodeProtocols<R> as Protocols>⟧.listed node ≡ protocol_names }
+    ensures protocols_of_a_node_names { (node : Node R)
+        → ⟦<NodeProtocols<R> as Protocols>⟧.listed node ≡ protocol_names }
     ensures protocols_of_a_node_eager { (node : Node R) (index : ℕ)
         → (⟦<NodeProtocols<R> as Protocols>⟧.is_eager node index ≡ true) ↔ (index ≡ 2) }
     ensures protocols_of_a_node_inbound { (node : Node R) (index : ℕ) (peer : List ℕ) (handler : NodeHandler)

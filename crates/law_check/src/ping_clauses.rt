@@ -1,4 +1,5 @@
-//! What the laws of `ping_h` say, each by a call of it: one whose clause comes to say less no longer answers this.
+//! What the laws of `ping_h` say, each by a call of it: one whose clause comes to say less no longer answers
+//! this.
 
 ghost use Rattle.std.specs.Prelude.{◌≡◌, ◌≢◌, ◌↔◌, ◌<◌, ◌≤◌, ◌%◌, ℕ, Bool, List, [], ◌∷◌, ◌++◌, length, true, false};
 ghost use Rattle.ping_h.specs.declared.fault.PingFault.TheVariants.{Failed, WrongEcho, Cut, OutOfMemory};
@@ -24,7 +25,8 @@ pub fn echoes()
         → ⟦<PingEcho as Handler>⟧.steps old call new ↔ EchoStep old call new }
     ensures echo_calls_fails { (echo : Echo) (asked : Asked) (n : ℕ)
         → ⟦<PingEcho as Handler>⟧.fails echo asked n ↔ EchoFails echo asked n }
-    ensures echo_gives_back { (calls : List HandlerCall) (echo : Echo) → Arises ⟦<PingEcho as Handler>⟧.steps fresh calls echo
+    ensures echo_gives_back { (calls : List HandlerCall) (echo : Echo)
+        → Arises ⟦<PingEcho as Handler>⟧.steps fresh calls echo
         → IsPrefix (given calls) (whole_rounds (taken calls)) }
     ensures echo_gives_all { (calls : List HandlerCall) (room : ℕ) (bytes : List ℕ) (echo : Echo)
         → Arises ⟦<PingEcho as Handler>⟧.steps fresh (calls ++ Give room bytes ∷ []) echo
@@ -45,12 +47,14 @@ pub fn echoes()
         → Arises ⟦<PingEcho as Handler>⟧.steps fresh calls echo → 0 < length (taken calls) % 32
         → ((n : ℕ) → ⟦<PingEcho as Handler>⟧.fails echo ToEnd n ↔ (n ≡ number_of Cut))
         × ((next : Echo) → ¬ ⟦<PingEcho as Handler>⟧.steps echo End next) }
-    ensures echo_answers_one_way_next { (old : Echo) (call : HandlerCall) (new other : Echo) → ⟦<PingEcho as Handler>⟧.steps old call new
+    ensures echo_answers_one_way_next { (old : Echo) (call : HandlerCall) (new other : Echo)
+        → ⟦<PingEcho as Handler>⟧.steps old call new
         → ⟦<PingEcho as Handler>⟧.steps old call other → new ≡ other }
     ensures echo_answers_one_way_given { (old : Echo) (room : ℕ) (bytes more : List ℕ) (new other : Echo)
         → ⟦<PingEcho as Handler>⟧.steps old (Give room bytes) new
         → ⟦<PingEcho as Handler>⟧.steps old (Give room more) other → (bytes ≡ more) × (new ≡ other) }
-    ensures echo_refuses_take { (old new : Echo) (bytes : List ℕ) (n : ℕ) → ⟦<PingEcho as Handler>⟧.steps old (Take bytes) new
+    ensures echo_refuses_take { (old new : Echo) (bytes : List ℕ) (n : ℕ)
+        → ⟦<PingEcho as Handler>⟧.steps old (Take bytes) new
         → ⟦<PingEcho as Handler>⟧.fails old (ToTake bytes) n → (n ≡ number_of OutOfMemory) × (0 < length bytes) }
     ensures echo_refuses_give { (old new : Echo) (room : ℕ) (bytes : List ℕ) (n : ℕ)
         → ⟦<PingEcho as Handler>⟧.steps old (Give room bytes) new
@@ -97,7 +101,8 @@ pub fn pings()
     ensures ping_finishes_closed { (ping : List ℕ) (calls : List HandlerCall) (out : Round)
         → Arises ⟦<PingOut as Handler>⟧.steps (round ping) calls out
         → (⟦<PingOut as Handler>⟧.is_closed out ≡ true) ↔ (taken calls ≡ ping) }
-    ensures ping_finishes_finished { (ping : List ℕ) (calls : List HandlerCall) (ended : Bool) (out : Round) → EndsAs calls ended
+    ensures ping_finishes_finished { (ping : List ℕ) (calls : List HandlerCall) (ended : Bool) (out : Round)
+        → EndsAs calls ended
         → Arises ⟦<PingOut as Handler>⟧.steps (round ping) calls out
         → (⟦<PingOut as Handler>⟧.is_finished out ≡ true) ↔ ((taken calls ≡ ping) × (ended ≡ true)) }
     ensures ping_is_compared_part { (ping : List ℕ) (calls : List HandlerCall) (out : Round) → EndsAs calls false
@@ -117,12 +122,14 @@ pub fn pings()
         → Arises ⟦<PingOut as Handler>⟧.steps (round ping) calls out → taken calls ≢ ping
         → ((n : ℕ) → ⟦<PingOut as Handler>⟧.fails out ToEnd n ↔ (n ≡ number_of Cut))
         × ((next : Round) → ¬ ⟦<PingOut as Handler>⟧.steps out End next) }
-    ensures ping_answers_one_way_next { (old : Round) (call : HandlerCall) (new other : Round) → ⟦<PingOut as Handler>⟧.steps old call new
+    ensures ping_answers_one_way_next { (old : Round) (call : HandlerCall) (new other : Round)
+        → ⟦<PingOut as Handler>⟧.steps old call new
         → ⟦<PingOut as Handler>⟧.steps old call other → new ≡ other }
     ensures ping_answers_one_way_given { (old : Round) (room : ℕ) (bytes more : List ℕ) (new other : Round)
         → ⟦<PingOut as Handler>⟧.steps old (Give room bytes) new
         → ⟦<PingOut as Handler>⟧.steps old (Give room more) other → (bytes ≡ more) × (new ≡ other) }
-    ensures ping_refuses_take { (old new : Round) (bytes : List ℕ) (n : ℕ) → ⟦<PingOut as Handler>⟧.steps old (Take bytes) new
+    ensures ping_refuses_take { (old new : Round) (bytes : List ℕ) (n : ℕ)
+        → ⟦<PingOut as Handler>⟧.steps old (Take bytes) new
         → ¬ ⟦<PingOut as Handler>⟧.fails old (ToTake bytes) n }
     ensures ping_refuses_give { (old new : Round) (room : ℕ) (bytes : List ℕ) (n : ℕ)
         → ⟦<PingOut as Handler>⟧.steps old (Give room bytes) new

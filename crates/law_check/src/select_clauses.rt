@@ -1,4 +1,5 @@
-//! What the laws of `ms_select` say, each by a call of it: one whose clause comes to say less no longer answers this.
+//! What the laws of `ms_select` say, each by a call of it: one whose clause comes to say less no longer answers
+//! this.
 
 ghost use Rattle.ms_select.specs.Messages.{OneMessage, SomeMessage};
 ghost use Rattle.ms_select.specs.Listening.{OneListener, SomeListener};

@@ -1,4 +1,5 @@
-//! What the laws of `yamux_session` say, each by a call of it: one whose clause comes to say less no longer answers this.
+//! What the laws of `yamux_session` say, each by a call of it: one whose clause comes to say less no longer answers
+//! this.
 
 ghost use Rattle.yamux_session.specs.Limits.{RoomForOwn, RoomForTheOther};
 ghost use Rattle.yamux_session.specs.Limits.{ExhaustedFirst, LiveLimit, NoSecondOpening, NoWrongOpening, UntakenLimit};

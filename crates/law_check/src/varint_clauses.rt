@@ -1,4 +1,5 @@
-//! What the laws of `varint_proto` say, each by a call of it: one whose clause comes to say less no longer answers this.
+//! What the laws of `varint_proto` say, each by a call of it: one whose clause comes to say less no longer answers
+//! this.
 
 ghost use Rattle.varint_proto.specs.Varint.{NoSpellingBeginsAnother, ShortestSpells, NoneIsShorter, Takes, Again};
 ghost use Rattle.varint_proto.specs.Varint.{Stays, Inside, EndsAt, OneOutcome, SomeOutcome};

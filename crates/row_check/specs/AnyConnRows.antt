@@ -254,7 +254,8 @@ module _ {P H : Type 0} (step : H → HandlerCall → H → Type 0) (fails : H �
         × streams_rest (id_of u.key) u.log u.rest (output (session_role role) (items u.log)) session streams past
         × streams_rested (id_of u.key) u.log × (asks u.log ≡ asked) × AreMadeEarly (is_eager start) u.log
         × AreMadeInTurn inbound_leads outbound_leads (id_of u.key) (session_role role) start u.log u.now
-        × (told ≡ event.Upgraded u.key ∷ said u.log) × (written ≡ u.greeting ++ output (session_role role) (items u.log))
+        × (told ≡ event.Upgraded u.key ∷ said u.log)
+        × (written ≡ u.greeting ++ output (session_role role) (items u.log))
     pub faulty : (first rest greeting sent pending : List ℕ) (key : Key) (asked : List (ℕ × ℕ))
         (before : List (ConnEvent H)) (now : P) → Upgrades role own first (Ok (Some key)) greeting
         → (f : faults (id_of key) now asked (event.Upgraded key ∷ []) before rest sent pending)

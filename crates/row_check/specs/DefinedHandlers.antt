@@ -1,5 +1,6 @@
 -- What each definition of handlers, ping and what a node makes says, once more, at any value.
--- Source: libp2p ping 1.0.0 and identify 1.0.0; what a handler is asked for, and the numbers, are this project's profile.
+-- Source: libp2p ping 1.0.0 and identify 1.0.0; what a handler is asked for, and the numbers, are this project's
+-- profile.
 use Rattle.std.specs.Prelude.{◌≡◌, ◌⊎◌, ◌↔◌, ℕ, ◌-◌, ◌*◌, ◌/◌, ◌==◌, Bool, true, false, ◌||◌, ◌&&◌, List, [], ◌∷◌}
 use Rattle.std.specs.Prelude.{◌++◌, length, take, codes, Some, None, is_some}
 use Rattle.peer_ids.specs.Key.{Key}

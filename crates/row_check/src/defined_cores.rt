@@ -1,5 +1,5 @@
-//! What those definitions of an end of a connection say, once more, that the rows over any value name by what is made of
-//! them alone. Each is a function with an empty body, whose contract is the rows.
+//! What those definitions of an end of a connection say, once more, that the rows over any value name by what is made
+//! of them alone. Each is a function with an empty body, whose contract is the rows.
 
 ghost use Rattle.row_check.specs.DefinedCore.{DefinedParts, DefinedWants, DefinedEntries, DefinedStages};
 

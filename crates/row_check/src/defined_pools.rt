@@ -1,5 +1,5 @@
-//! What each definition of a pool, and of what callers have seen of one, says, once more, whatever stands in it. Each is
-//! a function with an empty body, whose contract is the rows.
+//! What each definition of a pool, and of what callers have seen of one, says, once more, whatever stands in it. Each
+//! is a function with an empty body, whose contract is the rows.
 
 ghost use Rattle.row_check.specs.DefinedHistory.{DefinedDeeds, DefinedQuestions};
 ghost use Rattle.row_check.specs.DefinedPool.{DefinedTable, DefinedListings, DefinedCallers};
