@@ -9,6 +9,7 @@ mod ServedRows
 mod StandingRows
 mod CameRows
 mod DefinedCore
+mod DefinedFacts
 mod DefinedHandlers
 mod DefinedIdentify
 mod DefinedPool

@@ -1,5 +1,6 @@
 -- cited by laws
 pub mod DefinedCore
+pub mod DefinedFacts
 pub mod DefinedHandlers
 pub mod DefinedHistory
 pub mod DefinedIdentify

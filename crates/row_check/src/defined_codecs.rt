@@ -17,9 +17,11 @@ ghost use Rattle.row_check.specs.DefinedCodecAddressTexts.{DefinedNames, Defined
 ghost use Rattle.row_check.specs.DefinedCodecKeys.{DefinedKeys, DefinedKeyFaults};
 ghost use Rattle.row_check.specs.DefinedCodecIds.{DefinedBase32, DefinedIdFaults, DefinedShort};
 ghost use Rattle.row_check.specs.DefinedCodecWhenever.{DefinedWhenever};
+ghost use Rattle.row_check.specs.DefinedFacts.{DefinedFacts};
 ghost use Rattle.std.specs.Prelude.{ℕ, List};
 ghost use Rattle.yamux_session.specs.declared.event.Role.{Role};
 ghost use Rattle.yamux_session.specs.History.{Item};
+ghost use Rattle.yamux_session.specs.Joined.{End};
 
 /// Facts, of which nothing is known.
 pub trait Facts {
@@ -37,6 +39,12 @@ pub trait Facts {
 
     /// Of what a session of a role has seen.
     ghost of_past: { Self → Role → List Item → Type 0 };
+
+    /// Of an end of two joined sessions.
+    ghost of_end: { Self → End → Type 0 };
+
+    /// By itself.
+    ghost of_one: { Self → Type 0 };
 }
 
 /// The definitions of numbers, and of messages behind their length, say of any bytes what they are to say, word by
@@ -117,4 +125,10 @@ pub fn ids_say()
 /// The definitions of what holds wherever something stands say of any fact what they are to say.
 pub fn whenever_says<F: Facts>()
     ensures { DefinedWhenever F.of_input F.of_used F.of_taken F.of_both F.of_past }
+{}
+
+/// The definitions of an end of two that goes on, and of what holds where a head has a fault, say of any fact what they
+/// are to say.
+pub fn facts_say<F: Facts>()
+    ensures { DefinedFacts F.of_end F.of_one }
 {}
