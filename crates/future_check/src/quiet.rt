@@ -1,13 +1,16 @@
-//! A link that waits for ever.
+//! A link that gives some bytes, and then waits for ever.
 
 ghost use Rattle.std.specs.Prelude.{◌≡◌, ⊤};
 
 use conn_link::{Link, LinkFault};
 use futures::task::{Context, Poll, Source, Waker};
 
-/// A link whose reads wait for ever at a source. Its writes do too, or take all that they are offered.
+/// A link whose reads give these bytes, one by one, and then wait for ever at a source. Its writes wait too, or take
+/// all that they are offered.
 #[derive(Drop)]
 pub(crate) struct Quiet {
+    first: Vec<u8>,
+    given: usize,
     source: Source,
     reading: Option<Waker>,
     writing: Option<Waker>,
@@ -15,8 +18,10 @@ pub(crate) struct Quiet {
 }
 
 impl Quiet {
-    pub(crate) fn new(takes: bool) -> Quiet {
+    pub(crate) fn new(takes: bool, first: Vec<u8>) -> Quiet {
         Quiet {
+            first,
+            given: 0,
             source: Source::new(),
             reading: None,
             writing: None,
@@ -51,8 +56,15 @@ impl Link for Quiet {
     fn poll_read(
         &mut self,
         cx: &mut Context<'_>,
-        _buffer: &mut [u8],
+        buffer: &mut [u8],
     ) -> Poll<Result<usize, LinkFault>> {
+        if let Some(byte) = self.first.get(self.given).copied() {
+            if let Some(place) = buffer.get_mut(0) {
+                *place = byte;
+                self.given = self.given.saturating_add(1);
+                return Poll::Ready(Ok(1));
+            }
+        }
         cx.register(&self.source, &mut self.reading)
     }
 

@@ -229,13 +229,32 @@ fn is_asked_once(
 }
 
 fn waits_quietly(alloc: Global, task: &MockTask, takes: bool) -> Option<bool> {
-    let mut conn = connect(alloc, ConnRole::Dialer, Quiet::new(takes))?;
+    let mut conn = connect(alloc, ConnRole::Dialer, Quiet::new(takes, Vec::new(alloc)))?;
     is_asked_once(alloc, task, &mut conn, takes)
+}
+
+/// So too once it is up: where all that came was heard, and its link waits, a poll asks for no other.
+fn is_idle_once_up(
+    alloc: Global,
+    task: &MockTask,
+    conn: &mut End<Quiet>,
+    takes: bool,
+) -> Option<bool> {
+    let gave = drive(alloc, task, conn, Plan::Listen, 20)?;
+    let is_up = gave.is_idle && gave.said.as_slice() == [Said::Upgraded].as_slice();
+    let stays_idle = is_idle_again(alloc, task, conn, if takes { 1 } else { 2 })?;
+    Some(is_up && stays_idle)
+}
+
+fn waits_once_up(alloc: Global, task: &MockTask, takes: bool) -> Option<bool> {
+    let link = Quiet::new(takes, UPGRADE.to_vec(alloc).ok()?);
+    let mut conn = connect(alloc, ConnRole::Listener, link)?;
+    is_idle_once_up(alloc, task, &mut conn, takes)
 }
 
 /// So too where it is bounded: each poll waits for the link, and asks for no other.
 fn waits_bounded(alloc: Global, task: &MockTask, takes: bool) -> Option<bool> {
-    let mut conn = BoundedConn::new(connect(alloc, ConnRole::Dialer, Quiet::new(takes))?);
+    let mut conn = BoundedConn::new(connect(alloc, ConnRole::Dialer, Quiet::new(takes, Vec::new(alloc)))?);
     for _ in 0..3u32 {
         let polled = task.enter(|cx| conn.poll_next(cx));
         if !polled.is_pending() || task.is_woken() || conn.was_dropped() {
@@ -251,8 +270,52 @@ fn a_link_that_waits(rt: HostRuntime) -> Result<(), Fail> {
     for takes in [true, false] {
         let held = waits_quietly(rt.alloc(), &task, takes) == Some(true);
         assert!(rt; held, "a link that takes bytes: {takes}");
+        let up = waits_once_up(rt.alloc(), &task, takes) == Some(true);
+        assert!(rt; up, "once it is up, over a link that takes bytes: {takes}");
         let bounded = waits_bounded(rt.alloc(), &task, takes) == Some(true);
         assert!(rt; bounded, "a bounded one, whose link takes bytes: {takes}");
     }
+    Ok(())
+}
+
+/// How many streams the other end opens by one piece.
+const MANY: u8 = 100;
+
+/// The upgrade, and behind it the opening of so many streams, on each of which ping is asked for.
+fn many_openings(alloc: Global) -> Option<Vec<u8>> {
+    let mut input = UPGRADE.to_vec(alloc).ok()?;
+    for count in 0..MANY {
+        let mut opening = PINGS.get(..62)?.to_vec(alloc).ok()?;
+        let number = count.saturating_mul(2).saturating_add(1);
+        *opening.get_mut(7)? = number;
+        *opening.get_mut(19)? = number;
+        input.extend_from_slice(opening.as_slice()).ok()?;
+    }
+    Some(input)
+}
+
+/// One read brings them all: each that is agreed on is told, in order, and the connection goes on.
+fn are_all_told(alloc: Global, task: &MockTask, conn: &mut End<Pipe>) -> Option<bool> {
+    let gave = drive(alloc, task, conn, Plan::Listen, 101)?;
+    let mut is_right = gave.said.len() == 101 && gave.said.first() == Some(&Said::Upgraded);
+    for count in 0..MANY {
+        let number = u32::from(count).saturating_mul(2).saturating_add(1);
+        let at = usize::from(count).saturating_add(1);
+        is_right = is_right && gave.said.get(at) == Some(&Said::Agreed(number, 2));
+    }
+    Some(is_right && conn.ask(2) == Ok(2))
+}
+
+fn tells_many(alloc: Global, task: &MockTask) -> Option<bool> {
+    let reads = steps_of(alloc, &[UPGRADE_LEN])?;
+    let pipe = Pipe::new(alloc, many_openings(alloc)?, reads, Vec::new(alloc));
+    let mut conn = connect(alloc, ConnRole::Listener, pipe)?;
+    are_all_told(alloc, task, &mut conn)
+}
+
+#[test]
+fn many_events_of_a_read(rt: HostRuntime) -> Result<(), Fail> {
+    let task = MockTask::new(&rt)?;
+    assert_eq!(rt; tells_many(rt.alloc(), &task), Some(true));
     Ok(())
 }

@@ -155,6 +155,7 @@ owners_told = record {
   refused = λ first more known it. it.refused;
   credit = λ first more known it live still. (it.credit live still, λ fits. is_answered known.again (length more) (it.again live still fits));
   done = λ result why it e. subst (λ (r : Result ℕ ActRefused). IsDone r) e it;
+  done_act = λ result why it e. subst (λ (r : Result (Unit {0}) ActRefused). IsDone r) e it;
   answered = λ n m why. (λ it. it.0, λ it. it.1);
   begin_alike = λ answer other answers others it. it;
   as_long = λ answer answers. (λ it. it, λ it. it);

@@ -14,6 +14,8 @@ session_laws = record {
   all_before_the_end = λ law. law;
   nothing_stands_still = λ law. law;
   both_go_on = λ law. law;
+  fed_and_joined = λ law client server bytes joined. let go = law client server joined in (go.0.fed bytes, go.1.fed bytes);
+  done_and_joined = λ law client server act joined. let go = law client server joined in (go.0.done act, go.1.done act);
   some_joined = λ law. law;
   live_limit = λ law. law;
   room_for_the_other = λ law. law;

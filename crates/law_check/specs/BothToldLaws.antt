@@ -169,6 +169,8 @@ pub record OwnersTold : Type 0 where
       → (known.credit ≡ Some (262144 - known.wrote))
       × (length more ≤ 262144 - known.wrote → (known.again ≡ Ok (length more)) ⊎ (known.again ≡ Err OutOfMemory))
   pub done : (result : Result ℕ ActRefused) (why : ActRefused) → IsDone result → result ≡ Err why → why ≡ OutOfMemory
+  pub done_act : (result : Result (Unit {0}) ActRefused) (why : ActRefused) → IsDone result → result ≡ Err why
+      → why ≡ OutOfMemory
   pub answered : (n m : ℕ) (why : ActRefused) → (IsAnswered (Ok n) m → n ≡ m)
       × (IsAnswered (Err why) m → why ≡ OutOfMemory)
   pub begin_alike : (answer other : ActAnswer) (answers others : List ActAnswer)

@@ -6,7 +6,8 @@ use Rattle.std.specs.Prelude.{◌≢◌, ◌≤◌}
 use Rattle.yamux_frames.specs.Frames.{AreFrames, Arrival, Reads}
 use Rattle.yamux_frames.specs.Frames.Arrival.{Head}
 use Rattle.yamux_frames.specs.declared.header.Header.{Header}
-use Rattle.yamux_session.specs.Acts.{AreAnswered, IsRefusedFor, OneRefusal, next_own, remote_go_away, start_refusal}
+use Rattle.yamux_session.specs.Acts.{AreAnswered, IsAnswered, IsRefusedFor, OneRefusal, next_own, remote_go_away}
+use Rattle.yamux_session.specs.Acts.{start_refusal}
 use Rattle.yamux_session.specs.Data.{inbound, written}
 use Rattle.yamux_session.specs.Endings.{EndsAreLast, EndsOnce, IsUntold, NotTold, OpenedAnew, OpenedByTheOther}
 use Rattle.yamux_session.specs.Endings.{OpeningsAreTold, opened_in, told_opened}
@@ -20,6 +21,7 @@ use Rattle.yamux_session.specs.Joined.{NothingStandsStill, SomeJoined}
 use Rattle.yamux_session.specs.Limits.{ExhaustedFirst, LiveLimit, NoSecondOpening, NoWrongOpening, RoomForOwn}
 use Rattle.yamux_session.specs.Limits.{RoomForTheOther, UntakenLimit}
 use Rattle.yamux_session.specs.OneOutcome.{OneOutcome}
+use Rattle.yamux_session.specs.Output.{output}
 use Rattle.yamux_session.specs.Openings.{finished, is_live, live, local_go_away}
 use Rattle.yamux_session.specs.Received.{AreSinceOpening, ReceivedData, SomeSince, data_in}
 use Rattle.yamux_session.specs.Runs.Point.{At}
@@ -70,6 +72,19 @@ pub record SessionLaws : Type 0 where
   pub both_go_on : BothGoOn → (client server : End) → Joined client server
       → GoesOn Client Server client server (λ new. Joined new server)
       × GoesOn Server Client server client (λ new. Joined client new)
+  -- what is fed or done leaves two ends that are joined still
+  pub fed_and_joined : BothGoOn → (client server : End) (bytes : List ℕ) → Joined client server
+      → (AllByRecursion (λ b. b < 256) (client.fed ++ bytes)
+      → IsPrefix (client.fed ++ bytes) (output Server server.items)
+      → (new : End) × (new.fed ≡ client.fed ++ bytes)
+      × ((came : List Arrival) × (new.items ≡ map Came came ++ client.items)) × Joined new server)
+      × (AllByRecursion (λ b. b < 256) (server.fed ++ bytes)
+      → IsPrefix (server.fed ++ bytes) (output Client client.items)
+      → (new : End) × (new.fed ≡ server.fed ++ bytes)
+      × ((came : List Arrival) × (new.items ≡ map Came came ++ server.items)) × Joined client new)
+  pub done_and_joined : BothGoOn → (client server : End) (act : Act) → Joined client server
+      → (IsAnswered Client client.items act → (new : End) × (new.items ≡ Did act ∷ client.items) × Joined new server)
+      × (IsAnswered Server server.items act → (new : End) × (new.items ≡ Did act ∷ server.items) × Joined client new)
   pub some_joined : SomeJoined → ((client server : End) × JoinedRow client server)
       × ((client server : End) × EndedRow client server)
   pub live_limit : LiveLimit → (role : Role) (past : List Item) → AreAnswered role past
