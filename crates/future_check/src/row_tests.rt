@@ -254,7 +254,8 @@ fn waits_once_up(alloc: Global, task: &MockTask, takes: bool) -> Option<bool> {
 
 /// So too where it is bounded: each poll waits for the link, and asks for no other.
 fn waits_bounded(alloc: Global, task: &MockTask, takes: bool) -> Option<bool> {
-    let mut conn = BoundedConn::new(connect(alloc, ConnRole::Dialer, Quiet::new(takes, Vec::new(alloc)))?);
+    let link = Quiet::new(takes, Vec::new(alloc));
+    let mut conn = BoundedConn::new(connect(alloc, ConnRole::Dialer, link)?);
     for _ in 0..3u32 {
         let polled = task.enter(|cx| conn.poll_next(cx));
         if !polled.is_pending() || task.is_woken() || conn.was_dropped() {
