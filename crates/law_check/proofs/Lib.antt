@@ -13,3 +13,4 @@ mod StreamLaws
 mod PoolLaws
 mod ToldLaws
 mod BothToldLaws
+mod DefinedTold

@@ -14,3 +14,4 @@ pub mod StreamLaws
 pub mod PoolLaws
 pub mod ToldLaws
 pub mod BothToldLaws
+pub mod DefinedTold

@@ -3,6 +3,7 @@
 #![tactic(auto)]
 
 pub mod address_clauses;
+pub mod defined_told;
 pub mod exchange_clauses;
 pub mod frame_clauses;
 pub mod handler_clauses;
