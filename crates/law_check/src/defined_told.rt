@@ -1,5 +1,5 @@
-//! What each definition of the callers' conclusions says, once more, at any value. Each is a function with an empty body,
-//! whose contract is the rows.
+//! What each definition of the callers' conclusions says, once more, at any value. Each is a function with an empty
+//! body, whose contract is the rows.
 
 ghost use Rattle.law_check.specs.DefinedTold.{DefinedDials, DefinedHearing, DefinedReading};
 
