@@ -127,4 +127,46 @@ module _ {P H : Type 0} (step : H → HandlerCall → H → Type 0) (fails : H �
       λ u. (u.newer, u.told_is, u.untold, u.same_turn, u.makes, u.awaits),
       λ h. record { newer = h.0; told_is = h.1; untold = h.2; same_turn = h.3; makes = h.4; awaits = h.5 },
     );
+    breaks = λ making log asked before after fed bytes sent pending. (
+      λ f. (
+        f.newer,
+        f.front,
+        f.rest,
+        f.session,
+        f.streams,
+        f.past,
+        f.now,
+        f.told_is,
+        f.asks_are,
+        f.makes,
+        f.rested,
+        f.bytes_are,
+        f.at_rest,
+        f.came,
+        f.fault,
+        f.alone,
+        f.frames,
+        f.output_is,
+      ),
+      λ h. record {
+        newer = h.0;
+        front = h.1;
+        rest = h.2;
+        session = h.3;
+        streams = h.4;
+        past = h.5;
+        now = h.6;
+        told_is = h.7;
+        asks_are = h.8;
+        makes = h.9;
+        rested = h.10;
+        bytes_are = h.11;
+        at_rest = h.12;
+        came = h.13;
+        fault = h.14;
+        alone = h.15;
+        frames = h.16;
+        output_is = h.17;
+      },
+    );
   }

@@ -1,20 +1,21 @@
 -- Rows of where the streams of a connection stand while what a frame told is routed, whatever came.
 -- Source: hashicorp yamux, "Framing" and "Flag Field"; what a connection tells is this project's profile.
-use Rattle.std.specs.Prelude.{◌≡◌, ◌≢◌, ◌⊎◌, ◌↔◌, ℕ, ◌||◌, Bool, true, false, List, [], ◌∷◌, ◌++◌, map, Option, Some}
-use Rattle.std.specs.Prelude.{None}
+use Rattle.std.specs.Prelude.{◌≡◌, ◌≢◌, ◌⊎◌, ◌↔◌, ℕ, ◌≤◌, ◌||◌, Bool, true, false, List, [], ◌∷◌, ◌++◌, map, Option, Some}
+use Rattle.std.specs.Prelude.{None, length, take}
 use Rattle.std.specs.Prelude.{IsSome}
 use Rattle.std.specs.List.{AllByRecursion}
 use Rattle.handlers.specs.Calls.{HandlerCall, Asked}
 use Rattle.yamux_session.specs.declared.event.Role.{Role}
 use Rattle.yamux_session.specs.declared.event.Event.TheVariants as heard
 use Rattle.yamux_session.specs.declared.event.Fault.{Fault}
-use Rattle.yamux_session.specs.History.{Item, Act, is_own}
+use Rattle.yamux_session.specs.History.{Item, Act, is_own, arrivals}
 use Rattle.yamux_session.specs.History.Item.{Came, Did}
 use Rattle.yamux_session.specs.History.Act.{Reset}
 use Rattle.yamux_session.specs.Openings.{is_live}
 use Rattle.yamux_session.specs.Events.{Told, events}
 use Rattle.yamux_session.specs.Seen.{Seen, seen, all_heard, just_opened, AgreesOn}
-use Rattle.yamux_session.specs.State.{State, Stands as SessionStands}
+use Rattle.yamux_session.specs.Output.{output}
+use Rattle.yamux_session.specs.State.{State, Stands as SessionStands, FirstFaults, EndsWith}
 use Rattle.yamux_frames.specs.Frames.{Arrival}
 use Rattle.streams.specs.declared.stop.Cause.{Cause}
 use Rattle.streams.specs.declared.stop.Cause.TheVariants as causes
@@ -24,18 +25,19 @@ use Rattle.conn_log.specs.declared.earlier.Earlier.{Earlier}
 use Rattle.conn_log.specs.declared.event.ConnEvent.{ConnEvent}
 use Rattle.conn_log.specs.declared.event.ConnEvent.TheVariants as event
 use Rattle.routing.specs.declared.delivered.Outcome.TheVariants as outcomes
-use Rattle.conn_log.specs.Entries.{Entry, items, said, since, is_over, made_of, put_aside}
+use Rattle.conn_log.specs.Entries.{Entry, items, said, asks, since, is_over, made_of, put_aside}
 use Rattle.conn_log.specs.Entries.Entry.{Of, Says, Made, Asks}
 use Rattle.conn_log.specs.Turns.{turn, AreInTurn}
 use Rattle.conn_log.specs.Due.{AllDue, told_reset, was_reset, told_end, end_was_told}
 use Rattle.conn_log.specs.Held.{IsHeld, IsAtRest, AreLeft, earlier_of}
-use Rattle.conn_log.specs.Rests.{AreAtRest}
+use Rattle.conn_log.specs.Rests.{AreAtRest, AreRested}
 use Rattle.conn_log.specs.Routes.{IsStill, IsNoOpening, EndsLast, set_aside, KeepsTurn, Resets, IsFor, IsMoving, Around}
 use Rattle.conn_log.specs.Routes.{Routes, Comes, Routed, Opening, Awaits, IsUnderWay}
 use Rattle.conn_log.specs.Making.{MakesOn}
 use Rattle.board.specs.declared.board.Board.{Board}
 use Rattle.board.specs.Boards.{Keeps, MakesOnBoard}
 use Rattle.board.specs.Resets.{told_of_reset}
+use Rattle.mux.specs.Faults.{Faults}
 
 -- What is told and put aside of a stream: whichever it is
 pub record AnyRouteToldRows (H : Type 0) : Type 0 where
@@ -203,3 +205,20 @@ module _ {P H : Type 0} (step : H → HandlerCall → H → Type 0) (fails : H �
         ↔ ((newer : List (Entry H)) × (after ≡ before ++ said newer)
         × (events role (items (newer ++ log)) ≡ events role (items log)) × KeepsTurn newer
         × (making log (newer ++ log) ≡ true) × awaits (newer ++ log) fed sent session streams past n rest)
+    -- how the other end breaks the rules of the session: behind any list, whatever came and was told before
+    pub breaks : (making : List (Entry H) → List (Entry H) → Bool) (log : List (Entry H)) (asked : List (ℕ × ℕ))
+        (before after : List (ConnEvent H)) (fed bytes sent pending : List ℕ)
+        → Faults step fails is_closed is_finished inbound_makes outbound_makes eager names peer role
+        (λ old new. making old new ≡ true) log asked before after fed bytes sent pending
+        ↔ ((newer : List (Entry H)) × (front rest : List ℕ) × (session : State)
+        × (streams : ℕ → Option (Streaming H)) × (past : List (Earlier H)) × (now : List Item)
+        × (after ≡ before ++ said newer) × (asks newer ≡ asked) × (making log (newer ++ log) ≡ true)
+        × (AreRested step fails is_closed is_finished inbound_makes outbound_makes eager names peer role log
+        → AreRested step fails is_closed is_finished inbound_makes outbound_makes eager names peer role (newer ++ log))
+        × (bytes ≡ front ++ rest)
+        × AreAtRest step fails is_closed is_finished inbound_makes outbound_makes eager names peer role (newer ++ log)
+        (fed ++ front) sent session streams past
+        × ((more : List Arrival) × (now ≡ map Came more ++ items (newer ++ log))) × FirstFaults role now
+        × ((why : Fault) × (events role now ≡ events role (items (newer ++ log)) ++ Told.Fault why ∷ []))
+        × ((used : ℕ) × (used ≤ length rest) × EndsWith ((fed ++ front) ++ take used rest) (arrivals now))
+        × (sent ++ pending ≡ output role now))
