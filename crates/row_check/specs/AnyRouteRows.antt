@@ -1,8 +1,7 @@
 -- Rows of where the streams of a connection stand while what a frame told is routed, whatever came.
 -- Source: hashicorp yamux, "Framing" and "Flag Field"; what a connection tells is this project's profile.
-use Rattle.std.specs.Prelude.{◌≡◌, ◌≢◌, ◌⊎◌, ◌↔◌, ℕ, ◌≤◌, ◌||◌, Bool, true, false, List, [], ◌∷◌, ◌++◌, map, Option, Some}
-use Rattle.std.specs.Prelude.{None, length, take}
-use Rattle.std.specs.Prelude.{IsSome}
+use Rattle.std.specs.Prelude.{◌≡◌, ◌≢◌, ◌⊎◌, ◌↔◌, ℕ, ◌≤◌, ◌||◌, Bool, true, false, List, [], ◌∷◌, ◌++◌, map, length}
+use Rattle.std.specs.Prelude.{take, Option, Some, None, IsSome}
 use Rattle.std.specs.List.{AllByRecursion}
 use Rattle.handlers.specs.Calls.{HandlerCall, Asked}
 use Rattle.yamux_session.specs.declared.event.Role.{Role}
