@@ -31,3 +31,38 @@ fn a_blocked_peer_is_refused(rt: HostRuntime) -> Result<(), Fail> {
     assert_eq!(rt; told.last, Reply::Refused(Refusal::Blocked));
     Ok(())
 }
+
+#[test]
+fn what_is_gone_is_not_listed(rt: HostRuntime) -> Result<(), Fail> {
+    let limits = Limits::new(2, 1, 1, 1, 1, 1, 1).ok_or("in range")?;
+    let config = Config {
+        own: peer(0)?,
+        limits,
+        first_conn: 1,
+        first_front: 0,
+        allow_only: false,
+    };
+    let calls = [
+        Call::Accept,
+        Call::Dial(Some(peer(2)?)),
+        Call::Block(peer(1)?),
+        Call::Unblock(peer(1)?),
+        Call::Gone(1),
+    ];
+    let told = calls_told(rt.alloc(), config, &calls, Call::Gone(1))?;
+    assert_eq!(rt;
+        told.replies.as_slice(),
+        [
+            Reply::Conn(1),
+            Reply::Conn(2),
+            Reply::Count(0),
+            Reply::Count(1),
+            Reply::Done
+        ]
+        .as_slice()
+    );
+    assert_eq!(rt; told.listing.conns.len(), 1);
+    assert_eq!(rt; told.listing.blocked.len(), 0);
+    assert_eq!(rt; told.last, Reply::Refused(Refusal::NoConn));
+    Ok(())
+}
