@@ -10,6 +10,7 @@ ghost use Rattle.conn_log.specs.declared.event.ConnEvent.TheVariants as event;
 ghost use Rattle.conn_log.specs.declared.event.ConnFault.TheVariants as fault;
 ghost use Rattle.conn_core.specs.Connects.{MayOpen, IsRefused, is_over};
 ghost use Rattle.conn_future.specs.Stages.{is_live, shut_stage, Came, Drains, WaitsAt};
+ghost use Rattle.conn_future.specs.Polling.{Polls};
 ghost use Rattle.conn_future.specs.Follows.{Carries, Follows, given_by};
 ghost use Rattle.peer_ids.specs.Key.{Key};
 ghost use Rattle.upgrade.specs.declared.role.ConnRole.{ConnRole};
@@ -122,8 +123,9 @@ impl<L: Link, P: Protocols> BoundedConn<L, P> {
     pub fn poll_next(&mut self, cx: &mut Context<'_>) -> Poll<Option<ConnEvent<P::H>>>
         ensures kept { Keeps cx.old cx.new }
         ensures polls { Bounds (λ conn. length conn.unsent) (λ before answer after.
-            Carries L.Link P.Protocols P.H.Handler before (given_by answer) after) (Ready None) self.old.conn result
-            self.new.conn }
+            Carries L.Link P.Protocols P.H.Handler before (given_by answer) after
+            × Polls L.calls before.link cx.old after.link cx.new) (Ready None) self.old.conn result self.new.conn }
+        ensures calm { self.old.conn ≡ None → cx.new ≡ cx.old }
         // Where it stands, the connection's own clauses hold of it.
         ensures rose { IfStands (λ before after. L.failed before.link < L.failed after.link
             → result ≡ Ready (Some (event.Fault fault.Link))) self.old.conn self.new.conn }

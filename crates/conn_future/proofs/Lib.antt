@@ -1,4 +1,5 @@
 pub mod Lists
+pub mod Making
 pub mod Moved
 pub mod Opening
 pub mod Stopped
@@ -8,3 +9,4 @@ pub mod Unlinked
 pub mod Standing
 pub mod OverLink
 pub mod Rows
+pub mod PollRows

@@ -1,5 +1,5 @@
 -- Lists in turn.
-use Rattle.std.proofs.Common.{◌≡◌, ℕ, Bool, true, false, List, [], ◌∷◌, ◌++◌, take, drop, length, Option, Some, None, refl, sym, ap, ◌∙◌, subst, append_assoc}
+use Rattle.std.proofs.Common.{◌≡◌, ◌≢◌, ◌≤◌, arith, ℕ, Bool, true, false, List, [], ◌∷◌, ◌++◌, take, drop, length, Option, Some, None, refl, sym, ap, ◌∙◌, subst, append_assoc}
 use Rattle.std.proofs.lemmas.List.{take-append-drop}
 use Rattle.std.proofs.Math.Seq.{take-append_seam}
 
@@ -33,3 +33,8 @@ some_given (x ∷ held) result gives some none = let given = gives x held refl i
 pub given_any : {A : Type 0} (held : List A) (result : Option A) (last : A) → ((x : A) (rest : List A) → held ≡ x ∷ rest → result ≡ Some x) → (held ≡ [] → result ≡ Some last) → result ≡ None → ⊥
 given_any [] result last gives ends none = let given = ends refl in cc (given, none)
 given_any (x ∷ held) result last gives ends none = let given = gives x held refl in cc (given, none)
+
+-- what stands there where some are left
+pub some_left : (left bytes : List ℕ) → bytes ≡ left → left ≢ [] → 1 ≤ length bytes
+some_left [] bytes is some = absurd (some refl)
+some_left (byte ∷ left) bytes is some = let long = ap length is in omega (arith, long)

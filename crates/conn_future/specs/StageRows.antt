@@ -19,6 +19,7 @@ pub record Line : Type 0 where
 abbrev pub lines : LinkGhosts Line
 lines = record {
   moves = λ first given taken last. (last.given ≡ first.given ++ given) × (last.took ≡ first.took ++ taken);
+  calls = λ first log last. first ≡ last;
   has_ended = λ line. line.has_ended ≡ true;
   is_shut = λ line. line.is_shut ≡ true;
   failed = λ line. 0;

@@ -1,9 +1,11 @@
 -- What one turn of a poll leaves: this project's profile.
-use Rattle.std.specs.Prelude.{◌≡◌, ◌≢◌, ◌⊎◌, ◌++◌, ℕ, true, List, [], ◌∷◌, Some, None}
+use Rattle.std.specs.Prelude.{◌≡◌, ◌≢◌, ◌≤◌, ◌⊎◌, ◌++◌, ℕ, true, false, List, [], ◌∷◌, length, Some, None}
 use Rattle.futures.specs.declared.task.context.Context.{Context}
 use Rattle.futures.specs.declared.task.Poll.TheVariants.{Ready}
 use Rattle.futures.specs.Task.{Covers}
 use Rattle.conn_link.specs.declared.link.Link.{Ghosts as LinkGhosts}
+use Rattle.conn_link.specs.Calling.{Kind, Call, asks_some}
+use Rattle.conn_link.specs.Calling.Kind.{Reads, Writes, Shuts}
 use Rattle.handlers.specs.declared.handler.Handler.{Ghosts as HandlerGhosts}
 use Rattle.handlers.specs.declared.protocols.Protocols.{Ghosts as ProtocolsGhosts}
 use Rattle.peer_ids.specs.Key.{Key}
@@ -16,6 +18,7 @@ use Rattle.conn_future.specs.declared.stage.Stage.TheVariants.{Shutting, Over}
 use Rattle.conn_future.specs.declared.conn.Conn.{Conn}
 use Rattle.conn_future.specs.Stages.{Drains}
 use Rattle.conn_future.specs.Follows.{Follows, given_by}
+use Rattle.conn_future.specs.Polling.{Called}
 use Rattle.conn_future.specs.declared.turns.Waits.{Waits}
 use Rattle.conn_future.specs.declared.turns.Turn.{Turn}
 use Rattle.conn_future.specs.declared.turns.Turn.TheVariants.{Again, Give, Failed, Wait}
@@ -24,6 +27,30 @@ use Rattle.conn_future.specs.declared.turns.Turn.TheVariants.{Again, Give, Faile
 pub record HasWaited (waits : Waits) (cx : Context) (reads_at writes_at : ℕ → Type 0) : Type 0 where
   pub reading : waits.reading ≡ true → Covers cx reads_at
   pub writing : waits.writing ≡ true → Covers cx writes_at
+
+-- no call of that kind was pending
+abbrev pub NoneWaited : Kind → List Call → Type 0
+NoneWaited kind [] = Unit {0}
+NoneWaited kind (call ∷ log) = (call.kind ≡ kind → call.is_pending ≡ false) × NoneWaited kind log
+
+-- A poll has made so many calls; of those whose kind it doesn't wait for yet none was pending.
+pub record Makes {L : Type 0} (calls : L → List Call → L → Type 0) (waits : Waits) (first : L) (old : Context) (last : L)
+    (new : Context) (number : ℕ) : Type 0 where
+  pub log : List Call
+  pub called : Called calls first log last
+  pub count : length log ≡ number
+  pub asked : new.is_woken ≡ true → (old.is_woken ≡ true) ⊎ (asks_some log ≡ true)
+  pub reading : waits.reading ≡ false → NoneWaited Reads log
+  pub writing : waits.writing ≡ false → NoneWaited Writes log
+  pub shutting : NoneWaited Shuts log
+
+-- A poll has made so many calls at most.
+pub record MadeTo {L : Type 0} (calls : L → List Call → L → Type 0) (first : L) (old : Context) (last : L) (new : Context)
+    (limit : ℕ) : Type 0 where
+  pub log : List Call
+  pub called : Called calls first log last
+  pub most : length log ≤ limit
+  pub asked : new.is_woken ≡ true → (old.is_woken ≡ true) ⊎ (asks_some log ≡ true)
 
 -- the event that a turn gave
 abbrev pub gave_by : {H : Type 0} → Turn H → List (ConnEvent H)

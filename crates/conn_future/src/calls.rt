@@ -12,6 +12,7 @@ ghost use Rattle.conn_log.specs.declared.event.ConnEvent.TheVariants as event;
 ghost use Rattle.conn_log.specs.declared.event.ConnFault.TheVariants as fault;
 ghost use Rattle.conn_core.specs.Connects.{Stands, MayOpen, IsRefused, is_over};
 ghost use Rattle.conn_future.specs.Stages.{is_live, shut_stage, Came, Drains, WaitsAt};
+ghost use Rattle.conn_future.specs.Polling.{Polls};
 ghost use Rattle.conn_future.specs.Follows.{Carries, Follows, given_by};
 
 use crate::conn::Conn;
@@ -182,6 +183,9 @@ impl<L: Link, P: Protocols> Stream for Conn<L, P> {
         ensures none_held { OnPending result ((self.new.held.items ≡ []) × (self.new.stage ≡ self.old.stage)) }
         ensures registered { OnPending result (Covers cx.new (WaitsAt (L.reads_at self.new.link)
             (L.writes_at self.new.link) (L.shuts_at self.new.link) self.new.stage self.new.unsent)) }
+        // It makes at most 32 calls of the link, none that could move nothing and none behind one of its kind that was
+        // pending, and asks for another poll only where one of them does, or behind 32.
+        ensures polls { Polls L.calls self.old.link cx.old self.new.link cx.new }
         ensures kept { Keeps cx.old cx.new }
     {
         if !self.held.is_empty() || !self.stage.is_live() {
@@ -191,7 +195,7 @@ impl<L: Link, P: Protocols> Stream for Conn<L, P> {
             reading: false,
             writing: false,
         };
-        for _ in 0..MOST_CALLS {
+        for _call in 0..MOST_CALLS {
             match self.turn(cx, &mut waits) {
                 Turn::Again => {}
                 Turn::Give(given) => return Poll::Ready(given),

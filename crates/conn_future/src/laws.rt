@@ -5,6 +5,7 @@ ghost use Rattle.upgrade.specs.declared.role.ConnRole.{ConnRole};
 ghost use Rattle.conn_future.specs.Follows.{EndsBehind, CarriesInTurn, UpOverLink};
 ghost use Rattle.conn_future.specs.StageRows.{StageRows, WaitRows, CameRows, DrainRows};
 ghost use Rattle.conn_future.specs.FollowRows.{FollowRows};
+ghost use Rattle.conn_future.specs.PollRows.{PollRows};
 
 use conn_link::Link;
 use handlers::{Handler, Protocols};
@@ -31,6 +32,7 @@ pub fn worked_rows<P: Protocols>()
     ensures waits { WaitRows }
     ensures came { CameRows }
     ensures drains { DrainRows }
+    ensures polls { PollRows }
     ensures follows { (start : P) (role : ConnRole) (own : Key)
         → FollowRows P.Protocols P.H.Handler start role own }
 {}

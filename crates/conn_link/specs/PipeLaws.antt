@@ -3,7 +3,9 @@ use Rattle.std.specs.Prelude.{◌≡◌, refl, ℕ, List, [], ◌∷◌, ◌++�
 use Rattle.std.proofs.Common.{◌∙◌, ap, sym, subst, append_assoc}
 use Rattle.std.proofs.lemmas.List.{append-nil}
 use Rattle.conn_link.specs.Moving.{MovesNothing, MovesOn, StaysEnded, StaysShut}
-use Rattle.conn_link.specs.Piping.{PipeMoves, HasEnded, IsShut}
+use Rattle.conn_link.specs.declared.step.PipeStep.{PipeStep}
+use Rattle.conn_link.specs.Calling.{Call, CallsNone, CallsOn}
+use Rattle.conn_link.specs.Piping.{PipeMoves, PipeCalls, GoesBy, HasEnded, IsShut, reads_left, writes_left}
 
 pub none_moved : MovesNothing PipeMoves
 none_moved pipe = (refl, sym (append-nil pipe.written), λ is. is, λ is. is)
@@ -15,6 +17,26 @@ moved_on first mid last given taken given_next taken_next before behind = (
   λ is. behind.2 (before.2 is),
   λ is. behind.3 (before.3 is),
 )
+
+pub none_called : CallsNone PipeCalls
+none_called pipe = (refl, refl)
+
+goes_on : (reads writes reads_mid writes_mid reads_last writes_last : List PipeStep) (log next : List Call)
+    → GoesBy reads writes log reads_mid writes_mid → GoesBy reads_mid writes_mid next reads_last writes_last
+    → GoesBy reads writes (log ++ next) reads_last writes_last
+goes_on reads writes reads_mid writes_mid reads_last writes_last [] next by behind =
+    subst (λ (l : List PipeStep). GoesBy l writes next reads_last writes_last) (sym by.0)
+    (subst (λ (l : List PipeStep). GoesBy reads_mid l next reads_last writes_last) (sym by.1) behind)
+goes_on reads writes reads_mid writes_mid reads_last writes_last (call ∷ log) next by behind = (
+  by.0,
+  by.1,
+  goes_on (reads_left call.kind reads) (writes_left call.kind writes) reads_mid writes_mid reads_last writes_last log
+      next by.2 behind,
+)
+
+pub called_on : CallsOn PipeCalls
+called_on first mid last log next before behind =
+    goes_on first.reads first.writes mid.reads mid.writes last.reads last.writes log next before behind
 
 abbrev HasNone : List ℕ → Type 0
 HasNone [] = Unit {0}

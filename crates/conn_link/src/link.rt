@@ -1,10 +1,12 @@
 //! What a connection stands on.
 
-ghost use Rattle.std.specs.Prelude.{◌≡◌, ◌≤◌, ◌⊎◌, ℕ, true, List, [], length, Ok};
+ghost use Rattle.std.specs.Prelude.{◌≡◌, ◌≤◌, ◌⊎◌, ℕ, true, List, [], ◌∷◌, length, Ok};
 ghost use Rattle.futures.specs.Poll.{OnPending};
 ghost use Rattle.futures.specs.Task.{Covers, Keeps};
 ghost use Rattle.conn_link.specs.Moving.{count_moved, bytes_moved, counted, found_end, OnSuccess, Within};
 ghost use Rattle.conn_link.specs.Moving.{MovesNothing, MovesOn, StaysEnded, StaysShut};
+ghost use Rattle.conn_link.specs.Calling.{Call, CallsNone, CallsOn, call_of};
+ghost use Rattle.conn_link.specs.Calling.Kind.{Reads, Writes, Shuts};
 
 use futures::task::{Context, Poll};
 use thiserror::Error;
@@ -17,11 +19,14 @@ pub struct LinkFault;
 /// A stream of bytes to another end and back, polled by hand.
 ///
 /// No call has a condition. Of any two states an owner learns from `moves` which bytes the link gave and took between
-/// them, and from `failed` whether a call failed. A call that is pending has asked for another poll, or has registered
-/// at each source that it waits for.
+/// them, from `calls` which calls were made, and from `failed` whether a call failed. A call that is pending has asked
+/// for another poll, or has registered at each source that it waits for.
 pub trait Link: Drop {
     /// From the first state to the second the link gave the first bytes, and took the second.
     ghost moves: { Self → List ℕ → List ℕ → Self → Type 0 };
+
+    /// From the first state to the second these calls were made, in order.
+    ghost calls: { Self → List Call → Self → Type 0 };
 
     /// A read found the end of the input.
     ghost has_ended: { Self → Type 0 };
@@ -49,6 +54,7 @@ pub trait Link: Drop {
     ) -> Poll<Result<usize, LinkFault>>
         ensures bound { count_moved result ≤ length buffer.new }
         ensures moved { moves self.old (bytes_moved result buffer.new) [] self.new }
+        ensures called { calls self.old (call_of Reads (length buffer.old) result cx.old cx.new ∷ []) self.new }
         ensures end { found_end (length buffer.old) result ≡ true → has_ended self.new }
         // Nothing else is the end.
         ensures found { has_ended self.new → has_ended self.old ⊎ (found_end (length buffer.old) result ≡ true) }
@@ -62,6 +68,7 @@ pub trait Link: Drop {
     fn poll_write(&mut self, cx: &mut Context<'_>, bytes: &[u8]) -> Poll<Result<usize, LinkFault>>
         ensures bound { count_moved result ≤ length bytes.now }
         ensures moved { moves self.old [] (bytes_moved result bytes.now) self.new }
+        ensures called { calls self.old (call_of Writes (length bytes.now) result cx.old cx.new ∷ []) self.new }
         ensures not_found { has_ended self.new → has_ended self.old }
         ensures not_shut { is_shut self.new → is_shut self.old }
         ensures failures { failed self.new ≡ counted (failed self.old) result }
@@ -72,6 +79,7 @@ pub trait Link: Drop {
     /// Tells the other end that no more bytes come.
     fn poll_shut(&mut self, cx: &mut Context<'_>) -> Poll<Result<(), LinkFault>>
         ensures moved { moves self.old [] [] self.new }
+        ensures called { calls self.old (call_of Shuts 0 result cx.old cx.new ∷ []) self.new }
         ensures shut { OnSuccess result (is_shut self.new) }
         ensures not_found { has_ended self.new → has_ended self.old }
         ensures failures { failed self.new ≡ counted (failed self.old) result }
@@ -85,6 +93,10 @@ pub trait Link: Drop {
     ghost moves_nothing: { MovesNothing moves };
 
     ghost moves_on: { MovesOn moves };
+
+    ghost calls_none: { CallsNone calls };
+
+    ghost calls_on: { CallsOn calls };
 
     ghost stays_ended: { StaysEnded moves has_ended };
 

@@ -7,8 +7,8 @@ ghost use Rattle.std.specs.Vec.{vec_capacity, vec_len};
 ghost use Rattle.futures.specs.Poll.{OnPending};
 ghost use Rattle.futures.specs.Task.{IsArmed, Keeps};
 ghost use Rattle.conn_link.specs.Moving.{count_moved, bytes_moved, counted, found_end};
-ghost use Rattle.conn_link.specs.Piping.{Piped, PipeMoves, HasEnded, IsShut, CanGo, answer_by, failure};
-ghost use Rattle.conn_link.specs.PipeLaws.{none_moved, moved_on, ended_stays, shut_stays};
+ghost use Rattle.conn_link.specs.Piping.{Piped, PipeMoves, PipeCalls, HasEnded, IsShut, CanGo, answer_by, failure};
+ghost use Rattle.conn_link.specs.PipeLaws.{none_moved, moved_on, none_called, called_on, ended_stays, shut_stays};
 
 use crate::link::{Link, LinkFault, finds_end};
 use crate::script::Script;
@@ -89,6 +89,8 @@ impl Pipe {
 impl Link for Pipe {
     ghost moves = { PipeMoves };
 
+    ghost calls = { PipeCalls };
+
     ghost has_ended = { HasEnded };
 
     ghost is_shut = { IsShut };
@@ -105,6 +107,10 @@ impl Link for Pipe {
     ghost moves_nothing = { none_moved };
 
     ghost moves_on = { moved_on };
+
+    ghost calls_none = { none_called };
+
+    ghost calls_on = { called_on };
 
     ghost stays_ended = { ended_stays };
 

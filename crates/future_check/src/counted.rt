@@ -31,6 +31,8 @@ impl<L: Link> Counted<L> {
 impl<L: Link> Link for Counted<L> {
     ghost moves = { λ a given taken b. L.moves a.link given taken b.link };
 
+    ghost calls = { λ a log b. L.calls a.link log b.link };
+
     ghost has_ended = { λ a. L.has_ended a.link };
 
     ghost is_shut = { λ a. L.is_shut a.link };
@@ -46,6 +48,10 @@ impl<L: Link> Link for Counted<L> {
     ghost moves_nothing = { λ a. L.moves_nothing a.link };
 
     ghost moves_on = { λ a b c. L.moves_on a.link b.link c.link };
+
+    ghost calls_none = { λ a. L.calls_none a.link };
+
+    ghost calls_on = { λ a b c. L.calls_on a.link b.link c.link };
 
     ghost stays_ended = { λ a b. L.stays_ended a.link b.link };
 

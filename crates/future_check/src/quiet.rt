@@ -33,6 +33,8 @@ impl Quiet {
 impl Link for Quiet {
     ghost moves = { λ _ _ _ _. ⊤ };
 
+    ghost calls = { λ _ _ _. ⊤ };
+
     ghost has_ended = { λ _. ⊥ };
 
     ghost is_shut = { λ _. ⊤ };
@@ -48,6 +50,10 @@ impl Link for Quiet {
     ghost moves_nothing = { λ _. tt };
 
     ghost moves_on = { λ _ _ _ _ _ _ _ _ _. tt };
+
+    ghost calls_none = { λ _. tt };
+
+    ghost calls_on = { λ _ _ _ _ _ _ _. tt };
 
     ghost stays_ended = { λ _ _ _ _ _ ended. absurd ended };
 

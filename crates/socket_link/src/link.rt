@@ -1,6 +1,6 @@
 //! A link over a socket.
 
-ghost use Rattle.std.specs.Prelude.{◌≡◌, ◌+◌, ◌-◌, ◌^◌, true, false, min, Err};
+ghost use Rattle.std.specs.Prelude.{◌≡◌, ◌+◌, ◌-◌, ◌^◌, true, false, min, Err, ⊤};
 ghost use Rattle.socket_link.specs.Sockets.{LinkMoves, IsShut, nothing_moved, moved_on, ended_stays, shut_stays};
 
 use crate::socket::Socket;
@@ -49,6 +49,9 @@ impl<S: Socket> SocketLink<S> {
 impl<S: Socket> Link for SocketLink<S> {
     ghost moves = { LinkMoves S.moves S.is_shut };
 
+    // Nothing is known of when a socket asks for another poll.
+    ghost calls = { λ _ _ _. ⊤ };
+
     ghost has_ended = { λ link. link.has_ended ≡ true };
 
     ghost is_shut = { IsShut S.moves S.is_shut };
@@ -64,6 +67,10 @@ impl<S: Socket> Link for SocketLink<S> {
     ghost moves_nothing = { nothing_moved S.moves S.is_shut S.moves_nothing };
 
     ghost moves_on = { moved_on S.moves S.is_shut S.moves_on };
+
+    ghost calls_none = { λ _. tt };
+
+    ghost calls_on = { λ _ _ _ _ _ _ _. tt };
 
     ghost stays_ended = { ended_stays S.moves S.is_shut };
 

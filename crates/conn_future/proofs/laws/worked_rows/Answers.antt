@@ -1,4 +1,5 @@
 use Rattle.conn_future.proofs.Rows.{stage_rows, wait_rows, came_rows, drain_rows, follow_rows}
+use Rattle.conn_future.proofs.PollRows.{poll_rows}
 use Rattle.conn_future.proofs.laws.worked_rows.Goals as goal
 
 pub returns-clause-stages : goal.returns-clause-stages
@@ -15,3 +16,6 @@ returns-clause-drains g c = drain_rows
 
 pub returns-clause-follows : goal.returns-clause-follows
 returns-clause-follows g c start role own = follow_rows g.P.Protocols g.P.H.Handler start role own
+
+pub returns-clause-polls : goal.returns-clause-polls
+returns-clause-polls g c = poll_rows

@@ -1,5 +1,10 @@
 use Rattle.std.proofs.Common.{◌≡◌, ℕ, Bool, true, false, List, [], ◌∷◌, refl, sym, ◌∙◌}
-use Rattle.conn_link.specs.PipeLaws.{none_moved, moved_on, ended_stays, shut_stays}
+use Rattle.conn_link.specs.declared.step.PipeStep.{PipeStep}
+use Rattle.conn_link.specs.declared.step.PipeStep.TheVariants.{Upto}
+use Rattle.conn_link.specs.Calling.{Call}
+use Rattle.conn_link.specs.Calling.Kind.{Reads}
+use Rattle.conn_link.specs.CallingRows.{did}
+use Rattle.conn_link.specs.PipeLaws.{none_moved, moved_on, none_called, called_on, ended_stays, shut_stays}
 use Rattle.conn_link.proofs.laws.worked_rows.Goals as goal
 
 pub returns-clause-sources : goal.returns-clause-sources
@@ -42,4 +47,26 @@ returns-clause-pipes c = record {
   moves_on = moved_on;
   stays_ended = ended_stays;
   stays_shut = shut_stays;
+}
+
+pub returns-clause-calls : goal.returns-clause-calls
+returns-clause-calls c = record {
+  called_uncalled = λ law. let e : ◌≡◌ {A = List Call} [] (did Reads 1 ∷ []) = law 0 in absurd (cc e);
+  called_apart = λ law. let e : ◌≡◌ {A = List Call} (did Reads 1 ∷ did Reads 1 ∷ []) (did Reads 1 ∷ []) =
+      law 0 0 0 (did Reads 1 ∷ []) (did Reads 1 ∷ []) refl refl in absurd (cc e);
+}
+
+pub returns-clause-pipe_calls : goal.returns-clause-pipe_calls
+returns-clause-pipe_calls c = record {
+  both = (refl, λ is. absurd (cc is), (refl, λ is. is, (refl, λ is. refl, (refl, refl))));
+  past_the_end = (refl, λ is. is, (refl, λ is. is, (refl, refl)));
+  shuts = (refl, λ is. is, (refl, refl));
+  unread = λ by. let e : ◌≡◌ {A = List PipeStep} [] (Upto 2 ∷ []) = by.2.0 in absurd (cc e);
+  waits_unasked = λ by. let e : ◌≡◌ {A = Bool} true false = by.0 in absurd (cc e);
+  waits_to_fail = λ by. let e : ◌≡◌ {A = Bool} true false = by.0 in absurd (cc e);
+  passes_over = λ by. let e : ◌≡◌ {A = Bool} false true = by.0 in absurd (cc e);
+  waits_to_shut = λ by. let e : ◌≡◌ {A = Bool} true false = by.0 in absurd (cc e);
+  asks_unpending = λ by. let e : ◌≡◌ {A = Bool} false true = by.1 refl in absurd (cc e);
+  calls_none = none_called;
+  calls_on = called_on;
 }

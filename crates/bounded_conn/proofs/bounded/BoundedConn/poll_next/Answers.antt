@@ -7,7 +7,7 @@ returns-then-waiting-gt-MOST_WAITING-clause-polls g c =
     of_some _ _ _ _ c.in-Some.conn _ _ c.in-Some.is (
       c.poll_next-polled.result,
       c.poll_next-polled.new.self,
-      c.poll_next-polled.ensures.follows,
+      (c.poll_next-polled.ensures.follows, c.poll_next-polled.ensures.polls),
       inr (omega (arith, c.if-waiting-gt-MOST_WAITING.true, c.waiting-waiting.ensures.waiting), refl, refl),
     )
 
@@ -16,6 +16,6 @@ returns-clause-polls g c =
     of_some _ _ _ _ c.in-Some.conn _ _ c.in-Some.is (
       c.poll_next-polled.result,
       c.poll_next-polled.new.self,
-      c.poll_next-polled.ensures.follows,
+      (c.poll_next-polled.ensures.follows, c.poll_next-polled.ensures.polls),
       inl (omega (arith, c.if-waiting-gt-MOST_WAITING.false, c.waiting-waiting.ensures.waiting), refl, refl),
     )

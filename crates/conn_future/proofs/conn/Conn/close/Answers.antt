@@ -1,4 +1,7 @@
-use Rattle.std.proofs.Common.{[], ap, rules}
+use Rattle.std.proofs.Common.{[], inl, refl, ap, rules}
+use Rattle.conn_link.specs.Calling.{call_of}
+use Rattle.conn_link.specs.Calling.Kind.{Shuts}
+use Rattle.conn_future.proofs.Making.{made_to}
 use Rattle.conn_future.specs.Stages.{is_live}
 use Rattle.conn_future.proofs.Moved.{drains_shut}
 use Rattle.conn_future.proofs.Standing.{goes_shut, closes_of, stays_failed, stays_pending}
@@ -42,3 +45,18 @@ returns-in-Ready-Err-clause-shutting g c is =
 pub returns-in-Pending-clause-shutting : goal.returns-in-Pending-clause-shutting
 returns-in-Pending-clause-shutting g c is =
     ([], drains_shut g.L.Link c.args.self.now.link c.poll_shut.new.self c.args.self.now.unsent c.requires.none_left c.poll_shut.ensures.moved, tt)
+
+pub returns-in-Ready-Ok-clause-called : goal.returns-in-Ready-Ok-clause-called
+returns-in-Ready-Ok-clause-called g c first before count waits it =
+    made_to g.L.Link.calls g.met.L.Link.calls_on waits first c.args.self.now.link c.poll_shut.new.self before c.args.cx.now c.poll_shut.new.cx count
+    (call_of Shuts 0 c.poll_shut.result c.args.cx.now c.poll_shut.new.cx) it it.shutting (inl refl) refl c.poll_shut.ensures.called
+
+pub returns-in-Ready-Err-clause-called : goal.returns-in-Ready-Err-clause-called
+returns-in-Ready-Err-clause-called g c first before count waits it =
+    made_to g.L.Link.calls g.met.L.Link.calls_on waits first c.args.self.now.link c.poll_shut.new.self before c.args.cx.now c.poll_shut.new.cx count
+    (call_of Shuts 0 c.poll_shut.result c.args.cx.now c.poll_shut.new.cx) it it.shutting (inl refl) refl c.poll_shut.ensures.called
+
+pub returns-in-Pending-clause-called : goal.returns-in-Pending-clause-called
+returns-in-Pending-clause-called g c first before count waits it =
+    made_to g.L.Link.calls g.met.L.Link.calls_on waits first c.args.self.now.link c.poll_shut.new.self before c.args.cx.now c.poll_shut.new.cx count
+    (call_of Shuts 0 c.poll_shut.result c.args.cx.now c.poll_shut.new.cx) it it.shutting (inl refl) refl c.poll_shut.ensures.called

@@ -1,4 +1,8 @@
-use Rattle.std.proofs.Common.{subst, refl, ℕ, List, []}
+use Rattle.std.proofs.Common.{subst, refl, ap, inr, true, ℕ, List, [], length}
+use Rattle.conn_link.specs.Calling.{call_of, is_pending}
+use Rattle.conn_link.specs.Calling.Kind.{Writes}
+use Rattle.conn_future.proofs.Lists.{some_left}
+use Rattle.conn_future.proofs.Making.{made_on, answered_on}
 use Rattle.conn_future.proofs.Moved.{of_count, of_fault, of_pending, drains_some, drains_still}
 use Rattle.conn_future.proofs.Standing.{stays_wrote_to, stays_failed, stays_pending}
 use Rattle.conn_future.proofs.conn.Conn.write.Goals as goal
@@ -67,3 +71,21 @@ returns-in-Ready-Err-clause-moved g c = ([], _, c.poll_write.ensures.moved)
 
 pub returns-in-Pending-clause-moved : goal.returns-in-Pending-clause-moved
 returns-in-Pending-clause-moved g c = ([], _, c.poll_write.ensures.moved)
+
+pub returns-in-Ready-Ok-clause-called : goal.returns-in-Ready-Ok-clause-called
+returns-in-Ready-Ok-clause-called g c first before count it =
+    answered_on g.L.Link.calls g.met.L.Link.calls_on c.args.waits.now first c.args.self.now.link c.poll_write.new.self before c.args.cx.now c.poll_write.new.cx count
+    (call_of Writes (length c.as_slice.result.now) c.poll_write.result c.args.cx.now c.poll_write.new.cx) it (it.writing c.requires.can_wait) (inr (some_left c.args.self.now.unsent c.as_slice.result.now c.as_slice.ensures c.requires.some))
+    (ap is_pending c.in-Ready-Ok.is) refl c.poll_write.ensures.called
+
+pub returns-in-Ready-Err-clause-called : goal.returns-in-Ready-Err-clause-called
+returns-in-Ready-Err-clause-called g c first before count it =
+    answered_on g.L.Link.calls g.met.L.Link.calls_on c.args.waits.now first c.args.self.now.link c.poll_write.new.self before c.args.cx.now c.poll_write.new.cx count
+    (call_of Writes (length c.as_slice.result.now) c.poll_write.result c.args.cx.now c.poll_write.new.cx) it (it.writing c.requires.can_wait) (inr (some_left c.args.self.now.unsent c.as_slice.result.now c.as_slice.ensures c.requires.some))
+    (ap is_pending c.in-Ready-Err.is) refl c.poll_write.ensures.called
+
+pub returns-in-Pending-clause-called : goal.returns-in-Pending-clause-called
+returns-in-Pending-clause-called g c first before count it =
+    made_on g.L.Link.calls g.met.L.Link.calls_on c.args.waits.now (record c.args.waits.now { writing = true }) first c.args.self.now.link c.poll_write.new.self before c.args.cx.now c.poll_write.new.cx count
+    (call_of Writes (length c.as_slice.result.now) c.poll_write.result c.args.cx.now c.poll_write.new.cx) it (it.writing c.requires.can_wait) (inr (some_left c.args.self.now.unsent c.as_slice.result.now c.as_slice.ensures c.requires.some)) refl c.poll_write.ensures.called
+    (λ is. (is, λ kind. absurd (cc kind))) (λ is. absurd (cc is)) (λ kind. absurd (cc kind))

@@ -1,0 +1,162 @@
+-- The calls of one poll: a call behind others.
+use Rattle.std.proofs.Common.{◌≡◌, ◌≢◌, ◌≤◌, ◌⊎◌, inl, inr, ◌||◌, ◌&&◌, ◌+◌, ℕ, Bool, true, false, not, List, [], ◌∷◌, ◌++◌, length, length-append, arith, refl, ap, sym, ◌∙◌}
+use Rattle.std.proofs.lemmas.List.Elements.{All-append, All-cons, All-nil}
+use Rattle.futures.specs.declared.task.context.Context.{Context}
+use Rattle.conn_link.specs.Calling.{Kind, Call, IsAble, HasNone, IsOnce, CallsNone, CallsOn, asks_some, asks_between}
+use Rattle.conn_link.specs.Calling.Kind.{Reads, Writes, Shuts}
+use Rattle.conn_future.specs.Polling.{Called, Polls}
+use Rattle.conn_future.specs.declared.turns.Waits.{Waits}
+use Rattle.conn_future.specs.Turning.{NoneWaited, Makes, MadeTo}
+
+none_on : (kind : Kind) (log : List Call) (call : Call) → call.kind ≢ kind → HasNone kind log → HasNone kind (log ++ call ∷ [])
+none_on kind [] call not none = (not, tt)
+none_on kind (first ∷ log) call not none = (none.0, none_on kind log call not none.1)
+
+once_on : (log : List Call) (call : Call) → NoneWaited call.kind log → IsOnce log → IsOnce (log ++ call ∷ [])
+once_on [] call waited once = (λ is. tt, tt)
+once_on (first ∷ log) call waited once = (
+  λ is. none_on first.kind log call (λ same. let waits = waited.0 (sym same) in cc (is, waits)) (once.0 is),
+  once_on log call waited.1 once.1,
+)
+
+pub waited_on : (kind : Kind) (log : List Call) (call : Call) → (call.kind ≡ kind → call.is_pending ≡ false) → NoneWaited kind log
+    → NoneWaited kind (log ++ call ∷ [])
+waited_on kind [] call not waited = (not, tt)
+waited_on kind (first ∷ log) call not waited = (waited.0, waited_on kind log call not waited.1)
+
+or_behind : (asks before after : Bool) → (before ≡ true → after ≡ true) → (asks || before) ≡ true → (asks || after) ≡ true
+or_behind true before after still is = refl
+or_behind false before after still is = still is
+
+asks_before : (log : List Call) (call : Call) → asks_some log ≡ true → asks_some (log ++ call ∷ []) ≡ true
+asks_before [] call asks = absurd (cc asks)
+asks_before (first ∷ log) call asks =
+    or_behind first.asks (asks_some log) (asks_some (log ++ call ∷ [])) (asks_before log call) asks
+
+or_last : (asks after : Bool) → after ≡ true → (asks || after) ≡ true
+or_last true after is = refl
+or_last false after is = is
+
+asks_last : (log : List Call) (call : Call) → call.asks ≡ true → asks_some (log ++ call ∷ []) ≡ true
+asks_last [] call asks = ap (λ b. b || false) asks
+asks_last (first ∷ log) call asks = or_last first.asks (asks_some (log ++ call ∷ [])) (asks_last log call asks)
+
+-- it was asked for before, or by this call
+asks_by : (old new : Bool) → new ≡ true → (old ≡ true) ⊎ ((not old && new) ≡ true)
+asks_by true new is = inl refl
+asks_by false new is = inr is
+
+length_on : (log : List Call) (call : Call) → length (log ++ call ∷ []) ≡ length log + 1
+length_on log call = length-append log (call ∷ [])
+
+asked_on : (log : List Call) (call : Call) (old cx new : Context) → call.asks ≡ asks_between cx new
+    → (cx.is_woken ≡ true → (old.is_woken ≡ true) ⊎ (asks_some log ≡ true))
+    → new.is_woken ≡ true → (old.is_woken ≡ true) ⊎ (asks_some (log ++ call ∷ []) ≡ true)
+asked_on log call old cx new by before woken = elim (asks_by cx.is_woken new.is_woken woken) [
+  | inl was ↦ elim (before was) [
+    | inl first ↦ inl first
+    | inr asks ↦ inr (asks_before log call asks)
+  ]
+  | inr asks ↦ inr (asks_last log call (by ∙ asks))
+]
+
+module _ {L : Type 0} (calls : L → List Call → L → Type 0) (on : CallsOn calls) where
+  called_on : (first mid last : L) (log : List Call) (call : Call) → NoneWaited call.kind log → IsAble call
+      → calls mid (call ∷ []) last → Called calls first log mid → Called calls first (log ++ call ∷ []) last
+  called_on first mid last log call waited able next called = record {
+    made = on first mid last log (call ∷ []) called.made next;
+    able = All-append IsAble log (call ∷ []) called.able (All-cons IsAble call [] able (All-nil IsAble));
+    once = once_on log call waited called.once;
+  }
+
+  -- the last call of a poll
+  pub made_to : (waits : Waits) (first mid last : L) (old cx new : Context) (count : ℕ) (call : Call)
+      → (it : Makes calls waits first old mid cx count) → NoneWaited call.kind it.log → IsAble call
+      → call.asks ≡ asks_between cx new → calls mid (call ∷ []) last → MadeTo calls first old last new (count + 1)
+  made_to waits first mid last old cx new count call it waited able asks next = record {
+    log = it.log ++ call ∷ [];
+    called = called_on first mid last it.log call waited able next it.called;
+    most = let same = length_on it.log call in let all = it.count in omega (arith, same, all);
+    asked = asked_on it.log call old cx new asks it.asked;
+  }
+
+  -- one behind which others may follow
+  pub made_on : (waits then : Waits) (first mid last : L) (old cx new : Context) (count : ℕ) (call : Call)
+      → (it : Makes calls waits first old mid cx count) → NoneWaited call.kind it.log → IsAble call
+      → call.asks ≡ asks_between cx new → calls mid (call ∷ []) last
+      → (then.reading ≡ false → (waits.reading ≡ false) × (call.kind ≡ Reads → call.is_pending ≡ false))
+      → (then.writing ≡ false → (waits.writing ≡ false) × (call.kind ≡ Writes → call.is_pending ≡ false))
+      → (call.kind ≡ Shuts → call.is_pending ≡ false)
+      → Makes calls then first old last new (count + 1)
+  made_on waits then first mid last old cx new count call it waited able asks next reading writing shutting = record {
+    log = it.log ++ call ∷ [];
+    called = called_on first mid last it.log call waited able next it.called;
+    count = length_on it.log call ∙ ap (λ n. n + 1) it.count;
+    asked = asked_on it.log call old cx new asks it.asked;
+    reading = λ is. waited_on Reads it.log call (reading is).1 (it.reading (reading is).0);
+    writing = λ is. waited_on Writes it.log call (writing is).1 (it.writing (writing is).0);
+    shutting = waited_on Shuts it.log call shutting it.shutting;
+  }
+
+-- a call that was answered leaves what the poll waits for
+pub answered_on : {L : Type 0} (calls : L → List Call → L → Type 0) → CallsOn calls → (waits : Waits) (first mid last : L)
+    (old cx new : Context) (count : ℕ) (call : Call) → (it : Makes calls waits first old mid cx count)
+    → NoneWaited call.kind it.log → IsAble call → call.is_pending ≡ false → call.asks ≡ asks_between cx new
+    → calls mid (call ∷ []) last → Makes calls waits first old last new (count + 1)
+answered_on calls on waits first mid last old cx new count call it waited able answered asks next =
+    made_on calls on waits waits first mid last old cx new count call it waited able asks next
+    (λ is. (is, λ kind. answered)) (λ is. (is, λ kind. answered)) (λ kind. answered)
+
+pub none_made : {L : Type 0} (calls : L → List Call → L → Type 0) → CallsNone calls → (first : L) → Called calls first [] first
+none_made calls none first = record { made = none first; able = All-nil IsAble; once = tt }
+
+-- a poll that made no call
+pub polls_none : {L : Type 0} (calls : L → List Call → L → Type 0) → CallsNone calls → (first : L) (cx : Context)
+    → Polls calls first cx first cx
+polls_none calls none first cx = record {
+  log = [];
+  called = none_made calls none first;
+  most = omega arith;
+  asked = λ woken. inl woken;
+}
+
+-- one that made all that it may
+pub polls_all : {L : Type 0} (calls : L → List Call → L → Type 0) (waits : Waits) (first last : L) (old cx new : Context) (count : ℕ)
+    → count ≡ 32 → Makes calls waits first old last cx count → Polls calls first old last new
+polls_all calls waits first last old cx new count all it = record {
+  log = it.log;
+  called = it.called;
+  most = let made = it.count in omega (arith, all, made);
+  asked = λ woken. inr (inr (it.count ∙ all));
+}
+
+pub made_up_to : {L : Type 0} (calls : L → List Call → L → Type 0) (waits : Waits) (first last : L) (old new : Context) (count : ℕ)
+    → Makes calls waits first old last new count → MadeTo calls first old last new count
+made_up_to calls waits first last old new count it = record {
+  log = it.log;
+  called = it.called;
+  most = let all = it.count in omega (arith, all);
+  asked = it.asked;
+}
+
+pub made_all : {L : Type 0} (calls : L → List Call → L → Type 0) (waits : Waits) (first last : L) (old new : Context) (count : ℕ)
+    → Makes calls waits first old last new count → MadeTo calls first old last new (count + 1)
+made_all calls waits first last old new count it = record {
+  log = it.log;
+  called = it.called;
+  most = let all = it.count in omega (arith, all);
+  asked = it.asked;
+}
+
+-- a poll that made less than 32 calls, and then one more at most
+pub polls_to : {L : Type 0} (calls : L → List Call → L → Type 0) (first last : L) (old new : Context) (most : ℕ) → most ≤ 32
+    → MadeTo calls first old last new most → Polls calls first old last new
+polls_to calls first last old new most less it = record {
+  log = it.log;
+  called = it.called;
+  most = let all = it.most in omega (arith, all, less);
+  asked = λ woken. elim (it.asked woken) [
+    | inl was ↦ inl was
+    | inr asks ↦ inr (inl asks)
+  ];
+}

@@ -1,0 +1,97 @@
+-- The rows of a poll's calls.
+use Rattle.std.proofs.Common.{◌≡◌, ◌≤◌, ◌⊎◌, inl, inr, ℕ, zero, suc, true, false, List, [], ◌∷◌, length, replicate, arith, refl, ap, sym, subst, ◌∙◌}
+use Rattle.std.specs.List.{All}
+use Rattle.std.proofs.lemmas.List.{length-replicate}
+use Rattle.std.proofs.lemmas.List.Elements.{All-cons, All-nil}
+use Rattle.futures.specs.declared.task.context.Context.{Context}
+use Rattle.conn_link.specs.Calling.{Call, IsAble, IsOnce, asks_some}
+use Rattle.conn_link.specs.Calling.Kind.{Reads, Writes, Shuts}
+use Rattle.conn_link.specs.CallingRows.{did, waited, asked}
+use Rattle.conn_future.specs.Polling.{Polls}
+use Rattle.conn_future.specs.PollRows.{PollRows, adds, calms, asks, never_asks}
+
+calm_of : (log : List Call) → All IsAble log → IsOnce log → length log ≤ 32 → calms log
+calm_of log able once most old new was is = record {
+  log = log;
+  called = record { made = refl; able = able; once = once };
+  most = most;
+  asked = λ woken. absurd (cc (is, woken));
+}
+
+asks_of : (log : List Call) → All IsAble log → IsOnce log → length log ≤ 32 → (asks_some log ≡ true) ⊎ (length log ≡ 32) → asks log
+asks_of log able once most why old new was is = record {
+  log = log;
+  called = record { made = refl; able = able; once = once };
+  most = most;
+  asked = λ woken. inr why;
+}
+
+able_one : (call : Call) (log : List Call) → 1 ≤ call.room → All IsAble log → All IsAble (call ∷ log)
+able_one call log room able = All-cons IsAble call log (inr room) able
+
+none_able : All IsAble []
+none_able = All-nil IsAble
+
+able_many : (n : ℕ) → All IsAble (replicate n (did Reads 4))
+able_many zero = none_able
+able_many (suc n) = able_one (did Reads 4) (replicate n (did Reads 4)) (omega arith) (able_many n)
+
+once_many : (n : ℕ) → IsOnce (replicate n (did Reads 4))
+once_many zero = tt
+once_many (suc n) = (λ is. absurd (cc is), once_many n)
+
+-- the calls are the ones that the link says
+of_poll : (log : List Call) (old new : Context) → (it : Polls adds [] old log new) → it.log ≡ log
+of_poll log old new it = sym it.called.made
+
+unasked_by : (log : List Call) → asks_some log ≡ false → (length log ≡ 32 → ⊥) → never_asks log
+unasked_by log none few old new was is it =
+    let same = of_poll log old new it in
+    elim (it.asked is) [
+      | inl before ↦ cc (before, was)
+      | inr (inl some) ↦ let none_said : asks_some it.log ≡ false = ap asks_some same ∙ none in cc (some, none_said)
+      | inr (inr all) ↦ few (ap length (sym same) ∙ all)
+    ]
+
+pub poll_rows : PollRows
+poll_rows = record {
+  none = calm_of [] none_able tt (omega arith);
+  waits = calm_of (did Writes 4 ∷ did Reads 4 ∷ waited Reads ∷ [])
+      (able_one (did Writes 4) (did Reads 4 ∷ waited Reads ∷ []) (omega arith) (able_one (did Reads 4) (waited Reads ∷ []) (omega arith) (able_one (waited Reads) [] (omega arith) none_able)))
+      (λ is. absurd (cc is), (λ is. absurd (cc is), (λ is. tt, tt))) (omega arith);
+  both_wait = calm_of (waited Writes ∷ waited Reads ∷ [])
+      (able_one (waited Writes) (waited Reads ∷ []) (omega arith) (able_one (waited Reads) [] (omega arith) none_able))
+      (λ is. (λ same. cc same, tt), (λ is. tt, tt)) (omega arith);
+  shuts = calm_of (did Writes 4 ∷ waited Shuts ∷ [])
+      (able_one (did Writes 4) (waited Shuts ∷ []) (omega arith) (able_one (waited Shuts) [] (omega arith) none_able))
+      (λ is. absurd (cc is), (λ is. tt, tt)) (omega arith);
+  asked_by_a_call = asks_of (asked Writes ∷ waited Reads ∷ [])
+      (able_one (asked Writes) (waited Reads ∷ []) (omega arith) (able_one (waited Reads) [] (omega arith) none_able))
+      (λ is. (λ same. cc same, tt), (λ is. tt, tt)) (omega arith) (inl refl);
+  behind_all = asks_of (replicate 32 (did Reads 4)) (able_many 32) (once_many 32)
+      (let long = length-replicate 32 (did Reads 4) in omega (arith, long)) (inr (length-replicate 32 (did Reads 4)));
+  unasked = unasked_by (did Reads 4 ∷ waited Reads ∷ []) refl (λ all. cc all);
+  uncalled = unasked_by [] refl (λ all. cc all);
+  behind_too_few = unasked_by (replicate 31 (did Reads 4)) refl
+      (λ all. let long = length-replicate 31 (did Reads 4) in absurd (omega (arith, long, all)));
+  before = λ old new was. record {
+    log = waited Reads ∷ [];
+    called = record { made = refl; able = able_one (waited Reads) [] (omega arith) none_able; once = (λ is. tt, tt) };
+    most = omega arith;
+    asked = λ woken. inl was;
+  };
+  one_too_many = λ old new it.
+      let long = length-replicate 33 (did Reads 4) in
+      let same = ap length (of_poll (replicate 33 (did Reads 4)) old new it) in
+      let most = it.most in absurd (omega (arith, long, same, most));
+  of_none = λ old new it.
+      let able : IsAble (did Writes 0) =
+      subst (λ (l : List Call). All IsAble l) (of_poll (did Writes 0 ∷ []) old new it) it.called.able 0 (did Writes 0) (omega arith) in
+      elim able [
+        | inl is ↦ cc is
+        | inr some ↦ absurd (omega (arith, some))
+      ];
+  read_again = λ old new it.
+      ((subst IsOnce (of_poll (waited Reads ∷ did Reads 4 ∷ []) old new it) it.called.once).0 refl).0 refl;
+  unmade = λ old new it. let made : ◌≡◌ {A = List Call} [] (did Reads 4 ∷ it.log) = it.called.made in absurd (cc made);
+}
