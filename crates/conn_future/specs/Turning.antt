@@ -34,8 +34,8 @@ NoneWaited kind [] = Unit {0}
 NoneWaited kind (call ∷ log) = (call.kind ≡ kind → call.is_pending ≡ false) × NoneWaited kind log
 
 -- A poll has made so many calls; of those whose kind it doesn't wait for yet none was pending.
-pub record Makes {L : Type 0} (calls : L → List Call → L → Type 0) (waits : Waits) (first : L) (old : Context) (last : L)
-    (new : Context) (number : ℕ) : Type 0 where
+pub record Makes {L : Type 0} (calls : L → List Call → L → Type 0) (waits : Waits) (first : L) (old : Context)
+    (last : L) (new : Context) (number : ℕ) : Type 0 where
   pub log : List Call
   pub called : Called calls first log last
   pub count : length log ≡ number
@@ -45,8 +45,8 @@ pub record Makes {L : Type 0} (calls : L → List Call → L → Type 0) (waits 
   pub shutting : NoneWaited Shuts log
 
 -- A poll has made so many calls at most.
-pub record MadeTo {L : Type 0} (calls : L → List Call → L → Type 0) (first : L) (old : Context) (last : L) (new : Context)
-    (limit : ℕ) : Type 0 where
+pub record MadeTo {L : Type 0} (calls : L → List Call → L → Type 0) (first : L) (old : Context) (last : L)
+    (new : Context) (limit : ℕ) : Type 0 where
   pub log : List Call
   pub called : Called calls first log last
   pub most : length log ≤ limit
