@@ -2,7 +2,7 @@
 use Rattle.std.proofs.Common.{◌≡◌, ◌≢◌, ◌≤◌, ◌⊎◌, inl, inr, ◌||◌, ◌&&◌, ◌+◌, ℕ, Bool, true, false, not, List, [], ◌∷◌, ◌++◌, length, length-append, arith, refl, ap, sym, ◌∙◌}
 use Rattle.std.proofs.lemmas.List.Elements.{All-append, All-cons, All-nil}
 use Rattle.futures.specs.declared.task.context.Context.{Context}
-use Rattle.conn_link.specs.Calling.{Kind, Call, IsAble, HasNone, IsOnce, CallsNone, CallsOn, asks_some, asks_between}
+use Rattle.conn_link.specs.Calling.{Kind, Call, IsAble, HasNone, IsOnce, CallsNone, CallsOn, asks_some, asks_between, is_pending}
 use Rattle.conn_link.specs.Calling.Kind.{Reads, Writes, Shuts}
 use Rattle.conn_future.specs.Polling.{Called, Polls}
 use Rattle.conn_future.specs.declared.turns.Waits.{Waits}
@@ -19,7 +19,7 @@ once_on (first ∷ log) call waited once = (
   once_on log call waited.1 once.1,
 )
 
-pub waited_on : (kind : Kind) (log : List Call) (call : Call) → (call.kind ≡ kind → call.is_pending ≡ false) → NoneWaited kind log
+pub waited_on : (kind : Kind) (log : List Call) (call : Call) → (call.kind ≡ kind → is_pending call.answer ≡ false) → NoneWaited kind log
     → NoneWaited kind (log ++ call ∷ [])
 waited_on kind [] call not waited = (not, tt)
 waited_on kind (first ∷ log) call not waited = (waited.0, waited_on kind log call not waited.1)
@@ -84,9 +84,9 @@ module _ {L : Type 0} (calls : L → List Call → L → Type 0) (on : CallsOn c
   pub made_on : (waits then : Waits) (first mid last : L) (old cx new : Context) (count : ℕ) (call : Call)
       → (it : Makes calls waits first old mid cx count) → NoneWaited call.kind it.log → IsAble call
       → call.asks ≡ asks_between cx new → calls mid (call ∷ []) last
-      → (then.reading ≡ false → (waits.reading ≡ false) × (call.kind ≡ Reads → call.is_pending ≡ false))
-      → (then.writing ≡ false → (waits.writing ≡ false) × (call.kind ≡ Writes → call.is_pending ≡ false))
-      → (call.kind ≡ Shuts → call.is_pending ≡ false)
+      → (then.reading ≡ false → (waits.reading ≡ false) × (call.kind ≡ Reads → is_pending call.answer ≡ false))
+      → (then.writing ≡ false → (waits.writing ≡ false) × (call.kind ≡ Writes → is_pending call.answer ≡ false))
+      → (call.kind ≡ Shuts → is_pending call.answer ≡ false)
       → Makes calls then first old last new (count + 1)
   made_on waits then first mid last old cx new count call it waited able asks next reading writing shutting = record {
     log = it.log ++ call ∷ [];
@@ -101,7 +101,7 @@ module _ {L : Type 0} (calls : L → List Call → L → Type 0) (on : CallsOn c
 -- a call that was answered leaves what the poll waits for
 pub answered_on : {L : Type 0} (calls : L → List Call → L → Type 0) → CallsOn calls → (waits : Waits) (first mid last : L)
     (old cx new : Context) (count : ℕ) (call : Call) → (it : Makes calls waits first old mid cx count)
-    → NoneWaited call.kind it.log → IsAble call → call.is_pending ≡ false → call.asks ≡ asks_between cx new
+    → NoneWaited call.kind it.log → IsAble call → is_pending call.answer ≡ false → call.asks ≡ asks_between cx new
     → calls mid (call ∷ []) last → Makes calls waits first old last new (count + 1)
 answered_on calls on waits first mid last old cx new count call it waited able answered asks next =
     made_on calls on waits waits first mid last old cx new count call it waited able asks next

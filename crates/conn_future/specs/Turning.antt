@@ -4,7 +4,7 @@ use Rattle.futures.specs.declared.task.context.Context.{Context}
 use Rattle.futures.specs.declared.task.Poll.TheVariants.{Ready}
 use Rattle.futures.specs.Task.{Covers}
 use Rattle.conn_link.specs.declared.link.Link.{Ghosts as LinkGhosts}
-use Rattle.conn_link.specs.Calling.{Kind, Call, asks_some}
+use Rattle.conn_link.specs.Calling.{Kind, Call, asks_some, is_pending}
 use Rattle.conn_link.specs.Calling.Kind.{Reads, Writes, Shuts}
 use Rattle.handlers.specs.declared.handler.Handler.{Ghosts as HandlerGhosts}
 use Rattle.handlers.specs.declared.protocols.Protocols.{Ghosts as ProtocolsGhosts}
@@ -31,7 +31,7 @@ pub record HasWaited (waits : Waits) (cx : Context) (reads_at writes_at : ℕ �
 -- no call of that kind was pending
 abbrev pub NoneWaited : Kind → List Call → Type 0
 NoneWaited kind [] = Unit {0}
-NoneWaited kind (call ∷ log) = (call.kind ≡ kind → call.is_pending ≡ false) × NoneWaited kind log
+NoneWaited kind (call ∷ log) = (call.kind ≡ kind → is_pending call.answer ≡ false) × NoneWaited kind log
 
 -- A poll has made so many calls; of those whose kind it doesn't wait for yet none was pending.
 pub record Makes {L : Type 0} (calls : L → List Call → L → Type 0) (waits : Waits) (first : L) (old : Context)

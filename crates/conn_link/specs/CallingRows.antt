@@ -1,22 +1,23 @@
 -- Worked rows of calls that were made of a link: this project's profile.
-use Rattle.std.specs.Prelude.{◌≡◌, ℕ, true, false, List, [], ◌∷◌}
-use Rattle.conn_link.specs.Calling.{Kind, Call, CallsNone, CallsOn, IsAble, IsOnce, asks_some}
+use Rattle.std.specs.Prelude.{◌≡◌, ℕ, true, false, List, [], ◌∷◌, Ok, Err}
+use Rattle.futures.specs.declared.task.Poll.TheVariants as polls
+use Rattle.conn_link.specs.Calling.{Kind, Call, CallsNone, CallsOn, IsAble, IsOnce, asks_some, shut_answer}
 use Rattle.conn_link.specs.Calling.Kind.{Reads, Writes, Shuts}
 use Rattle.conn_link.specs.Piping.{GoesBy, PipeCalls}
 use Rattle.conn_link.specs.declared.step.PipeStep.TheVariants.{Upto, Pending, Fail}
 
 -- calls that asked for no other poll: one that was answered, and one that was pending
 abbrev pub did : Kind → ℕ → Call
-did kind room = record { kind = kind; room = room; is_pending = false; asks = false }
+did kind room = record { kind = kind; room = room; answer = polls.Ready (Ok room); asks = false }
 
 abbrev pub waited : Kind → Call
-waited kind = record { kind = kind; room = 4; is_pending = true; asks = false }
+waited kind = record { kind = kind; room = 4; answer = polls.Pending; asks = false }
 
 -- one that was pending and asked for another
 abbrev pub asked : Kind → Call
-asked kind = record { kind = kind; room = 4; is_pending = true; asks = true }
+asked kind = record { kind = kind; room = 4; answer = polls.Pending; asks = true }
 
--- what a call is, and what follows a call that is pending
+-- which calls may move some, and what follows a call that is pending
 pub record OnceRows : Type 0 where
   pub reads_some : IsAble (did Reads 1)
   pub writes_none : ¬ IsAble (did Writes 0)
@@ -27,6 +28,10 @@ pub record OnceRows : Type 0 where
   pub read_again : ¬ IsOnce (waited Reads ∷ did Reads 4 ∷ [])
   pub written_again : ¬ IsOnce (did Reads 4 ∷ waited Writes ∷ did Reads 4 ∷ waited Writes ∷ [])
   pub shut_again : ¬ IsOnce (asked Shuts ∷ did Shuts 0 ∷ [])
+  -- what shutting answers
+  pub shut : shut_answer (polls.Ready (Ok tt)) ≡ polls.Ready (Ok 0)
+  pub shut_failed : shut_answer (polls.Ready (Err (record {}))) ≡ polls.Ready (Err (record {}))
+  pub shut_waits : shut_answer polls.Pending ≡ polls.Pending
   pub some : asks_some (waited Reads ∷ asked Writes ∷ did Reads 4 ∷ []) ≡ true
   pub none : asks_some (waited Reads ∷ did Writes 4 ∷ []) ≡ false
 
@@ -50,7 +55,12 @@ pub record PipeCallRows : Type 0 where
   pub waits_to_fail : ¬ GoesBy (Fail ∷ []) [] (waited Reads ∷ []) [] []
   pub passes_over : ¬ GoesBy [] (Pending ∷ []) (did Writes 4 ∷ []) [] []
   pub waits_to_shut : ¬ GoesBy [] [] (waited Shuts ∷ []) [] []
-  pub asks_unpending : ¬ GoesBy [] [] (record { kind = Reads; room = 4; is_pending = false; asks = true } ∷ []) [] []
+  pub asks_unpending : ¬ GoesBy [] [] (record {
+    kind = Reads;
+    room = 4;
+    answer = polls.Ready (Ok 0);
+    asks = true;
+  } ∷ []) [] []
   -- as any link
   pub calls_none : CallsNone PipeCalls
   pub calls_on : CallsOn PipeCalls

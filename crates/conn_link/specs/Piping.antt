@@ -5,7 +5,7 @@ use Rattle.futures.specs.declared.task.Poll.TheVariants as polls
 use Rattle.conn_link.specs.declared.link.LinkFault.{LinkFault}
 use Rattle.conn_link.specs.declared.step.PipeStep.{PipeStep}
 use Rattle.conn_link.specs.declared.step.PipeStep.TheVariants.{Upto, Pending, Fail}
-use Rattle.conn_link.specs.Calling.{Kind, Call}
+use Rattle.conn_link.specs.Calling.{Kind, Call, is_pending}
 use Rattle.conn_link.specs.Calling.Kind.{Reads, Writes, Shuts}
 
 pub record Piped : Type 0 where
@@ -70,8 +70,9 @@ writes_left Shuts writes = writes
 -- its step is, and none but a pending call asks for another poll.
 abbrev pub GoesBy : (reads writes : List PipeStep) → List Call → (reads_then writes_then : List PipeStep) → Type 0
 GoesBy reads writes [] reads_then writes_then = (reads ≡ reads_then) × (writes ≡ writes_then)
-GoesBy reads writes (call ∷ log) reads_then writes_then = (call.is_pending ≡ is_pending_by call.kind reads writes)
-    × (call.asks ≡ true → call.is_pending ≡ true)
+GoesBy reads writes (call ∷ log) reads_then writes_then =
+    (is_pending call.answer ≡ is_pending_by call.kind reads writes)
+    × (call.asks ≡ true → is_pending call.answer ≡ true)
     × GoesBy (reads_left call.kind reads) (writes_left call.kind writes) log reads_then writes_then
 
 -- the calls from one state to another

@@ -5,7 +5,7 @@ ghost use Rattle.futures.specs.Poll.{OnPending};
 ghost use Rattle.futures.specs.Task.{Covers, Keeps};
 ghost use Rattle.conn_link.specs.Moving.{count_moved, bytes_moved, counted, found_end, OnSuccess, Within};
 ghost use Rattle.conn_link.specs.Moving.{MovesNothing, MovesOn, StaysEnded, StaysShut};
-ghost use Rattle.conn_link.specs.Calling.{Call, CallsNone, CallsOn, call_of};
+ghost use Rattle.conn_link.specs.Calling.{Call, CallsNone, CallsOn, call_of, shut_answer};
 ghost use Rattle.conn_link.specs.Calling.Kind.{Reads, Writes, Shuts};
 
 use futures::task::{Context, Poll};
@@ -79,7 +79,7 @@ pub trait Link: Drop {
     /// Tells the other end that no more bytes come.
     fn poll_shut(&mut self, cx: &mut Context<'_>) -> Poll<Result<(), LinkFault>>
         ensures moved { moves self.old [] [] self.new }
-        ensures called { calls self.old (call_of Shuts 0 result cx.old cx.new ∷ []) self.new }
+        ensures called { calls self.old (call_of Shuts 0 (shut_answer result) cx.old cx.new ∷ []) self.new }
         ensures shut { OnSuccess result (is_shut self.new) }
         ensures not_found { has_ended self.new → has_ended self.old }
         ensures failures { failed self.new ≡ counted (failed self.old) result }

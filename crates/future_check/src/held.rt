@@ -47,6 +47,8 @@ impl Held {
 impl Socket for Held {
     ghost moves = { λ _ _ _ _. ⊤ };
 
+    ghost steps = { λ _ _ _. ⊤ };
+
     ghost is_shut = { λ _. ⊤ };
 
     ghost reads_at = { λ socket. canceled_source socket.hold };
@@ -56,6 +58,10 @@ impl Socket for Held {
     ghost moves_nothing = { λ _. tt };
 
     ghost moves_on = { λ _ _ _ _ _ _ _ _ _. tt };
+
+    ghost steps_none = { λ _. tt };
+
+    ghost steps_on = { λ _ _ _ _ _ _ _. tt };
 
     ghost stays_shut = { λ _ _ _ _ _ is. is };
 

@@ -78,6 +78,8 @@ impl Scripted {
 impl Socket for Scripted {
     ghost moves = { λ _ _ _ _. ⊤ };
 
+    ghost steps = { λ _ _ _. ⊤ };
+
     ghost is_shut = { λ _. ⊤ };
 
     ghost reads_at = { λ _. 0 };
@@ -87,6 +89,10 @@ impl Socket for Scripted {
     ghost moves_nothing = { λ _. tt };
 
     ghost moves_on = { λ _ _ _ _ _ _ _ _ _. tt };
+
+    ghost steps_none = { λ _. tt };
+
+    ghost steps_on = { λ _ _ _ _ _ _ _. tt };
 
     ghost stays_shut = { λ _ _ _ _ _ is. is };
 
@@ -112,7 +118,7 @@ impl Socket for Scripted {
 }
 
 /// The codes of a socket's tries, calls in turn (r reads, w writes, s shuts), and what they answer.
-static ROWS: [(&[u8], &[u8], &[u8]); 15] = [
+static ROWS: [(&[u8], &[u8], &[u8]); 16] = [
     // A try that moves nothing yet is made again, once in a call.
     (&[3, PENDING, 2], b"rrr", b"32f"),
     (&[PENDING, PENDING, 3], b"rr", b"p3"),
@@ -130,6 +136,7 @@ static ROWS: [(&[u8], &[u8], &[u8]); 15] = [
     (&[1, 2, 3, END, FAIL], b"srwrw", b"0230f"),
     // Shutting fails where the socket does, and isn't tried again by itself.
     (&[FAIL, 1], b"ss", b"f0"),
+    (&[1, 2, FAIL], b"sss", b"00f"),
     (&[FAIL, FAIL, 2, 1], b"ssrw", b"ff21"),
     (&[FAIL, FAIL, 1], b"rws", b"ff0"),
     // A write that failed isn't the end of the input, and a read that failed isn't that of the output.

@@ -1,1 +1,3 @@
 pub mod Tried
+pub mod Rounds
+pub mod StepRows

@@ -1,6 +1,7 @@
 //! A link over a socket.
 #![tactic(auto)]
 
+pub mod laws;
 mod link;
 mod socket;
 

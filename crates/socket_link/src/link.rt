@@ -1,11 +1,11 @@
 //! A link over a socket.
 
-ghost use Rattle.std.specs.Prelude.{◌≡◌, ◌+◌, ◌-◌, ◌^◌, true, false, min, Err, ⊤};
-ghost use Rattle.socket_link.specs.Sockets.{LinkMoves, IsShut, nothing_moved, moved_on, ended_stays, shut_stays};
+ghost use Rattle.std.specs.Prelude.{◌≡◌, ◌+◌, ◌-◌, ◌^◌, true, false, min, Err};
+ghost use Rattle.socket_link.specs.Sockets.{LinkMoves, LinkCalls, IsShut, nothing_moved, moved_on, ended_stays};
+ghost use Rattle.socket_link.specs.Sockets.{none_called, called_on, shut_stays};
 
 use crate::socket::Socket;
 use conn_link::{Link, LinkFault, finds_end};
-use futures::ready;
 use futures::task::{Context, Poll};
 use std::io;
 
@@ -49,8 +49,7 @@ impl<S: Socket> SocketLink<S> {
 impl<S: Socket> Link for SocketLink<S> {
     ghost moves = { LinkMoves S.moves S.is_shut };
 
-    // Nothing is known of when a socket asks for another poll.
-    ghost calls = { λ _ _ _. ⊤ };
+    ghost calls = { LinkCalls S.steps };
 
     ghost has_ended = { λ link. link.has_ended ≡ true };
 
@@ -68,9 +67,9 @@ impl<S: Socket> Link for SocketLink<S> {
 
     ghost moves_on = { moved_on S.moves S.is_shut S.moves_on };
 
-    ghost calls_none = { λ _. tt };
+    ghost calls_none = { none_called S.steps S.steps_none };
 
-    ghost calls_on = { λ _ _ _ _ _ _ _. tt };
+    ghost calls_on = { called_on S.steps S.steps_on };
 
     ghost stays_ended = { ended_stays S.moves S.is_shut };
 
@@ -84,43 +83,54 @@ impl<S: Socket> Link for SocketLink<S> {
         if self.has_ended {
             return Poll::Ready(Ok(0));
         }
-        for _ in 0..TRIES {
-            if ready!(self.socket.poll_readable(cx)).is_err() {
-                return self.fail();
+        for _round in 0..TRIES {
+            match self.socket.poll_readable(cx) {
+                Poll::Ready(Ok(())) => {}
+                Poll::Ready(Err(_error)) => return self.fail(),
+                Poll::Pending => return Poll::Pending,
             }
             match self.socket.try_read(buffer) {
                 Ok(count) => {
                     self.has_ended = finds_end(buffer.len(), count);
                     return Poll::Ready(Ok(count));
                 }
-                Err(error) if error.kind() == io::ErrorKind::WouldBlock => {}
-                Err(_error) => return self.fail(),
+                Err(error) => {
+                    if error.kind() != io::ErrorKind::WouldBlock {
+                        return self.fail();
+                    }
+                }
             }
         }
         cx.yield_now()
     }
 
     fn poll_write(&mut self, cx: &mut Context<'_>, bytes: &[u8]) -> Poll<Result<usize, LinkFault>> {
-        for _ in 0..TRIES {
-            if ready!(self.socket.poll_writable(cx)).is_err() {
-                return self.fail();
+        for _round in 0..TRIES {
+            match self.socket.poll_writable(cx) {
+                Poll::Ready(Ok(())) => {}
+                Poll::Ready(Err(_error)) => return self.fail(),
+                Poll::Pending => return Poll::Pending,
             }
             match self.socket.try_write(bytes) {
                 Ok(count) => return Poll::Ready(Ok(count)),
-                Err(error) if error.kind() == io::ErrorKind::WouldBlock => {}
-                Err(_error) => return self.fail(),
+                Err(error) => {
+                    if error.kind() != io::ErrorKind::WouldBlock {
+                        return self.fail();
+                    }
+                }
             }
         }
         cx.yield_now()
     }
 
     fn poll_shut(&mut self, cx: &mut Context<'_>) -> Poll<Result<(), LinkFault>> {
-        match ready!(self.socket.poll_shut(cx)) {
-            Ok(()) => {
+        match self.socket.poll_shut(cx) {
+            Poll::Ready(Ok(())) => {
                 self.is_shut = true;
                 Poll::Ready(Ok(()))
             }
-            Err(_error) => self.fail(),
+            Poll::Ready(Err(_error)) => self.fail(),
+            Poll::Pending => Poll::Pending,
         }
     }
 

@@ -1,9 +1,11 @@
-use Rattle.std.proofs.Common.{◌≡◌, []}
+use Rattle.std.proofs.Common.{◌≡◌, [], length}
+use Rattle.socket_link.specs.Steps.Side.{Writing}
+use Rattle.socket_link.proofs.Rounds.{Rounds}
 use Rattle.futures.specs.Task.{Keeps}
 use Rattle.socket_link.proofs.link.SocketLinkLink.poll_write.Given as goal
 
-abbrev pub invariant-loop : goal.invariant-loop
-invariant-loop g l = record {
+abbrev pub invariant-loop-round : goal.invariant-loop-round
+invariant-loop-round g l = record {
   moved : g.S.Socket.moves l.fn.self.socket [] [] l.self.socket;
   not_shut : g.S.Socket.is_shut l.self.socket → g.S.Socket.is_shut l.fn.self.socket;
   reads_at : g.S.Socket.reads_at l.self.socket ≡ g.S.Socket.reads_at l.fn.self.socket;
@@ -11,5 +13,6 @@ invariant-loop g l = record {
   has_ended : l.self.has_ended ≡ l.fn.self.has_ended;
   is_shut : l.self.is_shut ≡ l.fn.self.is_shut;
   failures : l.self.failures ≡ l.fn.self.failures;
+  tried : Rounds g.S.Socket.steps Writing (length l.bytes) l.fn.self.socket l.fn.cx l.self.socket l.cx l._round;
   kept : Keeps l.fn.cx l.cx;
 }
