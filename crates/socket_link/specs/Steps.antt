@@ -72,8 +72,8 @@ pub data Takes (side : Side) (room : ℕ) (steps : List Step) (answer : Poll (Re
       → Takes side room steps answer may_ask
   Yields : Blocked side room 2 steps → answer ≡ Pending → may_ask ≡ true → Takes side room steps answer may_ask
 
--- A read or a write: it answers by its steps, and asks for another poll only where one of them does, or behind two tries
--- that would have blocked.
+-- A read or a write: it answers by its steps, and asks for another poll only where one of them does, or behind two
+-- tries that would have blocked.
 pub record Tries (side : Side) (call : Call) (steps : List Step) : Type 0 where
   pub may_ask : Bool
   pub takes : Takes side call.room steps call.answer may_ask
