@@ -71,3 +71,4 @@ mod DefinedSessionTold
 mod DefinedSessionCalls
 mod DefinedSessionRuns
 mod DefinedSessionJoined
+mod DefinedKinds

@@ -73,3 +73,4 @@ pub mod DefinedSessionTold
 pub mod DefinedSessionCalls
 pub mod DefinedSessionRuns
 pub mod DefinedSessionJoined
+pub mod DefinedKinds

@@ -6,6 +6,7 @@ pub mod called;
 pub mod defined_codecs;
 pub mod defined_cores;
 pub mod defined_handlers;
+pub mod defined_kinds;
 pub mod defined_pools;
 pub mod defined_sessions;
 pub mod laws;
