@@ -1,6 +1,6 @@
 -- Kinds of values: each is one of these, and there is no other. A clause says what a value means by a definition that
 -- takes it apart; so another constructor that means the same could be answered in its place.
--- Source: as the definitions that take them apart.
+-- Source: this project's profile: which answers and refusals each call has.
 use Rattle.std.specs.Prelude.{◌≡◌, ◌⊎◌, List, [], ◌∷◌}
 use Rattle.varint_proto.specs.declared.fault.WireFault.{WireFault}
 use Rattle.varint_proto.specs.declared.fault.WireFault.TheVariants as wire_faults
