@@ -11,12 +11,21 @@ use Rattle.conn_log.specs.declared.event.ConnFault.TheVariants as fault
 use Rattle.conn_core.specs.declared.connection.ConnCore.{ConnCore}
 use Rattle.conn_core.specs.Connects.{is_over}
 use Rattle.conn_core.specs.Runs.{is_end}
+use Rattle.conn_future.specs.declared.stage.Stage.{Stage}
+use Rattle.conn_future.specs.declared.stage.Stage.TheVariants.{Going, Shutting, Starved, Over}
 use Rattle.conn_future.specs.Follows.Ends.{Told, Failed, Refused, Shut}
 use Rattle.conn_future.specs.StageRows.{StageRows, WaitRows, CameRows, DrainRows, Line, line, ended, shut}
 use Rattle.conn_future.specs.FollowRows.{JoinRows, GoingRows, RefusedRows, EndRows, FollowRows, core_stands, joins, parts, ends}
 
+is_stage : (stage : Stage) → (stage ≡ Going) ⊎ ((stage ≡ Shutting) ⊎ ((stage ≡ Starved) ⊎ (stage ≡ Over)))
+is_stage Going = inl refl
+is_stage Shutting = inr (inl refl)
+is_stage Starved = inr (inr (inl refl))
+is_stage Over = inr (inr (inr refl))
+
 pub stage_rows : StageRows
 stage_rows = record {
+  stages = is_stage;
   going = refl;
   shutting = refl;
   starved = refl;
@@ -232,10 +241,26 @@ module _ {P H : Type 0} (protocols : ProtocolsGhosts P H) (handler : HandlerGhos
     told = λ core over one other stands. Told true (4 ∷ []) over (record { given = 2 ∷ []; took = 9 ∷ []; moved = (refl, refl); reached = λ is. refl; found = λ is. inl refl; stands = stands });
   }
 
+  is_ended : (first : Line) (asked : List (ℕ × ℕ)) (gave : List (ConnEvent H)) (now : Line) (core : ConnCore P H)
+      (held : List (ConnEvent H)) → ends protocols handler start role own first asked gave now core held
+      → ((end : Bool) × (left : List ℕ) × (is_over core.phase ≡ true)
+      × joins protocols handler start role own first asked gave end now core left held)
+      ⊎ (((before : List (ConnEvent H)) × (left : List ℕ) × (held ≡ [])
+      × (gave ≡ before ++ event.Fault fault.Link ∷ []) × joins protocols handler start role own first asked before false now core left [])
+      ⊎ (((before : List (ConnEvent H)) × (held ≡ []) × (gave ≡ before ++ event.Fault fault.OutOfMemory ∷ [])
+      × parts protocols handler start role own first asked before now [])
+      ⊎ ((before : List (ConnEvent H)) × (held ≡ []) × (gave ≡ before ++ event.Shut ∷ [])
+      × (now.is_shut ≡ true) × joins protocols handler start role own first asked before false now core [] [])))
+  is_ended first asked gave now core held (Told end left over it) = inl (end, left, over, it)
+  is_ended first asked gave now core held (Failed before left none is it) = inr (inl (before, left, none, is, it))
+  is_ended first asked gave now core held (Refused before none is it) = inr (inr (inl (before, none, is, it)))
+  is_ended first asked gave now core held (Shut before none is shut it) = inr (inr (inr (before, none, is, shut, it)))
+
   pub follow_rows : FollowRows protocols handler start role own
   follow_rows = record {
     joined = join_rows;
     going = going_rows;
     refused = refused_rows;
     ended = end_rows;
+    kinds = record { ended = is_ended };
   }

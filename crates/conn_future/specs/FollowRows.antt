@@ -1,6 +1,6 @@
 -- Worked rows of where a connection over a link stands: over a link that is a line, whatever its core and handlers.
 -- Source: this project's profile of a connection.
-use Rattle.std.specs.Prelude.{◌≡◌, ◌≢◌, ◌↔◌, ℕ, Bool, true, false, List, [], ◌∷◌, ◌++◌}
+use Rattle.std.specs.Prelude.{◌≡◌, ◌≢◌, ◌↔◌, ◌⊎◌, ℕ, Bool, true, false, List, [], ◌∷◌, ◌++◌}
 use Rattle.handlers.specs.declared.handler.Handler.{Ghosts as HandlerGhosts}
 use Rattle.handlers.specs.declared.protocols.Protocols.{Ghosts as ProtocolsGhosts}
 use Rattle.peer_ids.specs.Key.{Key}
@@ -91,9 +91,23 @@ module _ {P H : Type 0} (protocols : ProtocolsGhosts P H) (handler : HandlerGhos
         → core_stands (2 ∷ []) true [] (one ∷ other ∷ []) (9 ∷ 4 ∷ []) core
         → ends (line [] []) [] (one ∷ []) (ended (2 ∷ []) (9 ∷ [])) core (other ∷ [])
 
+  -- why it makes no link call more: for one of these reasons, and for no other
+  pub record EndKinds : Type 0 where
+    pub ended : (first : Line) (asked : List (ℕ × ℕ)) (gave : List (ConnEvent H)) (now : Line) (core : ConnCore P H)
+        (held : List (ConnEvent H)) → ends first asked gave now core held
+        → ((end : Bool) × (left : List ℕ) × (is_over core.phase ≡ true)
+        × joins first asked gave end now core left held)
+        ⊎ (((before : List (ConnEvent H)) × (left : List ℕ) × (held ≡ [])
+        × (gave ≡ before ++ event.Fault fault.Link ∷ []) × joins first asked before false now core left [])
+        ⊎ (((before : List (ConnEvent H)) × (held ≡ []) × (gave ≡ before ++ event.Fault fault.OutOfMemory ∷ [])
+        × parts first asked before now [])
+        ⊎ ((before : List (ConnEvent H)) × (held ≡ []) × (gave ≡ before ++ event.Shut ∷ [])
+        × (now.is_shut ≡ true) × joins first asked before false now core [] [])))
+
   -- what a connection over a link gives, and where its bytes are
   pub record FollowRows : Type 0 where
     pub joined : JoinRows
     pub going : GoingRows
     pub refused : RefusedRows
     pub ended : EndRows
+    pub kinds : EndKinds

@@ -43,6 +43,7 @@ abbrev pub waits : Stage → List ℕ → ℕ → Type 0
 waits = WaitsAt (λ source. source ≡ 1) (λ source. source ≡ 2) (λ source. source ≡ 3)
 
 pub record StageRows : Type 0 where
+  pub stages : (stage : Stage) → (stage ≡ Going) ⊎ ((stage ≡ Shutting) ⊎ ((stage ≡ Starved) ⊎ (stage ≡ Over)))
   pub going : is_live Going ≡ true
   pub shutting : is_live Shutting ≡ true
   pub starved : is_live Starved ≡ false

@@ -1,9 +1,10 @@
 -- Worked rows of calls that were made of a link: this project's profile.
-use Rattle.std.specs.Prelude.{◌≡◌, ℕ, true, false, List, [], ◌∷◌, Ok, Err}
+use Rattle.std.specs.Prelude.{◌≡◌, ◌⊎◌, ℕ, true, false, List, [], ◌∷◌, Ok, Err}
 use Rattle.futures.specs.declared.task.Poll.TheVariants as polls
 use Rattle.conn_link.specs.Calling.{Kind, Call, CallsNone, CallsOn, IsAble, IsOnce, asks_some, shut_answer}
 use Rattle.conn_link.specs.Calling.Kind.{Reads, Writes, Shuts}
 use Rattle.conn_link.specs.Piping.{GoesBy, PipeCalls}
+use Rattle.conn_link.specs.declared.step.PipeStep.{PipeStep}
 use Rattle.conn_link.specs.declared.step.PipeStep.TheVariants.{Upto, Pending, Fail}
 
 -- calls that asked for no other poll: one that was answered, and one that was pending
@@ -34,6 +35,11 @@ pub record OnceRows : Type 0 where
   pub shut_waits : shut_answer polls.Pending ≡ polls.Pending
   pub some : asks_some (waited Reads ∷ asked Writes ∷ did Reads 4 ∷ []) ≡ true
   pub none : asks_some (waited Reads ∷ did Writes 4 ∷ []) ≡ false
+
+-- which kinds of calls and of steps there are, and no others
+pub record KindRows : Type 0 where
+  pub kinds : (kind : Kind) → (kind ≡ Reads) ⊎ ((kind ≡ Writes) ⊎ (kind ≡ Shuts))
+  pub steps : (step : PipeStep) → ((most : ℕ) × (step ≡ Upto most)) ⊎ ((step ≡ Pending) ⊎ (step ≡ Fail))
 
 -- links that are numbers: one call makes the next number of each
 abbrev pub counts : ℕ → List Call → ℕ → Type 0

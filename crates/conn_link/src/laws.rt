@@ -1,7 +1,7 @@
 //! What the definitions come to.
 
 ghost use Rattle.conn_link.specs.MovingRows.{CountRows, FoundRows, FailureRows, SuccessRows, WithinRows, LawRows};
-ghost use Rattle.conn_link.specs.CallingRows.{OnceRows, CallRows, PipeCallRows};
+ghost use Rattle.conn_link.specs.CallingRows.{OnceRows, KindRows, CallRows, PipeCallRows};
 ghost use Rattle.conn_link.specs.PipingRows.{StepRows, PipeRows};
 
 /// The definitions say of worked calls what they are to say.
@@ -15,6 +15,7 @@ pub fn worked_rows()
     ensures steps { StepRows }
     ensures pipes { PipeRows }
     ensures once { OnceRows }
+    ensures kinds { KindRows }
     ensures calls { CallRows }
     ensures pipe_calls { PipeCallRows }
 {}

@@ -290,12 +290,22 @@ module _ {P H : Type 0} (step : H → HandlerCall → H → Type 0) (fails : H �
   explains_is input written ended asked told owed (Up session streams past e u) = inr (inl (e, (session, streams, past, u)))
   explains_is input written ended asked told owed (Over o x) = inr (inr (o, x))
 
+  explains_are : (input written : List ℕ) (ended : Bool) (asked : List (ℕ × ℕ)) (told owed : List (ConnEvent H)) (there : explained_by input ended asked told owed written)
+      → ((e : ended ≡ false) × (a : asked ≡ []) × (t : told ≡ []) × (o : owed ≡ []) × (u : Upgrades role own input (Ok None) written) × (there ≡ Coming e a t o u))
+      ⊎ (((session : State) × (streams : ℕ → Option (Streaming H)) × (past : List (Earlier H)) × (e : ended ≡ false)
+      × (u : up_so input asked (told ++ owed) written session streams past) × (there ≡ Up session streams past e u))
+      ⊎ ((o : owed ≡ []) × (x : over_by input ended asked told written) × (there ≡ Over o x)))
+  explains_are input written ended asked told owed (Coming e a t o u) = inl (e, a, t, o, u, refl)
+  explains_are input written ended asked told owed (Up session streams past e u) = inr (inl (session, streams, past, e, u, refl))
+  explains_are input written ended asked told owed (Over o x) = inr (inr (o, x, refl))
+
   pub any_runs : AnyWholeRunRows step fails is_closed is_finished inbound_makes outbound_makes listed is_eager inbound_leads outbound_leads start role own
   any_runs = record {
     coming = λ input written u. Coming refl refl refl refl u;
     up = λ input written asked told owed session streams past u. Up session streams past refl u;
     over = λ input written ended asked told x. Over refl x;
     explains_is = explains_is;
+    explains_are = explains_are;
     explained = λ input ended asked told owed. (λ h. h, λ h. h);
     spent = λ written. tt;
     coming_opens_none = λ input written ended asked told owed e a t o u index reason handlers. (λ h. h, (λ h. h, λ h. h), (λ h. h, λ h. h));

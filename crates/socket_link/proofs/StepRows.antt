@@ -1,5 +1,6 @@
 -- The rows of a call's steps.
-use Rattle.std.proofs.Common.{◌≡◌, ◌≤◌, ◌*◌, ℕ, zero, suc, Bool, true, false, List, [], ◌∷◌, ◌++◌, length, length-append, Result, Ok, Err, arith, refl, ap, sym, subst, ◌∙◌}
+use Rattle.std.specs.Prelude.{⊤}
+use Rattle.std.proofs.Common.{◌≡◌, ◌≤◌, ◌*◌, ℕ, zero, suc, Bool, true, false, List, [], ◌∷◌, ◌++◌, length, length-append, Result, Ok, Err, arith, refl, ap, sym, subst, ◌∙◌, ◌≢◌, ◌⊎◌, inl, inr}
 use Rattle.std.specs.IoError.{error_kind}
 use Rattle.std.specs.declared.io.Error.{Error}
 use Rattle.std.specs.declared.io.ErrorKind.TheVariants.{WouldBlock}
@@ -10,10 +11,10 @@ use Rattle.conn_link.specs.Piping.{failure}
 use Rattle.conn_link.specs.Calling.Kind.{Reads, Writes}
 use Rattle.socket_link.specs.Steps.{Side, Step, Blocked, Answers, Takes, Tries}
 use Rattle.socket_link.specs.Steps.Side.{Reading, Writing}
-use Rattle.socket_link.specs.Steps.Step.{Asked, Tried}
+use Rattle.socket_link.specs.Steps.Step.{Asked, Tried, Shut}
 use Rattle.socket_link.specs.Steps.Answers.{Waits, Breaks, Moves, Fails}
 use Rattle.socket_link.specs.Steps.Takes.{Answered, Yields}
-use Rattle.socket_link.specs.StepRows.{TryRows, NoTryRows, CallRows, ready, tried}
+use Rattle.socket_link.specs.StepRows.{KindRows, TryRows, NoTryRows, CallRows, ready, tried}
 
 blocked_length : (side : Side) (room times : ℕ) (steps : List Step) → Blocked side room times steps → length steps ≡ times * 2
 blocked_length side room zero steps is = ap length is
@@ -145,3 +146,39 @@ call_rows = record {
   asks_by_shutting = refl;
   asks_not = refl;
 }
+
+is_side : (side : Side) → (side ≡ Reading) ⊎ (side ≡ Writing)
+is_side Reading = inl refl
+is_side Writing = inr refl
+
+is_step : (step : Step)
+    → ((side : Side) × (answer : Poll (Result ⊤ Error)) × (asks : Bool) × (step ≡ Asked side answer asks))
+    ⊎ (((side : Side) × (room : ℕ) × (answer : Result ℕ Error) × (step ≡ Tried side room answer))
+    ⊎ ((answer : Poll (Result ⊤ Error)) × (asks : Bool) × (step ≡ Shut answer asks)))
+is_step (Asked side answer asks) = inl (side, answer, asks, refl)
+is_step (Tried side room answer) = inr (inl (side, room, answer, refl))
+is_step (Shut answer asks) = inr (inr (answer, asks, refl))
+
+is_answer : (side : Side) (room : ℕ) (steps : List Step) (answer : Poll (Result ℕ LinkFault)) → Answers side room steps answer
+    → ((asks : Bool) × (steps ≡ Asked side Pending asks ∷ []) × (answer ≡ Pending))
+    ⊎ (((asks : Bool) × (error : Error) × (steps ≡ Asked side (Ready (Err error)) asks ∷ []) × (answer ≡ failure))
+    ⊎ (((asks : Bool) × (count : ℕ)
+    × (steps ≡ Asked side (Ready (Ok tt)) asks ∷ Tried side room (Ok count) ∷ []) × (answer ≡ Ready (Ok count)))
+    ⊎ ((asks : Bool) × (error : Error) × (error_kind error ≢ WouldBlock)
+    × (steps ≡ Asked side (Ready (Ok tt)) asks ∷ Tried side room (Err error) ∷ []) × (answer ≡ failure))))
+is_answer side room steps answer (Waits asks is same) = inl (asks, is, same)
+is_answer side room steps answer (Breaks asks error is same) = inr (inl (asks, error, is, same))
+is_answer side room steps answer (Moves asks count is same) = inr (inr (inl (asks, count, is, same)))
+is_answer side room steps answer (Fails asks error not is same) = inr (inr (inr (asks, error, not, is, same)))
+
+is_taken : (side : Side) (room : ℕ) (steps : List Step) (answer : Poll (Result ℕ LinkFault)) (may_ask : Bool)
+    → Takes side room steps answer may_ask
+    → ((times : ℕ) × (blocked : List Step) × (last : List Step) × (times ≤ 1) × Blocked side room times blocked
+    × Answers side room last answer × (steps ≡ blocked ++ last) × (may_ask ≡ false))
+    ⊎ (Blocked side room 2 steps × (answer ≡ Pending) × (may_ask ≡ true))
+is_taken side room steps answer may_ask (Answered times blocked last less some answers is none_asked) =
+    inl (times, blocked, last, less, some, answers, is, none_asked)
+is_taken side room steps answer may_ask (Yields both is may) = inr (both, is, may)
+
+pub kind_rows : KindRows
+kind_rows = record { sides = is_side; steps = is_step; answers = is_answer; takes = is_taken }

@@ -1,6 +1,6 @@
 -- Worked rows of the steps of a call of a link over a socket: this project's profile.
 -- Source: POSIX.1-2017 (the specification of `read` and `write` on a socket that doesn't block).
-use Rattle.std.specs.Prelude.{◌≡◌, ◌≢◌, ℕ, Bool, true, false, [], ◌∷◌, Result, Ok, Err}
+use Rattle.std.specs.Prelude.{◌≡◌, ◌≢◌, ◌≤◌, ◌⊎◌, ◌++◌, ⊤, ℕ, Bool, true, false, [], ◌∷◌, Result, Ok, Err, List}
 use Rattle.std.specs.IoError.{error_kind}
 use Rattle.std.specs.declared.io.Error.{Error}
 use Rattle.std.specs.declared.io.ErrorKind.TheVariants.{WouldBlock}
@@ -10,7 +10,7 @@ use Rattle.conn_link.specs.declared.link.LinkFault.{LinkFault}
 use Rattle.conn_link.specs.Piping.{failure}
 use Rattle.conn_link.specs.Calling.{Kind, Call}
 use Rattle.conn_link.specs.Calling.Kind.{Reads, Writes, Shuts}
-use Rattle.socket_link.specs.Steps.{Side, Step, Takes, By, AllBy, asks_some}
+use Rattle.socket_link.specs.Steps.{Side, Step, Blocked, Answers, Takes, By, AllBy, asks_some}
 use Rattle.socket_link.specs.Steps.Side.{Reading, Writing}
 use Rattle.socket_link.specs.Steps.Step.{Asked, Tried, Shut}
 
@@ -20,6 +20,27 @@ ready side = Asked side (Ready (Ok tt)) false
 
 abbrev pub tried : Side → Result ℕ Error → Step
 tried side answer = Tried side 4 answer
+
+-- which sides, steps and answers there are, and no others
+pub record KindRows : Type 0 where
+  pub sides : (side : Side) → (side ≡ Reading) ⊎ (side ≡ Writing)
+  pub steps : (step : Step)
+      → ((side : Side) × (answer : Poll (Result ⊤ Error)) × (asks : Bool) × (step ≡ Asked side answer asks))
+      ⊎ (((side : Side) × (room : ℕ) × (answer : Result ℕ Error) × (step ≡ Tried side room answer))
+      ⊎ ((answer : Poll (Result ⊤ Error)) × (asks : Bool) × (step ≡ Shut answer asks)))
+  pub answers : (side : Side) (room : ℕ) (steps : List Step) (answer : Poll (Result ℕ LinkFault))
+      → Answers side room steps answer
+      → ((asks : Bool) × (steps ≡ Asked side Pending asks ∷ []) × (answer ≡ Pending))
+      ⊎ (((asks : Bool) × (error : Error) × (steps ≡ Asked side (Ready (Err error)) asks ∷ []) × (answer ≡ failure))
+      ⊎ (((asks : Bool) × (count : ℕ)
+      × (steps ≡ Asked side (Ready (Ok tt)) asks ∷ Tried side room (Ok count) ∷ []) × (answer ≡ Ready (Ok count)))
+      ⊎ ((asks : Bool) × (error : Error) × (error_kind error ≢ WouldBlock)
+      × (steps ≡ Asked side (Ready (Ok tt)) asks ∷ Tried side room (Err error) ∷ []) × (answer ≡ failure))))
+  pub takes : (side : Side) (room : ℕ) (steps : List Step) (answer : Poll (Result ℕ LinkFault)) (may_ask : Bool)
+      → Takes side room steps answer may_ask
+      → ((times : ℕ) × (blocked : List Step) × (last : List Step) × (times ≤ 1) × Blocked side room times blocked
+      × Answers side room last answer × (steps ≡ blocked ++ last) × (may_ask ≡ false))
+      ⊎ (Blocked side room 2 steps × (answer ≡ Pending) × (may_ask ≡ true))
 
 -- what a read of 4 bytes answers
 pub record TryRows : Type 0 where

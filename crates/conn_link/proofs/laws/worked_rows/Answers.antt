@@ -1,8 +1,8 @@
-use Rattle.std.proofs.Common.{◌≡◌, ℕ, Bool, true, false, List, [], ◌∷◌, refl, sym, ◌∙◌}
+use Rattle.std.proofs.Common.{◌≡◌, ◌⊎◌, inl, inr, ℕ, Bool, true, false, List, [], ◌∷◌, refl, sym, ◌∙◌}
 use Rattle.conn_link.specs.declared.step.PipeStep.{PipeStep}
-use Rattle.conn_link.specs.declared.step.PipeStep.TheVariants.{Upto}
-use Rattle.conn_link.specs.Calling.{Call}
-use Rattle.conn_link.specs.Calling.Kind.{Reads}
+use Rattle.conn_link.specs.declared.step.PipeStep.TheVariants.{Upto, Pending, Fail}
+use Rattle.conn_link.specs.Calling.{Kind, Call}
+use Rattle.conn_link.specs.Calling.Kind.{Reads, Writes, Shuts}
 use Rattle.conn_link.specs.CallingRows.{did}
 use Rattle.conn_link.specs.PipeLaws.{none_moved, moved_on, none_called, called_on, ended_stays, shut_stays}
 use Rattle.conn_link.proofs.laws.worked_rows.Goals as goal
@@ -48,6 +48,19 @@ returns-clause-pipes c = record {
   stays_ended = ended_stays;
   stays_shut = shut_stays;
 }
+
+is_kind : (kind : Kind) → (kind ≡ Reads) ⊎ ((kind ≡ Writes) ⊎ (kind ≡ Shuts))
+is_kind Reads = inl refl
+is_kind Writes = inr (inl refl)
+is_kind Shuts = inr (inr refl)
+
+is_step : (step : PipeStep) → ((most : ℕ) × (step ≡ Upto most)) ⊎ ((step ≡ Pending) ⊎ (step ≡ Fail))
+is_step (Upto most) = inl (most, refl)
+is_step Pending = inr (inl refl)
+is_step Fail = inr (inr refl)
+
+pub returns-clause-kinds : goal.returns-clause-kinds
+returns-clause-kinds c = record { kinds = is_kind; steps = is_step }
 
 pub returns-clause-calls : goal.returns-clause-calls
 returns-clause-calls c = record {
