@@ -5,9 +5,12 @@ ghost use Rattle.std.specs.Prelude.{IfSome};
 ghost use Rattle.conn_link.specs.Piping.{CanGo};
 
 use crate::ends::{End, Gave, UPGRADE, connect, input, poll_once};
+use bounded_conn::{BoundedConn, MOST_WAITING};
 use conn_link::{Link, Pipe, PipeStep};
 use conn_log::ConnRefused;
+use futures::task::Poll;
 use futures::test::MockTask;
+use node_protocols::{FixedPayload, NodeProtocols};
 use std::alloc::Global;
 use std::test::*;
 use upgrade::ConnRole;
@@ -142,5 +145,48 @@ fn a_link_that_has_failed_before(rt: HostRuntime) -> Result<(), Fail> {
     let task = MockTask::new(&rt)?;
     let held = fails_again(rt.alloc(), &task) == Some(true);
     assert!(rt; held, "the next failure");
+    Ok(())
+}
+
+type Bounded = BoundedConn<Pipe, NodeProtocols<FixedPayload>>;
+
+/// A listener whose link takes nothing, and whose other end sends 360,000 Pings.
+fn flooded(alloc: Global) -> Option<Bounded> {
+    let writes = steps(alloc, PipeStep::Pending, PipeStep::Pending, 100)?;
+    let pipe = Pipe::new(alloc, input(alloc, PING, 360_000)?, Vec::new(alloc), writes);
+    Some(BoundedConn::new(connect(alloc, ConnRole::Listener, pipe)?))
+}
+
+fn gives_none(task: &MockTask, conn: &mut Bounded) -> bool {
+    matches!(task.enter(|cx| conn.poll_next(cx)), Poll::Ready(None))
+}
+
+/// How much waits behind the poll before the one at which it is dropped; None, where it isn't within so many.
+fn most_waiting(task: &MockTask, conn: &mut Bounded, polls: u32) -> Option<usize> {
+    let mut most = 0usize;
+    for _poll in 0..polls {
+        if gives_none(task, conn) {
+            return conn.was_dropped().then_some(most);
+        }
+        most = most.max(conn.waiting());
+    }
+    None
+}
+
+/// It is dropped where more than 4 MiB wait, and not before; then it gives nothing, and asks for no poll.
+fn is_dropped(alloc: Global, task: &MockTask) -> Option<bool> {
+    let mut conn = flooded(alloc)?;
+    let most = most_waiting(task, &mut conn, 60)?;
+    let is_bounded = most <= MOST_WAITING && most > MOST_WAITING - 300_000;
+    let ends = gives_none(task, &mut conn) && !task.is_woken();
+    let refuses = conn.ask(PROTOCOL) == Err(ConnRefused::Failed);
+    Some(is_bounded && ends && refuses && conn.waiting() == 0)
+}
+
+#[test]
+fn too_much_waits(rt: HostRuntime) -> Result<(), Fail> {
+    let task = MockTask::new(&rt)?;
+    let held = is_dropped(rt.alloc(), &task) == Some(true);
+    assert!(rt; held, "4 MiB");
     Ok(())
 }
