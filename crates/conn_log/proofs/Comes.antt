@@ -205,6 +205,7 @@ module _ {P H : Type 0} (step : H → HandlerCall → H → Type 0) (fails : H �
         held = g.held;
         request = ToGive (credit_now - Rattle.std.specs.Prelude.length old.waiting);
         asked_for = ap (λ k. k - Rattle.std.specs.Prelude.length old.waiting) (sym (open_with role (items log) n credit_now is_open).credit_is);
+        in_turn = g.unclosed;
         fails_by = failed;
       })
 

@@ -198,6 +198,7 @@ module _ {P H : Type 0} (step : H → HandlerCall → H → Type 0) (fails : H �
             held = ap Rattle.streams.specs.State.handler_of f.1.2;
             request = ToTake bytes;
             asked_for = (front.0, data_is);
+            in_turn = (f.1.2, h.ended_is ∙ going);
             fails_by = f.1.3;
           },
         )

@@ -174,6 +174,7 @@ module _ {P H : Type 0} (step : H → HandlerCall → H → Type 0) (fails : H �
             held = ap Rattle.streams.specs.State.handler_of serves;
             request = ToEnd;
             asked_for = (all_came, is_finished_then);
+            in_turn = (serves, h.ended_is ∙ going);
             fails_by = fails_by;
           },
         ) in

@@ -16,6 +16,8 @@ use Rattle.yamux_session.specs.Events.{Told, events_at}
 use Rattle.yamux_session.specs.Data.{inbound, written}
 use Rattle.streams.specs.declared.stop.Cause.{Cause}
 use Rattle.streams.specs.declared.stop.Cause.TheVariants as causes
+use Rattle.streams.specs.declared.stage.Stage.{Stage}
+use Rattle.streams.specs.declared.stage.Stage.TheVariants.{Serving}
 use Rattle.streams.specs.Streams.{Past, IsServed}
 use Rattle.streams.specs.State.{Streaming, Stands, handler_of, has_closed, has_finished}
 use Rattle.dispatch.specs.declared.direction.Direction.{Direction}
@@ -105,6 +107,13 @@ module _ {P H : Type 0} (step : H → HandlerCall → H → Type 0) (fails : H �
       (inbound role (items log) n ≡ so_far.got) × (finished role (items log) n ≡ true)
   IsAskedFor log n so_far waiting (ToGive room) = room ≡ credit role (items log) n - length waiting
 
+  -- It may be asked for that in its turn: what came, and its end, is told to a handler that serves the stream and wasn't
+  -- told of the end before; one that isn't closed is asked to give.
+  abbrev pub IsInTurn : Stage H → (ended : Bool) → H → Asked → Type 0
+  IsInTurn stage ended handler (ToTake bytes) = (stage ≡ Serving handler) × (ended ≡ false)
+  IsInTurn stage ended handler ToEnd = (stage ≡ Serving handler) × (ended ≡ false)
+  IsInTurn stage ended handler (ToGive room) = is_closed handler ≡ false
+
   -- its handler was asked for this, and failed with this number
   pub record HandlerFails (log : List (Entry H)) (n : ℕ) (number : ℕ) : Type 0 where
     pub there : IsThere log n
@@ -112,6 +121,7 @@ module _ {P H : Type 0} (step : H → HandlerCall → H → Type 0) (fails : H �
     pub held : handler_of there.stream.stage ≡ Some handler
     pub request : Asked
     pub asked_for : IsAskedFor log n there.so_far there.stream.waiting request
+    pub in_turn : IsInTurn there.stream.stage there.so_far.ended handler request
     pub fails_by : fails handler request number
 
   -- A stream stands by all of its data, and by its end where that was told: its talk and its handler were handed what

@@ -72,9 +72,12 @@ module _ {P H : Type 0} (step : H → HandlerCall → H → Type 0) (fails : H �
     asked_to_take = λ log n so_far waiting bytes. (λ h. h, λ h. h);
     asked_to_end = λ log n so_far waiting. (λ h. h, λ h. h);
     asked_to_give = λ log n room so_far waiting. (λ h. h, λ h. h);
-    fails_by = λ log n number there handler request held asked by.
-        record { there = there; handler = handler; held = held; request = request; asked_for = asked; fails_by = by };
-    fails_by_is = λ log n number f. (f.there, f.handler, f.request, f.held, f.asked_for, f.fails_by);
+    fails_by = λ log n number there handler request held asked turn by.
+        record { there = there; handler = handler; held = held; request = request; asked_for = asked; in_turn = turn; fails_by = by };
+    fails_by_is = λ log n number f. (f.there, f.handler, f.request, f.held, f.asked_for, f.in_turn, f.fails_by);
+    takes_in_turn = λ stage ended handler bytes. (λ h. h, λ h. h);
+    ends_in_turn = λ stage ended handler. (λ h. h, λ h. h);
+    gives_in_turn = λ stage ended handler room. (λ h. h, λ h. h);
     heard = λ log n stream held unfinished. record { stream = stream; held = held; unfinished = unfinished };
     heard_is = λ log n h. (h.stream, h.held, h.unfinished);
     broken_in_talk = λ log n fault. (

@@ -22,6 +22,8 @@ use Rattle.yamux_session.specs.Windows.{credit, untaken}
 use Rattle.yamux_session.specs.Data.{inbound, written}
 use Rattle.yamux_session.specs.Acts.{next_own}
 use Rattle.yamux_session.specs.State.{State, Stands as SessionStands}
+use Rattle.streams.specs.declared.stage.Stage.{Stage}
+use Rattle.streams.specs.declared.stage.Stage.TheVariants as stages
 use Rattle.streams.specs.declared.stop.Cause.{Cause}
 use Rattle.streams.specs.declared.stop.Cause.TheVariants as causes
 use Rattle.streams.specs.Streams.{Past, IsServed}
@@ -37,7 +39,8 @@ use Rattle.conn_log.specs.Entries.{put_aside}
 use Rattle.conn_log.specs.Entries.Entry.{Of, Says, Made, Asks}
 use Rattle.conn_log.specs.Turns.{AreInTurn}
 use Rattle.conn_log.specs.Held.{IsSide, IsHeld, IsAtRest, IsPast, AreLeft, earlier_of}
-use Rattle.conn_log.specs.Due.{was_reset, end_was_told, MayBeMade, HasCome, IsThere, IsAskedFor, HandlerFails, HasHeard}
+use Rattle.conn_log.specs.Due.{was_reset, end_was_told, MayBeMade, HasCome, IsThere, IsAskedFor, IsInTurn, HandlerFails}
+use Rattle.conn_log.specs.Due.{HasHeard}
 use Rattle.conn_log.specs.Due.{IsBroken, IsDone, HasGiven, IsDue, AllDue}
 use Rattle.conn_log.specs.Rests.{AreAtRest, IsRested, AreRested, Grows}
 use Rattle.conn_log.specs.Asked.{IsBrokenOf, Asked as AskedOf}
@@ -117,6 +120,9 @@ module _ {P H : Type 0} (step : H → HandlerCall → H → Type 0) (fails : H �
   abbrev pub handler_fails : List (Entry H) → ℕ → ℕ → Type 0
   handler_fails = HandlerFails step fails is_closed is_finished inbound_makes outbound_makes eager names peer role
 
+  abbrev pub in_turn : Stage H → Bool → H → Asked → Type 0
+  in_turn = IsInTurn step fails is_closed is_finished inbound_makes outbound_makes eager names peer role
+
   abbrev pub has_heard : List (Entry H) → ℕ → Type 0
   has_heard = HasHeard step fails is_closed is_finished inbound_makes outbound_makes eager names peer role
 
@@ -169,11 +175,19 @@ module _ {P H : Type 0} (step : H → HandlerCall → H → Type 0) (fails : H �
         → asked_with log n so_far waiting (ToGive room) ↔ (room ≡ credit role (items log) n - length waiting)
     pub fails_by : (log : List (Entry H)) (n number : ℕ) (there : is_there log n) (handler : H) (request : Asked)
         → handler_of there.stream.stage ≡ Some handler
-        → asked_with log n there.so_far there.stream.waiting request → fails handler request number
+        → asked_with log n there.so_far there.stream.waiting request
+        → in_turn there.stream.stage there.so_far.ended handler request → fails handler request number
         → handler_fails log n number
     pub fails_by_is : (log : List (Entry H)) (n number : ℕ) → handler_fails log n number → (there : is_there log n)
         × (handler : H) × (request : Asked) × (handler_of there.stream.stage ≡ Some handler)
-        × asked_with log n there.so_far there.stream.waiting request × fails handler request number
+        × asked_with log n there.so_far there.stream.waiting request
+        × in_turn there.stream.stage there.so_far.ended handler request × fails handler request number
+    pub takes_in_turn : (stage : Stage H) (ended : Bool) (handler : H) (bytes : List ℕ)
+        → in_turn stage ended handler (ToTake bytes) ↔ ((stage ≡ stages.Serving handler) × (ended ≡ false))
+    pub ends_in_turn : (stage : Stage H) (ended : Bool) (handler : H)
+        → in_turn stage ended handler ToEnd ↔ ((stage ≡ stages.Serving handler) × (ended ≡ false))
+    pub gives_in_turn : (stage : Stage H) (ended : Bool) (handler : H) (room : ℕ)
+        → in_turn stage ended handler (ToGive room) ↔ (is_closed handler ≡ false)
     pub heard : (log : List (Entry H)) (n : ℕ) (stream : Streaming H)
         → held_by step is_closed is_finished names role log n (inbound role (items log) n)
         (end_was_told role (items log) n) stream → has_finished is_finished stream.stage ≡ false → has_heard log n
