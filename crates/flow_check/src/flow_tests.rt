@@ -76,6 +76,48 @@ fn more_than_a_buffer_comes_at_once(rt: HostRuntime) -> Result<(), Fail> {
     Ok(())
 }
 
+/// Little output, and the end of the input in the same poll: it is written before the end is read.
+fn is_answered_before_the_end(alloc: Global, task: &MockTask) -> Option<bool> {
+    let pipe = open_pipe(alloc, input(alloc, PING, 20)?);
+    let mut conn = connect(alloc, ConnRole::Listener, pipe)?;
+    let gave = [
+        poll_once(task, &mut conn),
+        poll_once(task, &mut conn),
+        poll_once(task, &mut conn),
+    ];
+    Some(gave == [Gave::Upgraded, Gave::Shut, Gave::TheEnd] && pongs(&conn) == Some(20))
+}
+
+#[test]
+fn answers_come_before_the_end(rt: HostRuntime) -> Result<(), Fail> {
+    let task = MockTask::new(&rt)?;
+    let held = is_answered_before_the_end(rt.alloc(), &task) == Some(true);
+    assert!(rt; held, "20 pings");
+    Ok(())
+}
+
+/// The other end opens stream 1 for a ping.
+const OPENING: &[u8] = b"\0\x01\0\x01\0\0\0\x01\0\0\0\0\0\0\0\0\0\0\0\x01\0\0\0\x26\
+    \x13/multistream/1.0.0\n\x11/ipfs/ping/1.0.0\n";
+
+/// An ask while an event is held still takes memory, and is answered.
+fn asks_while_one_is_held(alloc: Global, task: &MockTask) -> Option<bool> {
+    let pipe = open_pipe(alloc, input(alloc, OPENING, 1)?);
+    let mut conn = connect(alloc, ConnRole::Listener, pipe)?;
+    let first = poll_once(task, &mut conn);
+    let asked = conn.ask(PROTOCOL);
+    let later = poll_once(task, &mut conn);
+    Some(first == Gave::Upgraded && asked == Ok(2) && later == Gave::Other)
+}
+
+#[test]
+fn an_ask_while_an_event_is_held(rt: HostRuntime) -> Result<(), Fail> {
+    let task = MockTask::new(&rt)?;
+    let held = asks_while_one_is_held(rt.alloc(), &task) == Some(true);
+    assert!(rt; held, "an ask");
+    Ok(())
+}
+
 /// A dialer whose other end has come up with it, and then sends credit, a byte at a time.
 fn dialer(alloc: Global, task: &MockTask) -> Option<End> {
     let first = PipeStep::Upto(UPGRADE.len().max(1));
