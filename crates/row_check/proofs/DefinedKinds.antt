@@ -60,6 +60,8 @@ use Rattle.node_protocols.specs.declared.handler.NodeHandler.{NodeHandler}
 use Rattle.node_protocols.specs.declared.handler.NodeHandler.TheVariants as node_handlers
 use Rattle.streams.specs.declared.heard.Heard.{Heard}
 use Rattle.streams.specs.declared.heard.Heard.TheVariants as heards
+use Rattle.streams.specs.declared.stage.Stage.{Stage}
+use Rattle.streams.specs.declared.stage.Stage.TheVariants as stages
 use Rattle.streams.specs.declared.stop.Cause.{Cause}
 use Rattle.streams.specs.declared.stop.Cause.TheVariants as causes
 use Rattle.streams.specs.declared.stop.Stop.{Stop}
@@ -398,6 +400,15 @@ is_new_refused new_refusals.BadCallers = inl refl
 is_new_refused new_refusals.OutOfMemory = inr (inl refl)
 is_new_refused new_refusals.NoPlace = inr (inr (inl refl))
 
+is_stage : {H : Type 0} → (x : Stage H) → ((talk : _) × (handler : _) × (x ≡ stages.Talking talk handler))
+    ⊎ (((index : _) × (x ≡ stages.Agreed index)) ⊎ (((handler : _) × (x ≡ stages.Serving handler))
+    ⊎ ((x ≡ stages.Done) ⊎ (x ≡ stages.Over))))
+is_stage (stages.Talking talk handler) = inl (talk, handler, refl)
+is_stage (stages.Agreed index) = inr (inl (index, refl))
+is_stage (stages.Serving handler) = inr (inr (inl (handler, refl)))
+is_stage stages.Done = inr (inr (inr (inl refl)))
+is_stage stages.Over = inr (inr (inr (inr refl)))
+
 pub codecs_kinds : CodecKinds
 codecs_kinds = record {
   wire_fault = is_wire_fault;
@@ -438,6 +449,7 @@ streams_kinds = record {
   identify_fault = is_identify_fault;
   node_handler = is_node_handler;
   heard = is_heard;
+  stage = is_stage;
   cause = is_cause;
   stop = is_stop;
   direction = is_direction;

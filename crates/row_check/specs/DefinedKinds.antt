@@ -62,6 +62,8 @@ use Rattle.node_protocols.specs.declared.handler.NodeHandler.{NodeHandler}
 use Rattle.node_protocols.specs.declared.handler.NodeHandler.TheVariants as node_handlers
 use Rattle.streams.specs.declared.heard.Heard.{Heard}
 use Rattle.streams.specs.declared.heard.Heard.TheVariants as heards
+use Rattle.streams.specs.declared.stage.Stage.{Stage}
+use Rattle.streams.specs.declared.stage.Stage.TheVariants as stages
 use Rattle.streams.specs.declared.stop.Cause.{Cause}
 use Rattle.streams.specs.declared.stop.Cause.TheVariants as causes
 use Rattle.streams.specs.declared.stop.Stop.{Stop}
@@ -168,6 +170,9 @@ pub record StreamKinds (H : Type 0) : Type 0 where
       ⊎ (((a : _) × (x ≡ node_handlers.Echoes a)))))
   pub heard : (x : Heard) → (x ≡ heards.Going) ⊎ (((index : _) × (used : _) × (x ≡ heards.Agreed index used))
       ⊎ ((x ≡ heards.Refused)))
+  pub stage : (x : Stage H) → ((talk : _) × (handler : _) × (x ≡ stages.Talking talk handler))
+      ⊎ (((index : _) × (x ≡ stages.Agreed index)) ⊎ (((handler : _) × (x ≡ stages.Serving handler))
+      ⊎ ((x ≡ stages.Done) ⊎ (x ≡ stages.Over))))
   pub cause : (x : Cause) → ((a : _) × (x ≡ causes.Select a)) ⊎ (((a : _) × (x ≡ causes.Handler a))
       ⊎ ((x ≡ causes.Reset) ⊎ ((x ≡ causes.Ended))))
   pub stop : (x : Stop) → ((a : _) × (x ≡ stops.Broken a)) ⊎ ((x ≡ stops.OutOfMemory))
