@@ -21,8 +21,6 @@ const KEY: &[u8] = b"\x08\x02\x12\x01\x05";
 pub(crate) const UPGRADE: &[u8] = b"\x13/multistream/1.0.0\n\x11/plaintext/2.0.0\n\
     \x10\x0a\x07\0\x05\x08\x02\x12\x01\x05\x12\x05\x08\x02\x12\x01\x05\x13/multistream/1.0.0\n\x0d/yamux/1.0.0\n";
 
-pub(crate) type Core = ConnCore<NodeProtocols<FixedPayload>>;
-
 pub(crate) type End = Conn<Pipe, NodeProtocols<FixedPayload>>;
 
 /// What a poll gave, by its kind.
@@ -36,8 +34,7 @@ pub(crate) enum Gave {
     Other,
 }
 
-/// An end of a connection, before any byte came.
-pub(crate) fn core_of(alloc: Global, role: ConnRole) -> Option<Core> {
+fn core_of(alloc: Global, role: ConnRole) -> Option<ConnCore<NodeProtocols<FixedPayload>>> {
     let own = PublicKey::read(alloc, KEY).ok()?;
     let payloads = FixedPayload { payload: [7; 32] };
     let protocols = NodeProtocols::new(alloc, own, "node/0.1.0", payloads).ok()?;

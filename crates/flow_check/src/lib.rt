@@ -1,9 +1,7 @@
 //! Tests of a connection over a pipe at the sizes that its code names: a whole buffer at a time, all streams of an end,
-//! output that waits while input comes; and of an end of a connection whose streams end early.
+//! output that waits while input comes.
 #![tactic(auto)]
 
-#[cfg(test)]
-mod end_tests;
 #[cfg(test)]
 mod ends;
 #[cfg(test)]
