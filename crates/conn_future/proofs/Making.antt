@@ -4,9 +4,9 @@ use Rattle.std.proofs.lemmas.List.Elements.{All-append, All-cons, All-nil}
 use Rattle.futures.specs.declared.task.context.Context.{Context}
 use Rattle.conn_link.specs.Calling.{Kind, Call, IsAble, HasNone, IsOnce, CallsNone, CallsOn, asks_some, asks_between, is_pending}
 use Rattle.conn_link.specs.Calling.Kind.{Reads, Writes, Shuts}
-use Rattle.conn_future.specs.Polling.{Called, Polls}
+use Rattle.conn_future.specs.Polling.{Called, Polls, WritesFirst, left_by}
 use Rattle.conn_future.specs.declared.turns.Waits.{Waits}
-use Rattle.conn_future.specs.Turning.{NoneWaited, Makes, MadeTo}
+use Rattle.conn_future.specs.Turning.{NoneWaited, Makes, MadeTo, left_of}
 
 none_on : (kind : Kind) (log : List Call) (call : Call) → call.kind ≢ kind → HasNone kind log → HasNone kind (log ++ call ∷ [])
 none_on kind [] call not none = (not, tt)
@@ -60,6 +60,25 @@ asked_on log call old cx new by before woken = elim (asks_by cx.is_woken new.is_
   | inr asks ↦ inr (asks_last log call (by ∙ asks))
 ]
 
+-- what is left behind a further call
+pub left_on : (waited : ℕ) (log : List Call) (call : Call) → left_of waited (log ++ call ∷ []) ≡ left_by call.kind call.answer (left_of waited log)
+left_on waited [] call = refl
+left_on waited (first ∷ log) call = left_on (left_by first.kind first.answer waited) log call
+
+writes_on : (waited : ℕ) (log : List Call) (call : Call) → (call.kind ≡ Reads → left_of waited log ≡ 0) → WritesFirst waited log
+    → WritesFirst waited (log ++ call ∷ [])
+writes_on waited [] call none writes = (none, tt)
+writes_on waited (first ∷ log) call none writes = (writes.0, writes_on (left_by first.kind first.answer waited) log call none writes.1)
+
+-- where no output waits that could be written, none is left of what waited before
+pub none_left : {L : Type 0} (calls : L → List Call → L → Type 0) (waits : Waits) (waited left : ℕ) (first : L) (old : Context)
+    (last : L) (new : Context) (count : ℕ) → (it : Makes calls waits waited left first old last new count)
+    → (waits.writing ≡ false → left ≡ 0) → left_of waited it.log ≡ 0
+none_left calls waits waited left first old last new count it none = by_writing waits.writing refl where
+  by_writing : (b : Bool) → waits.writing ≡ b → left_of waited it.log ≡ 0
+  by_writing true is = it.untaken is
+  by_writing false is = let most = it.is_left is in let no_more = none is in omega (arith, most, no_more)
+
 module _ {L : Type 0} (calls : L → List Call → L → Type 0) (on : CallsOn calls) where
   called_on : (first mid last : L) (log : List Call) (call : Call) → NoneWaited call.kind log → IsAble call
       → calls mid (call ∷ []) last → Called calls first log mid → Called calls first (log ++ call ∷ []) last
@@ -70,25 +89,30 @@ module _ {L : Type 0} (calls : L → List Call → L → Type 0) (on : CallsOn c
   }
 
   -- the last call of a poll
-  pub made_to : (waits : Waits) (first mid last : L) (old cx new : Context) (count : ℕ) (call : Call)
-      → (it : Makes calls waits first old mid cx count) → NoneWaited call.kind it.log → IsAble call
-      → call.asks ≡ asks_between cx new → calls mid (call ∷ []) last → MadeTo calls first old last new (count + 1)
-  made_to waits first mid last old cx new count call it waited able asks next = record {
+  pub made_to : (waits : Waits) (before left : ℕ) (first mid last : L) (old cx new : Context) (count : ℕ) (call : Call)
+      → (it : Makes calls waits before left first old mid cx count) → NoneWaited call.kind it.log → IsAble call
+      → call.asks ≡ asks_between cx new → calls mid (call ∷ []) last → (call.kind ≡ Reads → left_of before it.log ≡ 0)
+      → MadeTo calls before first old last new (count + 1)
+  made_to waits before left first mid last old cx new count call it waited able asks next none = record {
     log = it.log ++ call ∷ [];
     called = called_on first mid last it.log call waited able next it.called;
     most = let same = length_on it.log call in let all = it.count in omega (arith, same, all);
+    writes = writes_on before it.log call none it.writes;
     asked = asked_on it.log call old cx new asks it.asked;
   }
 
   -- one behind which others may follow
-  pub made_on : (waits then : Waits) (first mid last : L) (old cx new : Context) (count : ℕ) (call : Call)
-      → (it : Makes calls waits first old mid cx count) → NoneWaited call.kind it.log → IsAble call
+  pub made_on : (waits then : Waits) (before left less : ℕ) (first mid last : L) (old cx new : Context) (count : ℕ) (call : Call)
+      → (it : Makes calls waits before left first old mid cx count) → NoneWaited call.kind it.log → IsAble call
       → call.asks ≡ asks_between cx new → calls mid (call ∷ []) last
+      → (call.kind ≡ Reads → left_of before it.log ≡ 0)
+      → (then.writing ≡ false → left_by call.kind call.answer (left_of before it.log) ≤ less)
+      → (then.writing ≡ true → left_by call.kind call.answer (left_of before it.log) ≡ 0)
       → (then.reading ≡ false → (waits.reading ≡ false) × (call.kind ≡ Reads → is_pending call.answer ≡ false))
       → (then.writing ≡ false → (waits.writing ≡ false) × (call.kind ≡ Writes → is_pending call.answer ≡ false))
       → (call.kind ≡ Shuts → is_pending call.answer ≡ false)
-      → Makes calls then first old last new (count + 1)
-  made_on waits then first mid last old cx new count call it waited able asks next reading writing shutting = record {
+      → Makes calls then before less first old last new (count + 1)
+  made_on waits then before left less first mid last old cx new count call it waited able asks next none most untaken reading writing shutting = record {
     log = it.log ++ call ∷ [];
     called = called_on first mid last it.log call waited able next it.called;
     count = length_on it.log call ∙ ap (λ n. n + 1) it.count;
@@ -96,65 +120,76 @@ module _ {L : Type 0} (calls : L → List Call → L → Type 0) (on : CallsOn c
     reading = λ is. waited_on Reads it.log call (reading is).1 (it.reading (reading is).0);
     writing = λ is. waited_on Writes it.log call (writing is).1 (it.writing (writing is).0);
     shutting = waited_on Shuts it.log call shutting it.shutting;
+    writes = writes_on before it.log call none it.writes;
+    is_left = λ is. let same = left_on before it.log call in let less = most is in omega (arith, same, less);
+    untaken = λ is. left_on before it.log call ∙ untaken is;
   }
 
 -- a call that was answered leaves what the poll waits for
-pub answered_on : {L : Type 0} (calls : L → List Call → L → Type 0) → CallsOn calls → (waits : Waits) (first mid last : L)
-    (old cx new : Context) (count : ℕ) (call : Call) → (it : Makes calls waits first old mid cx count)
+pub answered_on : {L : Type 0} (calls : L → List Call → L → Type 0) → CallsOn calls → (waits : Waits) (before left less : ℕ)
+    (first mid last : L) (old cx new : Context) (count : ℕ) (call : Call) → (it : Makes calls waits before left first old mid cx count)
     → NoneWaited call.kind it.log → IsAble call → is_pending call.answer ≡ false → call.asks ≡ asks_between cx new
-    → calls mid (call ∷ []) last → Makes calls waits first old last new (count + 1)
-answered_on calls on waits first mid last old cx new count call it waited able answered asks next =
-    made_on calls on waits waits first mid last old cx new count call it waited able asks next
+    → calls mid (call ∷ []) last → (call.kind ≡ Reads → left_of before it.log ≡ 0)
+    → (waits.writing ≡ false → left_by call.kind call.answer (left_of before it.log) ≤ less)
+    → (waits.writing ≡ true → left_by call.kind call.answer (left_of before it.log) ≡ 0)
+    → Makes calls waits before less first old last new (count + 1)
+answered_on calls on waits before left less first mid last old cx new count call it waited able answered asks next none most untaken =
+    made_on calls on waits waits before left less first mid last old cx new count call it waited able asks next none most untaken
     (λ is. (is, λ kind. answered)) (λ is. (is, λ kind. answered)) (λ kind. answered)
 
 pub none_made : {L : Type 0} (calls : L → List Call → L → Type 0) → CallsNone calls → (first : L) → Called calls first [] first
 none_made calls none first = record { made = none first; able = All-nil IsAble; once = tt }
 
 -- a poll that made no call
-pub polls_none : {L : Type 0} (calls : L → List Call → L → Type 0) → CallsNone calls → (first : L) (cx : Context)
-    → Polls calls first cx first cx
-polls_none calls none first cx = record {
+pub polls_none : {L : Type 0} (calls : L → List Call → L → Type 0) → CallsNone calls → (waiting : ℕ) (first : L) (cx : Context)
+    → Polls calls waiting first cx first cx
+polls_none calls none waiting first cx = record {
   log = [];
   called = none_made calls none first;
   most = omega arith;
+  writes = tt;
   asked = λ woken. inl woken;
 }
 
 -- one that made all that it may
-pub polls_all : {L : Type 0} (calls : L → List Call → L → Type 0) (waits : Waits) (first last : L) (old cx new : Context) (count : ℕ)
-    → count ≡ 32 → Makes calls waits first old last cx count → Polls calls first old last new
-polls_all calls waits first last old cx new count all it = record {
+pub polls_all : {L : Type 0} (calls : L → List Call → L → Type 0) (waits : Waits) (before left : ℕ) (first last : L) (old cx new : Context) (count : ℕ)
+    → count ≡ 32 → Makes calls waits before left first old last cx count → Polls calls before first old last new
+polls_all calls waits before left first last old cx new count all it = record {
   log = it.log;
   called = it.called;
   most = let made = it.count in omega (arith, all, made);
+  writes = it.writes;
   asked = λ woken. inr (inr (it.count ∙ all));
 }
 
-pub made_up_to : {L : Type 0} (calls : L → List Call → L → Type 0) (waits : Waits) (first last : L) (old new : Context) (count : ℕ)
-    → Makes calls waits first old last new count → MadeTo calls first old last new count
-made_up_to calls waits first last old new count it = record {
+pub made_up_to : {L : Type 0} (calls : L → List Call → L → Type 0) (waits : Waits) (before left : ℕ) (first last : L) (old new : Context) (count : ℕ)
+    → Makes calls waits before left first old last new count → MadeTo calls before first old last new count
+made_up_to calls waits before left first last old new count it = record {
   log = it.log;
   called = it.called;
   most = let all = it.count in omega (arith, all);
+  writes = it.writes;
   asked = it.asked;
 }
 
-pub made_all : {L : Type 0} (calls : L → List Call → L → Type 0) (waits : Waits) (first last : L) (old new : Context) (count : ℕ)
-    → Makes calls waits first old last new count → MadeTo calls first old last new (count + 1)
-made_all calls waits first last old new count it = record {
+pub made_all : {L : Type 0} (calls : L → List Call → L → Type 0) (waits : Waits) (before left : ℕ) (first last : L) (old new : Context) (count : ℕ)
+    → Makes calls waits before left first old last new count → MadeTo calls before first old last new (count + 1)
+made_all calls waits before left first last old new count it = record {
   log = it.log;
   called = it.called;
   most = let all = it.count in omega (arith, all);
+  writes = it.writes;
   asked = it.asked;
 }
 
 -- a poll that made less than 32 calls, and then one more at most
-pub polls_to : {L : Type 0} (calls : L → List Call → L → Type 0) (first last : L) (old new : Context) (most : ℕ) → most ≤ 32
-    → MadeTo calls first old last new most → Polls calls first old last new
-polls_to calls first last old new most less it = record {
+pub polls_to : {L : Type 0} (calls : L → List Call → L → Type 0) (before : ℕ) (first last : L) (old new : Context) (most : ℕ) → most ≤ 32
+    → MadeTo calls before first old last new most → Polls calls before first old last new
+polls_to calls before first last old new most less it = record {
   log = it.log;
   called = it.called;
   most = let all = it.most in omega (arith, all, less);
+  writes = it.writes;
   asked = λ woken. elim (it.asked woken) [
     | inl was ↦ inl was
     | inr asks ↦ inr (inl asks)

@@ -68,9 +68,9 @@ impl<L: Link, P: Protocols> Conn<L, P> {
         ensures why { self.old.stage ≡ Stage.Going → EndsFor L.Link P.Protocols P.H.Handler result self.new }
         ensures moved { (given : List ℕ) × (took : List ℕ) × L.moves self.old.link given took self.new.link }
         ensures came { is_live self.new.stage ≡ false → result ≡ Turn.Failed }
-        ensures called { (first : L) (before : Context) (count : ℕ)
-            → Makes L.calls waits.old first before self.old.link cx.old count
-            → Makes L.calls waits.new first before self.new.link cx.new (count + 1) }
+        ensures called { (waited : ℕ) (first : L) (before : Context) (count : ℕ)
+            → Makes L.calls waits.old waited (length self.old.unsent) first before self.old.link cx.old count
+            → Makes L.calls waits.new waited (length self.new.unsent) first before self.new.link cx.new (count + 1) }
         ensures kept { Keeps cx.old cx.new }
     {
         match self.link.poll_write(cx, self.unsent.as_slice()) {
@@ -95,6 +95,7 @@ impl<L: Link, P: Protocols> Conn<L, P> {
         requires going { self.old.stage ≡ Stage.Going }
         requires none_held { self.old.held.items ≡ [] }
         requires can_wait { waits.old.reading ≡ false }
+        requires written { waits.old.writing ≡ false → self.old.unsent ≡ [] }
         ensures follows { Turns L.Link P.Protocols P.H.Handler self.old result self.new }
         ensures goes_on { OnGoing result ((self.new.stage ≡ self.old.stage) × (self.new.held.items ≡ [])) }
         ensures failures { L.failed self.new.link ≡ L.failed self.old.link + faults_of result }
@@ -107,9 +108,9 @@ impl<L: Link, P: Protocols> Conn<L, P> {
         ensures moved { (given : List ℕ) × (took : List ℕ) × L.moves self.old.link given took self.new.link }
         ensures came { is_live self.new.stage ≡ false
             → (result ≡ Turn.Failed) ⊎ Came L.Link self.old.link self.new.link }
-        ensures called { (first : L) (before : Context) (count : ℕ)
-            → Makes L.calls waits.old first before self.old.link cx.old count
-            → Makes L.calls waits.new first before self.new.link cx.new (count + 1) }
+        ensures called { (waited : ℕ) (first : L) (before : Context) (count : ℕ)
+            → Makes L.calls waits.old waited (length self.old.unsent) first before self.old.link cx.old count
+            → Makes L.calls waits.new waited (length self.new.unsent) first before self.new.link cx.new (count + 1) }
         ensures kept { Keeps cx.old cx.new }
     {
         match self.link.poll_read(cx, self.buffer.as_mut_slice()) {
@@ -142,9 +143,9 @@ impl<L: Link, P: Protocols> Conn<L, P> {
             (L.shuts_at self.new.link) self.new.stage self.new.unsent)) }
         ensures stage { is_live self.new.stage ≡ true → self.new.stage ≡ self.old.stage }
         ensures closes { self.old.stage ≡ Stage.Shutting → ClosesBy L.Link P.Protocols P.H.Handler result self.new }
-        ensures called { (first : L) (before : Context) (count : ℕ) (waits : Waits)
-            → Makes L.calls waits first before self.old.link cx.old count
-            → MadeTo L.calls first before self.new.link cx.new (count + 1) }
+        ensures called { (waited : ℕ) (first : L) (before : Context) (count : ℕ) (waits : Waits)
+            → Makes L.calls waits waited (length self.old.unsent) first before self.old.link cx.old count
+            → MadeTo L.calls waited first before self.new.link cx.new (count + 1) }
         ensures kept { Keeps cx.old cx.new }
     {
         match self.link.poll_shut(cx) {
@@ -184,12 +185,13 @@ impl<L: Link, P: Protocols> Conn<L, P> {
             → (given : List ℕ) × (took : List ℕ) × L.moves self.old.link given took self.new.link }
         ensures came { self.old.stage ≡ Stage.Going → is_live self.new.stage ≡ false
             → (result ≡ Turn.Failed) ⊎ Came L.Link self.old.link self.new.link }
-        ensures called { (first : L) (before : Context) (count : ℕ)
-            → Makes L.calls waits.old first before self.old.link cx.old count
-            → OnAgain result (Makes L.calls waits.new first before self.new.link cx.new (count + 1)) }
-        ensures calls { (first : L) (before : Context) (count : ℕ)
-            → Makes L.calls waits.old first before self.old.link cx.old count
-            → MadeTo L.calls first before self.new.link cx.new (count + 1) }
+        ensures called { (waited : ℕ) (first : L) (before : Context) (count : ℕ)
+            → Makes L.calls waits.old waited (length self.old.unsent) first before self.old.link cx.old count
+            → OnAgain result (Makes L.calls waits.new waited (length self.new.unsent) first before self.new.link cx.new
+            (count + 1)) }
+        ensures calls { (waited : ℕ) (first : L) (before : Context) (count : ℕ)
+            → Makes L.calls waits.old waited (length self.old.unsent) first before self.old.link cx.old count
+            → MadeTo L.calls waited first before self.new.link cx.new (count + 1) }
         ensures kept { Keeps cx.old cx.new }
     {
         if !self.unsent.is_empty() && !waits.writing {

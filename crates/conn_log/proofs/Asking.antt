@@ -43,7 +43,7 @@ use Rattle.conn_log.proofs.Turning.{same_turns, turn_unasked, rested_on}
 use Rattle.conn_log.proofs.Same.{Same, same_trans, same_by_making, at_rest_same, left_same}
 use Rattle.conn_log.proofs.Around.{if_some}
 use Rattle.conn_log.proofs.Views.{same}
-use Rattle.conn_log.proofs.StageKinds.{talking_kind, talking_awaits}
+use Rattle.serving.proofs.StageKinds.{talking_kind, talking_awaits}
 use Rattle.conn_log.proofs.Settling.{said_append}
 use Rattle.conn_log.proofs.Rested.{rested}
 

@@ -33,7 +33,7 @@ use Rattle.conn_log.specs.Routes.{KeepsTurn, IsMoving, Around, Routes, Comes}
 use Rattle.conn_log.proofs.Same.{same_by_event, IsOf, side_same}
 use Rattle.conn_log.proofs.Around.{grown, still}
 use Rattle.conn_log.proofs.Views.{same}
-use Rattle.conn_log.proofs.StageKinds.{same_talking, same_awaiting, same_handed, served_talking, served_handed}
+use Rattle.serving.proofs.StageKinds.{same_talking, same_awaiting, same_handed, served_talking, served_handed}
 use Rattle.conn_log.proofs.Making.{did_none}
 use Rattle.conn_log.proofs.Served.{did, items_did, said_did, did_untold, did_keeps, view_by, AllOn, Own, did_own, all_on, come_of, come_on, view_came, view_ended, view_over, around_acts}
 
@@ -67,27 +67,27 @@ module _ {P H : Type 0} (step : H → HandlerCall → H → Type 0) (fails : H �
     come = come_of step fails is_closed is_finished inbound_makes outbound_makes eager names peer role acts_do acts_move log n view rest h.so_far h.side_is h.got_is h.ended_is h.sent_is h.made_is
         a.opens_none a.ends_last a.heard
 
-    around_served : (handler : Option H) → (s : Serves step is_closed is_finished role (items log) fed sent n h.so_far handler after new)
+    around_served : (handler : Option H) → (s : Serves step is_closed is_finished (was_handed_out old.stage) role (items log) fed sent n h.so_far handler after new)
         → Around step fails is_closed is_finished inbound_makes outbound_makes eager names peer role (did s.goes.acts ++ log) fed sent after now past n (view_by s.goes.acts view) rest
     around_served handler s =
-        around_acts step fails is_closed is_finished inbound_makes outbound_makes eager names peer role acts_do acts_move log fed sent before after streams now past n view rest h.so_far s.goes.acts a come
-        s.goes.due (subst (λ (t : List Item). SessionStands role t fed sent after) s.goes.now_is s.goes.session_stands) elsewhere
+        around_acts step fails is_closed is_finished inbound_makes outbound_makes eager names peer role acts_do acts_move log fed sent before after streams now past n view rest h.so_far (was_handed_out old.stage) s.goes.acts a come
+        (λ done. h.over ∙ done) s.goes.due (subst (λ (t : List Item). SessionStands role t fed sent after) s.goes.now_is s.goes.session_stands) elsewhere
 
-    list_is : (handler : Option H) → (s : Serves step is_closed is_finished role (items log) fed sent n h.so_far handler after new)
+    list_is : (handler : Option H) → (s : Serves step is_closed is_finished (was_handed_out old.stage) role (items log) fed sent n h.so_far handler after new)
         → s.goes.now ≡ items (did s.goes.acts ++ log)
     list_is handler s = s.goes.now_is ∙ sym (items_did s.goes.acts log)
 
-    own_of : (handler : Option H) → (s : Serves step is_closed is_finished role (items log) fed sent n h.so_far handler after new) → Own role log (did s.goes.acts ++ log) n
+    own_of : (handler : Option H) → (s : Serves step is_closed is_finished (was_handed_out old.stage) role (items log) fed sent n h.so_far handler after new) → Own role log (did s.goes.acts ++ log) n
     own_of handler s =
         did_own step fails is_closed is_finished inbound_makes outbound_makes eager names peer role acts_do acts_move log n s.goes.acts
-        (all_on step fails is_closed is_finished inbound_makes outbound_makes eager names peer role acts_do acts_move (items log) n h.so_far s.goes.acts s.goes.due)
+        (all_on step fails is_closed is_finished inbound_makes outbound_makes eager names peer role acts_do acts_move (items log) n h.so_far (was_handed_out old.stage) s.goes.acts s.goes.due)
 
-    on_acts : (handler : Option H) → (s : Serves step is_closed is_finished role (items log) fed sent n h.so_far handler after new)
+    on_acts : (handler : Option H) → (s : Serves step is_closed is_finished (was_handed_out old.stage) role (items log) fed sent n h.so_far handler after new)
         → AllOn step fails is_closed is_finished inbound_makes outbound_makes eager names peer role acts_do acts_move n s.goes.acts
-    on_acts handler s = all_on step fails is_closed is_finished inbound_makes outbound_makes eager names peer role acts_do acts_move (items log) n h.so_far s.goes.acts s.goes.due
+    on_acts handler s = all_on step fails is_closed is_finished inbound_makes outbound_makes eager names peer role acts_do acts_move (items log) n h.so_far (was_handed_out old.stage) s.goes.acts s.goes.due
 
     -- it goes on
-    pub goes_on : (s : Serves step is_closed is_finished role (items log) fed sent n h.so_far None after new) → kind_of new.stage ≡ kind_of old.stage
+    pub goes_on : (s : Serves step is_closed is_finished (was_handed_out old.stage) role (items log) fed sent n h.so_far None after new) → kind_of new.stage ≡ kind_of old.stage
         → Routes step fails is_closed is_finished inbound_makes outbound_makes eager names peer role (did s.goes.acts ++ log) fed sent after now past n (view_by s.goes.acts view) rest
     goes_on s kind =
         let log_now = did s.goes.acts ++ log in
@@ -113,7 +113,7 @@ module _ {P H : Type 0} (step : H → HandlerCall → H → Type 0) (fails : H �
         let moving : IsMoving step fails is_closed is_finished inbound_makes outbound_makes eager names peer role log_now n seen_now rest new = record {
           held = held;
           unfinished = s.handed_out.1;
-          over_by_end = view_over step fails is_closed is_finished inbound_makes outbound_makes eager names peer role acts_do acts_move (items log) n h.so_far s.goes.acts view s.goes.due over;
+          over_by_end = view_over step fails is_closed is_finished inbound_makes outbound_makes eager names peer role acts_do acts_move (items log) n h.so_far (was_handed_out old.stage) s.goes.acts view s.goes.due over;
           settled = λ still. subst (λ (t : List Item). is_live role t n ≡ true → IsSettled step is_closed is_finished role t n s.goes.left new) is s.settled;
         } in
         record {
@@ -125,7 +125,7 @@ module _ {P H : Type 0} (step : H → HandlerCall → H → Type 0) (fails : H �
         }
 
     -- its handler is handed out
-    pub is_done : (handler : H) → (s : Serves step is_closed is_finished role (items log) fed sent n h.so_far (Some handler) after new) → kind_of old.stage ≡ Served
+    pub is_done : (handler : H) → (s : Serves step is_closed is_finished (was_handed_out old.stage) role (items log) fed sent n h.so_far (Some handler) after new) → kind_of old.stage ≡ Served
         → Routes step fails is_closed is_finished inbound_makes outbound_makes eager names peer role (Says (event.Done n handler) ∷ did s.goes.acts ++ log) fed sent after now past n
         (view_by s.goes.acts view) rest
     is_done handler s kind =
@@ -166,7 +166,7 @@ module _ {P H : Type 0} (step : H → HandlerCall → H → Type 0) (fails : H �
         let moving : IsMoving step fails is_closed is_finished inbound_makes outbound_makes eager names peer role (Says (event.Done n handler) ∷ log_now) n seen_now rest new = record {
           held = held;
           unfinished = ap (has_finished is_finished) stage_is;
-          over_by_end = view_over step fails is_closed is_finished inbound_makes outbound_makes eager names peer role acts_do acts_move (items log) n h.so_far s.goes.acts view s.goes.due over;
+          over_by_end = view_over step fails is_closed is_finished inbound_makes outbound_makes eager names peer role acts_do acts_move (items log) n h.so_far (was_handed_out old.stage) s.goes.acts view s.goes.due over;
           settled = λ still. subst (λ (t : List Item). is_live role t n ≡ true → IsSettled step is_closed is_finished role t n s.goes.left new) is s.settled;
         } in
         record {

@@ -33,7 +33,7 @@ use Rattle.conn_log.proofs.Making.{makes_none}
 use Rattle.conn_log.proofs.Same.{same_by_making}
 use Rattle.conn_log.proofs.Around.{grown, still}
 use Rattle.conn_log.proofs.Views.{same, came_front}
-use Rattle.conn_log.proofs.StageKinds.{same_talking, same_awaiting, same_handed, served_talking, served_handed, served_awaits, talking_kind, talking_awaits}
+use Rattle.serving.proofs.StageKinds.{same_talking, same_awaiting, same_handed, served_talking, served_handed, served_awaits, talking_kind, talking_awaits}
 use Rattle.conn_log.proofs.Settling.{said_append}
 use Rattle.conn_log.proofs.Comes.{went, around_event}
 

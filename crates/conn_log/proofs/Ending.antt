@@ -29,7 +29,7 @@ use Rattle.conn_log.specs.Held.{IsHeld}
 use Rattle.conn_log.specs.Routes.{KeepsTurn, Around, Comes}
 use Rattle.conn_log.proofs.Around.{still}
 use Rattle.conn_log.proofs.Views.{same, none_behind}
-use Rattle.conn_log.proofs.StageKinds.{same_talking, same_awaiting, same_handed}
+use Rattle.serving.proofs.StageKinds.{same_talking, same_awaiting, same_handed}
 use Rattle.conn_log.proofs.Served.{ended_stays}
 use Rattle.conn_log.proofs.Comes.{went, around_event, or_on}
 

@@ -2,7 +2,6 @@ pub mod Same
 pub mod Turning
 pub mod Around
 pub mod Views
-pub mod StageKinds
 pub mod Served
 pub mod Making
 pub mod Comes

@@ -15,7 +15,7 @@ use Rattle.conn_log.specs.declared.earlier.Earlier.{Earlier}
 use Rattle.conn_log.specs.Entries.{Entry, since, agreed_in, over_in, made_in}
 use Rattle.conn_log.specs.Held.{IsHeld, IsAtRest, AreLeft, earlier_of}
 use Rattle.conn_log.specs.Routes.{IsNoOpening, Around, set_aside}
-use Rattle.conn_log.proofs.StageKinds.{talking_kind, talking_awaits}
+use Rattle.serving.proofs.StageKinds.{talking_kind, talking_awaits}
 
 -- what is heard changes nothing of what was sent
 pub sent_stays : (n : ℕ) (view : Seen) (rest : List Told) → AllByRecursion (IsNoOpening n) rest → (all_heard n view rest).sent ≡ view.sent

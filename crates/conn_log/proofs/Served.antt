@@ -93,22 +93,22 @@ module _ {H : Type 0} (acts_do : ActsDo) where
 module _ {P H : Type 0} (step : H → HandlerCall → H → Type 0) (fails : H → Asked → ℕ → Type 0)
     (is_closed is_finished : H → Bool) (inbound_makes outbound_makes : P → ℕ → List ℕ → H → Type 0)
     (eager : ℕ → Bool) (names : List (List ℕ)) (peer : List ℕ) (role : Role) (acts_do : ActsDo) (acts_move : ActsMove) where
-  on_of : (past : List Item) (n : ℕ) (so_far : Past H) (act : Act) → ActIsDue step is_closed is_finished role past n so_far act → IsOn n act
-  on_of past n so_far (Write m pieces) due = due.0
-  on_of past n so_far (Taken m count) due = due.0
-  on_of past n so_far (Close m) due = due.0
-  on_of past n so_far (Start m) due = absurd due
-  on_of past n so_far (Reset m) due = absurd due
-  on_of past n so_far (Act.GoAway code) due = absurd due
+  on_of : (past : List Item) (n : ℕ) (so_far : Past H) (was_done : Bool) (act : Act) → ActIsDue step is_closed is_finished was_done role past n so_far act → IsOn n act
+  on_of past n so_far was_done (Write m pieces) due = due.0
+  on_of past n so_far was_done (Taken m count) due = due.0
+  on_of past n so_far was_done (Close m) due = due.0
+  on_of past n so_far was_done (Start m) due = absurd due
+  on_of past n so_far was_done (Reset m) due = absurd due
+  on_of past n so_far was_done (Act.GoAway code) due = absurd due
 
   -- each act is on the stream
   abbrev pub AllOn : ℕ → List Act → Type 0
   AllOn n [] = Unit {0}
   AllOn n (act ∷ acts) = IsOn n act × AllOn n acts
 
-  pub all_on : (past : List Item) (n : ℕ) (so_far : Past H) (acts : List Act) → AreDue step is_closed is_finished role past n so_far acts → AllOn n acts
-  all_on past n so_far [] due = tt
-  all_on past n so_far (act ∷ acts) due = (on_of _ n so_far act due.0, all_on past n so_far acts due.1)
+  pub all_on : (past : List Item) (n : ℕ) (so_far : Past H) (was_done : Bool) (acts : List Act) → AreDue step is_closed is_finished was_done role past n so_far acts → AllOn n acts
+  all_on past n so_far was_done [] due = tt
+  all_on past n so_far was_done (act ∷ acts) due = (on_of _ n so_far was_done act due.0, all_on past n so_far was_done acts due.1)
 
   pub did_own : (log : List (Entry H)) (n : ℕ) (acts : List Act) → AllOn n acts → Own role log (did acts ++ log) n
   did_own log n [] on = record { came_is = refl; ended_is = refl; agreed_is = refl; over_is = refl; made_is = refl; asked_is = refl }
@@ -189,11 +189,12 @@ module _ {P H : Type 0} (step : H → HandlerCall → H → Type 0) (fails : H �
 
   -- ---- why each act is due
 
-  entry_due : (log : List (Entry H)) (n : ℕ) (so_far : Past H) (acts : List Act) (act : Act) → AllOn n acts → IsOn n act
+  entry_due : (log : List (Entry H)) (n : ℕ) (so_far : Past H) (was_done : Bool) (acts : List Act) (act : Act) → AllOn n acts → IsOn n act
       → HasCome step fails is_closed is_finished inbound_makes outbound_makes eager names peer role log n so_far
-      → ActIsDue step is_closed is_finished role (items (did acts ++ log)) n so_far act
+      → (was_done ≡ true → is_over role log n ≡ true)
+      → ActIsDue step is_closed is_finished was_done role (items (did acts ++ log)) n so_far act
       → IsDue step fails is_closed is_finished inbound_makes outbound_makes eager names peer role (did acts ++ log) (Of (Did act))
-  entry_due log n so_far acts (Write k pieces) all on c due =
+  entry_due log n so_far was_done acts (Write k pieces) all on c told due =
       let own = own_trans role log (did acts ++ log) _ n (did_own log n acts all) (own_by acts_do role (did acts ++ log) n (Write k pieces) on) in
       let there : IsThere step fails is_closed is_finished inbound_makes outbound_makes eager names peer role (Of (Did (Write k pieces)) ∷ did acts ++ log) n = record {
         so_far = with_sent role (Did (Write k pieces) ∷ items (did acts ++ log)) n so_far due.1.left;
@@ -202,9 +203,9 @@ module _ {P H : Type 0} (step : H → HandlerCall → H → Type 0) (fails : H �
         stands = due.1.stands;
       } in
       subst (λ m. IsThere step fails is_closed is_finished inbound_makes outbound_makes eager names peer role (Of (Did (Write k pieces)) ∷ did acts ++ log) m) (sym on) there
-  entry_due log n so_far acts (Taken k count) all on c due = subst (λ m. (count ≡ untaken role (items (did acts ++ log)) m)
+  entry_due log n so_far was_done acts (Taken k count) all on c told due = subst (λ m. (count ≡ untaken role (items (did acts ++ log)) m)
       × ((0 < credit role (items (did acts ++ log)) m) ⊎ (closed role (items (did acts ++ log)) m ≡ true))) (sym on) (due.1, due.2)
-  entry_due log n so_far acts (Close k) all on c due =
+  entry_due log n so_far was_done acts (Close k) all on c told due =
       let given : HasGiven step fails is_closed is_finished inbound_makes outbound_makes eager names peer role (did acts ++ log) n = record {
         there = record {
           so_far = with_sent role (items (did acts ++ log)) n so_far due.1.left;
@@ -214,22 +215,24 @@ module _ {P H : Type 0} (step : H → HandlerCall → H → Type 0) (fails : H �
         };
         none_waits = due.1.none_waits;
         over = due.1.over;
+        was_told = λ out. (did_own log n acts all).over_is ∙ told (due.1.out_before out);
       } in
       subst (λ m. HasGiven step fails is_closed is_finished inbound_makes outbound_makes eager names peer role (did acts ++ log) m) (sym on) given
-  entry_due log n so_far acts (Reset k) all on c due = absurd due
-  entry_due log n so_far acts (Start k) all on c due = absurd due
-  entry_due log n so_far acts (Act.GoAway code) all on c due = absurd due
+  entry_due log n so_far was_done acts (Reset k) all on c told due = absurd due
+  entry_due log n so_far was_done acts (Start k) all on c told due = absurd due
+  entry_due log n so_far was_done acts (Act.GoAway code) all on c told due = absurd due
 
-  pub did_due : (log : List (Entry H)) (n : ℕ) (so_far : Past H) (acts : List Act)
+  pub did_due : (log : List (Entry H)) (n : ℕ) (so_far : Past H) (was_done : Bool) (acts : List Act)
       → HasCome step fails is_closed is_finished inbound_makes outbound_makes eager names peer role log n so_far
-      → AreDue step is_closed is_finished role (items log) n so_far acts
+      → (was_done ≡ true → is_over role log n ≡ true)
+      → AreDue step is_closed is_finished was_done role (items log) n so_far acts
       → AllDue step fails is_closed is_finished inbound_makes outbound_makes eager names peer role log
       → AllDue step fails is_closed is_finished inbound_makes outbound_makes eager names peer role (did acts ++ log)
-  did_due log n so_far [] c due all = all
-  did_due log n so_far (act ∷ acts) c due all = (
-    entry_due log n so_far acts act (all_on (items log) n so_far acts due.1) (on_of _ n so_far act due.0) c
-        (subst (λ (t : List Item). ActIsDue step is_closed is_finished role t n so_far act) (sym (items_did acts log)) due.0),
-    did_due log n so_far acts c due.1 all,
+  did_due log n so_far was_done [] c told due all = all
+  did_due log n so_far was_done (act ∷ acts) c told due all = (
+    entry_due log n so_far was_done acts act (all_on (items log) n so_far was_done acts due.1) (on_of _ n so_far was_done act due.0) c told
+        (subst (λ (t : List Item). ActIsDue step is_closed is_finished was_done role t n so_far act) (sym (items_did acts log)) due.0),
+    did_due log n so_far was_done acts c told due.1 all,
   )
 
   -- ---- the view
@@ -257,16 +260,16 @@ module _ {P H : Type 0} (step : H → HandlerCall → H → Type 0) (fails : H �
     kept (Act.GoAway code) s on = absurd on
 
   -- acts that serve a stream end it only where the other end has ended it
-  pub view_over : (past : List Item) (n : ℕ) (so_far : Past H) (acts : List Act) (view : Seen) → AreDue step is_closed is_finished role past n so_far acts
+  pub view_over : (past : List Item) (n : ℕ) (so_far : Past H) (was_done : Bool) (acts : List Act) (view : Seen) → AreDue step is_closed is_finished was_done role past n so_far acts
       → (view.live ≡ false → view.ended ≡ true) → (view_by acts view).live ≡ false → (view_by acts view).ended ≡ true
-  view_over past n so_far [] view due over = over
-  view_over past n so_far (act ∷ acts) view due over = kept act (view_by acts view) due.0 (view_over past n so_far acts view due.1 over) where
+  view_over past n so_far was_done [] view due over = over
+  view_over past n so_far was_done (act ∷ acts) view due over = kept act (view_by acts view) due.0 (view_over past n so_far was_done acts view due.1 over) where
     shut_over : (live ended : Bool) → (live ≡ false → ended ≡ true) → live && not ended ≡ false → ended ≡ true
     shut_over live true over off = refl
     shut_over true false over off = absurd (cc off)
     shut_over false false over off = over refl
 
-    kept : (act : Act) (s : Seen) → ActIsDue step is_closed is_finished role (map Did acts ++ past) n so_far act → (s.live ≡ false → s.ended ≡ true) → (done_by act s).live ≡ false → (done_by act s).ended ≡ true
+    kept : (act : Act) (s : Seen) → ActIsDue step is_closed is_finished was_done role (map Did acts ++ past) n so_far act → (s.live ≡ false → s.ended ≡ true) → (done_by act s).live ≡ false → (done_by act s).ended ≡ true
     kept (Write m pieces) s due over = over
     kept (Taken m count) s due over = over
     kept (Close m) s due over = shut_over s.live s.ended over
@@ -324,17 +327,18 @@ module _ {P H : Type 0} (step : H → HandlerCall → H → Type 0) (fails : H �
   -- ---- all streams but this one
 
   pub around_acts : (log : List (Entry H)) (fed sent : List ℕ) (before after : State) (streams now : ℕ → Option (Streaming H)) (past : List (Earlier H)) (n : ℕ) (view : Seen)
-      (rest : List Told) (so_far : Past H) (acts : List Act)
+      (rest : List Told) (so_far : Past H) (was_done : Bool) (acts : List Act)
       → Around step fails is_closed is_finished inbound_makes outbound_makes eager names peer role log fed sent before streams past n view rest
       → HasCome step fails is_closed is_finished inbound_makes outbound_makes eager names peer role log n so_far
-      → AreDue step is_closed is_finished role (items log) n so_far acts
+      → (was_done ≡ true → is_over role log n ≡ true)
+      → AreDue step is_closed is_finished was_done role (items log) n so_far acts
       → SessionStands role (map Did acts ++ items log) fed sent after
       → ((m : ℕ) → (n == m) ≡ false → now m ≡ streams m)
       → Around step fails is_closed is_finished inbound_makes outbound_makes eager names peer role (did acts ++ log) fed sent after now past n (view_by acts view) rest
-  around_acts log fed sent before after streams now past n view rest so_far acts a c due there elsewhere =
-      let on = all_on (items log) n so_far acts due in
+  around_acts log fed sent before after streams now past n view rest so_far was_done acts a c told due there elsewhere =
+      let on = all_on (items log) n so_far was_done acts due in
       grown step fails is_closed is_finished inbound_makes outbound_makes eager names peer role log (did acts) fed sent before after streams now past n view (view_by acts view) rest a
-      (did_due log n so_far acts c due a.due) (λ m apart. did_same log n m acts apart on)
+      (did_due log n so_far was_done acts c told due a.due) (λ m apart. did_same log n m acts apart on)
       (subst (λ (t : List Item). SessionStands role t fed sent after) (sym (items_did acts log)) there) elsewhere
       (did_heard log n view rest acts on a.opens_none a.heard) (view_ended n acts view on) (did_left log n acts on)
       (did_resets log n acts on) (did_ends log n acts on n) (λ m over. did_over log n acts on m ∙ over) (did_only n acts on)

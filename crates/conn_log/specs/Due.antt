@@ -19,7 +19,7 @@ use Rattle.streams.specs.declared.stop.Cause.TheVariants as causes
 use Rattle.streams.specs.declared.stage.Stage.{Stage}
 use Rattle.streams.specs.declared.stage.Stage.TheVariants.{Serving}
 use Rattle.streams.specs.Streams.{Past, IsServed}
-use Rattle.streams.specs.State.{Streaming, Stands, handler_of, has_closed, has_finished}
+use Rattle.streams.specs.State.{Streaming, Stands, handler_of, has_closed, has_finished, was_handed_out}
 use Rattle.dispatch.specs.declared.direction.Direction.{Direction}
 use Rattle.dispatch.specs.declared.direction.Direction.TheVariants.{Inbound, Outbound}
 use Rattle.dispatch.specs.Dispatch.{made_by}
@@ -107,8 +107,8 @@ module _ {P H : Type 0} (step : H → HandlerCall → H → Type 0) (fails : H �
       (inbound role (items log) n ≡ so_far.got) × (finished role (items log) n ≡ true)
   IsAskedFor log n so_far waiting (ToGive room) = room ≡ credit role (items log) n - length waiting
 
-  -- It may be asked for that in its turn: what came, and its end, is told to a handler that serves the stream and wasn't
-  -- told of the end before; one that isn't closed is asked to give.
+  -- It may be asked for that in its turn: what came, and its end, is told to a handler that serves the stream and
+  -- wasn't told of the end before; one that isn't closed is asked to give.
   abbrev pub IsInTurn : Stage H → (ended : Bool) → H → Asked → Type 0
   IsInTurn stage ended handler (ToTake bytes) = (stage ≡ Serving handler) × (ended ≡ false)
   IsInTurn stage ended handler ToEnd = (stage ≡ Serving handler) × (ended ≡ false)
@@ -151,11 +151,14 @@ module _ {P H : Type 0} (step : H → HandlerCall → H → Type 0) (fails : H �
     pub served : IsServed step so_far handler waiting
     pub finished : is_finished handler ≡ true
 
-  -- the stream gives no more
+  -- The stream gives no more: nothing waits, and its handler is closed, or finished, or was handed out and that was
+  -- told.
   pub record HasGiven (log : List (Entry H)) (n : ℕ) : Type 0 where
     pub there : IsThere log n
     pub none_waits : there.stream.waiting ≡ []
-    pub over : has_closed is_closed there.stream.stage ≡ true
+    pub over : (has_closed is_closed there.stream.stage ≡ true)
+        ⊎ (has_finished is_finished there.stream.stage ≡ true)
+    pub was_told : was_handed_out there.stream.stage ≡ true → is_over role log n ≡ true
 
   -- why a handler is made: the newest entry agrees on its protocol, or opens the stream for an eager one
   abbrev pub MayBeMade : List (Entry H) → ℕ → H → Type 0

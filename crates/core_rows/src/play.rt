@@ -43,6 +43,7 @@ fn told(event: &ConnEvent<NodeHandler>) -> Said {
         ConnEvent::Agreed(number, index) => Said::Agreed(*number, *index),
         ConnEvent::Refused(number) => Said::Refused(*number),
         ConnEvent::Done(number, _) => Said::Done(*number),
+        ConnEvent::Broken(number, Cause::Ended) => Said::EndedInTalk(*number),
         ConnEvent::Broken(number, _) => Said::Broken(*number),
         ConnEvent::Fault(_) => Said::Fault,
         ConnEvent::Shut => Said::Shut,

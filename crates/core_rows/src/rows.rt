@@ -18,14 +18,17 @@ pub enum Row {
     IsAsked,
     /// The other end pings, then this one, and neither ends.
     Holds,
+    /// The other end says nothing but the header on a stream, and ends it.
+    EndsInTalk,
 }
 
-pub const ROWS: [Row; 5] = [
+pub const ROWS: [Row; 6] = [
     Row::ServesAPing,
     Row::IsRefused,
     Row::Pings,
     Row::IsAsked,
     Row::Holds,
+    Row::EndsInTalk,
 ];
 
 /// What is told, by its kind, or answered.
@@ -36,6 +39,8 @@ pub enum Said {
     Done(u32),
     Refused(u32),
     Broken(u32),
+    /// Broken by its end within the talk.
+    EndedInTalk(u32),
     Fault,
     Shut,
     Stream(u32),
@@ -52,6 +57,10 @@ pub const UPGRADE: &[u8] = b"\x13/multistream/1.0.0\n\x11/plaintext/2.0.0\n\
 /// SYN of stream 1, and the header and the name of ping on it.
 const OPENS: &[u8] = b"\0\x01\0\x01\0\0\0\x01\0\0\0\0\0\0\0\0\0\0\0\x01\0\0\0\x26\
     \x13/multistream/1.0.0\n\x11/ipfs/ping/1.0.0\n";
+
+/// SYN of stream 1, and the header on it.
+const BEGINS: &[u8] =
+    b"\0\x01\0\x01\0\0\0\x01\0\0\0\0\0\0\0\0\0\0\0\x01\0\0\0\x14\x13/multistream/1.0.0\n";
 
 /// The same of identify.
 const ASKS_WHO: &[u8] = b"\0\x01\0\x01\0\0\0\x01\0\0\0\0\0\0\0\0\0\0\0\x01\0\0\0\x24\
@@ -121,13 +130,14 @@ impl Row {
             Row::Pings => "pings",
             Row::IsAsked => "is asked",
             Row::Holds => "holds",
+            Row::EndsInTalk => "ends in its talk",
         }
     }
 
     /// Which end is played.
     pub fn role(self) -> ConnRole {
         match self {
-            Row::ServesAPing | Row::IsAsked => ConnRole::Listener,
+            Row::ServesAPing | Row::IsAsked | Row::EndsInTalk => ConnRole::Listener,
             Row::IsRefused | Row::Pings | Row::Holds => ConnRole::Dialer,
         }
     }
@@ -168,6 +178,7 @@ impl Row {
                 Said::Stream(1),
                 Said::Agreed(1, 2),
             ],
+            Row::EndsInTalk => &[Said::Upgraded, Said::EndedInTalk(1), Said::Shut],
         }
     }
 
@@ -179,6 +190,7 @@ impl Row {
             Row::Pings => &[UPGRADE, PINGS, ENDS],
             Row::IsAsked => &[UPGRADE, ACKNOWLEDGES, GREETS, SAYS_WHO, ENDS],
             Row::Holds => &[UPGRADE, AGREES_ON_ANOTHER, PINGS],
+            Row::EndsInTalk => &[UPGRADE, ACKNOWLEDGES, GREETS, RESETS],
         }
     }
 
@@ -203,6 +215,7 @@ impl Row {
             Row::Pings => ping(&mut acts, alloc)?,
             Row::IsAsked => be_asked(&mut acts, alloc)?,
             Row::Holds => hold(&mut acts, alloc)?,
+            Row::EndsInTalk => end_in_talk(&mut acts, alloc)?,
         }
         Ok(acts)
     }
@@ -254,4 +267,10 @@ fn hold(acts: &mut Vec<ConnAct>, alloc: Global) -> Result<(), AllocError> {
     feed(acts, alloc, OPENS_ANOTHER)?;
     push(acts, ConnAct::Ask(2))?;
     feed(acts, alloc, AGREES)
+}
+
+fn end_in_talk(acts: &mut Vec<ConnAct>, alloc: Global) -> Result<(), AllocError> {
+    feed(acts, alloc, BEGINS)?;
+    feed(acts, alloc, ENDS)?;
+    push(acts, ConnAct::Ended)
 }

@@ -76,9 +76,12 @@ fn more_than_a_buffer_comes_at_once(rt: HostRuntime) -> Result<(), Fail> {
     Ok(())
 }
 
-/// Little output, and the end of the input in the same poll: it is written before the end is read.
+/// The upgrade comes by one read, the pings by the next, and the end in the same poll: little output is written before
+/// the end is read.
 fn is_answered_before_the_end(alloc: Global, task: &MockTask) -> Option<bool> {
-    let pipe = open_pipe(alloc, input(alloc, PING, 20)?);
+    let first = PipeStep::Upto(UPGRADE.len().max(1));
+    let reads = steps(alloc, first, PipeStep::Upto(240), 1)?;
+    let pipe = Pipe::new(alloc, input(alloc, PING, 20)?, reads, Vec::new(alloc));
     let mut conn = connect(alloc, ConnRole::Listener, pipe)?;
     let gave = [
         poll_once(task, &mut conn),

@@ -14,7 +14,7 @@ use Rattle.streams.specs.declared.stop.Cause.TheVariants as causes
 use Rattle.streams.specs.declared.stop.Stop.TheVariants as stops
 use Rattle.streams.specs.declared.stage.Stage.TheVariants as stages
 use Rattle.streams.specs.Streams.{Past}
-use Rattle.streams.specs.State.{Streaming, Stands, is_talking, kind_of, Served}
+use Rattle.streams.specs.State.{Streaming, Stands, is_talking, was_handed_out, kind_of, Served}
 use Rattle.serving.specs.Served.{Serves, GivesUp}
 use Rattle.dispatch.specs.Dispatch.{AgreesBy, IsMade}
 use Rattle.routing.specs.declared.delivered.Delivered.{Delivered}
@@ -27,10 +27,11 @@ module _ {H : Type 0} (step : H → HandlerCall → H → Type 0) (fails : H →
   -- and nothing was done.
   abbrev pub Came : Past H → Streaming H → State → Outcome H → State → Streaming H → Type 0
   Came so_far old before Going session stream =
-      Serves step is_closed is_finished role past fed sent n so_far None session stream
+      Serves step is_closed is_finished (was_handed_out old.stage) role past fed sent n so_far None session stream
       × (kind_of stream.stage ≡ kind_of old.stage)
   Came so_far old before (Done handler) session stream =
-      Serves step is_closed is_finished role past fed sent n so_far (Some handler) session stream
+      Serves step is_closed is_finished (was_handed_out old.stage) role past fed sent n so_far (Some handler) session
+      stream
       × (kind_of old.stage ≡ Served)
   Came so_far old before Refused session stream = ⊥
   Came so_far old before (Broken cause) session stream =

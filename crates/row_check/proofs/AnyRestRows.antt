@@ -104,8 +104,8 @@ module _ {P H : Type 0} (step : H → HandlerCall → H → Type 0) (fails : H �
     );
     done = λ log n handler so_far waiting come served finished. record { so_far = so_far; waiting = waiting; come = come; served = served; finished = finished };
     done_is = λ log n handler d. (d.so_far, d.waiting, d.come, d.served, d.finished);
-    given = λ log n there none over. record { there = there; none_waits = none; over = over };
-    given_is = λ log n g. (g.there, g.none_waits, g.over);
+    given = λ log n there none over told. record { there = there; none_waits = none; over = over; was_told = told };
+    given_is = λ log n g. (g.there, g.none_waits, g.over, g.was_told);
   }
 
   made_is : (log : List (Entry H)) (n : ℕ) (handler : H) → may_be_made step fails is_closed is_finished inbound_makes outbound_makes eager names peer role log n handler

@@ -24,8 +24,8 @@ module _ {H : Type 0} (step : H → HandlerCall → H → Type 0) (is_closed is_
   gives_nothing old new room bytes e (inl h) = (h.1, h.2)
   gives_nothing old new room bytes e (inr h) = absurd (let never : true ≡ false = sym e ∙ h.0 in cc never)
 
-  pub any_steps : AnyStepRows step is_closed is_finished
-  any_steps = record {
+  pub any_steps : (was_done : Bool) → AnyStepRows step is_closed is_finished was_done
+  any_steps was_done = record {
     gives = λ old new room bytes e. (λ h. (h.0, asks_it old new room bytes e h.1), λ h. (h.0, inr (e, h.1)));
     gives_nothing = λ old new room bytes e h. gives_nothing old new room bytes e h.1;
     stage_gives = λ talk handler room index new bytes.

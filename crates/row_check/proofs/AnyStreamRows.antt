@@ -104,8 +104,8 @@ module _ {H : Type 0} (step : H → HandlerCall → H → Type 0) where
   }
 
 module _ {H : Type 0} (step : H → HandlerCall → H → Type 0) (fails : H → Asked → ℕ → Type 0) (is_closed is_finished : H → Bool) where
-  pub any_serving : AnyServingRows step fails is_closed is_finished
-  any_serving = record {
+  pub any_serving : (was_done : Bool) → AnyServingRows step fails is_closed is_finished was_done
+  any_serving was_done = record {
     sent = λ role past n so_far left. refl;
     writes = λ role past n m so_far pieces. (
       λ h. (h.0, (h.1.stream, h.1.left, h.1.stands)),
@@ -113,8 +113,8 @@ module _ {H : Type 0} (step : H → HandlerCall → H → Type 0) (fails : H →
     );
     takes = λ role past n m count so_far. (λ h. h, λ h. h);
     closes = λ role past n m so_far. (
-      λ h. (h.0, (h.1.stream, h.1.left, h.1.stands, h.1.none_waits, h.1.over)),
-      λ h. (h.0, record { stream = h.1.0; left = h.1.1; stands = h.1.2; none_waits = h.1.3; over = h.1.4 }),
+      λ h. (h.0, (h.1.stream, h.1.left, h.1.stands, h.1.none_waits, h.1.over, h.1.out_before)),
+      λ h. (h.0, record { stream = h.1.0; left = h.1.1; stands = h.1.2; none_waits = h.1.3; over = h.1.4; out_before = h.1.5 }),
     );
     does_nothing_else = λ role past n m code so_far. (λ h. h, λ h. h, λ h. h);
     no_act = λ role past n so_far. tt;

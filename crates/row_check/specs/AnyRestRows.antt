@@ -213,9 +213,12 @@ module _ {P H : Type 0} (step : H → HandlerCall → H → Type 0) (fails : H �
         × (waiting : List ℕ) × has_come log n so_far × IsServed step so_far handler waiting
         × (is_finished handler ≡ true)
     pub given : (log : List (Entry H)) (n : ℕ) (there : is_there log n) → there.stream.waiting ≡ []
-        → has_closed is_closed there.stream.stage ≡ true → has_given log n
+        → (has_closed is_closed there.stream.stage ≡ true) ⊎ (has_finished is_finished there.stream.stage ≡ true)
+        → (was_handed_out there.stream.stage ≡ true → is_over role log n ≡ true) → has_given log n
     pub given_is : (log : List (Entry H)) (n : ℕ) → has_given log n → (there : is_there log n)
-        × (there.stream.waiting ≡ []) × (has_closed is_closed there.stream.stage ≡ true)
+        × (there.stream.waiting ≡ [])
+        × ((has_closed is_closed there.stream.stage ≡ true) ⊎ (has_finished is_finished there.stream.stage ≡ true))
+        × (was_handed_out there.stream.stage ≡ true → is_over role log n ≡ true)
 
   -- Which entry may stand where: at any list
   pub record AnyDueRows : Type 0 where

@@ -49,7 +49,7 @@ pub record AnyTalkStepRows (H : Type 0) : Type 0 where
       → TalkRunsOut side (output ++ more) got piece ⊎ (HasNoRoom side got piece waiting × (more ≡ []))))
 
 module _ {H : Type 0} (step : H → HandlerCall → H → Type 0) (is_closed is_finished : H → Bool) where
-  pub record AnyStepRows : Type 0 where
+  pub record AnyStepRows (was_done : Bool) : Type 0 where
     -- a handler that isn't closed is asked, and one that is closed gives nothing
     pub gives : (old new : H) (room : ℕ) (bytes : List ℕ) → is_closed old ≡ false
         → Gives step is_closed old room new bytes ↔ ((length bytes ≤ room) × step old (Give room bytes) new)
@@ -84,16 +84,16 @@ module _ {H : Type 0} (step : H → HandlerCall → H → Type 0) (is_closed is_
         ⊎ ((open_credit role past n ≢ Some 0) × (is_live role past n ≡ true)
         × SessionStands role (Did (Taken n (untaken role past n)) ∷ past) fed sent session))
     pub was_asked : (role : Role) (past : List Item) (fed sent : List ℕ) (n : ℕ) (so_far : Past H) (session : State)
-        (stream : Streaming H) → WasAsked step is_closed is_finished role past fed sent n so_far session stream
-        ↔ ((goes : Goes step is_closed is_finished role past fed sent n so_far session stream)
+        (stream : Streaming H) → WasAsked step is_closed is_finished was_done role past fed sent n so_far session stream
+        ↔ ((goes : Goes step is_closed is_finished was_done role past fed sent n so_far session stream)
         × (is_live role goes.now n ≡ true → closed role goes.now n ≡ false
         → is_open is_closed stream.stage ≡ true → goes.left ≡ Some (credit role goes.now n))
         × (is_live role goes.now n ≡ true → closed role goes.now n ≡ false → 0 < credit role goes.now n
         → stream.waiting ≡ []))
     pub was_closed : (role : Role) (past : List Item) (fed sent : List ℕ) (n : ℕ) (so_far : Past H) (handler : Option H)
         (session : State) (stream : Streaming H)
-        → WasClosed step is_closed is_finished role past fed sent n so_far handler session stream
-        ↔ ((goes : Goes step is_closed is_finished role past fed sent n so_far session stream)
+        → WasClosed step is_closed is_finished was_done role past fed sent n so_far handler session stream
+        ↔ ((goes : Goes step is_closed is_finished was_done role past fed sent n so_far session stream)
         × (is_live role goes.now n ≡ true → closed role goes.now n ≡ false
         → is_open is_closed stream.stage ≡ true → goes.left ≡ Some (credit role goes.now n))
         × (is_live role goes.now n ≡ true → closed role goes.now n ≡ false → 0 < credit role goes.now n

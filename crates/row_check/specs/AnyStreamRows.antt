@@ -202,7 +202,7 @@ module _ {H : Type 0} (step : H → HandlerCall → H → Type 0) where
 module _ {H : Type 0} (step : H → HandlerCall → H → Type 0) (fails : H → Asked → ℕ → Type 0)
     (is_closed is_finished : H → Bool) where
   -- Serving a stream: these facts, and no others
-  pub record AnyServingRows : Type 0 where
+  pub record AnyServingRows (was_done : Bool) : Type 0 where
     pub sent : (role : Role) (past : List Item) (n : ℕ) (so_far : Past H) (left : Option ℕ)
         → with_sent role past n so_far left ≡ record {
           side = so_far.side;
@@ -213,35 +213,37 @@ module _ {H : Type 0} (step : H → HandlerCall → H → Type 0) (fails : H →
           left = left;
         }
     pub writes : (role : Role) (past : List Item) (n m : ℕ) (so_far : Past H) (pieces : List (List ℕ))
-        → IsDue step is_closed is_finished role past n so_far (Write m pieces)
+        → IsDue step is_closed is_finished was_done role past n so_far (Write m pieces)
         ↔ ((m ≡ n) × ((stream : Streaming H) × (left : Option ℕ)
         × Stands step stream (with_sent role (Did (Write m pieces) ∷ past) n so_far left)))
     pub takes : (role : Role) (past : List Item) (n m count : ℕ) (so_far : Past H)
-        → IsDue step is_closed is_finished role past n so_far (Taken m count) ↔ ((m ≡ n)
+        → IsDue step is_closed is_finished was_done role past n so_far (Taken m count) ↔ ((m ≡ n)
         × (count ≡ untaken role past n) × ((0 < credit role past n) ⊎ (closed role past n ≡ true)))
     pub closes : (role : Role) (past : List Item) (n m : ℕ) (so_far : Past H)
-        → IsDue step is_closed is_finished role past n so_far (Close m) ↔ ((m ≡ n) × ((stream : Streaming H)
+        → IsDue step is_closed is_finished was_done role past n so_far (Close m) ↔ ((m ≡ n) × ((stream : Streaming H)
         × (left : Option ℕ) × Stands step stream (with_sent role past n so_far left) × (stream.waiting ≡ [])
-        × (has_closed is_closed stream.stage ≡ true)))
+        × ((has_closed is_closed stream.stage ≡ true) ⊎ (has_finished is_finished stream.stage ≡ true))
+        × (was_handed_out stream.stage ≡ true → was_done ≡ true)))
     pub does_nothing_else : (role : Role) (past : List Item) (n m code : ℕ) (so_far : Past H)
-        → ¬ IsDue step is_closed is_finished role past n so_far (Start m)
-        × ¬ IsDue step is_closed is_finished role past n so_far (Reset m)
-        × ¬ IsDue step is_closed is_finished role past n so_far (Act.GoAway code)
+        → ¬ IsDue step is_closed is_finished was_done role past n so_far (Start m)
+        × ¬ IsDue step is_closed is_finished was_done role past n so_far (Reset m)
+        × ¬ IsDue step is_closed is_finished was_done role past n so_far (Act.GoAway code)
     pub no_act : (role : Role) (past : List Item) (n : ℕ) (so_far : Past H)
-        → AreDue step is_closed is_finished role past n so_far []
+        → AreDue step is_closed is_finished was_done role past n so_far []
     pub acts : (role : Role) (past : List Item) (n : ℕ) (so_far : Past H) (act : Act) (acts : List Act)
-        → AreDue step is_closed is_finished role past n so_far (act ∷ acts)
-        ↔ (IsDue step is_closed is_finished role (map Did acts ++ past) n so_far act
-        × AreDue step is_closed is_finished role past n so_far acts)
+        → AreDue step is_closed is_finished was_done role past n so_far (act ∷ acts)
+        ↔ (IsDue step is_closed is_finished was_done role (map Did acts ++ past) n so_far act
+        × AreDue step is_closed is_finished was_done role past n so_far acts)
     pub goes : (role : Role) (past : List Item) (fed sent : List ℕ) (n : ℕ) (so_far : Past H) (session : State)
         (stream : Streaming H) (acts : List Act) (left : Option ℕ)
-        → AreDue step is_closed is_finished role past n so_far acts
+        → AreDue step is_closed is_finished was_done role past n so_far acts
         → SessionStands role (map Did acts ++ past) fed sent session
         → Stands step stream (with_sent role (map Did acts ++ past) n so_far left)
-        → Goes step is_closed is_finished role past fed sent n so_far session stream
+        → Goes step is_closed is_finished was_done role past fed sent n so_far session stream
     pub goes_is : (role : Role) (past : List Item) (fed sent : List ℕ) (n : ℕ) (so_far : Past H) (session : State)
-        (stream : Streaming H) → (g : Goes step is_closed is_finished role past fed sent n so_far session stream)
-        → (g.now ≡ map Did g.acts ++ past) × AreDue step is_closed is_finished role past n so_far g.acts
+        (stream : Streaming H)
+        → (g : Goes step is_closed is_finished was_done role past fed sent n so_far session stream)
+        → (g.now ≡ map Did g.acts ++ past) × AreDue step is_closed is_finished was_done role past n so_far g.acts
         × SessionStands role g.now fed sent session × Stands step stream (with_sent role g.now n so_far g.left)
     pub settled : (role : Role) (past : List Item) (n : ℕ) (left : Option ℕ) (stream : Streaming H)
         → IsSettled step is_closed is_finished role past n left stream
@@ -256,14 +258,14 @@ module _ {H : Type 0} (step : H → HandlerCall → H → Type 0) (fails : H →
         → HandsOut step is_closed is_finished so_far None stream ↔ (has_finished is_finished stream.stage ≡ false)
     pub serves : (role : Role) (past : List Item) (fed sent : List ℕ) (n : ℕ) (so_far : Past H) (handler : Option H)
         (session : State) (stream : Streaming H)
-        (g : Goes step is_closed is_finished role past fed sent n so_far session stream)
+        (g : Goes step is_closed is_finished was_done role past fed sent n so_far session stream)
         → HandsOut step is_closed is_finished (with_sent role g.now n so_far g.left) handler stream
         → (is_live role g.now n ≡ true → IsSettled step is_closed is_finished role g.now n g.left stream)
-        → Serves step is_closed is_finished role past fed sent n so_far handler session stream
+        → Serves step is_closed is_finished was_done role past fed sent n so_far handler session stream
     pub serves_is : (role : Role) (past : List Item) (fed sent : List ℕ) (n : ℕ) (so_far : Past H) (handler : Option H)
         (session : State) (stream : Streaming H)
-        → Serves step is_closed is_finished role past fed sent n so_far handler session stream
-        → (g : Goes step is_closed is_finished role past fed sent n so_far session stream)
+        → Serves step is_closed is_finished was_done role past fed sent n so_far handler session stream
+        → (g : Goes step is_closed is_finished was_done role past fed sent n so_far session stream)
         × HandsOut step is_closed is_finished (with_sent role g.now n so_far g.left) handler stream
         × (is_live role g.now n ≡ true → IsSettled step is_closed is_finished role g.now n g.left stream)
     pub fails_by : (handler : H) (asked : Asked) (stop : Stop) → FailsBy fails handler asked stop
@@ -362,11 +364,12 @@ module _ {H : Type 0} (step : H → HandlerCall → H → Type 0) (fails : H →
     -- what serving comes to
     pub came_on : (so_far : Past H) (old stream : Streaming H) (before session : State)
         → came_to so_far old before outcomes.Going session stream
-        ↔ (Serves step is_closed is_finished role past fed sent n so_far None session stream
+        ↔ (Serves step is_closed is_finished (was_handed_out old.stage) role past fed sent n so_far None session stream
         × (kind_of stream.stage ≡ kind_of old.stage))
     pub came_done : (so_far : Past H) (old stream : Streaming H) (before session : State) (handler : H)
         → came_to so_far old before (outcomes.Done handler) session stream
-        ↔ (Serves step is_closed is_finished role past fed sent n so_far (Some handler) session stream
+        ↔ (Serves step is_closed is_finished (was_handed_out old.stage) role past fed sent n so_far (Some handler)
+        session stream
         × (kind_of old.stage ≡ Served))
     pub came_refused : (so_far : Past H) (old stream : Streaming H) (before session : State)
         → ¬ came_to so_far old before outcomes.Refused session stream

@@ -322,7 +322,7 @@ pub fn any_stream_rows<P: Protocols>()
     ensures stages { AnyStageRows P.H }
     ensures hearing { AnyHearingRows }
     ensures standing { AnyStandingRows P.H.steps }
-    ensures serving { AnyServingRows P.H.steps P.H.fails P.H.is_closed P.H.is_finished }
+    ensures serving { (was_done : Bool) → AnyServingRows P.H.steps P.H.fails P.H.is_closed P.H.is_finished was_done }
     ensures directions { AnyDirectionRows P.makes_inbound P.makes_outbound P.leads_inbound P.leads_outbound }
     ensures routing { (role : Role) (past : List Item) (fed sent peer : List ℕ) (n : ℕ) (protocols : P) (none : Bool)
         → AnyRoutingRows P.H.steps P.H.fails P.H.is_closed P.H.is_finished role past fed sent n
@@ -350,5 +350,5 @@ pub fn any_route_rows<P: Protocols>()
 /// The definitions of the steps by which a stream is served say what they are to say, whatever is in it.
 pub fn any_step_rows<H: Handler>()
     ensures talks { AnyTalkStepRows H }
-    ensures steps { AnyStepRows H.steps H.is_closed H.is_finished }
+    ensures steps { (was_done : Bool) → AnyStepRows H.steps H.is_closed H.is_finished was_done }
 {}

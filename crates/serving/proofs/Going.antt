@@ -18,7 +18,7 @@ use Rattle.yamux_session.specs.State.{State, Stands as SessionStands}
 use Rattle.streams.specs.declared.stage.Stage.{Stage}
 use Rattle.streams.specs.declared.stage.Stage.TheVariants as stages
 use Rattle.streams.specs.Streams.{Past, IsServed}
-use Rattle.streams.specs.State.{Streaming, Stands, StandsAt, is_open, has_closed, has_finished}
+use Rattle.streams.specs.State.{Streaming, Stands, StandsAt, is_open, has_closed, has_finished, was_handed_out}
 use Rattle.serving.specs.Served.{Goes, HasGiven, HandsOut, Serves, with_sent}
 use Rattle.serving.specs.Steps.{Sends, WasAsked, WasClosed, Closes, Counts}
 use Rattle.serving.proofs.Acts.{taken_keeps, none_left, has_written, is_closed_then, closing_writes_nothing}
@@ -31,10 +31,10 @@ empty_or (x ∷ xs) h = absurd (h (λ e. cc e))
 not_both : {b : Bool} → b ≡ true → b ≡ false → ⊥
 not_both on off = let e : true ≡ false = sym on ∙ off in cc e
 
-module _ {H : Type 0} (step : H → HandlerCall → H → Type 0) (is_closed is_finished : H → Bool) where
+module _ {H : Type 0} (step : H → HandlerCall → H → Type 0) (is_closed is_finished : H → Bool) (was_done : Bool) where
   begins : (role : Role) (past : List Item) (fed sent : List ℕ) (n : ℕ) (so_far : Past H) (session : State) (x : Streaming H)
       → SessionStands role past fed sent session → Stands step x so_far → so_far.sent ≡ written role past n
-      → Goes step is_closed is_finished role past fed sent n so_far session x
+      → Goes step is_closed is_finished was_done role past fed sent n so_far session x
   begins role past fed sent n so_far session x at stands e = record {
     acts = [];
     now = past;
@@ -48,7 +48,7 @@ module _ {H : Type 0} (step : H → HandlerCall → H → Type 0) (is_closed is_
   -- this direction isn't open: the stream isn't asked
   pub not_asked : (role : Role) (past : List Item) (fed sent : List ℕ) (n : ℕ) (so_far : Past H) (session : State) (x : Streaming H)
       → SessionStands role past fed sent session → Stands step x so_far → so_far.sent ≡ written role past n → open_credit role past n ≡ None
-      → WasAsked step is_closed is_finished role past fed sent n so_far session x
+      → WasAsked step is_closed is_finished was_done role past fed sent n so_far session x
   unfolding begins
   not_asked role past fed sent n so_far session x at stands e none = record {
     goes = begins role past fed sent n so_far session x at stands e;
@@ -59,7 +59,7 @@ module _ {H : Type 0} (step : H → HandlerCall → H → Type 0) (is_closed is_
   module _ (acts_do : ActsDo) (acts_move : ActsMove) where
     asked_by : (role : Role) (past : List Item) (fed sent : List ℕ) (n amount : ℕ) (so_far : Past H) (session : State) (x : Streaming H)
         → (s : Sends step is_closed role past fed sent n amount so_far session x) → so_far.sent ≡ written role past n → open_credit role past n ≡ Some amount
-        → (s.acts ≡ Write n s.pieces ∷ []) ⊎ ((s.acts ≡ []) × (s.pieces ≡ [])) → WasAsked step is_closed is_finished role past fed sent n so_far session x
+        → (s.acts ≡ Write n s.pieces ∷ []) ⊎ ((s.acts ≡ []) × (s.pieces ≡ [])) → WasAsked step is_closed is_finished was_done role past fed sent n so_far session x
     asked_by role past fed sent n amount so_far session x s e is_open (inl are) =
         let w = has_written acts_do acts_move role past n s.pieces in
         let before = (open_with role past n amount is_open).credit_is in
@@ -102,19 +102,19 @@ module _ {H : Type 0} (step : H → HandlerCall → H → Type 0) (is_closed is_
     -- what the stream gave was written, where it gave anything
     pub was_asked : (role : Role) (past : List Item) (fed sent : List ℕ) (n amount : ℕ) (so_far : Past H) (session : State) (x : Streaming H)
         → Sends step is_closed role past fed sent n amount so_far session x → so_far.sent ≡ written role past n → open_credit role past n ≡ Some amount
-        → WasAsked step is_closed is_finished role past fed sent n so_far session x
+        → WasAsked step is_closed is_finished was_done role past fed sent n so_far session x
     was_asked role past fed sent n amount so_far session x s e is_open = asked_by role past fed sent n amount so_far session x s e is_open s.acts_are
 
     -- a handler that is finished is handed out
     pub record HasFinished (role : Role) (past : List Item) (fed sent : List ℕ) (n : ℕ) (so_far : Past H)
         (handler : Option H) (session : State) (x : Streaming H) : Type 0 where
-      pub was_asked : WasAsked step is_closed is_finished role past fed sent n so_far session x
+      pub was_asked : WasAsked step is_closed is_finished was_done role past fed sent n so_far session x
       pub handed_out : HandsOut step is_closed is_finished (with_sent role was_asked.goes.now n so_far was_asked.goes.left) handler x
 
     handed_on : (role : Role) (past : List Item) (fed sent : List ℕ) (n : ℕ) (so_far : Past H) (session : State) (old new : Streaming H)
-        → (a : WasAsked step is_closed is_finished role past fed sent n so_far session old) → new ≡ record old { stage = stages.Done }
+        → (a : WasAsked step is_closed is_finished was_done role past fed sent n so_far session old) → new ≡ record old { stage = stages.Done }
         → Stands step new (with_sent role a.goes.now n so_far a.goes.left)
-        → WasAsked step is_closed is_finished role past fed sent n so_far session new
+        → WasAsked step is_closed is_finished was_done role past fed sent n so_far session new
     handed_on role past fed sent n so_far session old new a is stands =
         let shut : is_open is_closed new.stage ≡ false = ap (λ (x : Streaming H). is_open is_closed x.stage) is in
         record {
@@ -132,7 +132,7 @@ module _ {H : Type 0} (step : H → HandlerCall → H → Type 0) (is_closed is_
         }
 
     pub has_finished_on : (role : Role) (past : List Item) (fed sent : List ℕ) (n : ℕ) (so_far : Past H) (session : State) (handler : Option H) (old new : Streaming H)
-        → WasAsked step is_closed is_finished role past fed sent n so_far session old
+        → WasAsked step is_closed is_finished was_done role past fed sent n so_far session old
         → IfSome handler (λ it. (old.stage ≡ stages.Serving it) × (is_finished it ≡ true) × (new ≡ record old { stage = stages.Done }))
         → IfNone handler ((has_finished is_finished old.stage ≡ false) × (new ≡ old))
         → ((past : Past H) → Stands step old past → Stands step new past)
@@ -141,7 +141,7 @@ module _ {H : Type 0} (step : H → HandlerCall → H → Type 0) (is_closed is_
     has_finished_on role past fed sent n so_far session None old new a some none stands =
         let same : new ≡ old = none.1 in
         record {
-          was_asked = subst (λ (x : Streaming H). WasAsked step is_closed is_finished role past fed sent n so_far session x) (sym same) a;
+          was_asked = subst (λ (x : Streaming H). WasAsked step is_closed is_finished was_done role past fed sent n so_far session x) (sym same) a;
           handed_out = (tt, ap (λ (x : Streaming H). has_finished is_finished x.stage) same ∙ none.0);
         }
     has_finished_on role past fed sent n so_far session (Some it) old new a some none stands =
@@ -171,12 +171,30 @@ module _ {H : Type 0} (step : H → HandlerCall → H → Type 0) (is_closed is_
     pub both : (waiting : List ℕ) (stage : Bool) → (length waiting == 0) && stage ≡ true → (waiting ≡ []) × (stage ≡ true)
     both waiting stage e = let it = both_by (length waiting == 0) stage e in (is_empty waiting it.0, it.1)
 
+    -- a handler that is handed out was held before, and finished
+    has_given : (role : Role) (now : List Item) (n : ℕ) (so_far : Past H) (left : Option ℕ) (handler : Option H) (x : Streaming H)
+        → HandsOut step is_closed is_finished (with_sent role now n so_far left) handler x
+        → (handler ≡ None → was_handed_out x.stage ≡ true → was_done ≡ true)
+        → Stands step x (with_sent role now n so_far left) → x.waiting ≡ [] → has_closed is_closed x.stage ≡ true
+        → HasGiven step is_closed is_finished was_done role now n so_far
+    has_given role now n so_far left None x out out_before stands none over =
+        record { stream = x; left = left; stands = stands; none_waits = none; over = inl over; out_before = out_before refl }
+    has_given role now n so_far left (Some it) x out out_before stands none over = record {
+      stream = record { waiting = x.waiting; stage = stages.Serving it };
+      left = left;
+      stands = out.0.0;
+      none_waits = none;
+      over = inr out.0.1;
+      out_before = λ done. absurd (cc done);
+    }
+
     pub was_closed : (role : Role) (past : List Item) (fed sent : List ℕ) (n : ℕ) (so_far : Past H) (handler : Option H) (before session : State) (x : Streaming H)
-        → (a : WasAsked step is_closed is_finished role past fed sent n so_far before x)
+        → (a : WasAsked step is_closed is_finished was_done role past fed sent n so_far before x)
         → HandsOut step is_closed is_finished (with_sent role a.goes.now n so_far a.goes.left) handler x
+        → (handler ≡ None → was_handed_out x.stage ≡ true → was_done ≡ true)
         → Closes role a.goes.now fed sent n ((length x.waiting == 0) && has_closed is_closed x.stage) before session
-        → WasClosed step is_closed is_finished role past fed sent n so_far handler session x
-    was_closed role past fed sent n so_far handler before session x a out (inl (same, why)) = record {
+        → WasClosed step is_closed is_finished was_done role past fed sent n so_far handler session x
+    was_closed role past fed sent n so_far handler before session x a out out_before (inl (same, why)) = record {
       goes = record {
         acts = a.goes.acts;
         now = a.goes.now;
@@ -195,7 +213,7 @@ module _ {H : Type 0} (step : H → HandlerCall → H → Type 0) (is_closed is_
           → is_live role a.goes.now n ≡ true → has_closed is_closed x.stage ≡ true → x.waiting ≡ [] → closed role a.goes.now n ≡ true
       by_why (inl off) live on none = absurd (nothing_more x.waiting (has_closed is_closed x.stage) off on none)
       by_why (inr none_open) live on none = not_open role a.goes.now n none_open live
-    was_closed role past fed sent n so_far handler before session x a out (inr (is_over, at)) =
+    was_closed role past fed sent n so_far handler before session x a out out_before (inr (is_over, at)) =
         let now = Did (Close n) ∷ a.goes.now in
         let shut : closed role now n ≡ true = is_closed_then acts_do acts_move role a.goes.now n in
         let given = both x.waiting (has_closed is_closed x.stage) is_over in
@@ -207,8 +225,8 @@ module _ {H : Type 0} (step : H → HandlerCall → H → Type 0) (is_closed is_
             due = (
               (
                 refl,
-                subst (λ (t : List Item). HasGiven step is_closed is_finished role t n so_far) a.goes.now_is
-                    (record { stream = x; left = a.goes.left; stands = a.goes.stream_stands; none_waits = given.0; over = given.1 }),
+                subst (λ (t : List Item). HasGiven step is_closed is_finished was_done role t n so_far) a.goes.now_is
+                    (has_given role a.goes.now n so_far a.goes.left handler x out out_before a.goes.stream_stands given.0 given.1),
               ),
               a.goes.due,
             );
@@ -226,7 +244,7 @@ module _ {H : Type 0} (step : H → HandlerCall → H → Type 0) (is_closed is_
     pub left_on : (role : Role) (past : List Item) (fed sent : List ℕ) (n : ℕ) (so_far : Past H) (handler : Option H) (before session : State) (now : List Item) (x : Streaming H)
         → Closes role now fed sent n ((length x.waiting == 0) && has_closed is_closed x.stage) before session
         → ((role : Role) (past : List Item) (fed sent : List ℕ) → SessionStands role past fed sent before → open_credit role past n ≢ Some 0)
-        → (w : WasClosed step is_closed is_finished role past fed sent n so_far handler session x) → open_credit role w.goes.now n ≢ Some 0
+        → (w : WasClosed step is_closed is_finished was_done role past fed sent n so_far handler session x) → open_credit role w.goes.now n ≢ Some 0
     left_on role past fed sent n so_far handler before session now x (inl (same, why)) still w =
         still role w.goes.now fed sent (subst (λ (s : State). SessionStands role w.goes.now fed sent s) same w.goes.session_stands)
     left_on role past fed sent n so_far handler before session now x (inr (over, stands)) still w =
@@ -235,9 +253,9 @@ module _ {H : Type 0} (step : H → HandlerCall → H → Type 0) (is_closed is_
 
     -- and what came was counted as taken
     pub was_settled : (role : Role) (past : List Item) (fed sent : List ℕ) (n : ℕ) (so_far : Past H) (handler : Option H) (before session : State) (x : Streaming H)
-        → (a : WasClosed step is_closed is_finished role past fed sent n so_far handler before x)
+        → (a : WasClosed step is_closed is_finished was_done role past fed sent n so_far handler before x)
         → Counts role a.goes.now fed sent n before session
-        → Serves step is_closed is_finished role past fed sent n so_far handler session x
+        → Serves step is_closed is_finished was_done role past fed sent n so_far handler session x
     was_settled role past fed sent n so_far handler before session x a (inl (same, why)) = record {
       goes = record {
         acts = a.goes.acts;

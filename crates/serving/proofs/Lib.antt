@@ -1,5 +1,6 @@
 pub mod Acts
 pub mod Refusals
+pub mod StageKinds
 pub mod Going
 pub mod Rows
 pub mod Sending

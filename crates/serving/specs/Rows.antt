@@ -1,7 +1,7 @@
 -- Worked rows of serving a stream (hashicorp yamux, and this project's profile): of the stream 1 of an end, whose
 -- handler is closed, and finished, where it is `true`.
 use Rattle.std.specs.Prelude.{◌≡◌, ℕ, Bool, true, false, List, [], ◌∷◌, Option, Some, None}
-use Rattle.ms_select.specs.Rows.{header_bytes}
+use Rattle.ms_select.specs.Rows.{header_bytes, y_bytes}
 use Rattle.handlers.specs.Calls.{HandlerCall, Asked, ToGive}
 use Rattle.yamux_session.specs.declared.event.Role.{Role}
 use Rattle.yamux_session.specs.declared.event.Role.TheVariants.{Client, Server}
@@ -25,7 +25,7 @@ abbrev pub any_step : Bool → HandlerCall → Bool → Type 0
 any_step old call new = Unit {0}
 
 abbrev pub Due : Past Bool → Role → List Item → Act → Type 0
-Due so_far role past act = IsDue any_step itself itself role past 1 so_far act
+Due so_far role past act = IsDue any_step itself itself false role past 1 so_far act
 
 -- which acts serve the stream: all that came is taken, while there is credit or once this direction is closed
 pub record DueRows (so_far : Past Bool) : Type 0 where
@@ -40,25 +40,50 @@ pub record DueRows (so_far : Past Bool) : Type 0 where
   pub reset : ¬ Due so_far Server two_bytes (Reset 1)
   pub gone_away : ¬ Due so_far Server two_bytes (Act.GoAway 0)
 
--- a stream whose talk has agreed, whose handler is closed, and of which nothing was sent
-abbrev pub unsent : Past Bool
-unsent = record {
+-- a stream whose talk has agreed, for which this handler was made, and of which nothing was sent
+abbrev pub unsent_with : Bool → Past Bool
+unsent_with handler = record {
   side = served_past.side;
   got = came;
   ended = false;
   sent = [];
-  made = Some true;
+  made = Some handler;
   left = None;
 }
+
+-- its handler is closed
+abbrev pub unsent : Past Bool
+unsent = unsent_with true
 
 -- what is written is what the stream gave, and what its talk wrote comes first
 pub record WriteRows : Type 0 where
   pub written : Due unsent Server two_bytes (Write 1 (header_bytes ∷ []))
   pub something_else : ¬ Due unsent Server two_bytes (Write 1 ((7 ∷ []) ∷ []))
 
--- this direction isn't closed while what the talk wrote waits, though the handler is closed
+-- all that its talk writes was sent
+abbrev pub talk_sent : List Item
+talk_sent = Did (Write 1 (header_bytes ∷ y_bytes ∷ [])) ∷ two_bytes
+
+abbrev pub never : Bool → Bool
+never b = false
+
+-- a handler stays what it was when it was made
+abbrev pub Stays : Bool → HandlerCall → Bool → Type 0
+Stays old call new = new ≡ old
+
+-- whether this direction may be closed then
+abbrev pub MayClose : (closed finished : Bool → Bool) (was_done handler : Bool) → Type 0
+MayClose closed finished was_done handler =
+    IsDue Stays closed finished was_done Server talk_sent 1 (unsent_with handler) (Close 1)
+
+-- This direction isn't closed while what the talk wrote waits, though the handler is closed; and then only where the
+-- handler is closed or finished, or was handed out before.
 pub record CloseRows : Type 0 where
   pub waiting : ¬ Due unsent Server two_bytes (Close 1)
+  pub closed : MayClose itself never false true
+  pub finished : MayClose never itself false true
+  pub handed_out : MayClose never never true false
+  pub serving : ¬ MayClose itself itself false false
 
 abbrev pub serving_of : List ℕ → Bool → Streaming Bool
 serving_of waiting handler = record { waiting = waiting; stage = Serving handler }

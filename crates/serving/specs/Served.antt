@@ -15,7 +15,7 @@ use Rattle.yamux_session.specs.State.{State, Stands as SessionStands}
 use Rattle.streams.specs.declared.stage.Stage.TheVariants.{Done}
 use Rattle.streams.specs.declared.stop.Stop.{Stop}
 use Rattle.streams.specs.Streams.{Past, IsServed}
-use Rattle.streams.specs.State.{Streaming, Stands, handler_of, is_open, has_closed, has_finished}
+use Rattle.streams.specs.State.{Streaming, Stands, handler_of, is_open, has_closed, has_finished, was_handed_out}
 use Rattle.streams.specs.Stops.{FailsBy}
 
 -- the stream's past where its session's list is this: what was sent on it is what was written
@@ -23,13 +23,31 @@ abbrev pub with_sent : {H : Type 0} → Role → List Item → ℕ → Past H �
 with_sent role past n so_far left = record so_far { sent = written role past n; left = left }
 
 module _ {H : Type 0} (step : H → HandlerCall → H → Type 0) (is_closed is_finished : H → Bool) where
-  -- The stream gives no more: nothing waits, and its handler is closed or was handed out.
+  -- What holds of a live stream that was served: a handler that isn't closed was asked last, with all the credit; what
+  -- its talk wrote waits only where no credit is left; this direction is closed where it gives no more; and all that
+  -- came was taken, unless no credit is left.
+  pub record IsSettled (role : Role) (past : List Item) (n : ℕ) (left : Option ℕ) (stream : Streaming H) : Type 0 where
+    pub asked : closed role past n ≡ false → is_open is_closed stream.stage ≡ true → left ≡ Some (credit role past n)
+    pub none_waits : closed role past n ≡ false → 0 < credit role past n → stream.waiting ≡ []
+    pub over : has_closed is_closed stream.stage ≡ true → stream.waiting ≡ [] → closed role past n ≡ true
+    pub was_taken : (0 < credit role past n) ⊎ (closed role past n ≡ true) → untaken role past n ≡ 0
+
+  -- A handler that is finished was handed out, and then the stream is done; else none is finished.
+  abbrev pub HandsOut : Past H → Option H → Streaming H → Type 0
+  HandsOut so_far handler stream =
+      IfSome handler (λ it. IsServed step so_far it stream.waiting × (is_finished it ≡ true) × (stream.stage ≡ Done))
+      × IfNone handler (has_finished is_finished stream.stage ≡ false)
+
+-- Of a stream whose handler was handed out before it was served, or was not.
+module _ {H : Type 0} (step : H → HandlerCall → H → Type 0) (is_closed is_finished : H → Bool) (was_done : Bool) where
+  -- The stream gives no more: nothing waits, and its handler is closed, or finished, or was handed out before.
   pub record HasGiven (role : Role) (past : List Item) (n : ℕ) (so_far : Past H) : Type 0 where
     pub stream : Streaming H
     pub left : Option ℕ
     pub stands : Stands step stream (with_sent role past n so_far left)
     pub none_waits : stream.waiting ≡ []
-    pub over : has_closed is_closed stream.stage ≡ true
+    pub over : (has_closed is_closed stream.stage ≡ true) ⊎ (has_finished is_finished stream.stage ≡ true)
+    pub out_before : was_handed_out stream.stage ≡ true → was_done ≡ true
 
   -- The stream stands where this is its session's list: what was written on it is what it gave.
   pub record HasSent (role : Role) (past : List Item) (n : ℕ) (so_far : Past H) : Type 0 where
@@ -65,27 +83,13 @@ module _ {H : Type 0} (step : H → HandlerCall → H → Type 0) (is_closed is_
     pub left : Option ℕ
     pub stream_stands : Stands step stream (with_sent role now n so_far left)
 
-  -- What holds of a live stream that was served: a handler that isn't closed was asked last, with all the credit; what
-  -- its talk wrote waits only where no credit is left; this direction is closed where it gives no more; and all that
-  -- came was taken, unless no credit is left.
-  pub record IsSettled (role : Role) (past : List Item) (n : ℕ) (left : Option ℕ) (stream : Streaming H) : Type 0 where
-    pub asked : closed role past n ≡ false → is_open is_closed stream.stage ≡ true → left ≡ Some (credit role past n)
-    pub none_waits : closed role past n ≡ false → 0 < credit role past n → stream.waiting ≡ []
-    pub over : has_closed is_closed stream.stage ≡ true → stream.waiting ≡ [] → closed role past n ≡ true
-    pub was_taken : (0 < credit role past n) ⊎ (closed role past n ≡ true) → untaken role past n ≡ 0
-
-  -- A handler that is finished was handed out, and then the stream is done; else none is finished.
-  abbrev pub HandsOut : Past H → Option H → Streaming H → Type 0
-  HandsOut so_far handler stream =
-      IfSome handler (λ it. IsServed step so_far it stream.waiting × (is_finished it ≡ true) × (stream.stage ≡ Done))
-      × IfNone handler (has_finished is_finished stream.stage ≡ false)
-
   -- The stream was served, and this handler was handed out.
   pub record Serves (role : Role) (past : List Item) (fed sent : List ℕ) (n : ℕ) (so_far : Past H)
       (handler : Option H) (session : State) (stream : Streaming H) : Type 0 where
     pub goes : Goes role past fed sent n so_far session stream
-    pub handed_out : HandsOut (with_sent role goes.now n so_far goes.left) handler stream
-    pub settled : is_live role goes.now n ≡ true → IsSettled role goes.now n goes.left stream
+    pub handed_out : HandsOut step is_closed is_finished (with_sent role goes.now n so_far goes.left) handler stream
+    pub settled : is_live role goes.now n ≡ true
+        → IsSettled step is_closed is_finished role goes.now n goes.left stream
 
 -- ---- refusals
 

@@ -41,11 +41,11 @@ Counts role past fed sent n old session =
     ⊎ ((open_credit role past n ≢ Some 0) × (is_live role past n ≡ true)
     × SessionStands role (Did (Taken n (untaken role past n)) ∷ past) fed sent session)
 
-module _ {H : Type 0} (step : H → HandlerCall → H → Type 0) (is_closed is_finished : H → Bool) where
+module _ {H : Type 0} (step : H → HandlerCall → H → Type 0) (is_closed is_finished : H → Bool) (was_done : Bool) where
   -- The stream was asked with all the credit, where this direction is open.
   pub record WasAsked (role : Role) (past : List Item) (fed sent : List ℕ) (n : ℕ) (so_far : Past H) (session : State)
       (stream : Streaming H) : Type 0 where
-    pub goes : Goes step is_closed is_finished role past fed sent n so_far session stream
+    pub goes : Goes step is_closed is_finished was_done role past fed sent n so_far session stream
     pub asked : is_live role goes.now n ≡ true → closed role goes.now n ≡ false
         → is_open is_closed stream.stage ≡ true → goes.left ≡ Some (credit role goes.now n)
     pub none_waits : is_live role goes.now n ≡ true → closed role goes.now n ≡ false → 0 < credit role goes.now n
@@ -54,7 +54,7 @@ module _ {H : Type 0} (step : H → HandlerCall → H → Type 0) (is_closed is_
   -- A handler that is finished was handed out, and this direction is closed where the stream gives no more.
   pub record WasClosed (role : Role) (past : List Item) (fed sent : List ℕ) (n : ℕ) (so_far : Past H)
       (handler : Option H) (session : State) (stream : Streaming H) : Type 0 where
-    pub goes : Goes step is_closed is_finished role past fed sent n so_far session stream
+    pub goes : Goes step is_closed is_finished was_done role past fed sent n so_far session stream
     pub asked : is_live role goes.now n ≡ true → closed role goes.now n ≡ false
         → is_open is_closed stream.stage ≡ true → goes.left ≡ Some (credit role goes.now n)
     pub none_waits : is_live role goes.now n ≡ true → closed role goes.now n ≡ false → 0 < credit role goes.now n

@@ -1,9 +1,12 @@
-use Rattle.std.proofs.Common.{◌≡◌, ◌≢◌, Bool, true, Some, sym, subst}
+use Rattle.std.proofs.Common.{◌≡◌, ◌≢◌, Bool, true, Option, Some, None, sym, ap, ◌∙◌, subst}
+use Rattle.std.specs.Prelude.{IfNone}
 use Rattle.yamux_session.specs.Acts.{open_credit}
 use Rattle.yamux_session.specs.State.{State, Stands as SessionStands}
+use Rattle.streams.specs.State.{Streaming, kind_of, was_handed_out}
 use Rattle.serving.specs.Steps.{Closes}
 use Rattle.serving.proofs.Going.{has_finished_on, was_closed, left_on, was_settled}
 use Rattle.serving.proofs.Refusals.{grows_unless}
+use Rattle.serving.proofs.StageKinds.{same_handed}
 use Rattle.serving.proofs.serving.serve.Goals as goal
 
 pub returns-in_err-is_left-clause-memory : goal.returns-in_err-is_left-clause-memory
@@ -25,20 +28,29 @@ returns-in_err-count_taken-clause-memory g c = λ e role past fed sent at.
     let also = (c.in_ok-close.ensures.kept role past fed sent there none).1 in
     c.in_err-count_taken.ensures.memory.1 role past fed sent (subst (λ (s : State). SessionStands role past fed sent s) (sym also) there))
 
+-- with no handler handed out the stream is where it was
+out_before : {H : Type 0} (P : Type 0) (handler : Option H) (old mid new : Streaming H) → kind_of mid.stage ≡ kind_of old.stage
+    → IfNone handler (P × (new ≡ mid)) → handler ≡ None → was_handed_out new.stage ≡ true → was_handed_out old.stage ≡ true
+out_before P None old mid new kind none is it =
+    sym (same_handed mid.stage old.stage kind) ∙ sym (ap (λ (x : Streaming _). was_handed_out x.stage) none.1) ∙ it
+out_before P (Some handler) old mid new kind none is it = absurd (cc is)
+
 pub returns-clause-serves : goal.returns-clause-serves
 returns-clause-serves g c = λ role past fed sent so_far at stands e.
     let n = c.args.number in
+    let done = was_handed_out c.args.stream.now.stage in
     let seen = c.acts_tell.ensures.seen in
     let windows = c.acts_tell.ensures.windows in
     let a = c.in_ok-is_left.ensures.asks role past fed sent so_far at stands e in
-    let h = has_finished_on g.H.Handler.steps g.H.Handler.is_closed g.H.Handler.is_finished seen windows role past fed sent n so_far c.ask.new.session c.finish-handler.result
+    let h = has_finished_on g.H.Handler.steps g.H.Handler.is_closed g.H.Handler.is_finished done seen windows role past fed sent n so_far c.ask.new.session c.finish-handler.result
     c.ask.new.stream c.finish-handler.new.self a c.finish-handler.ensures.handed_out c.finish-handler.ensures.none c.finish-handler.ensures.stands in
     let now = h.was_asked.goes.now in
     let closes = subst (λ (over : Bool). Closes role now fed sent n over c.ask.new.session c.close.new.session) c.closed.ensures
     (c.in_ok-close.ensures.closes role now fed sent h.was_asked.goes.session_stands) in
-    let w = was_closed g.H.Handler.steps g.H.Handler.is_closed g.H.Handler.is_finished seen windows role past fed sent n so_far c.finish-handler.result
-    c.ask.new.session c.close.new.session c.finish-handler.new.self h.was_asked h.handed_out closes in
-    let left : c.in_ok-is_left.is_left ≡ true → open_credit role w.goes.now n ≢ Some 0 = λ is_left. left_on g.H.Handler.steps g.H.Handler.is_closed g.H.Handler.is_finished seen windows role past fed sent n so_far c.finish-handler.result
+    let w = was_closed g.H.Handler.steps g.H.Handler.is_closed g.H.Handler.is_finished done seen windows role past fed sent n so_far c.finish-handler.result
+    c.ask.new.session c.close.new.session c.finish-handler.new.self h.was_asked h.handed_out
+    (out_before _ c.finish-handler.result c.args.stream.now c.ask.new.stream c.finish-handler.new.self c.in_ok-is_left.ensures.kind c.finish-handler.ensures.none) closes in
+    let left : c.in_ok-is_left.is_left ≡ true → open_credit role w.goes.now n ≢ Some 0 = λ is_left. left_on g.H.Handler.steps g.H.Handler.is_closed g.H.Handler.is_finished done seen windows role past fed sent n so_far c.finish-handler.result
     c.ask.new.session c.close.new.session now c.finish-handler.new.self closes (c.in_ok-is_left.ensures.left is_left) w in
-    was_settled g.H.Handler.steps g.H.Handler.is_closed g.H.Handler.is_finished seen windows role past fed sent n so_far c.finish-handler.result
+    was_settled g.H.Handler.steps g.H.Handler.is_closed g.H.Handler.is_finished done seen windows role past fed sent n so_far c.finish-handler.result
     c.close.new.session c.count_taken.new.session c.finish-handler.new.self w (c.in_ok-count_taken.ensures.counts role w.goes.now fed sent w.goes.session_stands left)

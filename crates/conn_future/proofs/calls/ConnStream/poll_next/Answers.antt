@@ -36,6 +36,9 @@ loop-call-init g c =
         reading = λ is. tt;
         writing = λ is. tt;
         shutting = tt;
+        writes = tt;
+        is_left = λ is. omega arith;
+        untaken = λ is. absurd (cc is);
       };
       waits = record { reading = λ is. absurd (cc is); writing = λ is. absurd (cc is) };
       kept = λ fact holds. holds;
@@ -61,7 +64,7 @@ loop-call-preserved g c = record {
         before.1 ++ by.1,
         g.met.L.Link.moves_on c.args.self.now.link c.loop-call.self.link c.turn.new.self.link before.0 before.1 by.0 by.1 before.2 by.2,
       );
-  made = c.in-Again.ensures.called c.args.self.now.link c.args.cx.now c.loop-call._call c.loop-call.invariant.made;
+  made = c.in-Again.ensures.called (length c.args.self.now.unsent) c.args.self.now.link c.args.cx.now c.loop-call._call c.loop-call.invariant.made;
   waits = c.in-Again.ensures.waits c.loop-call.invariant.waits;
   kept = λ fact holds. c.turn.ensures.kept fact (c.loop-call.invariant.kept fact holds);
 }
@@ -147,25 +150,25 @@ returns-in-Give-clause-came g c empty going over =
 
 pub returns-in-Give-clause-polls : goal.returns-in-Give-clause-polls
 returns-in-Give-clause-polls g c =
-    polls_to g.L.Link.calls c.args.self.now.link c.turn.new.self.link c.args.cx.now c.turn.new.cx (c.loop-call._call + 1) (omega arith)
-    (c.turn.ensures.calls c.args.self.now.link c.args.cx.now c.loop-call._call c.loop-call.invariant.made)
+    polls_to g.L.Link.calls (length c.args.self.now.unsent) c.args.self.now.link c.turn.new.self.link c.args.cx.now c.turn.new.cx (c.loop-call._call + 1) (omega arith)
+    (c.turn.ensures.calls (length c.args.self.now.unsent) c.args.self.now.link c.args.cx.now c.loop-call._call c.loop-call.invariant.made)
 
 pub returns-in-Failed-clause-polls : goal.returns-in-Failed-clause-polls
 returns-in-Failed-clause-polls g c =
-    polls_to g.L.Link.calls c.args.self.now.link c.turn.new.self.link c.args.cx.now c.turn.new.cx (c.loop-call._call + 1) (omega arith)
-    (c.turn.ensures.calls c.args.self.now.link c.args.cx.now c.loop-call._call c.loop-call.invariant.made)
+    polls_to g.L.Link.calls (length c.args.self.now.unsent) c.args.self.now.link c.turn.new.self.link c.args.cx.now c.turn.new.cx (c.loop-call._call + 1) (omega arith)
+    (c.turn.ensures.calls (length c.args.self.now.unsent) c.args.self.now.link c.args.cx.now c.loop-call._call c.loop-call.invariant.made)
 
 pub returns-in-Wait-clause-polls : goal.returns-in-Wait-clause-polls
 returns-in-Wait-clause-polls g c =
-    polls_to g.L.Link.calls c.args.self.now.link c.turn.new.self.link c.args.cx.now c.turn.new.cx (c.loop-call._call + 1) (omega arith)
-    (c.turn.ensures.calls c.args.self.now.link c.args.cx.now c.loop-call._call c.loop-call.invariant.made)
+    polls_to g.L.Link.calls (length c.args.self.now.unsent) c.args.self.now.link c.turn.new.self.link c.args.cx.now c.turn.new.cx (c.loop-call._call + 1) (omega arith)
+    (c.turn.ensures.calls (length c.args.self.now.unsent) c.args.self.now.link c.args.cx.now c.loop-call._call c.loop-call.invariant.made)
 
 pub returns-clause-polls : goal.returns-clause-polls
 returns-clause-polls g c =
-    polls_all g.L.Link.calls c.loop-call.waits c.args.self.now.link c.loop-call.self.link c.args.cx.now c.loop-call.cx c.yield_now.new.self c.loop-call._call (omega arith)
+    polls_all g.L.Link.calls c.loop-call.waits (length c.args.self.now.unsent) (length c.loop-call.self.unsent) c.args.self.now.link c.loop-call.self.link c.args.cx.now c.loop-call.cx c.yield_now.new.self c.loop-call._call (omega arith)
     c.loop-call.invariant.made
 
 pub returns-then-not-is_empty-clause-polls : goal.returns-then-not-is_empty-clause-polls
 returns-then-not-is_empty-clause-polls g c =
-    subst (λ l. Polls g.L.Link.calls c.args.self.now.link c.args.cx.now l c.args.cx.now) (sym c.give.ensures.link)
-    (polls_none g.L.Link.calls g.met.L.Link.calls_none c.args.self.now.link c.args.cx.now)
+    subst (λ l. Polls g.L.Link.calls (length c.args.self.now.unsent) c.args.self.now.link c.args.cx.now l c.args.cx.now) (sym c.give.ensures.link)
+    (polls_none g.L.Link.calls g.met.L.Link.calls_none (length c.args.self.now.unsent) c.args.self.now.link c.args.cx.now)

@@ -1,4 +1,4 @@
-use Rattle.std.proofs.Common.{◌≡◌, ◌≢◌, ℕ, true, List, []}
+use Rattle.std.proofs.Common.{◌≡◌, ◌≢◌, ℕ, true, List, [], length}
 use Rattle.futures.specs.Task.{Keeps}
 use Rattle.peer_ids.specs.Key.{Key}
 use Rattle.upgrade.specs.declared.role.ConnRole.{ConnRole}
@@ -21,7 +21,7 @@ invariant-loop-call g l = record {
   unshut : l.fn.self.stage ≢ Shutting → g.L.Link.is_shut l.self.link → g.L.Link.is_shut l.fn.self.link;
   shutting : l.fn.self.stage ≡ Shutting → Drains g.L.Link l.fn.self.link l.fn.self.unsent l.self.link l.self.unsent;
   moved : l.fn.self.stage ≡ Going → (given : List ℕ) × (took : List ℕ) × g.L.Link.moves l.fn.self.link given took l.self.link;
-  made : Makes g.L.Link.calls l.waits l.fn.self.link l.fn.cx l.self.link l.cx l._call;
+  made : Makes g.L.Link.calls l.waits (length l.fn.self.unsent) (length l.self.unsent) l.fn.self.link l.fn.cx l.self.link l.cx l._call;
   waits : HasWaited l.waits l.cx (g.L.Link.reads_at l.self.link) (g.L.Link.writes_at l.self.link);
   kept : Keeps l.fn.cx l.cx;
 }

@@ -1,4 +1,4 @@
-use Rattle.std.proofs.Common.{[], inl, refl, ap, rules}
+use Rattle.std.proofs.Common.{[], length, inl, refl, ap, rules}
 use Rattle.conn_link.specs.Calling.{call_of, shut_answer}
 use Rattle.conn_link.specs.Calling.Kind.{Shuts}
 use Rattle.conn_future.proofs.Making.{made_to}
@@ -47,16 +47,16 @@ returns-in-Pending-clause-shutting g c is =
     ([], drains_shut g.L.Link c.args.self.now.link c.poll_shut.new.self c.args.self.now.unsent c.requires.none_left c.poll_shut.ensures.moved, tt)
 
 pub returns-in-Ready-Ok-clause-called : goal.returns-in-Ready-Ok-clause-called
-returns-in-Ready-Ok-clause-called g c first before count waits it =
-    made_to g.L.Link.calls g.met.L.Link.calls_on waits first c.args.self.now.link c.poll_shut.new.self before c.args.cx.now c.poll_shut.new.cx count
-    (call_of Shuts 0 (shut_answer c.poll_shut.result) c.args.cx.now c.poll_shut.new.cx) it it.shutting (inl refl) refl c.poll_shut.ensures.called
+returns-in-Ready-Ok-clause-called g c waited first before count waits it =
+    made_to g.L.Link.calls g.met.L.Link.calls_on waits waited (length c.args.self.now.unsent) first c.args.self.now.link c.poll_shut.new.self before c.args.cx.now c.poll_shut.new.cx count
+    (call_of Shuts 0 (shut_answer c.poll_shut.result) c.args.cx.now c.poll_shut.new.cx) it it.shutting (inl refl) refl c.poll_shut.ensures.called (λ kind. absurd (cc kind))
 
 pub returns-in-Ready-Err-clause-called : goal.returns-in-Ready-Err-clause-called
-returns-in-Ready-Err-clause-called g c first before count waits it =
-    made_to g.L.Link.calls g.met.L.Link.calls_on waits first c.args.self.now.link c.poll_shut.new.self before c.args.cx.now c.poll_shut.new.cx count
-    (call_of Shuts 0 (shut_answer c.poll_shut.result) c.args.cx.now c.poll_shut.new.cx) it it.shutting (inl refl) refl c.poll_shut.ensures.called
+returns-in-Ready-Err-clause-called g c waited first before count waits it =
+    made_to g.L.Link.calls g.met.L.Link.calls_on waits waited (length c.args.self.now.unsent) first c.args.self.now.link c.poll_shut.new.self before c.args.cx.now c.poll_shut.new.cx count
+    (call_of Shuts 0 (shut_answer c.poll_shut.result) c.args.cx.now c.poll_shut.new.cx) it it.shutting (inl refl) refl c.poll_shut.ensures.called (λ kind. absurd (cc kind))
 
 pub returns-in-Pending-clause-called : goal.returns-in-Pending-clause-called
-returns-in-Pending-clause-called g c first before count waits it =
-    made_to g.L.Link.calls g.met.L.Link.calls_on waits first c.args.self.now.link c.poll_shut.new.self before c.args.cx.now c.poll_shut.new.cx count
-    (call_of Shuts 0 (shut_answer c.poll_shut.result) c.args.cx.now c.poll_shut.new.cx) it it.shutting (inl refl) refl c.poll_shut.ensures.called
+returns-in-Pending-clause-called g c waited first before count waits it =
+    made_to g.L.Link.calls g.met.L.Link.calls_on waits waited (length c.args.self.now.unsent) first c.args.self.now.link c.poll_shut.new.self before c.args.cx.now c.poll_shut.new.cx count
+    (call_of Shuts 0 (shut_answer c.poll_shut.result) c.args.cx.now c.poll_shut.new.cx) it it.shutting (inl refl) refl c.poll_shut.ensures.called (λ kind. absurd (cc kind))

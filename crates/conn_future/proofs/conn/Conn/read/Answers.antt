@@ -1,10 +1,10 @@
-use Rattle.std.proofs.Common.{◌∙◌, ◌+◌, true, ◌<◌, inl, inr, take, Ok, Err, List, ℕ, [], length, refl, ap, sym, subst}
+use Rattle.std.proofs.Common.{◌∙◌, ◌+◌, true, ◌<◌, inl, inr, take, Ok, Err, List, ℕ, [], length, arith, refl, ap, sym, subst}
 use Rattle.futures.specs.declared.task.Poll.TheVariants.{Ready, Pending}
 use Rattle.conn_link.specs.Moving.{bytes_moved}
 use Rattle.conn_link.specs.Calling.{call_of, is_pending}
 use Rattle.conn_link.specs.Calling.Kind.{Reads}
 use Rattle.conn_future.specs.Turning.{Makes}
-use Rattle.conn_future.proofs.Making.{made_on, answered_on}
+use Rattle.conn_future.proofs.Making.{none_left, made_on, answered_on}
 use Rattle.conn_future.specs.Stages.{is_live}
 use Rattle.conn_future.proofs.Moved.{of_count, of_fault, of_pending, found_none, fault_ends_not, pending_ends_not, some_end_not, none_ends, some_moved}
 use Rattle.conn_future.proofs.Lists.{written_back}
@@ -88,27 +88,32 @@ returns-in-Ready-Ok-clause-came g c over = inr record {
 }
 
 pub returns-in-Ready-Ok-eq0-clause-called : goal.returns-in-Ready-Ok-eq0-clause-called
-returns-in-Ready-Ok-eq0-clause-called g c first before count it =
-    subst (λ l. Makes g.L.Link.calls c.args.waits.now first before l c.poll_read.new.cx (count + 1)) (sym c.end.ensures.link)
-    (answered_on g.L.Link.calls g.met.L.Link.calls_on c.args.waits.now first c.args.self.now.link c.poll_read.new.self before c.args.cx.now c.poll_read.new.cx count
+returns-in-Ready-Ok-eq0-clause-called g c waited first before count it =
+    let none = none_left g.L.Link.calls c.args.waits.now waited (length c.args.self.now.unsent) first before c.args.self.now.link c.args.cx.now count it (λ is. ap length (c.requires.written is)) in
+    subst (λ l. Makes g.L.Link.calls c.args.waits.now waited (length c.end.new.self.unsent) first before l c.poll_read.new.cx (count + 1)) (sym c.end.ensures.link)
+    (answered_on g.L.Link.calls g.met.L.Link.calls_on c.args.waits.now waited (length c.args.self.now.unsent) (length c.end.new.self.unsent) first c.args.self.now.link c.poll_read.new.self before c.args.cx.now c.poll_read.new.cx count
     (call_of Reads (length c.as_mut_slice.result.now) c.poll_read.result c.args.cx.now c.poll_read.new.cx) it (it.reading c.requires.can_wait) (inr (rw c.as_mut_slice.ensures.value c.args.self.now.has_room))
-    (ap is_pending c.in-Ready-Ok-eq0.is) refl c.poll_read.ensures.called)
+    (ap is_pending c.in-Ready-Ok-eq0.is) refl c.poll_read.ensures.called (λ kind. none) (λ is. omega (arith, none)) (λ is. none))
 
 pub returns-in-Ready-Ok-clause-called : goal.returns-in-Ready-Ok-clause-called
-returns-in-Ready-Ok-clause-called g c first before count it =
-    subst (λ l. Makes g.L.Link.calls c.args.waits.now first before l c.poll_read.new.cx (count + 1)) (sym c.hear.ensures.link)
-    (answered_on g.L.Link.calls g.met.L.Link.calls_on c.args.waits.now first c.args.self.now.link c.poll_read.new.self before c.args.cx.now c.poll_read.new.cx count
+returns-in-Ready-Ok-clause-called g c waited first before count it =
+    let none = none_left g.L.Link.calls c.args.waits.now waited (length c.args.self.now.unsent) first before c.args.self.now.link c.args.cx.now count it (λ is. ap length (c.requires.written is)) in
+    subst (λ l. Makes g.L.Link.calls c.args.waits.now waited (length c.hear.new.self.unsent) first before l c.poll_read.new.cx (count + 1)) (sym c.hear.ensures.link)
+    (answered_on g.L.Link.calls g.met.L.Link.calls_on c.args.waits.now waited (length c.args.self.now.unsent) (length c.hear.new.self.unsent) first c.args.self.now.link c.poll_read.new.self before c.args.cx.now c.poll_read.new.cx count
     (call_of Reads (length c.as_mut_slice.result.now) c.poll_read.result c.args.cx.now c.poll_read.new.cx) it (it.reading c.requires.can_wait) (inr (rw c.as_mut_slice.ensures.value c.args.self.now.has_room))
-    (ap is_pending c.in-Ready-Ok.is) refl c.poll_read.ensures.called)
+    (ap is_pending c.in-Ready-Ok.is) refl c.poll_read.ensures.called (λ kind. none) (λ is. omega (arith, none)) (λ is. none))
 
 pub returns-in-Ready-Err-clause-called : goal.returns-in-Ready-Err-clause-called
-returns-in-Ready-Err-clause-called g c first before count it =
-    answered_on g.L.Link.calls g.met.L.Link.calls_on c.args.waits.now first c.args.self.now.link c.poll_read.new.self before c.args.cx.now c.poll_read.new.cx count
+returns-in-Ready-Err-clause-called g c waited first before count it =
+    let none = none_left g.L.Link.calls c.args.waits.now waited (length c.args.self.now.unsent) first before c.args.self.now.link c.args.cx.now count it (λ is. ap length (c.requires.written is)) in
+    answered_on g.L.Link.calls g.met.L.Link.calls_on c.args.waits.now waited (length c.args.self.now.unsent) (length c.none.result) first c.args.self.now.link c.poll_read.new.self before c.args.cx.now c.poll_read.new.cx count
     (call_of Reads (length c.as_mut_slice.result.now) c.poll_read.result c.args.cx.now c.poll_read.new.cx) it (it.reading c.requires.can_wait) (inr (rw c.as_mut_slice.ensures.value c.args.self.now.has_room))
-    (ap is_pending c.in-Ready-Err.is) refl c.poll_read.ensures.called
+    (ap is_pending c.in-Ready-Err.is) refl c.poll_read.ensures.called (λ kind. none) (λ is. omega (arith, none)) (λ is. none)
 
 pub returns-in-Pending-clause-called : goal.returns-in-Pending-clause-called
-returns-in-Pending-clause-called g c first before count it =
-    made_on g.L.Link.calls g.met.L.Link.calls_on c.args.waits.now (record c.args.waits.now { reading = true }) first c.args.self.now.link c.poll_read.new.self before c.args.cx.now c.poll_read.new.cx count
+returns-in-Pending-clause-called g c waited first before count it =
+    let none = none_left g.L.Link.calls c.args.waits.now waited (length c.args.self.now.unsent) first before c.args.self.now.link c.args.cx.now count it (λ is. ap length (c.requires.written is)) in
+    made_on g.L.Link.calls g.met.L.Link.calls_on c.args.waits.now (record c.args.waits.now { reading = true }) waited (length c.args.self.now.unsent) (length c.args.self.now.unsent) first c.args.self.now.link c.poll_read.new.self before c.args.cx.now c.poll_read.new.cx count
     (call_of Reads (length c.as_mut_slice.result.now) c.poll_read.result c.args.cx.now c.poll_read.new.cx) it (it.reading c.requires.can_wait) (inr (rw c.as_mut_slice.ensures.value c.args.self.now.has_room)) refl c.poll_read.ensures.called
+    (λ kind. none) (λ is. omega (arith, none)) (λ is. none)
     (λ is. absurd (cc is)) (λ is. (is, λ kind. absurd (cc kind))) (λ kind. absurd (cc kind))

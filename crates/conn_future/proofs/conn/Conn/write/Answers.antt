@@ -1,6 +1,11 @@
-use Rattle.std.proofs.Common.{subst, refl, ap, inr, true, ℕ, List, [], length}
+use Rattle.std.proofs.Common.{◌≡◌, ◌-◌, ◌∙◌, subst, refl, ap, inr, true, ℕ, List, [], length, length-drop, Result, Ok, Err, arith}
+use Rattle.futures.specs.declared.task.Poll.{Poll}
+use Rattle.futures.specs.declared.task.Poll.TheVariants.{Ready}
+use Rattle.conn_link.specs.declared.link.LinkFault.{LinkFault}
 use Rattle.conn_link.specs.Calling.{call_of, is_pending}
 use Rattle.conn_link.specs.Calling.Kind.{Writes}
+use Rattle.conn_future.specs.Polling.{left_by}
+use Rattle.conn_future.specs.Turning.{left_of}
 use Rattle.conn_future.proofs.Lists.{some_left}
 use Rattle.conn_future.proofs.Making.{made_on, answered_on}
 use Rattle.conn_future.proofs.Moved.{of_count, of_fault, of_pending, drains_some, drains_still}
@@ -72,20 +77,34 @@ returns-in-Ready-Err-clause-moved g c = ([], _, c.poll_write.ensures.moved)
 pub returns-in-Pending-clause-moved : goal.returns-in-Pending-clause-moved
 returns-in-Pending-clause-moved g c = ([], _, c.poll_write.ensures.moved)
 
+-- what a write leaves of what waited before the poll
+left_where : (answer : Poll (Result ℕ LinkFault)) (count left : ℕ) → answer ≡ Ready (Ok count) → left_by Writes answer left ≡ left - count
+left_where answer count left is = ap (λ a. left_by Writes a left) is
+
+none_where : (answer : Poll (Result ℕ LinkFault)) (fault : LinkFault) (left : ℕ) → answer ≡ Ready (Err fault) → left_by Writes answer left ≡ 0
+none_where answer fault left is = ap (λ a. left_by Writes a left) is
+
 pub returns-in-Ready-Ok-clause-called : goal.returns-in-Ready-Ok-clause-called
-returns-in-Ready-Ok-clause-called g c first before count it =
-    answered_on g.L.Link.calls g.met.L.Link.calls_on c.args.waits.now first c.args.self.now.link c.poll_write.new.self before c.args.cx.now c.poll_write.new.cx count
+returns-in-Ready-Ok-clause-called g c waited first before count it =
+    let left = left_where c.poll_write.result c.in-Ready-Ok.count (left_of waited it.log) (cc (c.in-Ready-Ok.is, c.in-Ready-Ok.field-0-is)) in
+    let still = it.is_left c.requires.can_wait in
+    let rest = ap length c.advance.ensures ∙ length-drop c.in-Ready-Ok.count c.args.self.now.unsent in
+    answered_on g.L.Link.calls g.met.L.Link.calls_on c.args.waits.now waited (length c.args.self.now.unsent) (length c.advance.new.self) first c.args.self.now.link c.poll_write.new.self before c.args.cx.now c.poll_write.new.cx count
     (call_of Writes (length c.as_slice.result.now) c.poll_write.result c.args.cx.now c.poll_write.new.cx) it (it.writing c.requires.can_wait) (inr (some_left c.args.self.now.unsent c.as_slice.result.now c.as_slice.ensures c.requires.some))
     (ap is_pending c.in-Ready-Ok.is) refl c.poll_write.ensures.called
+    (λ kind. absurd (cc kind)) (λ is. omega (arith, left, still, rest)) (λ is. absurd (cc (is, c.requires.can_wait)))
 
 pub returns-in-Ready-Err-clause-called : goal.returns-in-Ready-Err-clause-called
-returns-in-Ready-Err-clause-called g c first before count it =
-    answered_on g.L.Link.calls g.met.L.Link.calls_on c.args.waits.now first c.args.self.now.link c.poll_write.new.self before c.args.cx.now c.poll_write.new.cx count
+returns-in-Ready-Err-clause-called g c waited first before count it =
+    let left = none_where c.poll_write.result c.in-Ready-Err._fault (left_of waited it.log) (cc (c.in-Ready-Err.is, c.in-Ready-Err.field-0-is)) in
+    answered_on g.L.Link.calls g.met.L.Link.calls_on c.args.waits.now waited (length c.args.self.now.unsent) (length c.none.result) first c.args.self.now.link c.poll_write.new.self before c.args.cx.now c.poll_write.new.cx count
     (call_of Writes (length c.as_slice.result.now) c.poll_write.result c.args.cx.now c.poll_write.new.cx) it (it.writing c.requires.can_wait) (inr (some_left c.args.self.now.unsent c.as_slice.result.now c.as_slice.ensures c.requires.some))
     (ap is_pending c.in-Ready-Err.is) refl c.poll_write.ensures.called
+    (λ kind. absurd (cc kind)) (λ is. omega (arith, left)) (λ is. left)
 
 pub returns-in-Pending-clause-called : goal.returns-in-Pending-clause-called
-returns-in-Pending-clause-called g c first before count it =
-    made_on g.L.Link.calls g.met.L.Link.calls_on c.args.waits.now (record c.args.waits.now { writing = true }) first c.args.self.now.link c.poll_write.new.self before c.args.cx.now c.poll_write.new.cx count
+returns-in-Pending-clause-called g c waited first before count it =
+    made_on g.L.Link.calls g.met.L.Link.calls_on c.args.waits.now (record c.args.waits.now { writing = true }) waited (length c.args.self.now.unsent) (length c.args.self.now.unsent) first c.args.self.now.link c.poll_write.new.self before c.args.cx.now c.poll_write.new.cx count
     (call_of Writes (length c.as_slice.result.now) c.poll_write.result c.args.cx.now c.poll_write.new.cx) it (it.writing c.requires.can_wait) (inr (some_left c.args.self.now.unsent c.as_slice.result.now c.as_slice.ensures c.requires.some)) refl c.poll_write.ensures.called
+    (λ kind. absurd (cc kind)) (λ is. absurd (cc is)) (λ is. ap (λ a. left_by Writes a (left_of waited it.log)) c.in-Pending.is)
     (λ is. (is, λ kind. absurd (cc kind))) (λ is. absurd (cc is)) (λ kind. absurd (cc kind))
