@@ -1,3 +1,4 @@
 pub mod Tables
 pub mod Telling
 pub mod Stepping
+pub mod LettingGo

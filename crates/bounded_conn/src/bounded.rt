@@ -124,8 +124,8 @@ impl<L: Link, P: Protocols> BoundedConn<L, P> {
         ensures kept { Keeps cx.old cx.new }
         ensures polls { Bounds (λ conn. length conn.unsent) (λ before answer after.
             Carries L.Link P.Protocols P.H.Handler before (given_by answer) after
-            × Polls L.calls (length before.unsent) before.link cx.old after.link cx.new) (Ready None)
-            self.old.conn result self.new.conn }
+            × Polls L.calls (length before.unsent) (is_live after.stage) before.link cx.old after.link cx.new)
+            (Ready None) self.old.conn result self.new.conn }
         ensures calm { self.old.conn ≡ None → cx.new ≡ cx.old }
         // Where it stands, the connection's own clauses hold of it.
         ensures rose { IfStands (λ before after. L.failed before.link < L.failed after.link

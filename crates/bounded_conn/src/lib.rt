@@ -2,5 +2,6 @@
 #![tactic(auto)]
 
 mod bounded;
+pub mod laws;
 
 pub use bounded::{BoundedConn, MOST_WAITING};

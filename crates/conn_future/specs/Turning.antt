@@ -1,10 +1,10 @@
 -- What one turn of a poll leaves: this project's profile.
-use Rattle.std.specs.Prelude.{◌≡◌, ◌≢◌, ◌≤◌, ◌⊎◌, ◌++◌, ℕ, true, false, List, [], ◌∷◌, length, Some, None}
+use Rattle.std.specs.Prelude.{◌≡◌, ◌≢◌, ◌≤◌, ◌⊎◌, ◌++◌, ℕ, Bool, true, false, List, [], ◌∷◌, length, Some, None}
 use Rattle.futures.specs.declared.task.context.Context.{Context}
 use Rattle.futures.specs.declared.task.Poll.TheVariants.{Ready}
 use Rattle.futures.specs.Task.{Covers}
 use Rattle.conn_link.specs.declared.link.Link.{Ghosts as LinkGhosts}
-use Rattle.conn_link.specs.Calling.{Kind, Call, asks_some, is_pending}
+use Rattle.conn_link.specs.Calling.{Kind, Call, HasNone, asks_some, is_pending}
 use Rattle.conn_link.specs.Calling.Kind.{Reads, Writes, Shuts}
 use Rattle.handlers.specs.declared.handler.Handler.{Ghosts as HandlerGhosts}
 use Rattle.handlers.specs.declared.protocols.Protocols.{Ghosts as ProtocolsGhosts}
@@ -18,7 +18,7 @@ use Rattle.conn_future.specs.declared.stage.Stage.TheVariants.{Shutting, Over}
 use Rattle.conn_future.specs.declared.conn.Conn.{Conn}
 use Rattle.conn_future.specs.Stages.{Drains}
 use Rattle.conn_future.specs.Follows.{Follows, given_by}
-use Rattle.conn_future.specs.Polling.{Called, WritesFirst, left_by}
+use Rattle.conn_future.specs.Polling.{Called, WritesFirst, ShutsLast, left_by}
 use Rattle.conn_future.specs.declared.turns.Waits.{Waits}
 use Rattle.conn_future.specs.declared.turns.Turn.{Turn}
 use Rattle.conn_future.specs.declared.turns.Turn.TheVariants.{Again, Give, Failed, Wait}
@@ -38,8 +38,8 @@ abbrev pub left_of : ℕ → List Call → ℕ
 left_of left [] = left
 left_of left (call ∷ log) = left_of (left_by call.kind call.answer left) log
 
--- A poll has made so many calls; of those whose kind it doesn't wait for yet none was pending. Of what waited before it
--- no more is left to be written than waits now.
+-- A poll has made so many calls, of which none shuts; of those whose kind it doesn't wait for yet none was pending. Of
+-- what waited before it no more is left to be written than waits now.
 pub record Makes {L : Type 0} (calls : L → List Call → L → Type 0) (waits : Waits) (waited left : ℕ) (first : L)
     (old : Context) (last : L) (new : Context) (number : ℕ) : Type 0 where
   pub log : List Call
@@ -48,18 +48,19 @@ pub record Makes {L : Type 0} (calls : L → List Call → L → Type 0) (waits 
   pub asked : new.is_woken ≡ true → (old.is_woken ≡ true) ⊎ (asks_some log ≡ true)
   pub reading : waits.reading ≡ false → NoneWaited Reads log
   pub writing : waits.writing ≡ false → NoneWaited Writes log
-  pub shutting : NoneWaited Shuts log
+  pub unshut : HasNone Shuts log
   pub writes : WritesFirst waited log
   pub is_left : waits.writing ≡ false → left_of waited log ≤ left
   pub untaken : waits.writing ≡ true → left_of waited log ≡ 0
 
 -- A poll has made so many calls at most.
-pub record MadeTo {L : Type 0} (calls : L → List Call → L → Type 0) (waited : ℕ) (first : L) (old : Context)
-    (last : L) (new : Context) (limit : ℕ) : Type 0 where
+pub record MadeTo {L : Type 0} (calls : L → List Call → L → Type 0) (waited : ℕ) (lives : Bool) (first : L)
+    (old : Context) (last : L) (new : Context) (limit : ℕ) : Type 0 where
   pub log : List Call
   pub called : Called calls first log last
   pub most : length log ≤ limit
   pub writes : WritesFirst waited log
+  pub shuts : ShutsLast lives log
   pub asked : new.is_woken ≡ true → (old.is_woken ≡ true) ⊎ (asks_some log ≡ true)
 
 -- the event that a turn gave

@@ -184,9 +184,10 @@ impl<L: Link, P: Protocols> Stream for Conn<L, P> {
         ensures registered { OnPending result (Covers cx.new (WaitsAt (L.reads_at self.new.link)
             (L.writes_at self.new.link) (L.shuts_at self.new.link) self.new.stage self.new.unsent)) }
         // It makes at most 32 calls of the link, none that could move nothing and none behind one of its kind that was
-        // pending; what waits is written before a read; and it asks for another poll only where a call does, or behind
-        // 32.
-        ensures polls { Polls L.calls (length self.old.unsent) self.old.link cx.old self.new.link cx.new }
+        // pending; what waits is written before a read; behind shutting that was answered it ends; and it asks for
+        // another poll only where a call does, or behind 32.
+        ensures polls { Polls L.calls (length self.old.unsent) (is_live self.new.stage) self.old.link cx.old self.new.link
+            cx.new }
         ensures kept { Keeps cx.old cx.new }
     {
         if !self.held.is_empty() || !self.stage.is_live() {

@@ -145,7 +145,7 @@ impl<L: Link, P: Protocols> Conn<L, P> {
         ensures closes { self.old.stage ≡ Stage.Shutting → ClosesBy L.Link P.Protocols P.H.Handler result self.new }
         ensures called { (waited : ℕ) (first : L) (before : Context) (count : ℕ) (waits : Waits)
             → Makes L.calls waits waited (length self.old.unsent) first before self.old.link cx.old count
-            → MadeTo L.calls waited first before self.new.link cx.new (count + 1) }
+            → MadeTo L.calls waited (is_live self.new.stage) first before self.new.link cx.new (count + 1) }
         ensures kept { Keeps cx.old cx.new }
     {
         match self.link.poll_shut(cx) {
@@ -191,7 +191,7 @@ impl<L: Link, P: Protocols> Conn<L, P> {
             (count + 1)) }
         ensures calls { (waited : ℕ) (first : L) (before : Context) (count : ℕ)
             → Makes L.calls waits.old waited (length self.old.unsent) first before self.old.link cx.old count
-            → MadeTo L.calls waited first before self.new.link cx.new (count + 1) }
+            → MadeTo L.calls waited (is_live self.new.stage) first before self.new.link cx.new (count + 1) }
         ensures kept { Keeps cx.old cx.new }
     {
         if !self.unsent.is_empty() && !waits.writing {

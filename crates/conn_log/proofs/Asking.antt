@@ -29,7 +29,7 @@ use Rattle.routing.specs.declared.delivered.Outcome.TheVariants as outcomes
 use Rattle.routing.specs.Routing.{Came as CameTo}
 use Rattle.conn_log.specs.declared.earlier.Earlier.{Earlier}
 use Rattle.conn_log.specs.declared.event.ConnEvent.{ConnEvent}
-use Rattle.conn_log.specs.Entries.{Entry, items, said, since, agreed_in, over_in, is_over, made_in, left_behind, put_aside, asked}
+use Rattle.conn_log.specs.Entries.{Entry, items, said, since, agreed_in, over_in, done_in, is_over, made_in, left_behind, put_aside, asked}
 use Rattle.conn_log.specs.Entries.Entry.{Of, Says, Made, Asks}
 use Rattle.conn_log.specs.Turns.{turn, AreInTurn}
 use Rattle.conn_log.specs.Due.{AllDue, direction_of, was_reset}
@@ -84,6 +84,7 @@ same_by_asking acts_do acts_move role log n index m e = record {
   windows_is = acts_move role (items log) (Start n) m ∙ ap (λ b. cond b (record { credit = initial_window; untaken = 0 }) (windows role (items log) m)) e;
   agreed_is = ap (λ b. agreed_in m (cond b [] (since role log m))) e;
   over_is = ap (λ b. over_in m (cond b [] (since role log m))) e;
+  done_is = ap (λ b. done_in m (cond b [] (since role log m))) e;
   made_is = ap (λ b. made_in m (cond b [] (since role log m))) e;
   asked_is = ap (λ b. cond b (Some index) (asked log m)) e;
 }
@@ -226,6 +227,10 @@ module _ {P H : Type 0} (step : H → HandlerCall → H → Type 0) (fails : H �
     over_first None = refl
     over_first (Some handler) = refl
 
+    done_first : (handler : Option H) → done_in n (at_first n handler) ≡ false
+    done_first None = refl
+    done_first (Some handler) = refl
+
     made_at_first : (handler : Option H) → made_in n (at_first n handler) ≡ handler
     made_at_first None = refl
     made_at_first (Some handler) = ap (λ b. cond b (Some handler) None) (same n)
@@ -244,6 +249,7 @@ module _ {P H : Type 0} (step : H → HandlerCall → H → Type 0) (fails : H �
       talking = λ it. ap (agreed_in n) (since_first handler) ∙ agreed_first handler;
       agreed_on = λ off. absurd (let e : true ≡ false = sym talks ∙ off in cc e);
       over = ap (over_in n) (since_first handler) ∙ over_first handler ∙ sym (talking_kind stream.stage talks);
+      done = ap (done_in n) (since_first handler) ∙ done_first handler ∙ sym (talking_kind stream.stage talks);
       served = talking_awaits stream.stage talks;
     }
 

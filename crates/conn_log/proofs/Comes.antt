@@ -5,7 +5,8 @@ use Rattle.handlers.specs.Calls.{HandlerCall, Asked, ToGive}
 use Rattle.handlers.specs.declared.handler.HandlerFault.{HandlerFault}
 use Rattle.yamux_session.specs.declared.event.Role.{Role}
 use Rattle.yamux_session.specs.History.{Item}
-use Rattle.yamux_session.specs.Openings.{is_live}
+use Rattle.yamux_session.specs.Openings.{is_live, closed}
+use Rattle.yamux_session.specs.Windows.{credit}
 use Rattle.yamux_session.specs.Acts.{open_credit}
 use Rattle.yamux_session.specs.Events.{Told, events}
 use Rattle.yamux_session.specs.Seen.{Seen, ActsDo, ActsMove}
@@ -24,7 +25,7 @@ use Rattle.routing.specs.Routing.{Came}
 use Rattle.conn_log.specs.declared.earlier.Earlier.{Earlier}
 use Rattle.conn_log.specs.declared.event.ConnEvent.{ConnEvent}
 use Rattle.conn_log.specs.declared.event.ConnEvent.TheVariants as event
-use Rattle.conn_log.specs.Entries.{Entry, items, said, is_last, is_over}
+use Rattle.conn_log.specs.Entries.{Entry, items, said, is_last, is_over, was_done}
 use Rattle.conn_log.specs.Entries.Entry.{Says}
 use Rattle.conn_log.specs.Due.{HasCome, IsDue}
 use Rattle.conn_log.specs.Making.{MakesNone}
@@ -71,7 +72,7 @@ module _ {P H : Type 0} (step : H → HandlerCall → H → Type 0) (fails : H �
         → Around step fails is_closed is_finished inbound_makes outbound_makes eager names peer role (did s.goes.acts ++ log) fed sent after now past n (view_by s.goes.acts view) rest
     around_served handler s =
         around_acts step fails is_closed is_finished inbound_makes outbound_makes eager names peer role acts_do acts_move log fed sent before after streams now past n view rest h.so_far (was_handed_out old.stage) s.goes.acts a come
-        (λ done. h.over ∙ done) s.goes.due (subst (λ (t : List Item). SessionStands role t fed sent after) s.goes.now_is s.goes.session_stands) elsewhere
+        (λ out. h.done ∙ out) s.goes.due (subst (λ (t : List Item). SessionStands role t fed sent after) s.goes.now_is s.goes.session_stands) elsewhere
 
     list_is : (handler : Option H) → (s : Serves step is_closed is_finished (was_handed_out old.stage) role (items log) fed sent n h.so_far handler after new)
         → s.goes.now ≡ items (did s.goes.acts ++ log)
@@ -108,6 +109,7 @@ module _ {P H : Type 0} (step : H → HandlerCall → H → Type 0) (fails : H �
           talking = λ it. own.agreed_is ∙ h.talking (sym (same_talking new.stage old.stage kind) ∙ it);
           agreed_on = λ it none. h.agreed_on (sym (same_talking new.stage old.stage kind) ∙ it) (sym own.agreed_is ∙ none);
           over = own.over_is ∙ h.over ∙ sym (same_handed new.stage old.stage kind);
+          done = own.done_is ∙ h.done ∙ sym (same_handed new.stage old.stage kind);
           served = same_awaiting new.stage old.stage kind ∙ h.served;
         } in
         let moving : IsMoving step fails is_closed is_finished inbound_makes outbound_makes eager names peer role log_now n seen_now rest new = record {
@@ -148,6 +150,7 @@ module _ {P H : Type 0} (step : H → HandlerCall → H → Type 0) (fails : H �
             come = come_on step fails is_closed is_finished inbound_makes outbound_makes eager names peer role acts_do acts_move log log_now n h.so_far s.goes.left own come;
             served = subst (λ (t : List Item). Rattle.streams.specs.Streams.IsServed step (with_sent role t n h.so_far s.goes.left) handler new.waiting) is s.handed_out.0.0;
             finished = s.handed_out.0.1;
+            asked = subst (λ (t : List Item). is_live role t n ≡ true → closed role t n ≡ false → is_closed handler ≡ false → s.goes.left ≡ Some (credit role t n)) is s.asked_last;
           },
         ) in
         let held : IsHeld step is_closed is_finished names role (Says (event.Done n handler) ∷ log_now) n seen_now.came seen_now.ended new = record {
@@ -161,6 +164,7 @@ module _ {P H : Type 0} (step : H → HandlerCall → H → Type 0) (fails : H �
           talking = λ it. absurd (let e : true ≡ false = sym it ∙ ap Rattle.streams.specs.State.is_talking stage_is in cc e);
           agreed_on = λ it none. h.agreed_on not_talking (sym own.agreed_is ∙ none);
           over = ap (λ b. b || is_over role log_now n) (same n) ∙ sym (ap was_handed_out stage_is);
+          done = ap (λ b. b || was_done role log_now n) (same n) ∙ sym (ap was_handed_out stage_is);
           served = ap Rattle.streams.specs.State.awaits_handler stage_is;
         } in
         let moving : IsMoving step fails is_closed is_finished inbound_makes outbound_makes eager names peer role (Says (event.Done n handler) ∷ log_now) n seen_now rest new = record {
@@ -207,6 +211,8 @@ module _ {P H : Type 0} (step : H → HandlerCall → H → Type 0) (fails : H �
         asked_for = ap (λ k. k - Rattle.std.specs.Prelude.length old.waiting) (sym (open_with role (items log) n credit_now is_open).credit_is);
         in_turn = g.unclosed;
         fails_by = failed;
+        talking = h.talking;
+        agreed_on = h.agreed_on;
       })
 
     -- what serving came to

@@ -22,7 +22,7 @@ use Rattle.routing.specs.Routing.{Came, Takes, HasAgreed, Stops, InTalk, Deliver
 use Rattle.conn_log.specs.declared.earlier.Earlier.{Earlier}
 use Rattle.conn_log.specs.declared.event.ConnEvent.{ConnEvent}
 use Rattle.conn_log.specs.declared.event.ConnEvent.TheVariants as event
-use Rattle.conn_log.specs.Entries.{Entry, items, said, agreed, is_over, made_of, agreement}
+use Rattle.conn_log.specs.Entries.{Entry, items, said, agreed, is_over, was_done, made_of, agreement}
 use Rattle.conn_log.specs.Entries.Entry.{Says, Made}
 use Rattle.conn_log.specs.Due.{direction_of, IsDue, told_reset, was_reset, told_end}
 use Rattle.conn_log.specs.Making.{MakesNone, MakesOn}
@@ -164,6 +164,7 @@ module _ {P H : Type 0} (step : H → HandlerCall → H → Type 0) (fails : H �
           talking = λ is. h.talking (sym (same_talking middle.stage old.stage kind) ∙ is);
           agreed_on = λ is. h.agreed_on (sym (same_talking middle.stage old.stage kind) ∙ is);
           over = h.over ∙ sym (same_handed middle.stage old.stage kind);
+          done = h.done ∙ sym (same_handed middle.stage old.stage kind);
           served = same_awaiting middle.stage old.stage kind ∙ h.served;
         } in
         let it = went step fails is_closed is_finished inbound_makes outbound_makes eager names peer role acts_do acts_move log fed sent before after streams now past n view rest middle new a held over
@@ -200,6 +201,8 @@ module _ {P H : Type 0} (step : H → HandlerCall → H → Type 0) (fails : H �
             asked_for = (front.0, data_is);
             in_turn = (f.1.2, h.ended_is ∙ going);
             fails_by = f.1.3;
+            talking = h.talking;
+            agreed_on = h.agreed_on;
           },
         )
 
@@ -235,6 +238,9 @@ module _ {P H : Type 0} (step : H → HandlerCall → H → Type 0) (fails : H �
 
       not_over : is_talking old.stage ≡ true → is_over role log n ≡ false
       not_over talks = h.over ∙ talking_kind old.stage talks
+
+      not_done : is_talking old.stage ≡ true → was_done role log n ≡ false
+      not_done talks = h.done ∙ talking_kind old.stage talks
 
       decided : (outcome : Outcome H) → is_talking old.stage ≡ true → after ≡ before
           → Stops step fails is_closed is_finished role (items log) fed sent n makes none_made h.so_far bytes outcome → Went making log [] fed sent after now past n rest outcome
@@ -275,6 +281,7 @@ module _ {P H : Type 0} (step : H → HandlerCall → H → Type 0) (fails : H �
             talking = λ is. h.talking talks;
             agreed_on = λ is. absurd (let e : true ≡ false = sym still_talks ∙ is in cc e);
             over = not_over talks ∙ sym (talking_kind middle.stage still_talks);
+            done = not_done talks ∙ sym (talking_kind middle.stage still_talks);
             served = talking_awaits middle.stage still_talks;
           } in
           let it = went step fails is_closed is_finished inbound_makes outbound_makes eager names peer role acts_do acts_move log fed sent before after streams now past n view rest middle new a held over
@@ -314,10 +321,10 @@ module _ {P H : Type 0} (step : H → HandlerCall → H → Type 0) (fails : H �
         agreed_now : agreed role told_so n ≡ Some index
         agreed_now = ap (λ b. cond b (Some index) (agreed role log n)) (same n)
 
-        held_at : (then : List (Entry H)) → IsSide role names then n h.so_far.side → agreed role then n ≡ Some index → is_over role then n ≡ is_over role log n → Some has.made ≡ made_of role then n
+        held_at : (then : List (Entry H)) → IsSide role names then n h.so_far.side → agreed role then n ≡ Some index → is_over role then n ≡ is_over role log n → was_done role then n ≡ was_done role log n → Some has.made ≡ made_of role then n
             → h.so_far.sent ≡ Rattle.yamux_session.specs.Data.written role (items then) n
             → IsHeld step is_closed is_finished names role then n (h.so_far.got ++ front) view.ended middle
-        held_at then side agrees_then over_then made_then sent_then = record {
+        held_at then side agrees_then over_then done_then made_then sent_then = record {
           so_far = record h.so_far { got = h.so_far.got ++ front; made = Some has.made };
           side_is = side;
           got_is = refl;
@@ -328,6 +335,7 @@ module _ {P H : Type 0} (step : H → HandlerCall → H → Type 0) (fails : H �
           talking = λ is. absurd (let e : true ≡ false = sym is ∙ served_talking middle.stage has.serving in cc e);
           agreed_on = λ is. some_index agrees_then;
           over = over_then ∙ not_over talks ∙ sym (served_handed middle.stage has.serving);
+          done = done_then ∙ not_done talks ∙ sym (served_handed middle.stage has.serving);
           served = served_awaits middle.stage has.serving;
         }
 
@@ -342,7 +350,7 @@ module _ {P H : Type 0} (step : H → HandlerCall → H → Type 0) (fails : H �
         by_making : IsMade makes none_made h.so_far index has.made → Went making log (event.Agreed n index ∷ []) fed sent after now past n rest outcome
         by_making (inl is) =
             let it = takes making told_so (makes_none inbound_leads outbound_leads peer role protocols behind_them is.1 told_so) more middle (h.so_far.got ++ front) outcome told came_then going
-            (held_at told_so (side_at h.so_far.side h.side_is) agreed_now refl (sym is.0 ∙ h.made_is) h.sent_is) took in
+            (held_at told_so (side_at h.so_far.side h.side_is) agreed_now refl refl (sym is.0 ∙ h.made_is) h.sent_is) took in
             record {
               newer = it.newer ++ Says (event.Agreed n index) ∷ [];
               said_is = said_append it.newer (Says (event.Agreed n index) ∷ []) ∙ ap (λ t. (event.Agreed n index ∷ []) ++ t) it.said_is;
@@ -357,7 +365,7 @@ module _ {P H : Type 0} (step : H → HandlerCall → H → Type 0) (fails : H �
             let it = takes (MakesOn inbound_leads outbound_leads peer role behind_them behind_them) (Made n has.made ∷ told_so)
             (makes_none inbound_leads outbound_leads peer role behind_them behind_them refl (Made n has.made ∷ told_so)) more middle (h.so_far.got ++ front) outcome
             (around_making told_so fed sent before streams past n view rest has.made (refl, sym h.made_is ∙ made.0, (protocols, made.1.0)) told) came_then going
-            (held_at (Made n has.made ∷ told_so) (side_made h.so_far.side h.side_is) agreed_now refl (sym (ap (λ b. cond b (Some has.made) (made_of role told_so n)) (same n))) h.sent_is) took in
+            (held_at (Made n has.made ∷ told_so) (side_made h.so_far.side h.side_is) agreed_now refl refl (sym (ap (λ b. cond b (Some has.made) (made_of role told_so n)) (same n))) h.sent_is) took in
             record {
               newer = it.newer ++ Made n has.made ∷ Says (event.Agreed n index) ∷ [];
               said_is = said_append it.newer (Made n has.made ∷ Says (event.Agreed n index) ∷ []) ∙ ap (λ t. (event.Agreed n index ∷ []) ++ t) it.said_is;

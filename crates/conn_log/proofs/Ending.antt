@@ -117,6 +117,7 @@ module _ {P H : Type 0} (step : H → HandlerCall → H → Type 0) (fails : H �
       talking = λ is. h.talking (sym (same_talking middle.stage old.stage kind) ∙ is);
       agreed_on = λ is. h.agreed_on (sym (same_talking middle.stage old.stage kind) ∙ is);
       over = h.over ∙ sym (same_handed middle.stage old.stage kind);
+      done = h.done ∙ sym (same_handed middle.stage old.stage kind);
       served = same_awaiting middle.stage old.stage kind ∙ h.served;
     }
 
@@ -176,6 +177,8 @@ module _ {P H : Type 0} (step : H → HandlerCall → H → Type 0) (fails : H �
             asked_for = (all_came, is_finished_then);
             in_turn = (serves, h.ended_is ∙ going);
             fails_by = fails_by;
+            talking = h.talking;
+            agreed_on = h.agreed_on;
           },
         ) in
         record {

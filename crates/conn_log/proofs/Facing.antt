@@ -19,7 +19,7 @@ use Rattle.yamux_session.specs.Endings.{opened_in, told_opened, OpeningsAreTold,
 use Rattle.yamux_session.specs.State.{State, Stands as SessionStands, IsOneFrame}
 use Rattle.streams.specs.State.{Streaming}
 use Rattle.conn_log.specs.declared.earlier.Earlier.{Earlier}
-use Rattle.conn_log.specs.Entries.{Entry, items, since, agreed_in, over_in, made_in, is_over, made_of, is_kept, left_behind, put_aside}
+use Rattle.conn_log.specs.Entries.{Entry, items, since, agreed_in, over_in, done_in, made_in, is_over, made_of, is_kept, left_behind, put_aside}
 use Rattle.conn_log.specs.Turns.{turn}
 use Rattle.conn_log.specs.Due.{AllDue, told_reset, was_reset, told_end, end_was_told}
 use Rattle.conn_log.specs.Held.{IsAtRest, AreLeft, earlier_of}
@@ -114,6 +114,7 @@ module _ {P H : Type 0} (step : H → HandlerCall → H → Type 0) (fails : H �
         windows_is = ap (λ (t : List Item). windows role t m) items_are ∙ laws.credit_is_told role (items log) came (tellings told) m tells (quiet n m apart (tellings told) about);
         agreed_is = ap (agreed_in m) (since_same m off);
         over_is = ap (over_in m) (since_same m off);
+        done_is = ap (done_in m) (since_same m off);
         made_is = ap (made_in m) (since_same m off);
         asked_is = asked_arrived came log m;
       }
@@ -200,6 +201,7 @@ module _ {P H : Type 0} (step : H → HandlerCall → H → Type 0) (fails : H �
           talking = λ is. ap (agreed_in n) (since_same n off) ∙ r.held.talking is;
           agreed_on = λ is none_agreed. r.held.agreed_on is (sym (ap (agreed_in n) (since_same n off)) ∙ none_agreed);
           over = ap (over_in n) (since_same n off) ∙ r.held.over;
+          done = ap (done_in n) (since_same n off) ∙ r.held.done;
           served = r.held.served;
         };
         unfinished = r.unfinished;

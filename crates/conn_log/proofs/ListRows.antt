@@ -61,6 +61,10 @@ over_rows = record {
   stays_within = refl;
   opened_anew = refl;
   asked_behind = refl;
+  is_done = refl;
+  done_within = refl;
+  not_done = λ key. refl;
+  done_before = refl;
 }
 
 pub handler_rows : HandlerRows

@@ -12,7 +12,7 @@ use Rattle.yamux_session.specs.State.{State}
 use Rattle.streams.specs.Streams.{fresh}
 use Rattle.streams.specs.State.{Streaming, Stands, is_talking}
 use Rattle.conn_log.specs.declared.earlier.Earlier.{Earlier}
-use Rattle.conn_log.specs.Entries.{Entry, since, agreed_in, over_in, made_in}
+use Rattle.conn_log.specs.Entries.{Entry, since, agreed_in, over_in, done_in, made_in}
 use Rattle.conn_log.specs.Held.{IsHeld, IsAtRest, AreLeft, earlier_of}
 use Rattle.conn_log.specs.Routes.{IsNoOpening, Around, set_aside}
 use Rattle.serving.proofs.StageKinds.{talking_kind, talking_awaits}
@@ -75,5 +75,6 @@ module _ {P H : Type 0} (step : H → HandlerCall → H → Type 0) (fails : H �
     talking = λ it. ap (agreed_in n) none;
     agreed_on = λ off. absurd (let e : true ≡ false = sym talks ∙ off in cc e);
     over = ap (over_in n) none ∙ sym (talking_kind stream.stage talks);
+    done = ap (done_in n) none ∙ sym (talking_kind stream.stage talks);
     served = talking_awaits stream.stage talks;
   }

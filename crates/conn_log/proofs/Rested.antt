@@ -141,6 +141,7 @@ module _ {P H : Type 0} (step : H → HandlerCall → H → Type 0) (fails : H �
             talking = m.held.talking;
             agreed_on = m.held.agreed_on;
             over = m.held.over;
+            done = m.held.done;
             served = m.held.served;
           };
           settled = λ live. m.settled tt live;

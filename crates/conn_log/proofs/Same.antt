@@ -17,7 +17,7 @@ use Rattle.streams.specs.State.{Streaming}
 use Rattle.serving.specs.Served.{IsSettled}
 use Rattle.conn_log.specs.declared.event.ConnEvent.{ConnEvent}
 use Rattle.conn_log.specs.declared.event.ConnEvent.TheVariants as event
-use Rattle.conn_log.specs.Entries.{Entry, items, agreed, is_over, made_of, asked, is_kept, left_behind}
+use Rattle.conn_log.specs.Entries.{Entry, items, agreed, is_over, was_done, made_of, asked, is_kept, left_behind}
 use Rattle.conn_log.specs.Entries.Entry.{Of, Says, Made}
 use Rattle.conn_log.specs.Held.{IsSide, IsHeld, IsAtRest, IsPast, AreLeft}
 
@@ -27,11 +27,12 @@ pub record Same {H : Type 0} (role : Role) (log now : List (Entry H)) (m : ℕ) 
   pub windows_is : windows role (items now) m ≡ windows role (items log) m
   pub agreed_is : agreed role now m ≡ agreed role log m
   pub over_is : is_over role now m ≡ is_over role log m
+  pub done_is : was_done role now m ≡ was_done role log m
   pub made_is : made_of role now m ≡ made_of role log m
   pub asked_is : asked now m ≡ asked log m
 
 pub same_refl : {H : Type 0} (role : Role) (log : List (Entry H)) (m : ℕ) → Same role log log m
-same_refl role log m = record { seen_is = refl; windows_is = refl; agreed_is = refl; over_is = refl; made_is = refl; asked_is = refl }
+same_refl role log m = record { seen_is = refl; windows_is = refl; agreed_is = refl; over_is = refl; done_is = refl; made_is = refl; asked_is = refl }
 
 pub same_trans : {H : Type 0} (role : Role) (log mid now : List (Entry H)) (m : ℕ) → Same role log mid m → Same role mid now m → Same role log now m
 same_trans role log mid now m a b = record {
@@ -39,6 +40,7 @@ same_trans role log mid now m a b = record {
   windows_is = b.windows_is ∙ a.windows_is;
   agreed_is = b.agreed_is ∙ a.agreed_is;
   over_is = b.over_is ∙ a.over_is;
+  done_is = b.done_is ∙ a.done_is;
   made_is = b.made_is ∙ a.made_is;
   asked_is = b.asked_is ∙ a.asked_is;
 }
@@ -67,6 +69,7 @@ module _ {H : Type 0} (acts_do : ActsDo) (acts_move : ActsMove) where
         windows_is = acts_move role (items log) (Write k pieces) m ∙ ap (λ b. cond b (record had { credit = had.credit - sum_by length pieces }) had) apart;
         agreed_is = refl;
         over_is = refl;
+        done_is = refl;
         made_is = refl;
         asked_is = refl;
       }
@@ -78,6 +81,7 @@ module _ {H : Type 0} (acts_do : ActsDo) (acts_move : ActsMove) where
         windows_is = acts_move role (items log) (Taken k count) m ∙ ap (λ b. cond b (record had { untaken = had.untaken - count }) had) apart;
         agreed_is = refl;
         over_is = refl;
+        done_is = refl;
         made_is = refl;
         asked_is = refl;
       }
@@ -89,6 +93,7 @@ module _ {H : Type 0} (acts_do : ActsDo) (acts_move : ActsMove) where
         windows_is = acts_move role (items log) (Close k) m;
         agreed_is = refl;
         over_is = refl;
+        done_is = refl;
         made_is = refl;
         asked_is = refl;
       }
@@ -100,6 +105,7 @@ module _ {H : Type 0} (acts_do : ActsDo) (acts_move : ActsMove) where
         windows_is = acts_move role (items log) (Reset k) m;
         agreed_is = refl;
         over_is = refl;
+        done_is = refl;
         made_is = refl;
         asked_is = refl;
       }
@@ -123,6 +129,7 @@ same_by_event role log n m (event.Agreed k index) of e = record {
   windows_is = refl;
   agreed_is = ap (λ b. cond b (Some index) (agreed role log m)) (other_one k n m of e);
   over_is = refl;
+  done_is = refl;
   made_is = refl;
   asked_is = refl;
 }
@@ -131,6 +138,7 @@ same_by_event role log n m (event.Refused k) of e = record {
   windows_is = refl;
   agreed_is = refl;
   over_is = ap (λ b. b || is_over role log m) (other_one k n m of e);
+  done_is = refl;
   made_is = refl;
   asked_is = refl;
 }
@@ -139,6 +147,7 @@ same_by_event role log n m (event.Done k handler) of e = record {
   windows_is = refl;
   agreed_is = refl;
   over_is = ap (λ b. b || is_over role log m) (other_one k n m of e);
+  done_is = ap (λ b. b || was_done role log m) (other_one k n m of e);
   made_is = refl;
   asked_is = refl;
 }
@@ -147,6 +156,7 @@ same_by_event role log n m (event.Broken k cause) of e = record {
   windows_is = refl;
   agreed_is = refl;
   over_is = ap (λ b. b || is_over role log m) (other_one k n m of e);
+  done_is = refl;
   made_is = refl;
   asked_is = refl;
 }
@@ -160,6 +170,7 @@ same_by_making role log n m handler e = record {
   windows_is = refl;
   agreed_is = refl;
   over_is = refl;
+  done_is = refl;
   made_is = ap (λ b. cond b (Some handler) (made_of role log m)) e;
   asked_is = refl;
 }
@@ -198,6 +209,7 @@ module _ {H : Type 0} (step : H → HandlerCall → H → Type 0) (is_closed is_
     talking = λ is. s.agreed_is ∙ h.talking is;
     agreed_on = λ is none. h.agreed_on is (sym s.agreed_is ∙ none);
     over = s.over_is ∙ h.over;
+    done = s.done_is ∙ h.done;
     served = h.served;
   }
 
@@ -220,6 +232,7 @@ module _ {H : Type 0} (step : H → HandlerCall → H → Type 0) (is_closed is_
           talking = λ is. s.agreed_is ∙ r.held.talking is;
           agreed_on = λ is none. r.held.agreed_on is (sym s.agreed_is ∙ none);
           over = s.over_is ∙ r.held.over;
+          done = s.done_is ∙ r.held.done;
           served = r.held.served;
         };
         settled = λ on. settled_same step is_closed is_finished role (items log) (items now) m r.held.so_far.left stream (ap (λ (x : Seen). x.closed) s.seen_is)

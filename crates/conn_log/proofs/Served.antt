@@ -17,7 +17,7 @@ use Rattle.streams.specs.Streams.{Past}
 use Rattle.streams.specs.State.{Streaming}
 use Rattle.serving.specs.Served.{IsDue as ActIsDue, AreDue, with_sent}
 use Rattle.conn_log.specs.declared.earlier.Earlier.{Earlier}
-use Rattle.conn_log.specs.Entries.{Entry, items, said, agreed, is_over, made_of, asked, left_behind}
+use Rattle.conn_log.specs.Entries.{Entry, items, said, agreed, is_over, was_done, made_of, asked, left_behind}
 use Rattle.conn_log.specs.Entries.Entry.{Of}
 use Rattle.conn_log.specs.Due.{HasCome, IsThere, HasGiven, IsDue, AllDue, was_reset, end_was_told}
 use Rattle.conn_log.specs.Held.{IsSide}
@@ -60,6 +60,7 @@ pub record Own {H : Type 0} (role : Role) (log now : List (Entry H)) (n : ℕ) :
   pub ended_is : finished role (items now) n ≡ finished role (items log) n
   pub agreed_is : agreed role now n ≡ agreed role log n
   pub over_is : is_over role now n ≡ is_over role log n
+  pub done_is : was_done role now n ≡ was_done role log n
   pub made_is : made_of role now n ≡ made_of role log n
   pub asked_is : asked now n ≡ asked log n
 
@@ -69,6 +70,7 @@ own_trans role log mid now n a b = record {
   ended_is = b.ended_is ∙ a.ended_is;
   agreed_is = b.agreed_is ∙ a.agreed_is;
   over_is = b.over_is ∙ a.over_is;
+  done_is = b.done_is ∙ a.done_is;
   made_is = b.made_is ∙ a.made_is;
   asked_is = b.asked_is ∙ a.asked_is;
 }
@@ -77,41 +79,41 @@ module _ {H : Type 0} (acts_do : ActsDo) where
   own_by : (role : Role) (log : List (Entry H)) (n : ℕ) (act : Act) → IsOn n act → Own role log (Of (Did act) ∷ log) n
   own_by role log n (Write k pieces) on =
       let is = acts_do role (items log) (Write k pieces) n ∙ does_is n (seen role (items log) n) (Write k pieces) on in
-      record { came_is = ap (λ (x : Seen). x.came) is; ended_is = ap (λ (x : Seen). x.ended) is; agreed_is = refl; over_is = refl; made_is = refl; asked_is = refl }
+      record { came_is = ap (λ (x : Seen). x.came) is; ended_is = ap (λ (x : Seen). x.ended) is; agreed_is = refl; over_is = refl; done_is = refl; made_is = refl; asked_is = refl }
   own_by role log n (Taken k count) on =
       let is = acts_do role (items log) (Taken k count) n in
-      record { came_is = ap (λ (x : Seen). x.came) is; ended_is = ap (λ (x : Seen). x.ended) is; agreed_is = refl; over_is = refl; made_is = refl; asked_is = refl }
+      record { came_is = ap (λ (x : Seen). x.came) is; ended_is = ap (λ (x : Seen). x.ended) is; agreed_is = refl; over_is = refl; done_is = refl; made_is = refl; asked_is = refl }
   own_by role log n (Close k) on =
       let is = acts_do role (items log) (Close k) n ∙ does_is n (seen role (items log) n) (Close k) on in
-      record { came_is = ap (λ (x : Seen). x.came) is; ended_is = ap (λ (x : Seen). x.ended) is; agreed_is = refl; over_is = refl; made_is = refl; asked_is = refl }
+      record { came_is = ap (λ (x : Seen). x.came) is; ended_is = ap (λ (x : Seen). x.ended) is; agreed_is = refl; over_is = refl; done_is = refl; made_is = refl; asked_is = refl }
   own_by role log n (Reset k) on =
       let is = acts_do role (items log) (Reset k) n ∙ does_is n (seen role (items log) n) (Reset k) on in
-      record { came_is = ap (λ (x : Seen). x.came) is; ended_is = ap (λ (x : Seen). x.ended) is; agreed_is = refl; over_is = refl; made_is = refl; asked_is = refl }
+      record { came_is = ap (λ (x : Seen). x.came) is; ended_is = ap (λ (x : Seen). x.ended) is; agreed_is = refl; over_is = refl; done_is = refl; made_is = refl; asked_is = refl }
   own_by role log n (Start k) on = absurd on
   own_by role log n (Act.GoAway code) on = absurd on
 
 module _ {P H : Type 0} (step : H → HandlerCall → H → Type 0) (fails : H → Asked → ℕ → Type 0)
     (is_closed is_finished : H → Bool) (inbound_makes outbound_makes : P → ℕ → List ℕ → H → Type 0)
     (eager : ℕ → Bool) (names : List (List ℕ)) (peer : List ℕ) (role : Role) (acts_do : ActsDo) (acts_move : ActsMove) where
-  on_of : (past : List Item) (n : ℕ) (so_far : Past H) (was_done : Bool) (act : Act) → ActIsDue step is_closed is_finished was_done role past n so_far act → IsOn n act
-  on_of past n so_far was_done (Write m pieces) due = due.0
-  on_of past n so_far was_done (Taken m count) due = due.0
-  on_of past n so_far was_done (Close m) due = due.0
-  on_of past n so_far was_done (Start m) due = absurd due
-  on_of past n so_far was_done (Reset m) due = absurd due
-  on_of past n so_far was_done (Act.GoAway code) due = absurd due
+  on_of : (past : List Item) (n : ℕ) (so_far : Past H) (out : Bool) (act : Act) → ActIsDue step is_closed is_finished out role past n so_far act → IsOn n act
+  on_of past n so_far out (Write m pieces) due = due.0
+  on_of past n so_far out (Taken m count) due = due.0
+  on_of past n so_far out (Close m) due = due.0
+  on_of past n so_far out (Start m) due = absurd due
+  on_of past n so_far out (Reset m) due = absurd due
+  on_of past n so_far out (Act.GoAway code) due = absurd due
 
   -- each act is on the stream
   abbrev pub AllOn : ℕ → List Act → Type 0
   AllOn n [] = Unit {0}
   AllOn n (act ∷ acts) = IsOn n act × AllOn n acts
 
-  pub all_on : (past : List Item) (n : ℕ) (so_far : Past H) (was_done : Bool) (acts : List Act) → AreDue step is_closed is_finished was_done role past n so_far acts → AllOn n acts
-  all_on past n so_far was_done [] due = tt
-  all_on past n so_far was_done (act ∷ acts) due = (on_of _ n so_far was_done act due.0, all_on past n so_far was_done acts due.1)
+  pub all_on : (past : List Item) (n : ℕ) (so_far : Past H) (out : Bool) (acts : List Act) → AreDue step is_closed is_finished out role past n so_far acts → AllOn n acts
+  all_on past n so_far out [] due = tt
+  all_on past n so_far out (act ∷ acts) due = (on_of _ n so_far out act due.0, all_on past n so_far out acts due.1)
 
   pub did_own : (log : List (Entry H)) (n : ℕ) (acts : List Act) → AllOn n acts → Own role log (did acts ++ log) n
-  did_own log n [] on = record { came_is = refl; ended_is = refl; agreed_is = refl; over_is = refl; made_is = refl; asked_is = refl }
+  did_own log n [] on = record { came_is = refl; ended_is = refl; agreed_is = refl; over_is = refl; done_is = refl; made_is = refl; asked_is = refl }
   did_own log n (act ∷ acts) on = own_trans role log (did acts ++ log) _ n (did_own log n acts on.1) (own_by acts_do role (did acts ++ log) n act on.0)
 
   pub did_same : (log : List (Entry H)) (n m : ℕ) (acts : List Act) → (n == m) ≡ false → AllOn n acts → Same role log (did acts ++ log) m
@@ -189,12 +191,12 @@ module _ {P H : Type 0} (step : H → HandlerCall → H → Type 0) (fails : H �
 
   -- ---- why each act is due
 
-  entry_due : (log : List (Entry H)) (n : ℕ) (so_far : Past H) (was_done : Bool) (acts : List Act) (act : Act) → AllOn n acts → IsOn n act
+  entry_due : (log : List (Entry H)) (n : ℕ) (so_far : Past H) (out : Bool) (acts : List Act) (act : Act) → AllOn n acts → IsOn n act
       → HasCome step fails is_closed is_finished inbound_makes outbound_makes eager names peer role log n so_far
-      → (was_done ≡ true → is_over role log n ≡ true)
-      → ActIsDue step is_closed is_finished was_done role (items (did acts ++ log)) n so_far act
+      → (out ≡ true → was_done role log n ≡ true)
+      → ActIsDue step is_closed is_finished out role (items (did acts ++ log)) n so_far act
       → IsDue step fails is_closed is_finished inbound_makes outbound_makes eager names peer role (did acts ++ log) (Of (Did act))
-  entry_due log n so_far was_done acts (Write k pieces) all on c told due =
+  entry_due log n so_far out acts (Write k pieces) all on c told due =
       let own = own_trans role log (did acts ++ log) _ n (did_own log n acts all) (own_by acts_do role (did acts ++ log) n (Write k pieces) on) in
       let there : IsThere step fails is_closed is_finished inbound_makes outbound_makes eager names peer role (Of (Did (Write k pieces)) ∷ did acts ++ log) n = record {
         so_far = with_sent role (Did (Write k pieces) ∷ items (did acts ++ log)) n so_far due.1.left;
@@ -203,9 +205,9 @@ module _ {P H : Type 0} (step : H → HandlerCall → H → Type 0) (fails : H �
         stands = due.1.stands;
       } in
       subst (λ m. IsThere step fails is_closed is_finished inbound_makes outbound_makes eager names peer role (Of (Did (Write k pieces)) ∷ did acts ++ log) m) (sym on) there
-  entry_due log n so_far was_done acts (Taken k count) all on c told due = subst (λ m. (count ≡ untaken role (items (did acts ++ log)) m)
+  entry_due log n so_far out acts (Taken k count) all on c told due = subst (λ m. (count ≡ untaken role (items (did acts ++ log)) m)
       × ((0 < credit role (items (did acts ++ log)) m) ⊎ (closed role (items (did acts ++ log)) m ≡ true))) (sym on) (due.1, due.2)
-  entry_due log n so_far was_done acts (Close k) all on c told due =
+  entry_due log n so_far out acts (Close k) all on c told due =
       let given : HasGiven step fails is_closed is_finished inbound_makes outbound_makes eager names peer role (did acts ++ log) n = record {
         there = record {
           so_far = with_sent role (items (did acts ++ log)) n so_far due.1.left;
@@ -215,24 +217,24 @@ module _ {P H : Type 0} (step : H → HandlerCall → H → Type 0) (fails : H �
         };
         none_waits = due.1.none_waits;
         over = due.1.over;
-        was_told = λ out. (did_own log n acts all).over_is ∙ told (due.1.out_before out);
+        was_told = λ is. (did_own log n acts all).done_is ∙ told (due.1.out_before is);
       } in
       subst (λ m. HasGiven step fails is_closed is_finished inbound_makes outbound_makes eager names peer role (did acts ++ log) m) (sym on) given
-  entry_due log n so_far was_done acts (Reset k) all on c told due = absurd due
-  entry_due log n so_far was_done acts (Start k) all on c told due = absurd due
-  entry_due log n so_far was_done acts (Act.GoAway code) all on c told due = absurd due
+  entry_due log n so_far out acts (Reset k) all on c told due = absurd due
+  entry_due log n so_far out acts (Start k) all on c told due = absurd due
+  entry_due log n so_far out acts (Act.GoAway code) all on c told due = absurd due
 
-  pub did_due : (log : List (Entry H)) (n : ℕ) (so_far : Past H) (was_done : Bool) (acts : List Act)
+  pub did_due : (log : List (Entry H)) (n : ℕ) (so_far : Past H) (out : Bool) (acts : List Act)
       → HasCome step fails is_closed is_finished inbound_makes outbound_makes eager names peer role log n so_far
-      → (was_done ≡ true → is_over role log n ≡ true)
-      → AreDue step is_closed is_finished was_done role (items log) n so_far acts
+      → (out ≡ true → was_done role log n ≡ true)
+      → AreDue step is_closed is_finished out role (items log) n so_far acts
       → AllDue step fails is_closed is_finished inbound_makes outbound_makes eager names peer role log
       → AllDue step fails is_closed is_finished inbound_makes outbound_makes eager names peer role (did acts ++ log)
-  did_due log n so_far was_done [] c told due all = all
-  did_due log n so_far was_done (act ∷ acts) c told due all = (
-    entry_due log n so_far was_done acts act (all_on (items log) n so_far was_done acts due.1) (on_of _ n so_far was_done act due.0) c told
-        (subst (λ (t : List Item). ActIsDue step is_closed is_finished was_done role t n so_far act) (sym (items_did acts log)) due.0),
-    did_due log n so_far was_done acts c told due.1 all,
+  did_due log n so_far out [] c told due all = all
+  did_due log n so_far out (act ∷ acts) c told due all = (
+    entry_due log n so_far out acts act (all_on (items log) n so_far out acts due.1) (on_of _ n so_far out act due.0) c told
+        (subst (λ (t : List Item). ActIsDue step is_closed is_finished out role t n so_far act) (sym (items_did acts log)) due.0),
+    did_due log n so_far out acts c told due.1 all,
   )
 
   -- ---- the view
@@ -260,16 +262,16 @@ module _ {P H : Type 0} (step : H → HandlerCall → H → Type 0) (fails : H �
     kept (Act.GoAway code) s on = absurd on
 
   -- acts that serve a stream end it only where the other end has ended it
-  pub view_over : (past : List Item) (n : ℕ) (so_far : Past H) (was_done : Bool) (acts : List Act) (view : Seen) → AreDue step is_closed is_finished was_done role past n so_far acts
+  pub view_over : (past : List Item) (n : ℕ) (so_far : Past H) (out : Bool) (acts : List Act) (view : Seen) → AreDue step is_closed is_finished out role past n so_far acts
       → (view.live ≡ false → view.ended ≡ true) → (view_by acts view).live ≡ false → (view_by acts view).ended ≡ true
-  view_over past n so_far was_done [] view due over = over
-  view_over past n so_far was_done (act ∷ acts) view due over = kept act (view_by acts view) due.0 (view_over past n so_far was_done acts view due.1 over) where
+  view_over past n so_far out [] view due over = over
+  view_over past n so_far out (act ∷ acts) view due over = kept act (view_by acts view) due.0 (view_over past n so_far out acts view due.1 over) where
     shut_over : (live ended : Bool) → (live ≡ false → ended ≡ true) → live && not ended ≡ false → ended ≡ true
     shut_over live true over off = refl
     shut_over true false over off = absurd (cc off)
     shut_over false false over off = over refl
 
-    kept : (act : Act) (s : Seen) → ActIsDue step is_closed is_finished was_done role (map Did acts ++ past) n so_far act → (s.live ≡ false → s.ended ≡ true) → (done_by act s).live ≡ false → (done_by act s).ended ≡ true
+    kept : (act : Act) (s : Seen) → ActIsDue step is_closed is_finished out role (map Did acts ++ past) n so_far act → (s.live ≡ false → s.ended ≡ true) → (done_by act s).live ≡ false → (done_by act s).ended ≡ true
     kept (Write m pieces) s due over = over
     kept (Taken m count) s due over = over
     kept (Close m) s due over = shut_over s.live s.ended over
@@ -327,18 +329,18 @@ module _ {P H : Type 0} (step : H → HandlerCall → H → Type 0) (fails : H �
   -- ---- all streams but this one
 
   pub around_acts : (log : List (Entry H)) (fed sent : List ℕ) (before after : State) (streams now : ℕ → Option (Streaming H)) (past : List (Earlier H)) (n : ℕ) (view : Seen)
-      (rest : List Told) (so_far : Past H) (was_done : Bool) (acts : List Act)
+      (rest : List Told) (so_far : Past H) (out : Bool) (acts : List Act)
       → Around step fails is_closed is_finished inbound_makes outbound_makes eager names peer role log fed sent before streams past n view rest
       → HasCome step fails is_closed is_finished inbound_makes outbound_makes eager names peer role log n so_far
-      → (was_done ≡ true → is_over role log n ≡ true)
-      → AreDue step is_closed is_finished was_done role (items log) n so_far acts
+      → (out ≡ true → was_done role log n ≡ true)
+      → AreDue step is_closed is_finished out role (items log) n so_far acts
       → SessionStands role (map Did acts ++ items log) fed sent after
       → ((m : ℕ) → (n == m) ≡ false → now m ≡ streams m)
       → Around step fails is_closed is_finished inbound_makes outbound_makes eager names peer role (did acts ++ log) fed sent after now past n (view_by acts view) rest
-  around_acts log fed sent before after streams now past n view rest so_far was_done acts a c told due there elsewhere =
-      let on = all_on (items log) n so_far was_done acts due in
+  around_acts log fed sent before after streams now past n view rest so_far out acts a c told due there elsewhere =
+      let on = all_on (items log) n so_far out acts due in
       grown step fails is_closed is_finished inbound_makes outbound_makes eager names peer role log (did acts) fed sent before after streams now past n view (view_by acts view) rest a
-      (did_due log n so_far was_done acts c told due a.due) (λ m apart. did_same log n m acts apart on)
+      (did_due log n so_far out acts c told due a.due) (λ m apart. did_same log n m acts apart on)
       (subst (λ (t : List Item). SessionStands role t fed sent after) (sym (items_did acts log)) there) elsewhere
       (did_heard log n view rest acts on a.opens_none a.heard) (view_ended n acts view on) (did_left log n acts on)
       (did_resets log n acts on) (did_ends log n acts on n) (λ m over. did_over log n acts on m ∙ over) (did_only n acts on)

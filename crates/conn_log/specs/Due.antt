@@ -10,7 +10,7 @@ use Rattle.yamux_session.specs.declared.event.Role.{Role}
 use Rattle.yamux_session.specs.History.{Item, Act, is_own}
 use Rattle.yamux_session.specs.History.Item.{Came, Did}
 use Rattle.yamux_session.specs.History.Act.{Start, Write, Taken, Close, Reset}
-use Rattle.yamux_session.specs.Openings.{opens, closed, finished}
+use Rattle.yamux_session.specs.Openings.{opens, is_live, closed, finished}
 use Rattle.yamux_session.specs.Windows.{credit, untaken}
 use Rattle.yamux_session.specs.Events.{Told, events_at}
 use Rattle.yamux_session.specs.Data.{inbound, written}
@@ -19,12 +19,12 @@ use Rattle.streams.specs.declared.stop.Cause.TheVariants as causes
 use Rattle.streams.specs.declared.stage.Stage.{Stage}
 use Rattle.streams.specs.declared.stage.Stage.TheVariants.{Serving}
 use Rattle.streams.specs.Streams.{Past, IsServed}
-use Rattle.streams.specs.State.{Streaming, Stands, handler_of, has_closed, has_finished, was_handed_out}
+use Rattle.streams.specs.State.{Streaming, Stands, is_talking, handler_of, has_closed, has_finished, was_handed_out}
 use Rattle.dispatch.specs.declared.direction.Direction.{Direction}
 use Rattle.dispatch.specs.declared.direction.Direction.TheVariants.{Inbound, Outbound}
 use Rattle.dispatch.specs.Dispatch.{made_by}
 use Rattle.conn_log.specs.declared.event.ConnEvent.TheVariants as event
-use Rattle.conn_log.specs.Entries.{Entry, items, agreed, is_over, made_of}
+use Rattle.conn_log.specs.Entries.{Entry, items, agreed, is_over, was_done, made_of}
 use Rattle.conn_log.specs.Entries.Entry.{Of, Says, Made, Asks}
 use Rattle.conn_log.specs.Held.{IsSide, IsHeld}
 
@@ -114,7 +114,8 @@ module _ {P H : Type 0} (step : H → HandlerCall → H → Type 0) (fails : H �
   IsInTurn stage ended handler ToEnd = (stage ≡ Serving handler) × (ended ≡ false)
   IsInTurn stage ended handler (ToGive room) = is_closed handler ≡ false
 
-  -- its handler was asked for this, and failed with this number
+  -- Its handler was asked for this, and failed with this number. By then Agreed was told of it, where its talk is over,
+  -- and only there.
   pub record HandlerFails (log : List (Entry H)) (n : ℕ) (number : ℕ) : Type 0 where
     pub there : IsThere log n
     pub handler : H
@@ -123,6 +124,8 @@ module _ {P H : Type 0} (step : H → HandlerCall → H → Type 0) (fails : H �
     pub asked_for : IsAskedFor log n there.so_far there.stream.waiting request
     pub in_turn : IsInTurn there.stream.stage there.so_far.ended handler request
     pub fails_by : fails handler request number
+    pub talking : is_talking there.stream.stage ≡ true → agreed role log n ≡ None
+    pub agreed_on : is_talking there.stream.stage ≡ false → agreed role log n ≢ None
 
   -- A stream stands by all of its data, and by its end where that was told: its talk and its handler were handed what
   -- came, and what they led to was told.
@@ -143,22 +146,26 @@ module _ {P H : Type 0} (step : H → HandlerCall → H → Type 0) (fails : H �
 
   -- ---- each entry where it stands
 
-  -- the handler was handed a beginning of its stream's data, and is finished
+  -- The handler was handed a beginning of its stream's data, and is finished. While this direction is open it was asked
+  -- last, with all the credit, unless it is closed.
   pub record IsDone (log : List (Entry H)) (n : ℕ) (handler : H) : Type 0 where
     pub so_far : Past H
     pub waiting : List ℕ
     pub come : HasCome log n so_far
     pub served : IsServed step so_far handler waiting
     pub finished : is_finished handler ≡ true
+    pub asked : is_live role (items log) n ≡ true → closed role (items log) n ≡ false → is_closed handler ≡ false
+        → so_far.left ≡ Some (credit role (items log) n)
 
-  -- The stream gives no more: nothing waits, and its handler is closed, or finished, or was handed out and that was
-  -- told.
+  -- The stream gives no more: nothing waits, and its handler is closed, or finished and was asked last with all the
+  -- credit, or was handed out and that was told.
   pub record HasGiven (log : List (Entry H)) (n : ℕ) : Type 0 where
     pub there : IsThere log n
     pub none_waits : there.stream.waiting ≡ []
     pub over : (has_closed is_closed there.stream.stage ≡ true)
-        ⊎ (has_finished is_finished there.stream.stage ≡ true)
-    pub was_told : was_handed_out there.stream.stage ≡ true → is_over role log n ≡ true
+        ⊎ ((has_finished is_finished there.stream.stage ≡ true)
+        × (there.so_far.left ≡ Some (credit role (items log) n)))
+    pub was_told : was_handed_out there.stream.stage ≡ true → was_done role log n ≡ true
 
   -- why a handler is made: the newest entry agrees on its protocol, or opens the stream for an eager one
   abbrev pub MayBeMade : List (Entry H) → ℕ → H → Type 0

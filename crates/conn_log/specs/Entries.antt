@@ -102,6 +102,27 @@ over_in n (Asks m index ∷ log) = over_in n log
 abbrev pub is_over : {H : Type 0} → Role → List (Entry H) → ℕ → Bool
 is_over role log n = over_in n (since role log n)
 
+-- by its Done the handler of a stream is handed out
+abbrev pub is_done_of : {H : Type 0} → ℕ → ConnEvent H → Bool
+is_done_of n (event.Done m handler) = m == n
+is_done_of n (event.Refused m) = false
+is_done_of n (event.Broken m cause) = false
+is_done_of n (event.Upgraded key) = false
+is_done_of n (event.Agreed m index) = false
+is_done_of n (event.Fault fault) = false
+is_done_of n event.Shut = false
+
+abbrev pub done_in : {H : Type 0} → ℕ → List (Entry H) → Bool
+done_in n [] = false
+done_in n (Of x ∷ log) = done_in n log
+done_in n (Says e ∷ log) = is_done_of n e || done_in n log
+done_in n (Made m handler ∷ log) = done_in n log
+done_in n (Asks m index ∷ log) = done_in n log
+
+-- Done was told of it since the opening
+abbrev pub was_done : {H : Type 0} → Role → List (Entry H) → ℕ → Bool
+was_done role log n = done_in n (since role log n)
+
 abbrev pub made_in : {H : Type 0} → ℕ → List (Entry H) → Option H
 made_in n [] = None
 made_in n (Of x ∷ log) = made_in n log

@@ -13,6 +13,7 @@ use Rattle.streams.specs.declared.stop.Cause.TheVariants as causes
 use Rattle.conn_log.specs.declared.event.ConnFault.TheVariants as faults
 use Rattle.conn_log.specs.declared.event.ConnEvent.TheVariants as event
 use Rattle.conn_log.specs.Entries.{Entry, items, said, asks, since, agreement, agreed_in, agreed, over_in, is_over}
+use Rattle.conn_log.specs.Entries.{done_in, was_done}
 use Rattle.conn_log.specs.Entries.{made_in, made_of, is_kept, left_behind, put_aside, asked}
 use Rattle.conn_log.specs.Entries.Entry.{Of, Says, Made, Asks}
 
@@ -109,6 +110,12 @@ pub record OverRows : Type 0 where
   pub stays_within : over_in 2 (reset 2 ∷ Asks 2 0 ∷ makes 2 7 ∷ agrees 2 1 ∷ done 2 7 ∷ []) ≡ true
   pub opened_anew : is_over Client (opened 2 ++ reset 2 ∷ refuses 2 ∷ opened 2) 2 ≡ false
   pub asked_behind : is_over Client (Asks 1 0 ∷ refuses 1 ∷ []) 1 ≡ false
+  -- and whether that was its Done
+  pub is_done : was_done Client (makes 2 7 ∷ done 2 7 ∷ opened 2) 2 ≡ true
+  pub done_within : done_in 2 (reset 2 ∷ Asks 2 0 ∷ makes 2 7 ∷ agrees 2 1 ∷ done 2 7 ∷ []) ≡ true
+  pub not_done : (key : Key) → was_done Client (of_none key ++ refuses 2 ∷ breaks 2 ∷ agrees 2 1 ∷ done 4 7
+      ∷ opened 2) 2 ≡ false
+  pub done_before : was_done Client (opened 2 ++ reset 2 ∷ done 2 7 ∷ opened 2) 2 ≡ false
 
 pub record HandlerRows : Type 0 where
   pub of_nothing : made_of {H = ℕ} Client [] 2 ≡ None

@@ -12,7 +12,7 @@ use Rattle.yamux_session.specs.Data.{inbound, written}
 use Rattle.streams.specs.Streams.{Past}
 use Rattle.streams.specs.State.{Streaming, Stands, is_talking, awaits_handler, has_finished, was_handed_out}
 use Rattle.serving.specs.Served.{IsSettled}
-use Rattle.conn_log.specs.Entries.{Entry, items, agreed, is_over, made_of, asked, is_kept, left_behind}
+use Rattle.conn_log.specs.Entries.{Entry, items, agreed, is_over, was_done, made_of, asked, is_kept, left_behind}
 use Rattle.conn_log.specs.declared.earlier.Earlier.{Earlier}
 
 -- who opens a stream asks for the one name that was asked for; the other end answers with all of its names
@@ -41,6 +41,7 @@ module _ {H : Type 0} (step : H → HandlerCall → H → Type 0) (is_closed is_
     pub talking : is_talking stream.stage ≡ true → agreed role log n ≡ None
     pub agreed_on : is_talking stream.stage ≡ false → agreed role log n ≢ None
     pub over : is_over role log n ≡ was_handed_out stream.stage
+    pub done : was_done role log n ≡ was_handed_out stream.stage
     pub served : awaits_handler stream.stage ≡ false
 
   -- A stream where a call returns: all that came was handed to it, the end too, and it was served.

@@ -273,7 +273,7 @@ module _ {P H : Type 0} (step : H → HandlerCall → H → Type 0) (fails : H �
       subst (λ (l : List Item). EndsWith (f.front ++ take f.frames.0 f.rest) (arrivals l)) f.came.1 f.frames.2,
       subst (λ (l : List Item). sent ++ pending ≡ output (session_role role) l) f.came.1 f.output_is,
     );
-    breaks_by_name = λ peer now asked told before bytes sent pending f. (f.told_is, f.asks_are, f.makes, f.bytes_are, f.at_rest);
+    breaks_by_name = λ peer now asked told before bytes sent pending f. (f.told_is, f.asks_are, f.makes, f.bytes_are, f.at_rest, f.rested, f.came, f.fault, f.alone, f.frames, f.output_is);
   }
 
   -- ---- calls and runs

@@ -54,26 +54,26 @@ kept_is (Some handler) false = (λ e. (refl, refl), λ h. refl)
 
 pub any_stream_entries : {H : Type 0} → AnyStreamEntryRows H
 any_stream_entries {H} = record {
-  none = λ role n. (refl, refl, refl);
-  opened = λ role n x log e. (rw e refl, rw e refl, rw e refl);
-  not_opened = λ role n x log e. (rw e refl, rw e refl, rw e refl);
-  asked_for = λ role n index log. (rw (eq-eqb n n refl) refl, rw (eq-eqb n n refl) refl, rw (eq-eqb n n refl) refl);
-  another_asked_for = λ role n m index log ne. (rw (ne_eqb m n ne) refl, rw (ne_eqb m n ne) refl, rw (ne_eqb m n ne) refl);
+  none = λ role n. (refl, refl, refl, refl);
+  opened = λ role n x log e. (rw e refl, rw e refl, rw e refl, rw e refl);
+  not_opened = λ role n x log e. (rw e refl, rw e refl, rw e refl, rw e refl);
+  asked_for = λ role n index log. (rw (eq-eqb n n refl) refl, rw (eq-eqb n n refl) refl, rw (eq-eqb n n refl) refl, rw (eq-eqb n n refl) refl);
+  another_asked_for = λ role n m index log ne. (rw (ne_eqb m n ne) refl, rw (ne_eqb m n ne) refl, rw (ne_eqb m n ne) refl, rw (ne_eqb m n ne) refl);
   made = λ role n handler log. rw (eq-eqb n n refl) refl;
-  made_alone = λ role n m handler log. (refl, refl);
+  made_alone = λ role n m handler log. (refl, refl, refl);
   another_made = λ role n m handler log ne. rw (ne_eqb m n ne) refl;
   told_makes_none = λ role n e log. refl;
-  agreed_on = λ role n index log. (rw (eq-eqb n n refl) refl, refl);
-  refused = λ role n log. (refl, rw (eq-eqb n n refl) refl);
-  handed_out = λ role n handler log. (refl, rw (eq-eqb n n refl) refl);
-  broken = λ role n cause log. (refl, rw (eq-eqb n n refl) refl);
+  agreed_on = λ role n index log. (rw (eq-eqb n n refl) refl, refl, refl);
+  refused = λ role n log. (refl, rw (eq-eqb n n refl) refl, refl);
+  handed_out = λ role n handler log. (refl, rw (eq-eqb n n refl) refl, rw (eq-eqb n n refl) refl);
+  broken = λ role n cause log. (refl, rw (eq-eqb n n refl) refl, refl);
   of_another = λ role n m index handler cause log ne. (
-    (rw (ne_eqb m n ne) refl, refl, refl),
-    (refl, rw (ne_eqb m n ne) refl, refl),
-    (refl, rw (ne_eqb m n ne) refl, refl),
-    (refl, rw (ne_eqb m n ne) refl, refl),
+    (rw (ne_eqb m n ne) refl, refl, refl, refl),
+    (refl, rw (ne_eqb m n ne) refl, refl, refl),
+    (refl, rw (ne_eqb m n ne) refl, rw (ne_eqb m n ne) refl, refl),
+    (refl, rw (ne_eqb m n ne) refl, refl, refl),
   );
-  of_none = λ role n key fault log. ((refl, refl, refl), (refl, refl, refl), (refl, refl, refl));
+  of_none = λ role n key fault log. ((refl, refl, refl, refl), (refl, refl, refl, refl), (refl, refl, refl, refl));
   kept = λ role n log. kept_is (made_of role log n) (is_over role log n);
 }
 

@@ -32,12 +32,13 @@ any_held step is_closed is_finished names role = record {
     talking = h.6;
     agreed_on = h.7;
     over = h.8;
-    served = h.9;
+    done = h.9;
+    served = h.10;
   };
   held_is = λ log n got ended stream h.
-      (h.so_far, (h.side_is, h.got_is, h.ended_is, h.sent_is, h.made_is, h.stands, h.talking, h.agreed_on, h.over, h.served));
+      (h.so_far, (h.side_is, h.got_is, h.ended_is, h.sent_is, h.made_is, h.stands, h.talking, h.agreed_on, h.over, h.done, h.served));
   held_by_name = λ log n got ended stream h.
-      (h.side_is, h.got_is, h.ended_is, h.sent_is, h.made_is, h.stands, h.talking, h.agreed_on, h.over, h.served);
+      (h.side_is, h.got_is, h.ended_is, h.sent_is, h.made_is, h.stands, h.talking, h.agreed_on, h.over, h.done, h.served);
   at_rest = λ log n stream held settled unfinished over. record { held = held; settled = settled; unfinished = unfinished; over_by_end = over };
   at_rest_is = λ log n stream r. (r.held, r.settled, r.unfinished, r.over_by_end);
   past = λ newer older n stream over kept r. record { newer = newer; older = older; log_is = refl; over = over; kept = kept; place_is = refl; at_rest = r };
@@ -72,9 +73,9 @@ module _ {P H : Type 0} (step : H → HandlerCall → H → Type 0) (fails : H �
     asked_to_take = λ log n so_far waiting bytes. (λ h. h, λ h. h);
     asked_to_end = λ log n so_far waiting. (λ h. h, λ h. h);
     asked_to_give = λ log n room so_far waiting. (λ h. h, λ h. h);
-    fails_by = λ log n number there handler request held asked turn by.
-        record { there = there; handler = handler; held = held; request = request; asked_for = asked; in_turn = turn; fails_by = by };
-    fails_by_is = λ log n number f. (f.there, f.handler, f.request, f.held, f.asked_for, f.in_turn, f.fails_by);
+    fails_by = λ log n number there handler request held asked turn by talking agreed_on.
+        record { there = there; handler = handler; held = held; request = request; asked_for = asked; in_turn = turn; fails_by = by; talking = talking; agreed_on = agreed_on };
+    fails_by_is = λ log n number f. (f.there, f.handler, f.request, f.held, f.asked_for, f.in_turn, f.fails_by, f.talking, f.agreed_on);
     takes_in_turn = λ stage ended handler bytes. (λ h. h, λ h. h);
     ends_in_turn = λ stage ended handler. (λ h. h, λ h. h);
     gives_in_turn = λ stage ended handler room. (λ h. h, λ h. h);
@@ -102,8 +103,8 @@ module _ {P H : Type 0} (step : H → HandlerCall → H → Type 0) (fails : H �
         },
       ),
     );
-    done = λ log n handler so_far waiting come served finished. record { so_far = so_far; waiting = waiting; come = come; served = served; finished = finished };
-    done_is = λ log n handler d. (d.so_far, d.waiting, d.come, d.served, d.finished);
+    done = λ log n handler so_far waiting come served finished asked. record { so_far = so_far; waiting = waiting; come = come; served = served; finished = finished; asked = asked };
+    done_is = λ log n handler d. (d.so_far, d.waiting, d.come, d.served, d.finished, d.asked);
     given = λ log n there none over told. record { there = there; none_waits = none; over = over; was_told = told };
     given_is = λ log n g. (g.there, g.none_waits, g.over, g.was_told);
   }

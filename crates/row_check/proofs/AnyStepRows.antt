@@ -41,7 +41,7 @@ module _ {H : Type 0} (step : H → HandlerCall → H → Type 0) (is_closed is_
       λ h. record { goes = h.0; asked = h.1; none_waits = h.2 },
     );
     was_closed = λ role past fed sent n so_far handler session stream. (
-      λ w. (w.goes, w.asked, w.none_waits, w.handed_out, w.over),
-      λ h. record { goes = h.0; asked = h.1; none_waits = h.2; handed_out = h.3; over = h.4 },
+      λ w. (w.goes, w.asked, w.none_waits, w.handed_out, w.over, w.asked_last),
+      λ h. record { goes = h.0; asked = h.1; none_waits = h.2; handed_out = h.3; over = h.4; asked_last = h.5 },
     );
   }

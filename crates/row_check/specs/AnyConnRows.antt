@@ -343,6 +343,13 @@ module _ {P H : Type 0} (step : H → HandlerCall → H → Type 0) (fails : H �
         (bytes sent pending : List ℕ) (f : faults peer now asked told before bytes sent pending)
         → (before ≡ told ++ said f.newer) × (asks f.newer ≡ asked) × makes_on peer now [] (f.newer ++ [])
         × (bytes ≡ f.front ++ f.rest) × streams_rest peer (f.newer ++ []) f.front sent f.session f.streams f.past
+        × (streams_rested peer [] → streams_rested peer (f.newer ++ []))
+        × ((more : List Arrival) × (f.now ≡ map Came more ++ items (f.newer ++ [])))
+        × FirstFaults (session_role role) f.now
+        × ((why : Fault) × (events (session_role role) f.now
+        ≡ events (session_role role) (items (f.newer ++ [])) ++ Told.Fault why ∷ []))
+        × ((used : ℕ) × (used ≤ length f.rest) × EndsWith (f.front ++ take used f.rest) (arrivals f.now))
+        × (sent ++ pending ≡ output (session_role role) f.now)
 
   abbrev pub explains : List ℕ → Bool → List (ℕ × ℕ) → List (ConnEvent H) → List (ConnEvent H) → List ℕ → Type 0
   explains = Explains step fails is_closed is_finished inbound_makes outbound_makes listed is_eager inbound_leads

@@ -22,7 +22,8 @@ use Rattle.conn_log.specs.declared.earlier.Earlier.{Earlier}
 use Rattle.conn_log.specs.declared.event.ConnEvent.{ConnEvent}
 use Rattle.conn_log.specs.declared.event.ConnEvent.TheVariants as event
 use Rattle.conn_log.specs.declared.event.ConnFault.{ConnFault}
-use Rattle.conn_log.specs.Entries.{Entry, items, said, asks, asked, agreement, agreed, is_over, made_in, made_of}
+use Rattle.conn_log.specs.Entries.{Entry, items, said, asks, asked, agreement, agreed, is_over, was_done, made_in}
+use Rattle.conn_log.specs.Entries.{made_of}
 use Rattle.conn_log.specs.Entries.{is_kept, left_behind, put_aside}
 use Rattle.conn_log.specs.Entries.Entry.{Of, Says, Made, Asks}
 use Rattle.conn_log.specs.Turns.{turn, about, AreInTurn}
@@ -67,14 +68,15 @@ pub record AnyListRows (H : Type 0) : Type 0 where
 
 -- nothing was told or made of the stream since it was opened
 abbrev pub IsNew : {H : Type 0} → Role → List (Entry H) → ℕ → Type 0
-IsNew role log n = (agreed role log n ≡ None) × (is_over role log n ≡ false) × (made_of role log n ≡ None)
+IsNew role log n = (agreed role log n ≡ None) × (is_over role log n ≡ false) × (was_done role log n ≡ false)
+    × (made_of role log n ≡ None)
 
 -- the longer list says the same of it as the other
 abbrev pub SaysSame : {H : Type 0} → Role → List (Entry H) → List (Entry H) → ℕ → Type 0
 SaysSame role longer log n = (agreed role longer n ≡ agreed role log n) × (is_over role longer n ≡ is_over role log n)
-    × (made_of role longer n ≡ made_of role log n)
+    × (was_done role longer n ≡ was_done role log n) × (made_of role longer n ≡ made_of role log n)
 
--- On what a stream agrees, whether its last event was told, and its handler: at any entry
+-- On what a stream agrees, whether its last event and its Done were told, and its handler: at any entry
 pub record AnyStreamEntryRows (H : Type 0) : Type 0 where
   pub none : (role : Role) (n : ℕ) → IsNew {H = H} role [] n
   pub opened : (role : Role) (n : ℕ) (x : Item) (log : List (Entry H)) → opens role (items log) x n ≡ true
@@ -89,6 +91,7 @@ pub record AnyStreamEntryRows (H : Type 0) : Type 0 where
   pub made_alone : (role : Role) (n m : ℕ) (handler : H) (log : List (Entry H))
       → (agreed role (Made m handler ∷ log) n ≡ agreed role log n)
       × (is_over role (Made m handler ∷ log) n ≡ is_over role log n)
+      × (was_done role (Made m handler ∷ log) n ≡ was_done role log n)
   pub another_made : (role : Role) (n m : ℕ) (handler : H) (log : List (Entry H)) → m ≢ n
       → made_of role (Made m handler ∷ log) n ≡ made_of role log n
   pub told_makes_none : (role : Role) (n : ℕ) (e : ConnEvent H) (log : List (Entry H))
@@ -96,15 +99,19 @@ pub record AnyStreamEntryRows (H : Type 0) : Type 0 where
   pub agreed_on : (role : Role) (n index : ℕ) (log : List (Entry H))
       → (agreed role (Says (event.Agreed n index) ∷ log) n ≡ Some index)
       × (is_over role (Says (event.Agreed n index) ∷ log) n ≡ is_over role log n)
+      × (was_done role (Says (event.Agreed n index) ∷ log) n ≡ was_done role log n)
   pub refused : (role : Role) (n : ℕ) (log : List (Entry H))
       → (agreed role (Says (event.Refused n) ∷ log) n ≡ agreed role log n)
       × (is_over role (Says (event.Refused n) ∷ log) n ≡ true)
+      × (was_done role (Says (event.Refused n) ∷ log) n ≡ was_done role log n)
   pub handed_out : (role : Role) (n : ℕ) (handler : H) (log : List (Entry H))
       → (agreed role (Says (event.Done n handler) ∷ log) n ≡ agreed role log n)
       × (is_over role (Says (event.Done n handler) ∷ log) n ≡ true)
+      × (was_done role (Says (event.Done n handler) ∷ log) n ≡ true)
   pub broken : (role : Role) (n : ℕ) (cause : Cause) (log : List (Entry H))
       → (agreed role (Says (event.Broken n cause) ∷ log) n ≡ agreed role log n)
       × (is_over role (Says (event.Broken n cause) ∷ log) n ≡ true)
+      × (was_done role (Says (event.Broken n cause) ∷ log) n ≡ was_done role log n)
   pub of_another : (role : Role) (n m index : ℕ) (handler : H) (cause : Cause) (log : List (Entry H)) → m ≢ n
       → SaysSame role (Says (event.Agreed m index) ∷ log) log n × SaysSame role (Says (event.Refused m) ∷ log) log n
       × SaysSame role (Says (event.Done m handler) ∷ log) log n

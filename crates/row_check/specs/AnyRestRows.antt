@@ -34,7 +34,8 @@ use Rattle.conn_log.specs.declared.earlier.Earlier.{Earlier}
 use Rattle.conn_log.specs.declared.event.ConnEvent.{ConnEvent}
 use Rattle.conn_log.specs.declared.event.ConnEvent.TheVariants as event
 use Rattle.conn_log.specs.declared.event.ConnFault.{ConnFault}
-use Rattle.conn_log.specs.Entries.{Entry, items, said, asks, asked, agreed, is_over, made_of, is_kept, left_behind}
+use Rattle.conn_log.specs.Entries.{Entry, items, said, asks, asked, agreed, is_over, was_done, made_of, is_kept}
+use Rattle.conn_log.specs.Entries.{left_behind}
 use Rattle.conn_log.specs.Entries.{put_aside}
 use Rattle.conn_log.specs.Entries.Entry.{Of, Says, Made, Asks}
 use Rattle.conn_log.specs.Turns.{AreInTurn}
@@ -67,7 +68,8 @@ module _ {H : Type 0} (step : H → HandlerCall → H → Type 0) (is_closed is_
       × (so_far.ended ≡ ended) × (so_far.sent ≡ written role (items log) n) × (so_far.made ≡ made_of role log n)
       × Stands step stream so_far × (is_talking stream.stage ≡ true → agreed role log n ≡ None)
       × (is_talking stream.stage ≡ false → agreed role log n ≢ None)
-      × (is_over role log n ≡ was_handed_out stream.stage) × (awaits_handler stream.stage ≡ false)
+      × (is_over role log n ≡ was_handed_out stream.stage) × (was_done role log n ≡ was_handed_out stream.stage)
+      × (awaits_handler stream.stage ≡ false)
 
   -- Streams that are held, and that are at rest: these facts, and no others
   pub record AnyHeldRows : Type 0 where
@@ -177,11 +179,14 @@ module _ {P H : Type 0} (step : H → HandlerCall → H → Type 0) (fails : H �
         → handler_of there.stream.stage ≡ Some handler
         → asked_with log n there.so_far there.stream.waiting request
         → in_turn there.stream.stage there.so_far.ended handler request → fails handler request number
-        → handler_fails log n number
+        → (is_talking there.stream.stage ≡ true → agreed role log n ≡ None)
+        → (is_talking there.stream.stage ≡ false → agreed role log n ≢ None) → handler_fails log n number
     pub fails_by_is : (log : List (Entry H)) (n number : ℕ) → handler_fails log n number → (there : is_there log n)
         × (handler : H) × (request : Asked) × (handler_of there.stream.stage ≡ Some handler)
         × asked_with log n there.so_far there.stream.waiting request
         × in_turn there.stream.stage there.so_far.ended handler request × fails handler request number
+        × (is_talking there.stream.stage ≡ true → agreed role log n ≡ None)
+        × (is_talking there.stream.stage ≡ false → agreed role log n ≢ None)
     pub takes_in_turn : (stage : Stage H) (ended : Bool) (handler : H) (bytes : List ℕ)
         → in_turn stage ended handler (ToTake bytes) ↔ ((stage ≡ stages.Serving handler) × (ended ≡ false))
     pub ends_in_turn : (stage : Stage H) (ended : Bool) (handler : H)
@@ -208,17 +213,22 @@ module _ {P H : Type 0} (step : H → HandlerCall → H → Type 0) (fails : H �
         × IsOpen side (inbound role (items log) n) output))
     pub done : (log : List (Entry H)) (n : ℕ) (handler : H) (so_far : Past H) (waiting : List ℕ)
         → has_come log n so_far → IsServed step so_far handler waiting → is_finished handler ≡ true
-        → is_done log n handler
+        → (is_live role (items log) n ≡ true → closed role (items log) n ≡ false → is_closed handler ≡ false
+        → so_far.left ≡ Some (credit role (items log) n)) → is_done log n handler
     pub done_is : (log : List (Entry H)) (n : ℕ) (handler : H) → is_done log n handler → (so_far : Past H)
         × (waiting : List ℕ) × has_come log n so_far × IsServed step so_far handler waiting
         × (is_finished handler ≡ true)
+        × (is_live role (items log) n ≡ true → closed role (items log) n ≡ false → is_closed handler ≡ false
+        → so_far.left ≡ Some (credit role (items log) n))
     pub given : (log : List (Entry H)) (n : ℕ) (there : is_there log n) → there.stream.waiting ≡ []
-        → (has_closed is_closed there.stream.stage ≡ true) ⊎ (has_finished is_finished there.stream.stage ≡ true)
-        → (was_handed_out there.stream.stage ≡ true → is_over role log n ≡ true) → has_given log n
+        → (has_closed is_closed there.stream.stage ≡ true) ⊎ ((has_finished is_finished there.stream.stage ≡ true)
+        × (there.so_far.left ≡ Some (credit role (items log) n)))
+        → (was_handed_out there.stream.stage ≡ true → was_done role log n ≡ true) → has_given log n
     pub given_is : (log : List (Entry H)) (n : ℕ) → has_given log n → (there : is_there log n)
         × (there.stream.waiting ≡ [])
-        × ((has_closed is_closed there.stream.stage ≡ true) ⊎ (has_finished is_finished there.stream.stage ≡ true))
-        × (was_handed_out there.stream.stage ≡ true → is_over role log n ≡ true)
+        × ((has_closed is_closed there.stream.stage ≡ true) ⊎ ((has_finished is_finished there.stream.stage ≡ true)
+        × (there.so_far.left ≡ Some (credit role (items log) n))))
+        × (was_handed_out there.stream.stage ≡ true → was_done role log n ≡ true)
 
   -- Which entry may stand where: at any list
   pub record AnyDueRows : Type 0 where

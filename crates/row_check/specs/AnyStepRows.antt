@@ -3,7 +3,7 @@
 -- Source: hashicorp yamux, "Flow Control" and "Flag Field"; that a handler is asked with a room is this project's
 -- profile.
 use Rattle.std.specs.Prelude.{◌≡◌, ◌≢◌, ◌⊎◌, ◌↔◌, ℕ, ◌<◌, ◌≤◌, ◌-◌, Bool, true, false, List, [], ◌∷◌, ◌++◌, length, map}
-use Rattle.std.specs.Prelude.{Option, Some, None, Result, Ok, Err}
+use Rattle.std.specs.Prelude.{Option, Some, None, IfSome, Result, Ok, Err}
 use Rattle.std.specs.List.{concat}
 use Rattle.handlers.specs.Calls.{HandlerCall, Give}
 use Rattle.ms_select.specs.declared.answer.Answer.TheVariants as answers
@@ -77,7 +77,8 @@ module _ {H : Type 0} (step : H → HandlerCall → H → Type 0) (is_closed is_
     pub closes : (role : Role) (past : List Item) (fed sent : List ℕ) (n : ℕ) (over : Bool) (old session : State)
         → Closes role past fed sent n over old session
         ↔ (((session ≡ old) × ((over ≡ false) ⊎ (open_credit role past n ≡ None)))
-        ⊎ ((over ≡ true) × SessionStands role (Did (Close n) ∷ past) fed sent session))
+        ⊎ ((over ≡ true) × (is_live role past n ≡ true) × (closed role past n ≡ false)
+        × SessionStands role (Did (Close n) ∷ past) fed sent session))
     pub counts : (role : Role) (past : List Item) (fed sent : List ℕ) (n : ℕ) (old session : State)
         → Counts role past fed sent n old session
         ↔ (((session ≡ old) × ((open_credit role past n ≡ Some 0) ⊎ (is_live role past n ≡ false)))
@@ -100,4 +101,6 @@ module _ {H : Type 0} (step : H → HandlerCall → H → Type 0) (is_closed is_
         → stream.waiting ≡ [])
         × HandsOut step is_closed is_finished (with_sent role goes.now n so_far goes.left) handler stream
         × (is_live role goes.now n ≡ true → has_closed is_closed stream.stage ≡ true → stream.waiting ≡ []
-        → closed role goes.now n ≡ true))
+        → closed role goes.now n ≡ true)
+        × (is_live role goes.now n ≡ true → closed role goes.now n ≡ false
+        → IfSome handler (λ it. is_closed it ≡ false → goes.left ≡ Some (credit role goes.now n))))

@@ -3,7 +3,7 @@
 -- hashicorp yamux, "Flow Control" and "Flag Field"; that a stream is told its data in pieces is this project's profile.
 use Rattle.std.specs.Prelude.{◌≡◌, ◌≢◌, ◌⊎◌, ◌↔◌, ℕ, ◌+◌, ◌-◌, ◌<◌, ◌≤◌, Bool, true, false, not, List, [], ◌∷◌, ◌++◌}
 use Rattle.std.specs.Prelude.{map}
-use Rattle.std.specs.Prelude.{length, take, drop, slice_get, Option, Some, None, Result, Ok, Err}
+use Rattle.std.specs.Prelude.{length, take, drop, slice_get, Option, Some, None, IfSome, Result, Ok, Err}
 use Rattle.handlers.specs.Calls.{HandlerCall, Give, Asked, ToTake, ToGive, ToEnd, WasHanded, given}
 use Rattle.handlers.specs.declared.handler.HandlerFault.{HandlerFault}
 use Rattle.ms_select.specs.declared.answer.Answer.{Answer}
@@ -222,7 +222,8 @@ module _ {H : Type 0} (step : H → HandlerCall → H → Type 0) (fails : H →
     pub closes : (role : Role) (past : List Item) (n m : ℕ) (so_far : Past H)
         → IsDue step is_closed is_finished was_done role past n so_far (Close m) ↔ ((m ≡ n) × ((stream : Streaming H)
         × (left : Option ℕ) × Stands step stream (with_sent role past n so_far left) × (stream.waiting ≡ [])
-        × ((has_closed is_closed stream.stage ≡ true) ⊎ (has_finished is_finished stream.stage ≡ true))
+        × ((has_closed is_closed stream.stage ≡ true)
+        ⊎ ((has_finished is_finished stream.stage ≡ true) × (left ≡ Some (credit role past n))))
         × (was_handed_out stream.stage ≡ true → was_done ≡ true)))
     pub does_nothing_else : (role : Role) (past : List Item) (n m code : ℕ) (so_far : Past H)
         → ¬ IsDue step is_closed is_finished was_done role past n so_far (Start m)
@@ -261,6 +262,8 @@ module _ {H : Type 0} (step : H → HandlerCall → H → Type 0) (fails : H →
         (g : Goes step is_closed is_finished was_done role past fed sent n so_far session stream)
         → HandsOut step is_closed is_finished (with_sent role g.now n so_far g.left) handler stream
         → (is_live role g.now n ≡ true → IsSettled step is_closed is_finished role g.now n g.left stream)
+        → (is_live role g.now n ≡ true → closed role g.now n ≡ false
+        → IfSome handler (λ it. is_closed it ≡ false → g.left ≡ Some (credit role g.now n)))
         → Serves step is_closed is_finished was_done role past fed sent n so_far handler session stream
     pub serves_is : (role : Role) (past : List Item) (fed sent : List ℕ) (n : ℕ) (so_far : Past H) (handler : Option H)
         (session : State) (stream : Streaming H)
@@ -268,6 +271,8 @@ module _ {H : Type 0} (step : H → HandlerCall → H → Type 0) (fails : H →
         → (g : Goes step is_closed is_finished was_done role past fed sent n so_far session stream)
         × HandsOut step is_closed is_finished (with_sent role g.now n so_far g.left) handler stream
         × (is_live role g.now n ≡ true → IsSettled step is_closed is_finished role g.now n g.left stream)
+        × (is_live role g.now n ≡ true → closed role g.now n ≡ false
+        → IfSome handler (λ it. is_closed it ≡ false → g.left ≡ Some (credit role g.now n)))
     pub fails_by : (handler : H) (asked : Asked) (stop : Stop) → FailsBy fails handler asked stop
         ↔ ((fault : HandlerFault) × (stop ≡ stops.Broken (causes.Handler fault)) × fails handler asked fault.number)
     pub gives_up : (stream : Streaming H) (room : ℕ) (stop : Stop) → GivesUp fails is_closed stream room stop

@@ -1,5 +1,5 @@
 -- Serving a stream: what was asked, written, handed out, closed and taken leaves the stream settled.
-use Rattle.std.proofs.Common.{◌≡◌, ◌≢◌, ◌⊎◌, inl, inr, ℕ, ◌-◌, ◌<◌, ◌==◌, Bool, true, false, ◌&&◌, List, [], ◌∷◌, ◌++◌, length, map, Option, Some, None, refl, sym, ap, ◌∙◌, subst, arith}
+use Rattle.std.proofs.Common.{◌≡◌, ◌≢◌, ◌⊎◌, inl, inr, ℕ, ◌-◌, ◌<◌, ◌==◌, Bool, true, false, ◌&&◌, List, [], ◌∷◌, ◌++◌, length, map, not, Option, Some, None, refl, sym, ap, ◌∙◌, subst, arith}
 use Rattle.std.specs.Prelude.{IfSome, IfNone}
 use Rattle.std.specs.List.{concat}
 use Rattle.std.proofs.lemmas.Bool.Decides.{nat_tests}
@@ -110,6 +110,8 @@ module _ {H : Type 0} (step : H → HandlerCall → H → Type 0) (is_closed is_
         (handler : Option H) (session : State) (x : Streaming H) : Type 0 where
       pub was_asked : WasAsked step is_closed is_finished was_done role past fed sent n so_far session x
       pub handed_out : HandsOut step is_closed is_finished (with_sent role was_asked.goes.now n so_far was_asked.goes.left) handler x
+      pub asked_last : is_live role was_asked.goes.now n ≡ true → closed role was_asked.goes.now n ≡ false
+          → IfSome handler (λ it. is_closed it ≡ false → was_asked.goes.left ≡ Some (credit role was_asked.goes.now n))
 
     handed_on : (role : Role) (past : List Item) (fed sent : List ℕ) (n : ℕ) (so_far : Past H) (session : State) (old new : Streaming H)
         → (a : WasAsked step is_closed is_finished was_done role past fed sent n so_far session old) → new ≡ record old { stage = stages.Done }
@@ -143,6 +145,7 @@ module _ {H : Type 0} (step : H → HandlerCall → H → Type 0) (is_closed is_
         record {
           was_asked = subst (λ (x : Streaming H). WasAsked step is_closed is_finished was_done role past fed sent n so_far session x) (sym same) a;
           handed_out = (tt, ap (λ (x : Streaming H). has_finished is_finished x.stage) same ∙ none.0);
+          asked_last = λ live unclosed. tt;
         }
     has_finished_on role past fed sent n so_far session (Some it) old new a some none stands =
         let now = with_sent role a.goes.now n so_far a.goes.left in
@@ -154,6 +157,7 @@ module _ {H : Type 0} (step : H → HandlerCall → H → Type 0) (is_closed is_
             (subst (λ t. IsServed step now it t) (sym waits) stood, some.1, ap (λ (x : Streaming H). x.stage) some.2),
             tt,
           );
+          asked_last = λ live unclosed not_closed. a.asked live unclosed (ap (is_open is_closed) some.0 ∙ ap not not_closed);
         }
 
     nothing_more : (waiting : List ℕ) (stage : Bool) → (length waiting == 0) && stage ≡ false → stage ≡ true → waiting ≡ [] → ⊥
@@ -175,26 +179,32 @@ module _ {H : Type 0} (step : H → HandlerCall → H → Type 0) (is_closed is_
     has_given : (role : Role) (now : List Item) (n : ℕ) (so_far : Past H) (left : Option ℕ) (handler : Option H) (x : Streaming H)
         → HandsOut step is_closed is_finished (with_sent role now n so_far left) handler x
         → (handler ≡ None → was_handed_out x.stage ≡ true → was_done ≡ true)
+        → IfSome handler (λ it. is_closed it ≡ false → left ≡ Some (credit role now n))
         → Stands step x (with_sent role now n so_far left) → x.waiting ≡ [] → has_closed is_closed x.stage ≡ true
         → HasGiven step is_closed is_finished was_done role now n so_far
-    has_given role now n so_far left None x out out_before stands none over =
+    has_given role now n so_far left None x out out_before asked_last stands none over =
         record { stream = x; left = left; stands = stands; none_waits = none; over = inl over; out_before = out_before refl }
-    has_given role now n so_far left (Some it) x out out_before stands none over = record {
+    has_given role now n so_far left (Some it) x out out_before asked_last stands none over = record {
       stream = record { waiting = x.waiting; stage = stages.Serving it };
       left = left;
       stands = out.0.0;
       none_waits = none;
-      over = inr out.0.1;
+      over = by_closed (is_closed it) refl;
       out_before = λ done. absurd (cc done);
-    }
+    } where
+      by_closed : (b : Bool) → is_closed it ≡ b → (is_closed it ≡ true) ⊎ ((is_finished it ≡ true) × (left ≡ Some (credit role now n)))
+      by_closed true is = inl is
+      by_closed false is = inr (out.0.1, asked_last is)
 
     pub was_closed : (role : Role) (past : List Item) (fed sent : List ℕ) (n : ℕ) (so_far : Past H) (handler : Option H) (before session : State) (x : Streaming H)
         → (a : WasAsked step is_closed is_finished was_done role past fed sent n so_far before x)
         → HandsOut step is_closed is_finished (with_sent role a.goes.now n so_far a.goes.left) handler x
         → (handler ≡ None → was_handed_out x.stage ≡ true → was_done ≡ true)
+        → (is_live role a.goes.now n ≡ true → closed role a.goes.now n ≡ false
+        → IfSome handler (λ it. is_closed it ≡ false → a.goes.left ≡ Some (credit role a.goes.now n)))
         → Closes role a.goes.now fed sent n ((length x.waiting == 0) && has_closed is_closed x.stage) before session
         → WasClosed step is_closed is_finished was_done role past fed sent n so_far handler session x
-    was_closed role past fed sent n so_far handler before session x a out out_before (inl (same, why)) = record {
+    was_closed role past fed sent n so_far handler before session x a out out_before asked_last (inl (same, why)) = record {
       goes = record {
         acts = a.goes.acts;
         now = a.goes.now;
@@ -208,12 +218,13 @@ module _ {H : Type 0} (step : H → HandlerCall → H → Type 0) (is_closed is_
       none_waits = a.none_waits;
       handed_out = out;
       over = by_why why;
+      asked_last = asked_last;
     } where
       by_why : (((length x.waiting == 0) && has_closed is_closed x.stage) ≡ false) ⊎ (open_credit role a.goes.now n ≡ None)
           → is_live role a.goes.now n ≡ true → has_closed is_closed x.stage ≡ true → x.waiting ≡ [] → closed role a.goes.now n ≡ true
       by_why (inl off) live on none = absurd (nothing_more x.waiting (has_closed is_closed x.stage) off on none)
       by_why (inr none_open) live on none = not_open role a.goes.now n none_open live
-    was_closed role past fed sent n so_far handler before session x a out out_before (inr (is_over, at)) =
+    was_closed role past fed sent n so_far handler before session x a out out_before asked_last (inr (is_over, live, unclosed, at)) =
         let now = Did (Close n) ∷ a.goes.now in
         let shut : closed role now n ≡ true = is_closed_then acts_do acts_move role a.goes.now n in
         let given = both x.waiting (has_closed is_closed x.stage) is_over in
@@ -226,7 +237,7 @@ module _ {H : Type 0} (step : H → HandlerCall → H → Type 0) (is_closed is_
               (
                 refl,
                 subst (λ (t : List Item). HasGiven step is_closed is_finished was_done role t n so_far) a.goes.now_is
-                    (has_given role a.goes.now n so_far a.goes.left handler x out out_before a.goes.stream_stands given.0 given.1),
+                    (has_given role a.goes.now n so_far a.goes.left handler x out out_before (asked_last live unclosed) a.goes.stream_stands given.0 given.1),
               ),
               a.goes.due,
             );
@@ -238,6 +249,7 @@ module _ {H : Type 0} (step : H → HandlerCall → H → Type 0) (is_closed is_
           none_waits = λ live unclosed some. absurd (not_both shut unclosed);
           handed_out = subst (λ t. HandsOut step is_closed is_finished (record so_far { sent = t; left = a.goes.left }) handler x) (sym (closing_writes_nothing acts_do acts_move role a.goes.now n)) out;
           over = λ live on none. shut;
+          asked_last = λ live unclosed. absurd (not_both shut unclosed);
         }
 
     -- credit that was left before is left still, or this direction is closed
@@ -247,7 +259,7 @@ module _ {H : Type 0} (step : H → HandlerCall → H → Type 0) (is_closed is_
         → (w : WasClosed step is_closed is_finished was_done role past fed sent n so_far handler session x) → open_credit role w.goes.now n ≢ Some 0
     left_on role past fed sent n so_far handler before session now x (inl (same, why)) still w =
         still role w.goes.now fed sent (subst (λ (s : State). SessionStands role w.goes.now fed sent s) same w.goes.session_stands)
-    left_on role past fed sent n so_far handler before session now x (inr (over, stands)) still w =
+    left_on role past fed sent n so_far handler before session now x (inr (over, live, unclosed, stands)) still w =
         let it = both x.waiting (has_closed is_closed x.stage) over in
         not_used_up role w.goes.now n (λ live. w.over live it.1 it.0)
 
@@ -273,6 +285,7 @@ module _ {H : Type 0} (step : H → HandlerCall → H → Type 0) (is_closed is_
         over = a.over live;
         was_taken = by_why why live;
       };
+      asked_last = a.asked_last;
     } where
       by_why : (open_credit role a.goes.now n ≡ Some 0) ⊎ (is_live role a.goes.now n ≡ false) → is_live role a.goes.now n ≡ true
           → (0 < credit role a.goes.now n) ⊎ (closed role a.goes.now n ≡ true) → untaken role a.goes.now n ≡ 0
@@ -302,4 +315,6 @@ module _ {H : Type 0} (step : H → HandlerCall → H → Type 0) (is_closed is_
             over = λ on none. k.closed_is ∙ a.over live on none;
             was_taken = λ some. none_left acts_do acts_move role a.goes.now n;
           };
+          asked_last = λ still unclosed. subst (λ (c : ℕ). IfSome handler (λ it. is_closed it ≡ false → a.goes.left ≡ Some c)) (sym k.credit_is)
+              (a.asked_last live (sym k.closed_is ∙ unclosed));
         }

@@ -2,7 +2,7 @@
 -- handler is closed, and finished, where it is `true`.
 use Rattle.std.specs.Prelude.{◌≡◌, ℕ, Bool, true, false, List, [], ◌∷◌, Option, Some, None}
 use Rattle.ms_select.specs.Rows.{header_bytes, y_bytes}
-use Rattle.handlers.specs.Calls.{HandlerCall, Asked, ToGive}
+use Rattle.handlers.specs.Calls.{HandlerCall, Take, Asked, ToGive}
 use Rattle.yamux_session.specs.declared.event.Role.{Role}
 use Rattle.yamux_session.specs.declared.event.Role.TheVariants.{Client, Server}
 use Rattle.yamux_session.specs.History.{Item, Act}
@@ -67,23 +67,33 @@ talk_sent = Did (Write 1 (header_bytes ∷ y_bytes ∷ [])) ∷ two_bytes
 abbrev pub never : Bool → Bool
 never b = false
 
+-- the bytes that came behind the talk
+abbrev pub came_behind : List ℕ
+came_behind = 1 ∷ 2 ∷ []
+
 -- a handler stays what it was when it was made
 abbrev pub Stays : Bool → HandlerCall → Bool → Type 0
 Stays old call new = new ≡ old
 
+-- and was never asked for bytes
+abbrev pub Unasked : Bool → HandlerCall → Bool → Type 0
+Unasked old call new = (new ≡ old) × (call ≡ Take came_behind)
+
 -- whether this direction may be closed then
-abbrev pub MayClose : (closed finished : Bool → Bool) (was_done handler : Bool) → Type 0
-MayClose closed finished was_done handler =
-    IsDue Stays closed finished was_done Server talk_sent 1 (unsent_with handler) (Close 1)
+abbrev pub MayClose : (Bool → HandlerCall → Bool → Type 0) → (closed finished : Bool → Bool) → (was_done handler : Bool)
+    → Type 0
+MayClose step closed finished was_done handler =
+    IsDue step closed finished was_done Server talk_sent 1 (unsent_with handler) (Close 1)
 
 -- This direction isn't closed while what the talk wrote waits, though the handler is closed; and then only where the
--- handler is closed or finished, or was handed out before.
+-- handler is closed, or finished and was asked, or was handed out before.
 pub record CloseRows : Type 0 where
   pub waiting : ¬ Due unsent Server two_bytes (Close 1)
-  pub closed : MayClose itself never false true
-  pub finished : MayClose never itself false true
-  pub handed_out : MayClose never never true false
-  pub serving : ¬ MayClose itself itself false false
+  pub closed : MayClose Unasked itself never false true
+  pub finished : MayClose Stays never itself false true
+  pub finished_unasked : ¬ MayClose Unasked never itself false true
+  pub handed_out : MayClose Unasked never never true false
+  pub serving : ¬ MayClose Stays itself itself false false
 
 abbrev pub serving_of : List ℕ → Bool → Streaming Bool
 serving_of waiting handler = record { waiting = waiting; stage = Serving handler }

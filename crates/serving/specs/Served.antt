@@ -40,13 +40,15 @@ module _ {H : Type 0} (step : H → HandlerCall → H → Type 0) (is_closed is_
 
 -- Of a stream whose handler was handed out before it was served, or was not.
 module _ {H : Type 0} (step : H → HandlerCall → H → Type 0) (is_closed is_finished : H → Bool) (was_done : Bool) where
-  -- The stream gives no more: nothing waits, and its handler is closed, or finished, or was handed out before.
+  -- The stream gives no more: nothing waits, and its handler is closed, or finished and was asked last with all the
+  -- credit, or was handed out before.
   pub record HasGiven (role : Role) (past : List Item) (n : ℕ) (so_far : Past H) : Type 0 where
     pub stream : Streaming H
     pub left : Option ℕ
     pub stands : Stands step stream (with_sent role past n so_far left)
     pub none_waits : stream.waiting ≡ []
-    pub over : (has_closed is_closed stream.stage ≡ true) ⊎ (has_finished is_finished stream.stage ≡ true)
+    pub over : (has_closed is_closed stream.stage ≡ true)
+        ⊎ ((has_finished is_finished stream.stage ≡ true) × (left ≡ Some (credit role past n)))
     pub out_before : was_handed_out stream.stage ≡ true → was_done ≡ true
 
   -- The stream stands where this is its session's list: what was written on it is what it gave.
@@ -90,6 +92,9 @@ module _ {H : Type 0} (step : H → HandlerCall → H → Type 0) (is_closed is_
     pub handed_out : HandsOut step is_closed is_finished (with_sent role goes.now n so_far goes.left) handler stream
     pub settled : is_live role goes.now n ≡ true
         → IsSettled step is_closed is_finished role goes.now n goes.left stream
+    -- a handler that is handed out while this direction is open was asked last, with all the credit, unless it is closed
+    pub asked_last : is_live role goes.now n ≡ true → closed role goes.now n ≡ false
+        → IfSome handler (λ it. is_closed it ≡ false → goes.left ≡ Some (credit role goes.now n))
 
 -- ---- refusals
 

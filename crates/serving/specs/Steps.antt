@@ -1,6 +1,6 @@
 -- The parts of serving a stream. Inside: no public clause cites it.
 use Rattle.std.specs.Prelude.{◌≡◌, ◌≢◌, ◌⊎◌, ℕ, ◌<◌, ◌-◌, Bool, true, false, List, [], ◌∷◌, ◌++◌, length, map}
-use Rattle.std.specs.Prelude.{Option, Some, None}
+use Rattle.std.specs.Prelude.{Option, Some, None, IfSome}
 use Rattle.std.specs.List.{concat}
 use Rattle.handlers.specs.Calls.{HandlerCall}
 use Rattle.yamux_session.specs.declared.event.Role.{Role}
@@ -32,7 +32,8 @@ pub record Sends {H : Type 0} (step : H → HandlerCall → H → Type 0) (is_cl
 abbrev pub Closes : Role → List Item → List ℕ → List ℕ → ℕ → Bool → State → State → Type 0
 Closes role past fed sent n over old session =
     ((session ≡ old) × ((over ≡ false) ⊎ (open_credit role past n ≡ None)))
-    ⊎ ((over ≡ true) × SessionStands role (Did (Close n) ∷ past) fed sent session)
+    ⊎ ((over ≡ true) × (is_live role past n ≡ true) × (closed role past n ≡ false)
+    × SessionStands role (Did (Close n) ∷ past) fed sent session)
 
 -- all that came was taken, where credit is left or this direction is closed; else nothing was done
 abbrev pub Counts : Role → List Item → List ℕ → List ℕ → ℕ → State → State → Type 0
@@ -62,3 +63,5 @@ module _ {H : Type 0} (step : H → HandlerCall → H → Type 0) (is_closed is_
     pub handed_out : HandsOut step is_closed is_finished (with_sent role goes.now n so_far goes.left) handler stream
     pub over : is_live role goes.now n ≡ true → has_closed is_closed stream.stage ≡ true → stream.waiting ≡ []
         → closed role goes.now n ≡ true
+    pub asked_last : is_live role goes.now n ≡ true → closed role goes.now n ≡ false
+        → IfSome handler (λ it. is_closed it ≡ false → goes.left ≡ Some (credit role goes.now n))

@@ -1,12 +1,14 @@
 use Rattle.std.proofs.Common.{inl, inr, refl, sym}
-use Rattle.serving.proofs.Refusals.{not_both_credits}
+use Rattle.serving.proofs.Refusals.{not_both_credits, open_with}
 use Rattle.serving.proofs.serving.close.Goals as goal
 
 pub returns-in_default-clause-closes : goal.returns-in_default-clause-closes
 returns-in_default-clause-closes c = λ role past fed sent at. inl (refl, inr (sym (c.in_default.ensures.live role past fed sent at)))
 
 pub returns-in-Ok-clause-closes : goal.returns-in-Ok-clause-closes
-returns-in-Ok-clause-closes c = λ role past fed sent at. inr (c.if-not-over.false, c.in-Ok.ensures.ok role past fed sent at)
+returns-in-Ok-clause-closes c = λ role past fed sent at.
+    let is_open = open_with role past c.args.number c.in-Some.field-0 (sym (c.in-Some.ensures.live role past fed sent at)) in
+    inr (c.if-not-over.false, is_open.is_live, is_open.unclosed, c.in-Ok.ensures.ok role past fed sent at)
 
 pub returns-in-Ok-clause-kept : goal.returns-in-Ok-clause-kept
 returns-in-Ok-clause-kept c = λ role past fed sent at none. absurd (not_both_credits (c.in-Some.ensures.live role past fed sent at) none)

@@ -35,7 +35,7 @@ loop-call-init g c =
         asked = λ woken. inl woken;
         reading = λ is. tt;
         writing = λ is. tt;
-        shutting = tt;
+        unshut = tt;
         writes = tt;
         is_left = λ is. omega arith;
         untaken = λ is. absurd (cc is);
@@ -150,25 +150,25 @@ returns-in-Give-clause-came g c empty going over =
 
 pub returns-in-Give-clause-polls : goal.returns-in-Give-clause-polls
 returns-in-Give-clause-polls g c =
-    polls_to g.L.Link.calls (length c.args.self.now.unsent) c.args.self.now.link c.turn.new.self.link c.args.cx.now c.turn.new.cx (c.loop-call._call + 1) (omega arith)
+    polls_to g.L.Link.calls (length c.args.self.now.unsent) _ c.args.self.now.link c.turn.new.self.link c.args.cx.now c.turn.new.cx (c.loop-call._call + 1) (omega arith)
     (c.turn.ensures.calls (length c.args.self.now.unsent) c.args.self.now.link c.args.cx.now c.loop-call._call c.loop-call.invariant.made)
 
 pub returns-in-Failed-clause-polls : goal.returns-in-Failed-clause-polls
 returns-in-Failed-clause-polls g c =
-    polls_to g.L.Link.calls (length c.args.self.now.unsent) c.args.self.now.link c.turn.new.self.link c.args.cx.now c.turn.new.cx (c.loop-call._call + 1) (omega arith)
+    polls_to g.L.Link.calls (length c.args.self.now.unsent) _ c.args.self.now.link c.turn.new.self.link c.args.cx.now c.turn.new.cx (c.loop-call._call + 1) (omega arith)
     (c.turn.ensures.calls (length c.args.self.now.unsent) c.args.self.now.link c.args.cx.now c.loop-call._call c.loop-call.invariant.made)
 
 pub returns-in-Wait-clause-polls : goal.returns-in-Wait-clause-polls
 returns-in-Wait-clause-polls g c =
-    polls_to g.L.Link.calls (length c.args.self.now.unsent) c.args.self.now.link c.turn.new.self.link c.args.cx.now c.turn.new.cx (c.loop-call._call + 1) (omega arith)
+    polls_to g.L.Link.calls (length c.args.self.now.unsent) _ c.args.self.now.link c.turn.new.self.link c.args.cx.now c.turn.new.cx (c.loop-call._call + 1) (omega arith)
     (c.turn.ensures.calls (length c.args.self.now.unsent) c.args.self.now.link c.args.cx.now c.loop-call._call c.loop-call.invariant.made)
 
 pub returns-clause-polls : goal.returns-clause-polls
 returns-clause-polls g c =
-    polls_all g.L.Link.calls c.loop-call.waits (length c.args.self.now.unsent) (length c.loop-call.self.unsent) c.args.self.now.link c.loop-call.self.link c.args.cx.now c.loop-call.cx c.yield_now.new.self c.loop-call._call (omega arith)
+    polls_all g.L.Link.calls c.loop-call.waits (length c.args.self.now.unsent) (length c.loop-call.self.unsent) _ c.args.self.now.link c.loop-call.self.link c.args.cx.now c.loop-call.cx c.yield_now.new.self c.loop-call._call (omega arith)
     c.loop-call.invariant.made
 
 pub returns-then-not-is_empty-clause-polls : goal.returns-then-not-is_empty-clause-polls
 returns-then-not-is_empty-clause-polls g c =
-    subst (λ l. Polls g.L.Link.calls (length c.args.self.now.unsent) c.args.self.now.link c.args.cx.now l c.args.cx.now) (sym c.give.ensures.link)
-    (polls_none g.L.Link.calls g.met.L.Link.calls_none (length c.args.self.now.unsent) c.args.self.now.link c.args.cx.now)
+    subst (λ l. Polls g.L.Link.calls (length c.args.self.now.unsent) (is_live c.give.new.self.stage) c.args.self.now.link c.args.cx.now l c.args.cx.now) (sym c.give.ensures.link)
+    (polls_none g.L.Link.calls g.met.L.Link.calls_none (length c.args.self.now.unsent) _ c.args.self.now.link c.args.cx.now)

@@ -1,7 +1,7 @@
 use Rattle.std.proofs.Common.{[], length, inl, refl, ap, rules}
-use Rattle.conn_link.specs.Calling.{call_of, shut_answer}
+use Rattle.conn_link.specs.Calling.{call_of, shut_answer, is_pending}
 use Rattle.conn_link.specs.Calling.Kind.{Shuts}
-use Rattle.conn_future.proofs.Making.{made_to}
+use Rattle.conn_future.proofs.Making.{none_waited, made_to}
 use Rattle.conn_future.specs.Stages.{is_live}
 use Rattle.conn_future.proofs.Moved.{drains_shut}
 use Rattle.conn_future.proofs.Standing.{goes_shut, closes_of, stays_failed, stays_pending}
@@ -48,15 +48,15 @@ returns-in-Pending-clause-shutting g c is =
 
 pub returns-in-Ready-Ok-clause-called : goal.returns-in-Ready-Ok-clause-called
 returns-in-Ready-Ok-clause-called g c waited first before count waits it =
-    made_to g.L.Link.calls g.met.L.Link.calls_on waits waited (length c.args.self.now.unsent) first c.args.self.now.link c.poll_shut.new.self before c.args.cx.now c.poll_shut.new.cx count
-    (call_of Shuts 0 (shut_answer c.poll_shut.result) c.args.cx.now c.poll_shut.new.cx) it it.shutting (inl refl) refl c.poll_shut.ensures.called (λ kind. absurd (cc kind))
+    made_to g.L.Link.calls g.met.L.Link.calls_on waits waited (length c.args.self.now.unsent) _ first c.args.self.now.link c.poll_shut.new.self before c.args.cx.now c.poll_shut.new.cx count
+    (call_of Shuts 0 (shut_answer c.poll_shut.result) c.args.cx.now c.poll_shut.new.cx) it (none_waited Shuts it.log it.unshut) (inl refl) refl c.poll_shut.ensures.called (λ kind. absurd (cc kind)) (λ kind answered. refl)
 
 pub returns-in-Ready-Err-clause-called : goal.returns-in-Ready-Err-clause-called
 returns-in-Ready-Err-clause-called g c waited first before count waits it =
-    made_to g.L.Link.calls g.met.L.Link.calls_on waits waited (length c.args.self.now.unsent) first c.args.self.now.link c.poll_shut.new.self before c.args.cx.now c.poll_shut.new.cx count
-    (call_of Shuts 0 (shut_answer c.poll_shut.result) c.args.cx.now c.poll_shut.new.cx) it it.shutting (inl refl) refl c.poll_shut.ensures.called (λ kind. absurd (cc kind))
+    made_to g.L.Link.calls g.met.L.Link.calls_on waits waited (length c.args.self.now.unsent) _ first c.args.self.now.link c.poll_shut.new.self before c.args.cx.now c.poll_shut.new.cx count
+    (call_of Shuts 0 (shut_answer c.poll_shut.result) c.args.cx.now c.poll_shut.new.cx) it (none_waited Shuts it.log it.unshut) (inl refl) refl c.poll_shut.ensures.called (λ kind. absurd (cc kind)) (λ kind answered. refl)
 
 pub returns-in-Pending-clause-called : goal.returns-in-Pending-clause-called
 returns-in-Pending-clause-called g c waited first before count waits it =
-    made_to g.L.Link.calls g.met.L.Link.calls_on waits waited (length c.args.self.now.unsent) first c.args.self.now.link c.poll_shut.new.self before c.args.cx.now c.poll_shut.new.cx count
-    (call_of Shuts 0 (shut_answer c.poll_shut.result) c.args.cx.now c.poll_shut.new.cx) it it.shutting (inl refl) refl c.poll_shut.ensures.called (λ kind. absurd (cc kind))
+    made_to g.L.Link.calls g.met.L.Link.calls_on waits waited (length c.args.self.now.unsent) _ first c.args.self.now.link c.poll_shut.new.self before c.args.cx.now c.poll_shut.new.cx count
+    (call_of Shuts 0 (shut_answer c.poll_shut.result) c.args.cx.now c.poll_shut.new.cx) it (none_waited Shuts it.log it.unshut) (inl refl) refl c.poll_shut.ensures.called (λ kind. absurd (cc kind)) (λ kind answered. absurd (cc (answered, ap is_pending (ap shut_answer c.in-Pending.is))))

@@ -93,7 +93,7 @@ returns-in-Ready-Ok-eq0-clause-called g c waited first before count it =
     subst (λ l. Makes g.L.Link.calls c.args.waits.now waited (length c.end.new.self.unsent) first before l c.poll_read.new.cx (count + 1)) (sym c.end.ensures.link)
     (answered_on g.L.Link.calls g.met.L.Link.calls_on c.args.waits.now waited (length c.args.self.now.unsent) (length c.end.new.self.unsent) first c.args.self.now.link c.poll_read.new.self before c.args.cx.now c.poll_read.new.cx count
     (call_of Reads (length c.as_mut_slice.result.now) c.poll_read.result c.args.cx.now c.poll_read.new.cx) it (it.reading c.requires.can_wait) (inr (rw c.as_mut_slice.ensures.value c.args.self.now.has_room))
-    (ap is_pending c.in-Ready-Ok-eq0.is) refl c.poll_read.ensures.called (λ kind. none) (λ is. omega (arith, none)) (λ is. none))
+    (ap is_pending c.in-Ready-Ok-eq0.is) (λ shuts. cc shuts) refl c.poll_read.ensures.called (λ kind. none) (λ is. omega (arith, none)) (λ is. none))
 
 pub returns-in-Ready-Ok-clause-called : goal.returns-in-Ready-Ok-clause-called
 returns-in-Ready-Ok-clause-called g c waited first before count it =
@@ -101,14 +101,14 @@ returns-in-Ready-Ok-clause-called g c waited first before count it =
     subst (λ l. Makes g.L.Link.calls c.args.waits.now waited (length c.hear.new.self.unsent) first before l c.poll_read.new.cx (count + 1)) (sym c.hear.ensures.link)
     (answered_on g.L.Link.calls g.met.L.Link.calls_on c.args.waits.now waited (length c.args.self.now.unsent) (length c.hear.new.self.unsent) first c.args.self.now.link c.poll_read.new.self before c.args.cx.now c.poll_read.new.cx count
     (call_of Reads (length c.as_mut_slice.result.now) c.poll_read.result c.args.cx.now c.poll_read.new.cx) it (it.reading c.requires.can_wait) (inr (rw c.as_mut_slice.ensures.value c.args.self.now.has_room))
-    (ap is_pending c.in-Ready-Ok.is) refl c.poll_read.ensures.called (λ kind. none) (λ is. omega (arith, none)) (λ is. none))
+    (ap is_pending c.in-Ready-Ok.is) (λ shuts. cc shuts) refl c.poll_read.ensures.called (λ kind. none) (λ is. omega (arith, none)) (λ is. none))
 
 pub returns-in-Ready-Err-clause-called : goal.returns-in-Ready-Err-clause-called
 returns-in-Ready-Err-clause-called g c waited first before count it =
     let none = none_left g.L.Link.calls c.args.waits.now waited (length c.args.self.now.unsent) first before c.args.self.now.link c.args.cx.now count it (λ is. ap length (c.requires.written is)) in
     answered_on g.L.Link.calls g.met.L.Link.calls_on c.args.waits.now waited (length c.args.self.now.unsent) (length c.none.result) first c.args.self.now.link c.poll_read.new.self before c.args.cx.now c.poll_read.new.cx count
     (call_of Reads (length c.as_mut_slice.result.now) c.poll_read.result c.args.cx.now c.poll_read.new.cx) it (it.reading c.requires.can_wait) (inr (rw c.as_mut_slice.ensures.value c.args.self.now.has_room))
-    (ap is_pending c.in-Ready-Err.is) refl c.poll_read.ensures.called (λ kind. none) (λ is. omega (arith, none)) (λ is. none)
+    (ap is_pending c.in-Ready-Err.is) (λ shuts. cc shuts) refl c.poll_read.ensures.called (λ kind. none) (λ is. omega (arith, none)) (λ is. none)
 
 pub returns-in-Pending-clause-called : goal.returns-in-Pending-clause-called
 returns-in-Pending-clause-called g c waited first before count it =
@@ -116,4 +116,4 @@ returns-in-Pending-clause-called g c waited first before count it =
     made_on g.L.Link.calls g.met.L.Link.calls_on c.args.waits.now (record c.args.waits.now { reading = true }) waited (length c.args.self.now.unsent) (length c.args.self.now.unsent) first c.args.self.now.link c.poll_read.new.self before c.args.cx.now c.poll_read.new.cx count
     (call_of Reads (length c.as_mut_slice.result.now) c.poll_read.result c.args.cx.now c.poll_read.new.cx) it (it.reading c.requires.can_wait) (inr (rw c.as_mut_slice.ensures.value c.args.self.now.has_room)) refl c.poll_read.ensures.called
     (λ kind. none) (λ is. omega (arith, none)) (λ is. none)
-    (λ is. absurd (cc is)) (λ is. (is, λ kind. absurd (cc kind))) (λ kind. absurd (cc kind))
+    (λ is. absurd (cc is)) (λ is. (is, λ kind. absurd (cc kind))) (λ shuts. cc shuts)

@@ -91,7 +91,7 @@ returns-in-Ready-Ok-clause-called g c waited first before count it =
     let rest = ap length c.advance.ensures ∙ length-drop c.in-Ready-Ok.count c.args.self.now.unsent in
     answered_on g.L.Link.calls g.met.L.Link.calls_on c.args.waits.now waited (length c.args.self.now.unsent) (length c.advance.new.self) first c.args.self.now.link c.poll_write.new.self before c.args.cx.now c.poll_write.new.cx count
     (call_of Writes (length c.as_slice.result.now) c.poll_write.result c.args.cx.now c.poll_write.new.cx) it (it.writing c.requires.can_wait) (inr (some_left c.args.self.now.unsent c.as_slice.result.now c.as_slice.ensures c.requires.some))
-    (ap is_pending c.in-Ready-Ok.is) refl c.poll_write.ensures.called
+    (ap is_pending c.in-Ready-Ok.is) (λ shuts. cc shuts) refl c.poll_write.ensures.called
     (λ kind. absurd (cc kind)) (λ is. omega (arith, left, still, rest)) (λ is. absurd (cc (is, c.requires.can_wait)))
 
 pub returns-in-Ready-Err-clause-called : goal.returns-in-Ready-Err-clause-called
@@ -99,7 +99,7 @@ returns-in-Ready-Err-clause-called g c waited first before count it =
     let left = none_where c.poll_write.result c.in-Ready-Err._fault (left_of waited it.log) (cc (c.in-Ready-Err.is, c.in-Ready-Err.field-0-is)) in
     answered_on g.L.Link.calls g.met.L.Link.calls_on c.args.waits.now waited (length c.args.self.now.unsent) (length c.none.result) first c.args.self.now.link c.poll_write.new.self before c.args.cx.now c.poll_write.new.cx count
     (call_of Writes (length c.as_slice.result.now) c.poll_write.result c.args.cx.now c.poll_write.new.cx) it (it.writing c.requires.can_wait) (inr (some_left c.args.self.now.unsent c.as_slice.result.now c.as_slice.ensures c.requires.some))
-    (ap is_pending c.in-Ready-Err.is) refl c.poll_write.ensures.called
+    (ap is_pending c.in-Ready-Err.is) (λ shuts. cc shuts) refl c.poll_write.ensures.called
     (λ kind. absurd (cc kind)) (λ is. omega (arith, left)) (λ is. left)
 
 pub returns-in-Pending-clause-called : goal.returns-in-Pending-clause-called
@@ -107,4 +107,4 @@ returns-in-Pending-clause-called g c waited first before count it =
     made_on g.L.Link.calls g.met.L.Link.calls_on c.args.waits.now (record c.args.waits.now { writing = true }) waited (length c.args.self.now.unsent) (length c.args.self.now.unsent) first c.args.self.now.link c.poll_write.new.self before c.args.cx.now c.poll_write.new.cx count
     (call_of Writes (length c.as_slice.result.now) c.poll_write.result c.args.cx.now c.poll_write.new.cx) it (it.writing c.requires.can_wait) (inr (some_left c.args.self.now.unsent c.as_slice.result.now c.as_slice.ensures c.requires.some)) refl c.poll_write.ensures.called
     (λ kind. absurd (cc kind)) (λ is. absurd (cc is)) (λ is. ap (λ a. left_by Writes a (left_of waited it.log)) c.in-Pending.is)
-    (λ is. (is, λ kind. absurd (cc kind))) (λ is. absurd (cc is)) (λ kind. absurd (cc kind))
+    (λ is. (is, λ kind. absurd (cc kind))) (λ is. absurd (cc is)) (λ shuts. cc shuts)

@@ -6,7 +6,7 @@ use Rattle.yamux_session.specs.Arrives.{tellings}
 use Rattle.conn_log.specs.Entries.{Entry}
 use Rattle.conn_log.specs.Routes.{IsFor, Awaits, IsUnderWay}
 use Rattle.board.specs.Boards.{Keeps, MakesOnBoard}
-use Rattle.board.proofs.board.Board.route.Given as goal
+use Rattle.board.proofs.board.Board.route_all.Given as goal
 
 abbrev pub invariant-loop-event : goal.invariant-loop-event
 invariant-loop-event g l =
