@@ -38,8 +38,8 @@ module _ {L : Type 0} (calls : L → List Call → L → Type 0) where
     pub able : All IsAble log
     pub once : IsOnce log
 
-  -- A poll makes at most 32 calls, and those that write what waited come before one that reads; behind it the connection
-  -- lives, or not. It asks for another poll only where one of them did, or behind 32.
+  -- A poll makes at most 32 calls, and those that write what waited come before one that reads. Behind it the
+  -- connection lives, or not. It asks for another poll only where one of them did, or behind 32.
   pub record Polls (waiting : ℕ) (lives : Bool) (first : L) (old : Context) (last : L) (new : Context) : Type 0 where
     pub log : List Call
     pub called : Called first log last

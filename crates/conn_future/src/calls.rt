@@ -186,8 +186,8 @@ impl<L: Link, P: Protocols> Stream for Conn<L, P> {
         // It makes at most 32 calls of the link, none that could move nothing and none behind one of its kind that was
         // pending; what waits is written before a read; behind shutting that was answered it ends; and it asks for
         // another poll only where a call does, or behind 32.
-        ensures polls { Polls L.calls (length self.old.unsent) (is_live self.new.stage) self.old.link cx.old self.new.link
-            cx.new }
+        ensures polls { Polls L.calls (length self.old.unsent) (is_live self.new.stage) self.old.link cx.old
+            self.new.link cx.new }
         ensures kept { Keeps cx.old cx.new }
     {
         if !self.held.is_empty() || !self.stage.is_live() {

@@ -92,7 +92,8 @@ module _ {H : Type 0} (step : H → HandlerCall → H → Type 0) (is_closed is_
     pub handed_out : HandsOut step is_closed is_finished (with_sent role goes.now n so_far goes.left) handler stream
     pub settled : is_live role goes.now n ≡ true
         → IsSettled step is_closed is_finished role goes.now n goes.left stream
-    -- a handler that is handed out while this direction is open was asked last, with all the credit, unless it is closed
+    -- a handler that is handed out while this direction is open was asked last, with all the credit, unless it is
+    -- closed
     pub asked_last : is_live role goes.now n ≡ true → closed role goes.now n ≡ false
         → IfSome handler (λ it. is_closed it ≡ false → goes.left ≡ Some (credit role goes.now n))
 
