@@ -1,10 +1,11 @@
 -- Rows of where the streams of a connection stand while what a frame told is routed, whatever came.
 -- Source: hashicorp yamux, "Framing" and "Flag Field"; what a connection tells is this project's profile.
-use Rattle.std.specs.Prelude.{◌≡◌, ◌≢◌, ◌⊎◌, ◌↔◌, ℕ, ◌≤◌, ◌||◌, Bool, true, false, List, [], ◌∷◌, ◌++◌, map, length}
-use Rattle.std.specs.Prelude.{take, Option, Some, None, IsSome}
+use Rattle.std.specs.Prelude.{◌≡◌, ◌≢◌, ◌⊎◌, ◌↔◌, ℕ, ◌-◌, ◌≤◌, ◌||◌, Bool, true, false, List, [], ◌∷◌, ◌++◌, map}
+use Rattle.std.specs.Prelude.{length, take, slice_get, Option, Some, None, IsSome}
 use Rattle.std.specs.List.{AllByRecursion}
 use Rattle.handlers.specs.Calls.{HandlerCall, Asked}
 use Rattle.yamux_session.specs.declared.event.Role.{Role}
+use Rattle.yamux_session.specs.declared.event.Event.{Event}
 use Rattle.yamux_session.specs.declared.event.Event.TheVariants as heard
 use Rattle.yamux_session.specs.declared.event.Fault.{Fault}
 use Rattle.yamux_session.specs.History.{Item, Act, is_own, arrivals}
@@ -36,6 +37,7 @@ use Rattle.conn_log.specs.Making.{MakesOn}
 use Rattle.board.specs.declared.board.Board.{Board}
 use Rattle.board.specs.Boards.{Keeps, MakesOnBoard}
 use Rattle.board.specs.Resets.{told_of_reset}
+use Rattle.board.specs.Goings.{IsLastOf, IsHeldAlive}
 use Rattle.mux.specs.Faults.{Faults}
 
 -- What is told and put aside of a stream: whichever it is
@@ -69,6 +71,13 @@ pub record AnyRouteToldRows (H : Type 0) : Type 0 where
   pub reset_of_none : (n : ℕ) → told_of_reset {H = H} n None ≡ []
   pub reset : (n : ℕ) (it : Streaming H) → was_handed_out it.stage ≡ false
       → told_of_reset n (Some it) ≡ event.Broken n causes.Reset ∷ []
+  -- which streams are let go
+  pub last_of : (n : ℕ) (frame : List Event) → IsLastOf n frame
+      ↔ ((slice_get frame (length frame - 1) ≡ Some (heard.Ended n))
+      ⊎ (slice_get frame (length frame - 1) ≡ Some (heard.Credit n)))
+  pub let_go : (live : Bool) → IsHeldAlive {H = H} live None
+  pub held_alive : (live : Bool) (it : Streaming H)
+      → IsHeldAlive live (Some it) ↔ (was_handed_out it.stage ≡ true → live ≡ true)
   pub keeps_turn : KeepsTurn {H = H} []
   pub turns : (x : Arrival) (n index : ℕ) (log : List (Entry H)) → ¬ KeepsTurn (Of (Came x) ∷ log)
       × ¬ KeepsTurn (Asks n index ∷ log)
