@@ -110,7 +110,8 @@ module _ {P H : Type 0} (step : H → HandlerCall → H → Type 0) (fails : H �
   pub live_are_held : LiveAreHeld step fails is_closed is_finished inbound_makes outbound_makes listed is_eager inbound_leads outbound_leads start role own
   live_are_held session streams past input asked told written up n live =
       let it = some_of (streams n) (up.at_rest.live_held n live) in
-      (it.0, it.1, (given_some _ (streams n) it.0 it.1 (up.at_rest.each n)).held.over)
+      let rests = given_some _ (streams n) it.0 it.1 (up.at_rest.each n) in
+      (it.0, it.1, rests.held.over, rests.held.done)
 
   pub up_is_split : UpIsSplit step fails is_closed is_finished inbound_makes outbound_makes listed is_eager inbound_leads outbound_leads start role own
   up_is_split session streams past input asked told written up = record {

@@ -26,7 +26,7 @@ use Rattle.streams.specs.State.{Streaming, handler_of, was_handed_out}
 use Rattle.conn_log.specs.declared.earlier.Earlier.{Earlier}
 use Rattle.conn_log.specs.declared.event.ConnEvent.{ConnEvent}
 use Rattle.conn_log.specs.declared.event.ConnEvent.TheVariants as event
-use Rattle.conn_log.specs.Entries.{Entry, items, said, agreed, is_over, made_of}
+use Rattle.conn_log.specs.Entries.{Entry, items, said, agreed, is_over, was_done, made_of}
 use Rattle.conn_log.specs.Held.{IsSide}
 use Rattle.conn_core.specs.declared.calls.ConnAct.{ConnAct}
 use Rattle.conn_core.specs.declared.calls.ConnAct.TheVariants.{Feed, Ask}
@@ -158,7 +158,8 @@ module _ {P H : Type 0} (step : H → HandlerCall → H → Type 0) (fails : H �
   abbrev pub LiveAreHeld : Type 0
   LiveAreHeld = WhileUp (λ session streams past input asked told written up. (n : ℕ)
       → is_live (session_role role) (items up.log) n ≡ true → (stream : Streaming H)
-      × (streams n ≡ Some stream) × (is_over (session_role role) up.log n ≡ was_handed_out stream.stage))
+      × (streams n ≡ Some stream) × (is_over (session_role role) up.log n ≡ was_handed_out stream.stage)
+      × (was_done (session_role role) up.log n ≡ was_handed_out stream.stage))
 
   -- The first part of the input is the upgrade's, and the frames of the rest are what the session's list says. Told was
   -- that it is up, and behind it what the list says; written was what the upgrade wrote, and behind it the session's

@@ -72,7 +72,7 @@ module _ {P H : Type 0} (step : H → HandlerCall → H → Type 0) (fails : H �
         → Around step fails is_closed is_finished inbound_makes outbound_makes eager names peer role (did s.goes.acts ++ log) fed sent after now past n (view_by s.goes.acts view) rest
     around_served handler s =
         around_acts step fails is_closed is_finished inbound_makes outbound_makes eager names peer role acts_do acts_move log fed sent before after streams now past n view rest h.so_far (was_handed_out old.stage) s.goes.acts a come
-        (λ out. h.done ∙ out) s.goes.due (subst (λ (t : List Item). SessionStands role t fed sent after) s.goes.now_is s.goes.session_stands) elsewhere
+        (λ out. h.done ∙ out) (h.over ∙ sym h.done) s.goes.due (subst (λ (t : List Item). SessionStands role t fed sent after) s.goes.now_is s.goes.session_stands) elsewhere
 
     list_is : (handler : Option H) → (s : Serves step is_closed is_finished (was_handed_out old.stage) role (items log) fed sent n h.so_far handler after new)
         → s.goes.now ≡ items (did s.goes.acts ++ log)

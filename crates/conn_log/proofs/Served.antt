@@ -193,10 +193,10 @@ module _ {P H : Type 0} (step : H → HandlerCall → H → Type 0) (fails : H �
 
   entry_due : (log : List (Entry H)) (n : ℕ) (so_far : Past H) (out : Bool) (acts : List Act) (act : Act) → AllOn n acts → IsOn n act
       → HasCome step fails is_closed is_finished inbound_makes outbound_makes eager names peer role log n so_far
-      → (out ≡ true → was_done role log n ≡ true)
+      → (out ≡ true → was_done role log n ≡ true) → is_over role log n ≡ was_done role log n
       → ActIsDue step is_closed is_finished out role (items (did acts ++ log)) n so_far act
       → IsDue step fails is_closed is_finished inbound_makes outbound_makes eager names peer role (did acts ++ log) (Of (Did act))
-  entry_due log n so_far out acts (Write k pieces) all on c told due =
+  entry_due log n so_far out acts (Write k pieces) all on c told same_over due =
       let own = own_trans role log (did acts ++ log) _ n (did_own log n acts all) (own_by acts_do role (did acts ++ log) n (Write k pieces) on) in
       let there : IsThere step fails is_closed is_finished inbound_makes outbound_makes eager names peer role (Of (Did (Write k pieces)) ∷ did acts ++ log) n = record {
         so_far = with_sent role (Did (Write k pieces) ∷ items (did acts ++ log)) n so_far due.1.left;
@@ -205,9 +205,9 @@ module _ {P H : Type 0} (step : H → HandlerCall → H → Type 0) (fails : H �
         stands = due.1.stands;
       } in
       subst (λ m. IsThere step fails is_closed is_finished inbound_makes outbound_makes eager names peer role (Of (Did (Write k pieces)) ∷ did acts ++ log) m) (sym on) there
-  entry_due log n so_far out acts (Taken k count) all on c told due = subst (λ m. (count ≡ untaken role (items (did acts ++ log)) m)
+  entry_due log n so_far out acts (Taken k count) all on c told same_over due = subst (λ m. (count ≡ untaken role (items (did acts ++ log)) m)
       × ((0 < credit role (items (did acts ++ log)) m) ⊎ (closed role (items (did acts ++ log)) m ≡ true))) (sym on) (due.1, due.2)
-  entry_due log n so_far out acts (Close k) all on c told due =
+  entry_due log n so_far out acts (Close k) all on c told same_over due =
       let given : HasGiven step fails is_closed is_finished inbound_makes outbound_makes eager names peer role (did acts ++ log) n = record {
         there = record {
           so_far = with_sent role (items (did acts ++ log)) n so_far due.1.left;
@@ -218,23 +218,24 @@ module _ {P H : Type 0} (step : H → HandlerCall → H → Type 0) (fails : H �
         none_waits = due.1.none_waits;
         over = due.1.over;
         was_told = λ is. (did_own log n acts all).done_is ∙ told (due.1.out_before is);
+        not_given_up = (did_own log n acts all).over_is ∙ same_over ∙ sym (did_own log n acts all).done_is;
       } in
       subst (λ m. HasGiven step fails is_closed is_finished inbound_makes outbound_makes eager names peer role (did acts ++ log) m) (sym on) given
-  entry_due log n so_far out acts (Reset k) all on c told due = absurd due
-  entry_due log n so_far out acts (Start k) all on c told due = absurd due
-  entry_due log n so_far out acts (Act.GoAway code) all on c told due = absurd due
+  entry_due log n so_far out acts (Reset k) all on c told same_over due = absurd due
+  entry_due log n so_far out acts (Start k) all on c told same_over due = absurd due
+  entry_due log n so_far out acts (Act.GoAway code) all on c told same_over due = absurd due
 
   pub did_due : (log : List (Entry H)) (n : ℕ) (so_far : Past H) (out : Bool) (acts : List Act)
       → HasCome step fails is_closed is_finished inbound_makes outbound_makes eager names peer role log n so_far
-      → (out ≡ true → was_done role log n ≡ true)
+      → (out ≡ true → was_done role log n ≡ true) → is_over role log n ≡ was_done role log n
       → AreDue step is_closed is_finished out role (items log) n so_far acts
       → AllDue step fails is_closed is_finished inbound_makes outbound_makes eager names peer role log
       → AllDue step fails is_closed is_finished inbound_makes outbound_makes eager names peer role (did acts ++ log)
-  did_due log n so_far out [] c told due all = all
-  did_due log n so_far out (act ∷ acts) c told due all = (
-    entry_due log n so_far out acts act (all_on (items log) n so_far out acts due.1) (on_of _ n so_far out act due.0) c told
+  did_due log n so_far out [] c told same_over due all = all
+  did_due log n so_far out (act ∷ acts) c told same_over due all = (
+    entry_due log n so_far out acts act (all_on (items log) n so_far out acts due.1) (on_of _ n so_far out act due.0) c told same_over
         (subst (λ (t : List Item). ActIsDue step is_closed is_finished out role t n so_far act) (sym (items_did acts log)) due.0),
-    did_due log n so_far out acts c told due.1 all,
+    did_due log n so_far out acts c told same_over due.1 all,
   )
 
   -- ---- the view
@@ -332,15 +333,15 @@ module _ {P H : Type 0} (step : H → HandlerCall → H → Type 0) (fails : H �
       (rest : List Told) (so_far : Past H) (out : Bool) (acts : List Act)
       → Around step fails is_closed is_finished inbound_makes outbound_makes eager names peer role log fed sent before streams past n view rest
       → HasCome step fails is_closed is_finished inbound_makes outbound_makes eager names peer role log n so_far
-      → (out ≡ true → was_done role log n ≡ true)
+      → (out ≡ true → was_done role log n ≡ true) → is_over role log n ≡ was_done role log n
       → AreDue step is_closed is_finished out role (items log) n so_far acts
       → SessionStands role (map Did acts ++ items log) fed sent after
       → ((m : ℕ) → (n == m) ≡ false → now m ≡ streams m)
       → Around step fails is_closed is_finished inbound_makes outbound_makes eager names peer role (did acts ++ log) fed sent after now past n (view_by acts view) rest
-  around_acts log fed sent before after streams now past n view rest so_far out acts a c told due there elsewhere =
+  around_acts log fed sent before after streams now past n view rest so_far out acts a c told same_over due there elsewhere =
       let on = all_on (items log) n so_far out acts due in
       grown step fails is_closed is_finished inbound_makes outbound_makes eager names peer role log (did acts) fed sent before after streams now past n view (view_by acts view) rest a
-      (did_due log n so_far out acts c told due a.due) (λ m apart. did_same log n m acts apart on)
+      (did_due log n so_far out acts c told same_over due a.due) (λ m apart. did_same log n m acts apart on)
       (subst (λ (t : List Item). SessionStands role t fed sent after) (sym (items_did acts log)) there) elsewhere
       (did_heard log n view rest acts on a.opens_none a.heard) (view_ended n acts view on) (did_left log n acts on)
       (did_resets log n acts on) (did_ends log n acts on n) (λ m over. did_over log n acts on m ∙ over) (did_only n acts on)

@@ -166,6 +166,8 @@ module _ {P H : Type 0} (step : H → HandlerCall → H → Type 0) (fails : H �
         ⊎ ((has_finished is_finished there.stream.stage ≡ true)
         × (there.so_far.left ≡ Some (credit role (items log) n)))
     pub was_told : was_handed_out there.stream.stage ≡ true → was_done role log n ≡ true
+    -- neither Refused nor Broken was told of it
+    pub not_given_up : is_over role log n ≡ was_done role log n
 
   -- why a handler is made: the newest entry agrees on its protocol, or opens the stream for an eager one
   abbrev pub MayBeMade : List (Entry H) → ℕ → H → Type 0

@@ -105,8 +105,9 @@ module _ {P H : Type 0} (step : H → HandlerCall → H → Type 0) (fails : H �
     );
     done = λ log n handler so_far waiting come served finished asked. record { so_far = so_far; waiting = waiting; come = come; served = served; finished = finished; asked = asked };
     done_is = λ log n handler d. (d.so_far, d.waiting, d.come, d.served, d.finished, d.asked);
-    given = λ log n there none over told. record { there = there; none_waits = none; over = over; was_told = told };
-    given_is = λ log n g. (g.there, g.none_waits, g.over, g.was_told);
+    given = λ log n there none over told same. record { there = there; none_waits = none; over = over; was_told = told; not_given_up = same };
+    given_is = λ log n g. (g.there, g.none_waits, g.over, g.was_told, g.not_given_up);
+    not_given = λ log n over undone g. absurd (let same = g.not_given_up in cc (over, undone, same));
   }
 
   made_is : (log : List (Entry H)) (n : ℕ) (handler : H) → may_be_made step fails is_closed is_finished inbound_makes outbound_makes eager names peer role log n handler

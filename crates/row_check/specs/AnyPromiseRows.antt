@@ -28,7 +28,7 @@ use Rattle.streams.specs.State.{Streaming, handler_of, was_handed_out}
 use Rattle.conn_log.specs.declared.earlier.Earlier.{Earlier}
 use Rattle.conn_log.specs.declared.event.ConnEvent.{ConnEvent}
 use Rattle.conn_log.specs.declared.event.ConnEvent.TheVariants as event
-use Rattle.conn_log.specs.Entries.{Entry, items, said, agreed, is_over, made_of}
+use Rattle.conn_log.specs.Entries.{Entry, items, said, agreed, is_over, was_done, made_of}
 use Rattle.conn_log.specs.Held.{IsSide}
 use Rattle.held_order.specs.Orders.{Held, with_early, hears, hears_all, without, arranged}
 use Rattle.held_order.specs.Laws.{LetsGo, Arranges, times, numbers, of_number}
@@ -146,6 +146,7 @@ module _ {P H : Type 0} (step : H → HandlerCall → H → Type 0) (fails : H �
         (written : List ℕ) (up : up_with_streams input asked told written session streams past) (n : ℕ)
         → is_live (session_role role) (items up.log) n ≡ true → (stream : Streaming H) × (streams n ≡ Some stream)
         × (is_over (session_role role) up.log n ≡ was_handed_out stream.stage)
+        × (was_done (session_role role) up.log n ≡ was_handed_out stream.stage)
     pub up_is_split : UpIsSplit step fails is_closed is_finished inbound_makes outbound_makes listed is_eager
         inbound_leads outbound_leads start role own → (session : State) (streams : ℕ → Option (Streaming H))
         (past : List (Earlier H)) (input : List ℕ) (asked : List (ℕ × ℕ)) (told : List (ConnEvent H))

@@ -223,12 +223,17 @@ module _ {P H : Type 0} (step : H → HandlerCall → H → Type 0) (fails : H �
     pub given : (log : List (Entry H)) (n : ℕ) (there : is_there log n) → there.stream.waiting ≡ []
         → (has_closed is_closed there.stream.stage ≡ true) ⊎ ((has_finished is_finished there.stream.stage ≡ true)
         × (there.so_far.left ≡ Some (credit role (items log) n)))
-        → (was_handed_out there.stream.stage ≡ true → was_done role log n ≡ true) → has_given log n
+        → (was_handed_out there.stream.stage ≡ true → was_done role log n ≡ true)
+        → is_over role log n ≡ was_done role log n → has_given log n
     pub given_is : (log : List (Entry H)) (n : ℕ) → has_given log n → (there : is_there log n)
         × (there.stream.waiting ≡ [])
         × ((has_closed is_closed there.stream.stage ≡ true) ⊎ ((has_finished is_finished there.stream.stage ≡ true)
         × (there.so_far.left ≡ Some (credit role (items log) n))))
         × (was_handed_out there.stream.stage ≡ true → was_done role log n ≡ true)
+        × (is_over role log n ≡ was_done role log n)
+    -- a stream that was refused or broken isn't closed
+    pub not_given : (log : List (Entry H)) (n : ℕ) → is_over role log n ≡ true → was_done role log n ≡ false
+        → ¬ has_given log n
 
   -- Which entry may stand where: at any list
   pub record AnyDueRows : Type 0 where
