@@ -1,9 +1,11 @@
 -- What routing leaves of whose streams they are, and what is still to be routed.
-use Rattle.std.proofs.Common.{◌≡◌, ◌≢◌, inl, inr, ℕ, zero, suc, Bool, List, [], ◌∷◌, ◌++◌, drop, map, Option, refl, sym, ◌∙◌, subst}
+use Rattle.std.proofs.Common.{◌≡◌, ◌≢◌, ◌+◌, inl, inr, ℕ, zero, suc, add-one, Bool, List, [], ◌∷◌, ◌++◌, drop, map, Option, refl, sym, ◌∙◌, subst}
 use Rattle.std.proofs.Math.Seq.{drop-nil}
 use Rattle.std.specs.List.{AllByRecursion}
 use Rattle.handlers.specs.Calls.{HandlerCall, Asked}
 use Rattle.yamux_session.specs.declared.event.Role.{Role}
+use Rattle.yamux_session.specs.declared.event.Event.{Event}
+use Rattle.yamux_session.specs.Arrives.{telling, tellings}
 use Rattle.yamux_session.specs.Events.{Told}
 use Rattle.yamux_session.specs.Seen.{Seen}
 use Rattle.yamux_session.specs.State.{State}
@@ -34,6 +36,19 @@ pub all_head : {A : Type 0} (Q : A → Type 0) (xs : List A) (i : ℕ) (x : A) (
 all_head Q [] i x rest is all = absurd (let e : [] ≡ x ∷ rest = sym (drop-nil i) ∙ is in cc e)
 all_head Q (y ∷ xs) zero x rest is all = let e : y ≡ x = cc is in subst Q e all.0
 all_head Q (y ∷ xs) (suc i) x rest is all = all_head Q xs i x rest is all.1
+
+tellings_behind : (Q : Told → Type 0) (told : List Told) (more : List Told) → AllByRecursion Q (told ++ more) → AllByRecursion Q more
+tellings_behind Q [] more all = all
+tellings_behind Q (t ∷ told) more all = tellings_behind Q told more all.1
+
+-- what holds of all that a list tells behind its first event
+pub told_later : (Q : Told → Type 0) (i : ℕ) (events : List Event) → AllByRecursion Q (tellings (drop 1 events)) → AllByRecursion Q (tellings (drop (i + 1) events))
+told_later Q i [] all = subst (λ (t : List Event). AllByRecursion Q (tellings t)) (sym (drop-nil (i + 1))) tt
+told_later Q i (e ∷ events) all = subst (λ (k : ℕ). AllByRecursion Q (tellings (drop k (e ∷ events)))) (sym (add-one i)) (from i events all) where
+  from : (i : ℕ) (events : List Event) → AllByRecursion Q (tellings events) → AllByRecursion Q (tellings (drop i events))
+  from zero events all = all
+  from (suc i) [] all = tt
+  from (suc i) (e ∷ events) all = from i events (tellings_behind Q (telling e) (tellings events) all)
 
 -- what is said of whose streams these are now is said of whose they were
 pub kept_on : {P H : Type 0} (listed : P → List (List ℕ)) (is_eager : P → ℕ → Bool) (old now : Board P H) → Keeps listed is_eager old now

@@ -2,6 +2,7 @@
 
 ghost use Rattle.std.specs.Prelude.{◌≡◌, ◌≢◌, ℕ, ◌==◌, if◌then◌else◌, true, false, List, [], ◌∷◌, ◌++◌, map};
 ghost use Rattle.std.specs.Prelude.{Some, None, OnOk, IfSome, IsSome};
+ghost use Rattle.std.specs.List.{AllByRecursion};
 ghost use Rattle.std.specs.Ordering.{nat_cmp};
 ghost use Rattle.std.specs.BTreeMap as tree;
 ghost use Rattle.yamux_session.specs.History.{Item, is_own};
@@ -11,7 +12,7 @@ ghost use Rattle.yamux_session.specs.State.{State, Stands as SessionStands};
 ghost use Rattle.conn_log.specs.Entries.{Entry, items, agreement, since, made_of, is_over};
 ghost use Rattle.conn_log.specs.Due.{direction_of, IsGivenUp, told_reset};
 ghost use Rattle.conn_log.specs.Held.{IsHeld};
-ghost use Rattle.conn_log.specs.Routes.{Around, Routes, Routed, Comes, Resets, set_aside};
+ghost use Rattle.conn_log.specs.Routes.{IsNoData, Around, Routes, Routed, Comes, Resets, set_aside};
 ghost use Rattle.conn_log.specs.Asked.{told_of};
 ghost use Rattle.board.specs.Boards.{Keeps, MakesOnBoard};
 ghost use Rattle.board.specs.Resets.{told_of_reset};
@@ -194,6 +195,7 @@ impl<P: Protocols> Board<P> {
             → Around P.H.steps P.H.fails P.H.is_closed P.H.is_finished P.makes_inbound P.makes_outbound
             (P.is_eager self.old.protocols) (P.listed self.old.protocols) self.old.peer self.old.role log fed sent
             session.old (tree.get nat_cmp self.old.streams) self.old.past.items number view rest
+            → AllByRecursion IsNoData rest
             → IfSome (tree.get nat_cmp self.old.streams number) (λ it. IsHeld P.H.steps P.H.is_closed P.H.is_finished
             (P.listed self.old.protocols) self.old.role log number view.came view.ended it
             × (view.live ≡ false → view.ended ≡ true))
@@ -233,7 +235,7 @@ impl<P: Protocols> Board<P> {
             (P.is_eager self.old.protocols) (P.listed self.old.protocols) self.old.peer self.old.role log fed sent
             session.old (tree.get nat_cmp self.old.streams)
             (self.old.past.items ++ set_aside number (tree.get nat_cmp self.old.streams number)) number just_opened rest
-            → since self.old.role log number ≡ [] → is_own self.old.role number ≡ false
+            → AllByRecursion IsNoData rest → since self.old.role log number ≡ [] → is_own self.old.role number ≡ false
             → OnOk result (Routed P.H.steps P.H.fails P.H.is_closed P.H.is_finished P.makes_inbound P.makes_outbound
             (P.is_eager self.old.protocols) (P.listed self.old.protocols) self.old.peer self.old.role
             (MakesOnBoard P.leads_inbound P.leads_outbound self.old self.new) log told.old.items told.new.items fed sent
@@ -261,6 +263,7 @@ impl<P: Protocols> Board<P> {
             (P.is_eager self.old.protocols) (P.listed self.old.protocols) self.old.peer self.old.role log fed sent
             session.old (tree.get nat_cmp self.old.streams) self.old.past.items number view
             (Told.Credit number ∷ rest)
+            → AllByRecursion IsNoData rest
             → OnOk result (Routed P.H.steps P.H.fails P.H.is_closed P.H.is_finished P.makes_inbound P.makes_outbound
             (P.is_eager self.old.protocols) (P.listed self.old.protocols) self.old.peer self.old.role
             (MakesOnBoard P.leads_inbound P.leads_outbound self.old self.new) log told.old.items told.new.items fed sent
@@ -340,7 +343,7 @@ impl<P: Protocols> Board<P> {
             (P.is_eager self.old.protocols) (P.listed self.old.protocols) self.old.peer self.old.role log fed sent
             session.old (tree.get nat_cmp self.old.streams) self.old.past.items number view
             (map (Told.Payload number) bytes.now ++ rest)
-            → bytes.now ≢ [] → OnOk result (Routed P.H.steps P.H.fails P.H.is_closed P.H.is_finished P.makes_inbound
+            → bytes.now ≢ [] → AllByRecursion IsNoData rest → OnOk result (Routed P.H.steps P.H.fails P.H.is_closed P.H.is_finished P.makes_inbound
             P.makes_outbound (P.is_eager self.old.protocols) (P.listed self.old.protocols) self.old.peer self.old.role
             (MakesOnBoard P.leads_inbound P.leads_outbound self.old self.new) log told.old.items told.new.items fed sent
             session.new (tree.get nat_cmp self.new.streams) self.new.past.items number rest) }

@@ -1,6 +1,6 @@
 //! Routing what a frame told.
 
-ghost use Rattle.std.specs.Prelude.{◌≡◌, ℕ, List, ◌++◌, Some, OnOk};
+ghost use Rattle.std.specs.Prelude.{◌≡◌, ℕ, List, ◌++◌, drop, Some, OnOk};
 ghost use Rattle.std.specs.List.{AllByRecursion};
 ghost use Rattle.std.specs.Ordering.{nat_cmp};
 ghost use Rattle.std.specs.BTreeMap as tree;
@@ -9,7 +9,7 @@ ghost use Rattle.yamux_session.specs.Events.{Told};
 ghost use Rattle.yamux_session.specs.Openings.{is_live};
 ghost use Rattle.yamux_session.specs.State.{Whenever};
 ghost use Rattle.conn_log.specs.Entries.{Entry};
-ghost use Rattle.conn_log.specs.Routes.{IsFor, Awaits, Routed};
+ghost use Rattle.conn_log.specs.Routes.{IsFor, IsNoData, Awaits, Routed};
 ghost use Rattle.conn_log.specs.Rests.{AreAtRest, Grows};
 ghost use Rattle.board.specs.Boards.{Keeps, MakesOnBoard};
 ghost use Rattle.board.specs.Goings.{IsLastOf, IsHeldAlive};
@@ -47,6 +47,7 @@ impl<P: Protocols> Board<P> {
             → Awaits P.H.steps P.H.fails P.H.is_closed P.H.is_finished P.makes_inbound P.makes_outbound
             (P.is_eager self.old.protocols) (P.listed self.old.protocols) self.old.peer self.old.role log fed sent
             session.old (tree.get nat_cmp self.old.streams) self.old.past.items n (telling event.now ++ rest)
+            → AllByRecursion IsNoData rest
             → OnOk result (Routed P.H.steps P.H.fails P.H.is_closed P.H.is_finished P.makes_inbound P.makes_outbound
             (P.is_eager self.old.protocols) (P.listed self.old.protocols) self.old.peer self.old.role
             (MakesOnBoard P.leads_inbound P.leads_outbound self.old self.new) log told.old.items told.new.items fed sent
@@ -100,6 +101,7 @@ impl<P: Protocols> Board<P> {
             → Awaits P.H.steps P.H.fails P.H.is_closed P.H.is_finished P.makes_inbound P.makes_outbound
             (P.is_eager self.old.protocols) (P.listed self.old.protocols) self.old.peer self.old.role log fed sent
             session.old (tree.get nat_cmp self.old.streams) self.old.past.items n (tellings events.now)
+            → AllByRecursion IsNoData (tellings (drop 1 events.now))
             → OnOk result (Grows P.H.steps P.H.fails P.H.is_closed P.H.is_finished P.makes_inbound P.makes_outbound
             (P.is_eager self.old.protocols) (P.listed self.old.protocols) self.old.peer self.old.role
             (MakesOnBoard P.leads_inbound P.leads_outbound self.old self.new) log told.old.items told.new.items fed sent
@@ -128,6 +130,7 @@ impl<P: Protocols> Board<P> {
             → Awaits P.H.steps P.H.fails P.H.is_closed P.H.is_finished P.makes_inbound P.makes_outbound
             (P.is_eager self.old.protocols) (P.listed self.old.protocols) self.old.peer self.old.role log fed sent
             session.old (tree.get nat_cmp self.old.streams) self.old.past.items n (tellings events.now)
+            → AllByRecursion IsNoData (tellings (drop 1 events.now))
             → OnOk result (Grows P.H.steps P.H.fails P.H.is_closed P.H.is_finished P.makes_inbound P.makes_outbound
             (P.is_eager self.old.protocols) (P.listed self.old.protocols) self.old.peer self.old.role
             (MakesOnBoard P.leads_inbound P.leads_outbound self.old self.new) log told.old.items told.new.items fed sent

@@ -9,7 +9,7 @@ use Rattle.yamux_session.specs.Openings.{is_live, closed}
 use Rattle.yamux_session.specs.Windows.{credit}
 use Rattle.yamux_session.specs.Acts.{open_credit}
 use Rattle.yamux_session.specs.Events.{Told, events}
-use Rattle.yamux_session.specs.Seen.{Seen, ActsDo, ActsMove}
+use Rattle.yamux_session.specs.Seen.{Seen, all_heard, ActsDo, ActsMove}
 use Rattle.yamux_session.specs.State.{State, Stands as SessionStands}
 use Rattle.streams.specs.declared.stop.Cause.{Cause}
 use Rattle.streams.specs.declared.stop.Cause.TheVariants as causes
@@ -61,6 +61,7 @@ module _ {P H : Type 0} (step : H → HandlerCall → H → Type 0) (fails : H �
   module _ (acts_do : ActsDo) (acts_move : ActsMove) (log : List (Entry H)) (fed sent : List ℕ) (before after : State) (streams now : ℕ → Option (Streaming H))
       (past : List (Earlier H)) (n : ℕ) (view : Seen) (rest : List Told) (old new : Streaming H)
       (a : Around step fails is_closed is_finished inbound_makes outbound_makes eager names peer role log fed sent before streams past n view rest)
+      (no_more : (all_heard n view rest).came ≡ view.came)
       (h : IsHeld step is_closed is_finished names role log n view.came view.ended old)
       (over : view.live ≡ false → view.ended ≡ true)
       (elsewhere : (m : ℕ) → (n == m) ≡ false → now m ≡ streams m) (here : now n ≡ Some new) where
@@ -72,7 +73,7 @@ module _ {P H : Type 0} (step : H → HandlerCall → H → Type 0) (fails : H �
         → Around step fails is_closed is_finished inbound_makes outbound_makes eager names peer role (did s.goes.acts ++ log) fed sent after now past n (view_by s.goes.acts view) rest
     around_served handler s =
         around_acts step fails is_closed is_finished inbound_makes outbound_makes eager names peer role acts_do acts_move log fed sent before after streams now past n view rest h.so_far (was_handed_out old.stage) s.goes.acts a come
-        (λ out. h.done ∙ out) (h.over ∙ sym h.done) s.goes.due (subst (λ (t : List Item). SessionStands role t fed sent after) s.goes.now_is s.goes.session_stands) elsewhere
+        (a.heard.came ∙ no_more ∙ sym h.got_is) (λ out. h.done ∙ out) (h.over ∙ sym h.done) s.goes.due (subst (λ (t : List Item). SessionStands role t fed sent after) s.goes.now_is s.goes.session_stands) elsewhere
 
     list_is : (handler : Option H) → (s : Serves step is_closed is_finished (was_handed_out old.stage) role (items log) fed sent n h.so_far handler after new)
         → s.goes.now ≡ items (did s.goes.acts ++ log)

@@ -12,7 +12,9 @@ use Rattle.yamux_session.specs.Seen.{Seen, seen, all_heard, AgreesOn, ActsDo, Ac
 use Rattle.yamux_session.specs.State.{State}
 use Rattle.streams.specs.declared.stop.Cause.TheVariants as causes
 use Rattle.streams.specs.Streams.{Past}
-use Rattle.streams.specs.State.{Streaming, Stands, is_talking, was_handed_out, kind_of}
+use Rattle.streams.specs.declared.stage.Stage.{Stage}
+use Rattle.streams.specs.declared.stage.Stage.TheVariants as stages
+use Rattle.streams.specs.State.{Streaming, Stands, is_talking, has_finished, was_handed_out, kind_of}
 use Rattle.dispatch.specs.declared.direction.Direction.TheVariants.{Inbound, Outbound}
 use Rattle.dispatch.specs.Dispatch.{IsKnown, IsMade, makes_once}
 use Rattle.routing.specs.declared.delivered.Outcome.{Outcome}
@@ -24,7 +26,7 @@ use Rattle.conn_log.specs.declared.event.ConnEvent.{ConnEvent}
 use Rattle.conn_log.specs.declared.event.ConnEvent.TheVariants as event
 use Rattle.conn_log.specs.Entries.{Entry, items, said, agreed, is_over, was_done, made_of, agreement}
 use Rattle.conn_log.specs.Entries.Entry.{Says, Made}
-use Rattle.conn_log.specs.Due.{direction_of, IsDue, told_reset, was_reset, told_end}
+use Rattle.conn_log.specs.Due.{direction_of, HasJustAgreed, IsDue, told_reset, was_reset, told_end}
 use Rattle.conn_log.specs.Making.{MakesNone, MakesOn}
 use Rattle.conn_log.specs.Held.{IsSide, IsHeld}
 use Rattle.conn_log.specs.Routes.{KeepsTurn, IsNoOpening, EndsLast, Around, Comes}
@@ -122,6 +124,7 @@ module _ {P H : Type 0} (step : H → HandlerCall → H → Type 0) (fails : H �
 
   module _ (acts_do : ActsDo) (acts_move : ActsMove) (fed sent : List ℕ) (before after : State) (streams now : ℕ → Option (Streaming H))
       (past : List (Earlier H)) (n : ℕ) (view : Seen) (rest : List Told) (new : Streaming H) (over : view.live ≡ false → view.ended ≡ true)
+      (no_more : (all_heard n view rest).came ≡ view.came)
       (elsewhere : (m : ℕ) → (n == m) ≡ false → now m ≡ streams m) (here : now n ≡ Some new) where
     -- a stream that is given up, and why
     stopped : (making : List (Entry H) → List (Entry H) → Type 0) (log : List (Entry H)) → ((newer : List (Entry H)) → MakesNone newer → making log (newer ++ log))
@@ -141,15 +144,21 @@ module _ {P H : Type 0} (step : H → HandlerCall → H → Type 0) (fails : H �
       comes = come (around_event step fails is_closed is_finished inbound_makes outbound_makes eager names peer role log fed sent after now past n view rest told of is_due (still step fails is_closed is_finished inbound_makes outbound_makes eager names peer role log fed sent before after streams now past n view rest same_session elsewhere a));
     }
 
+    in_turn_by : {stage : Stage H} {handler : H} {Q : Type 0} → (has_finished is_finished stage ≡ false) ⊎ Q → stage ≡ stages.Serving handler
+        → (is_finished handler ≡ false) ⊎ Q
+    in_turn_by (inl unfinished) serves = inl (sym (ap (has_finished is_finished) serves) ∙ unfinished)
+    in_turn_by (inr agreed) serves = inr agreed
+
     -- the handler took data behind the talk
     pub takes : (making : List (Entry H) → List (Entry H) → Type 0) (log : List (Entry H)) → ((newer : List (Entry H)) → MakesNone newer → making log (newer ++ log))
         → (bytes : List ℕ) (old : Streaming H) (got : List ℕ) (outcome : Outcome H)
+        → (has_finished is_finished old.stage ≡ false) ⊎ HasJustAgreed n log
         → (a : Around step fails is_closed is_finished inbound_makes outbound_makes eager names peer role log fed sent before streams past n view rest)
         → view.came ≡ got ++ bytes → view.ended ≡ false
         → (h : IsHeld step is_closed is_finished names role log n got view.ended old)
         → Takes step fails is_closed is_finished role (items log) fed sent n h.so_far bytes old before outcome after new
         → Went making log [] fed sent after now past n rest outcome
-    takes making log keeps bytes old got outcome a came going h (inl served) =
+    takes making log keeps bytes old got outcome turn a came going h (inl served) =
         let middle = served.0 in
         let kind : kind_of middle.stage ≡ kind_of old.stage = served.2 in
         let so_far : Past H = record h.so_far { got = h.so_far.got ++ bytes; left = None } in
@@ -167,10 +176,10 @@ module _ {P H : Type 0} (step : H → HandlerCall → H → Type 0) (fails : H �
           done = h.done ∙ sym (same_handed middle.stage old.stage kind);
           served = same_awaiting middle.stage old.stage kind ∙ h.served;
         } in
-        let it = went step fails is_closed is_finished inbound_makes outbound_makes eager names peer role acts_do acts_move log fed sent before after streams now past n view rest middle new a held over
+        let it = went step fails is_closed is_finished inbound_makes outbound_makes eager names peer role acts_do acts_move log fed sent before after streams now past n view rest middle new a no_more held over
         elsewhere here outcome served.3 in
         record { newer = it.newer; said_is = it.none_said; untold = it.untold; same_turn = it.same_turn; makes = keeps it.newer it.unmade; seen_now = it.seen_now; comes = it.comes }
-    takes making log keeps bytes old got outcome a came going h (inr f) =
+    takes making log keeps bytes old got outcome turn a came going h (inr f) =
         let front = came_front n view rest a.opens_none in
         let data_is : inbound role (items log) n ≡ h.so_far.got ++ bytes ++ front.0 =
         a.heard.came ∙ front.1 ∙ ap (λ t. t ++ front.0) (came ∙ ap (λ t. t ++ bytes) (sym h.got_is)) in
@@ -199,7 +208,7 @@ module _ {P H : Type 0} (step : H → HandlerCall → H → Type 0) (fails : H �
             held = ap Rattle.streams.specs.State.handler_of f.1.2;
             request = ToTake bytes;
             asked_for = (front.0, data_is);
-            in_turn = (f.1.2, h.ended_is ∙ going);
+            in_turn = (f.1.2, h.ended_is ∙ going, in_turn_by turn f.1.2);
             fails_by = f.1.3;
             talking = h.talking;
             agreed_on = h.agreed_on;
@@ -210,7 +219,8 @@ module _ {P H : Type 0} (step : H → HandlerCall → H → Type 0) (fails : H �
 
     module _ (inbound_leads outbound_leads : P → ℕ → List ℕ → H → P → Type 0) (protocols behind_them : P) (log : List (Entry H)) (bytes : List ℕ) (old : Streaming H) (got : List ℕ)
         (a : Around step fails is_closed is_finished inbound_makes outbound_makes eager names peer role log fed sent before streams past n view rest)
-        (came : view.came ≡ got ++ bytes) (going : view.ended ≡ false) (h : IsHeld step is_closed is_finished names role log n got view.ended old) where
+        (came : view.came ≡ got ++ bytes) (going : view.ended ≡ false) (h : IsHeld step is_closed is_finished names role log n got view.ended old)
+        (unfinished : has_finished is_finished old.stage ≡ false) where
       abbrev pub makes : ℕ → H → Type 0
       makes = makes_once inbound_makes outbound_makes inbound_leads outbound_leads (direction_of role n) peer protocols behind_them
 
@@ -284,7 +294,7 @@ module _ {P H : Type 0} (step : H → HandlerCall → H → Type 0) (fails : H �
             done = not_done talks ∙ sym (talking_kind middle.stage still_talks);
             served = talking_awaits middle.stage still_talks;
           } in
-          let it = went step fails is_closed is_finished inbound_makes outbound_makes eager names peer role acts_do acts_move log fed sent before after streams now past n view rest middle new a held over
+          let it = went step fails is_closed is_finished inbound_makes outbound_makes eager names peer role acts_do acts_move log fed sent before after streams now past n view rest middle new a no_more held over
           elsewhere here outcome came_to in
           record { newer = it.newer; said_is = it.none_said; untold = it.untold; same_turn = it.same_turn; makes = keeps kept it.newer it.unmade; seen_now = it.seen_now; comes = it.comes }
 
@@ -349,7 +359,7 @@ module _ {P H : Type 0} (step : H → HandlerCall → H → Type 0) (fails : H �
 
         by_making : IsMade makes none_made h.so_far index has.made → Went making log (event.Agreed n index ∷ []) fed sent after now past n rest outcome
         by_making (inl is) =
-            let it = takes making told_so (makes_none inbound_leads outbound_leads peer role protocols behind_them is.1 told_so) more middle (h.so_far.got ++ front) outcome told came_then going
+            let it = takes making told_so (makes_none inbound_leads outbound_leads peer role protocols behind_them is.1 told_so) more middle (h.so_far.got ++ front) outcome (inr refl) told came_then going
             (held_at told_so (side_at h.so_far.side h.side_is) agreed_now refl refl (sym is.0 ∙ h.made_is) h.sent_is) took in
             record {
               newer = it.newer ++ Says (event.Agreed n index) ∷ [];
@@ -363,7 +373,7 @@ module _ {P H : Type 0} (step : H → HandlerCall → H → Type 0) (fails : H �
             }
         by_making (inr made) =
             let it = takes (MakesOn inbound_leads outbound_leads peer role behind_them behind_them) (Made n has.made ∷ told_so)
-            (makes_none inbound_leads outbound_leads peer role behind_them behind_them refl (Made n has.made ∷ told_so)) more middle (h.so_far.got ++ front) outcome
+            (makes_none inbound_leads outbound_leads peer role behind_them behind_them refl (Made n has.made ∷ told_so)) more middle (h.so_far.got ++ front) outcome (inr (refl, refl))
             (around_making told_so fed sent before streams past n view rest has.made (refl, sym h.made_is ∙ made.0, (protocols, made.1.0)) told) came_then going
             (held_at (Made n has.made ∷ told_so) (side_made h.so_far.side h.side_is) agreed_now refl refl (sym (ap (λ b. cond b (Some has.made) (made_of role told_so n)) (same n))) h.sent_is) took in
             record {
@@ -391,4 +401,4 @@ module _ {P H : Type 0} (step : H → HandlerCall → H → Type 0) (fails : H �
         by_talk : (b : Bool) → is_talking old.stage ≡ b → Went making log (agreement n delivered.agreed) fed sent after now past n rest delivered.outcome
         by_talk true e = in_talk delivered.agreed delivered.outcome e (d.0 e)
         by_talk false e = subst (λ (k : Option ℕ). Went making log (agreement n k) fed sent after now past n rest delivered.outcome) (sym (d.1 e).0)
-            (takes making log (keeps (d.1 e).1) bytes old got delivered.outcome a came going h (d.1 e).2)
+            (takes making log (keeps (d.1 e).1) bytes old got delivered.outcome (inl unfinished) a came going h (d.1 e).2)

@@ -14,7 +14,7 @@ use Rattle.streams.specs.declared.stop.Cause.TheVariants as causes
 use Rattle.streams.specs.declared.stage.Stage.{Stage}
 use Rattle.streams.specs.declared.stage.Stage.TheVariants as stages
 use Rattle.streams.specs.Streams.{Past}
-use Rattle.streams.specs.State.{Streaming, Stands, StandsAt, is_talking, was_handed_out, kind_of}
+use Rattle.streams.specs.State.{Streaming, Stands, StandsAt, is_talking, has_finished, was_handed_out, kind_of}
 use Rattle.streams.proofs.Hearing.{open_before}
 use Rattle.routing.specs.declared.delivered.Outcome.{Outcome}
 use Rattle.routing.specs.declared.delivered.Outcome.TheVariants as outcomes
@@ -85,7 +85,7 @@ module _ {P H : Type 0} (step : H → HandlerCall → H → Type 0) (fails : H �
   module _ (acts_do : ActsDo) (acts_move : ActsMove) (log : List (Entry H)) (fed sent : List ℕ) (before after : State) (streams now : ℕ → Option (Streaming H))
       (past : List (Earlier H)) (n : ℕ) (view : Seen) (rest : List Told) (old new : Streaming H)
       (a : Around step fails is_closed is_finished inbound_makes outbound_makes eager names peer role log fed sent before streams past n (ended_view view) rest)
-      (h : IsHeld step is_closed is_finished names role log n view.came view.ended old) (going : view.ended ≡ false)
+      (h : IsHeld step is_closed is_finished names role log n view.came view.ended old) (going : view.ended ≡ false) (unfinished : has_finished is_finished old.stage ≡ false)
       (elsewhere : (m : ℕ) → (n == m) ≡ false → now m ≡ streams m) (here : now n ≡ Some new) where
     -- all has come
     all_came : inbound role (items log) n ≡ h.so_far.got
@@ -175,7 +175,7 @@ module _ {P H : Type 0} (step : H → HandlerCall → H → Type 0) (fails : H �
             held = ap Rattle.streams.specs.State.handler_of serves;
             request = ToEnd;
             asked_for = (all_came, is_finished_then);
-            in_turn = (serves, h.ended_is ∙ going);
+            in_turn = (serves, h.ended_is ∙ going, sym (ap (has_finished is_finished) serves) ∙ unfinished);
             fails_by = fails_by;
             talking = h.talking;
             agreed_on = h.agreed_on;
@@ -202,7 +202,7 @@ module _ {P H : Type 0} (step : H → HandlerCall → H → Type 0) (fails : H �
       by_hands (inl served) =
           let held = told_end served.0 served.1 served.2 in
           let now_it = went step fails is_closed is_finished inbound_makes outbound_makes eager names peer role acts_do acts_move log fed sent before after streams now past n (ended_view view) rest served.0 new
-          a held (λ off. refl) elsewhere here outcome served.3 in
+          a (none_behind n (ended_view view) rest a.opens_none a.ends_last) held (λ off. refl) elsewhere here outcome served.3 in
           record { newer = now_it.newer; none_said = now_it.none_said; untold = now_it.untold; same_turn = now_it.same_turn; unmade = now_it.unmade; seen_now = now_it.seen_now; comes = now_it.comes }
       by_hands (inr f) = failed outcome f.1.0 f.1.1 f.1.2 f.1.3 f.1.4 f.0
 

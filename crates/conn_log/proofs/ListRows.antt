@@ -8,7 +8,7 @@ use Rattle.conn_log.specs.Entries.{asked, made_in}
 use Rattle.conn_log.specs.Entries.Entry.{Made, Asks}
 use Rattle.conn_log.specs.Asked.{IsRefusedAs}
 use Rattle.conn_log.specs.EntryRows.{ListRows, SinceRows, AgreedRows, OverRows, HandlerRows, LeftRows, AsideRows, AskedForRows}
-use Rattle.conn_log.specs.DueRows.{DirectionRows, ResetRows, EndRows, GivenUpRows, MayBeMadeRows}
+use Rattle.conn_log.specs.DueRows.{DirectionRows, ResetRows, EndRows, JustAgreedRows, GivenUpRows, MayBeMadeRows}
 use Rattle.conn_log.specs.AskedRows.{RefusedAsRows, EarlyRows, ToldOfRows, MadeEarlyRows, BrokenOfRows, is_1}
 
 pub list_rows : ListRows
@@ -158,6 +158,21 @@ end_rows = record {
   stays = refl;
   reset_behind = refl;
   opened_anew = refl;
+}
+
+-- ---- what has just agreed
+
+pub just_agreed_rows : JustAgreedRows
+just_agreed_rows = record {
+  agreed = refl;
+  made_behind = (refl, refl);
+  another = λ m. let e : ◌≡◌ {A = ℕ} 4 2 = m in absurd (cc e);
+  another_made = λ m. let e : ◌≡◌ {A = ℕ} 4 2 = m.0 in absurd (cc e);
+  made_of_another = λ m. let e : ◌≡◌ {A = ℕ} 4 2 = m.1 in absurd (cc e);
+  made_early = λ m. m;
+  handed_out = λ m. m;
+  acted_behind = λ m. m;
+  of_nothing = λ m. m;
 }
 
 -- ---- what gives a stream up

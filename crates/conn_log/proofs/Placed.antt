@@ -91,13 +91,19 @@ comes n opened was = by_number (eqb_tells 4 n) where
   by_number (inl it) = absurd (off_is_on (ap (was_reset Client (items rows.was_reset)) it.1 ∙ was))
   by_number (inr it) = absurd (off_is_on (sym it.0 ∙ sym (or_none (4 == n)) ∙ opened))
 
+unless_open : {A B : Type 0} → (false ≡ true) ⊎ (A × B) → (B → ⊥) → ⊥
+unless_open (inl shut) not_given = off_is_on shut
+unless_open (inr gave) not_given = not_given gave.1
+
 pub act_place_rows : ActPlaceRows
 act_place_rows = record {
   starts = λ h. h;
   goes_away = λ h. h;
-  takes_all = (refl, inl (omega arith));
+  takes_all = (refl, inl refl);
   takes_more = λ h. let e : ◌≡◌ {A = ℕ} 2 1 = h.0 in absurd (cc e);
   takes_none = λ h. let e : ◌≡◌ {A = ℕ} 0 1 = h.0 in absurd (cc e);
+  takes_given_up = λ h. unless_open h.1 (λ gave. on_is_off gave.not_given_up);
+  closes_given_up = λ h. on_is_off h.all.not_given_up;
   resets = refl;
   resets_unbroken = λ h. h;
   asks = omega arith;

@@ -1,5 +1,5 @@
 -- What serving a stream leaves of it and of the others, and why each act of it is due.
-use Rattle.std.proofs.Common.{◌≡◌, ◌⊎◌, ℕ, ◌<◌, ◌==◌, Bool, true, false, not, ◌&&◌, cond, List, [], ◌∷◌, ◌++◌, map, Option, refl, sym, ap, ◌∙◌, subst}
+use Rattle.std.proofs.Common.{◌≡◌, ◌⊎◌, inl, inr, ℕ, ◌<◌, ◌==◌, Bool, true, false, not, ◌&&◌, cond, List, [], ◌∷◌, ◌++◌, map, Option, refl, sym, ap, ◌∙◌, subst}
 use Rattle.std.specs.List.{AllByRecursion}
 use Rattle.std.proofs.lemmas.List.{append-nil}
 use Rattle.handlers.specs.Calls.{HandlerCall, Asked}
@@ -15,11 +15,11 @@ use Rattle.yamux_session.specs.Seen.{Seen, seen, all_heard, hears, just_opened, 
 use Rattle.yamux_session.specs.State.{State, Stands as SessionStands}
 use Rattle.streams.specs.Streams.{Past}
 use Rattle.streams.specs.State.{Streaming}
-use Rattle.serving.specs.Served.{IsDue as ActIsDue, AreDue, with_sent}
+use Rattle.serving.specs.Served.{IsDue as ActIsDue, AreDue, GaveAll as StreamGaveAll, with_sent}
 use Rattle.conn_log.specs.declared.earlier.Earlier.{Earlier}
 use Rattle.conn_log.specs.Entries.{Entry, items, said, agreed, is_over, was_done, made_of, asked, left_behind}
 use Rattle.conn_log.specs.Entries.Entry.{Of}
-use Rattle.conn_log.specs.Due.{HasCome, IsThere, HasGiven, IsDue, AllDue, was_reset, end_was_told}
+use Rattle.conn_log.specs.Due.{HasCome, IsThere, GaveAll, HasGiven, IsDue, AllDue, was_reset, end_was_told}
 use Rattle.conn_log.specs.Held.{IsSide}
 use Rattle.conn_log.specs.Routes.{KeepsTurn, IsNoOpening, EndsLast, Around}
 use Rattle.conn_log.proofs.Same.{Same, same_refl, same_trans, same_by_act, IsOn, side_same}
@@ -191,12 +191,33 @@ module _ {P H : Type 0} (step : H → HandlerCall → H → Type 0) (fails : H �
 
   -- ---- why each act is due
 
+  -- the stream gave what it has
+  all_given : (log : List (Entry H)) (n : ℕ) (so_far : Past H) (out : Bool) (acts : List Act) → AllOn n acts
+      → HasCome step fails is_closed is_finished inbound_makes outbound_makes eager names peer role log n so_far → inbound role (items log) n ≡ so_far.got
+      → (out ≡ true → was_done role log n ≡ true) → is_over role log n ≡ was_done role log n
+      → StreamGaveAll step is_closed is_finished out role (items (did acts ++ log)) n so_far
+      → GaveAll step fails is_closed is_finished inbound_makes outbound_makes eager names peer role (did acts ++ log) n
+  all_given log n so_far out acts all c came told same_over gave = record {
+    there = record {
+      so_far = with_sent role (items (did acts ++ log)) n so_far gave.left;
+      stream = gave.stream;
+      come = come_on log (did acts ++ log) n so_far gave.left (did_own log n acts all) c;
+      stands = gave.stands;
+    };
+    all_came = (did_own log n acts all).came_is ∙ came;
+    none_waits = gave.none_waits;
+    asked = gave.asked;
+    was_told = λ is. (did_own log n acts all).done_is ∙ told (gave.out_before is);
+    not_given_up = (did_own log n acts all).over_is ∙ same_over ∙ sym (did_own log n acts all).done_is;
+  }
+
   entry_due : (log : List (Entry H)) (n : ℕ) (so_far : Past H) (out : Bool) (acts : List Act) (act : Act) → AllOn n acts → IsOn n act
-      → HasCome step fails is_closed is_finished inbound_makes outbound_makes eager names peer role log n so_far
+      → HasCome step fails is_closed is_finished inbound_makes outbound_makes eager names peer role log n so_far → inbound role (items log) n ≡ so_far.got
       → (out ≡ true → was_done role log n ≡ true) → is_over role log n ≡ was_done role log n
       → ActIsDue step is_closed is_finished out role (items (did acts ++ log)) n so_far act
       → IsDue step fails is_closed is_finished inbound_makes outbound_makes eager names peer role (did acts ++ log) (Of (Did act))
-  entry_due log n so_far out acts (Write k pieces) all on c told same_over due =
+  unfolding all_given
+  entry_due log n so_far out acts (Write k pieces) all on c came told same_over due =
       let own = own_trans role log (did acts ++ log) _ n (did_own log n acts all) (own_by acts_do role (did acts ++ log) n (Write k pieces) on) in
       let there : IsThere step fails is_closed is_finished inbound_makes outbound_makes eager names peer role (Of (Did (Write k pieces)) ∷ did acts ++ log) n = record {
         so_far = with_sent role (Did (Write k pieces) ∷ items (did acts ++ log)) n so_far due.1.left;
@@ -205,37 +226,37 @@ module _ {P H : Type 0} (step : H → HandlerCall → H → Type 0) (fails : H �
         stands = due.1.stands;
       } in
       subst (λ m. IsThere step fails is_closed is_finished inbound_makes outbound_makes eager names peer role (Of (Did (Write k pieces)) ∷ did acts ++ log) m) (sym on) there
-  entry_due log n so_far out acts (Taken k count) all on c told same_over due = subst (λ m. (count ≡ untaken role (items (did acts ++ log)) m)
-      × ((0 < credit role (items (did acts ++ log)) m) ⊎ (closed role (items (did acts ++ log)) m ≡ true))) (sym on) (due.1, due.2)
-  entry_due log n so_far out acts (Close k) all on c told same_over due =
+  entry_due log n so_far out acts (Taken k count) all on c came told same_over due =
+      subst (λ m. (count ≡ untaken role (items (did acts ++ log)) m)
+      × ((closed role (items (did acts ++ log)) m ≡ true) ⊎ ((0 < credit role (items (did acts ++ log)) m)
+      × GaveAll step fails is_closed is_finished inbound_makes outbound_makes eager names peer role (did acts ++ log) m))) (sym on) (due.1, by_gave due.2) where
+        by_gave : (closed role (items (did acts ++ log)) n ≡ true)
+            ⊎ ((0 < credit role (items (did acts ++ log)) n) × StreamGaveAll step is_closed is_finished out role (items (did acts ++ log)) n so_far)
+            → (closed role (items (did acts ++ log)) n ≡ true) ⊎ ((0 < credit role (items (did acts ++ log)) n)
+            × GaveAll step fails is_closed is_finished inbound_makes outbound_makes eager names peer role (did acts ++ log) n)
+        by_gave (inl shut) = inl shut
+        by_gave (inr gave) = inr (gave.0, all_given log n so_far out acts all c came told same_over gave.1)
+  entry_due log n so_far out acts (Close k) all on c came told same_over due =
       let given : HasGiven step fails is_closed is_finished inbound_makes outbound_makes eager names peer role (did acts ++ log) n = record {
-        there = record {
-          so_far = with_sent role (items (did acts ++ log)) n so_far due.1.left;
-          stream = due.1.stream;
-          come = come_on log (did acts ++ log) n so_far due.1.left (did_own log n acts all) c;
-          stands = due.1.stands;
-        };
-        none_waits = due.1.none_waits;
+        all = all_given log n so_far out acts all c came told same_over due.1.all;
         over = due.1.over;
-        was_told = λ is. (did_own log n acts all).done_is ∙ told (due.1.out_before is);
-        not_given_up = (did_own log n acts all).over_is ∙ same_over ∙ sym (did_own log n acts all).done_is;
       } in
       subst (λ m. HasGiven step fails is_closed is_finished inbound_makes outbound_makes eager names peer role (did acts ++ log) m) (sym on) given
-  entry_due log n so_far out acts (Reset k) all on c told same_over due = absurd due
-  entry_due log n so_far out acts (Start k) all on c told same_over due = absurd due
-  entry_due log n so_far out acts (Act.GoAway code) all on c told same_over due = absurd due
+  entry_due log n so_far out acts (Reset k) all on c came told same_over due = absurd due
+  entry_due log n so_far out acts (Start k) all on c came told same_over due = absurd due
+  entry_due log n so_far out acts (Act.GoAway code) all on c came told same_over due = absurd due
 
   pub did_due : (log : List (Entry H)) (n : ℕ) (so_far : Past H) (out : Bool) (acts : List Act)
-      → HasCome step fails is_closed is_finished inbound_makes outbound_makes eager names peer role log n so_far
+      → HasCome step fails is_closed is_finished inbound_makes outbound_makes eager names peer role log n so_far → inbound role (items log) n ≡ so_far.got
       → (out ≡ true → was_done role log n ≡ true) → is_over role log n ≡ was_done role log n
       → AreDue step is_closed is_finished out role (items log) n so_far acts
       → AllDue step fails is_closed is_finished inbound_makes outbound_makes eager names peer role log
       → AllDue step fails is_closed is_finished inbound_makes outbound_makes eager names peer role (did acts ++ log)
-  did_due log n so_far out [] c told same_over due all = all
-  did_due log n so_far out (act ∷ acts) c told same_over due all = (
-    entry_due log n so_far out acts act (all_on (items log) n so_far out acts due.1) (on_of _ n so_far out act due.0) c told same_over
+  did_due log n so_far out [] c came told same_over due all = all
+  did_due log n so_far out (act ∷ acts) c came told same_over due all = (
+    entry_due log n so_far out acts act (all_on (items log) n so_far out acts due.1) (on_of _ n so_far out act due.0) c came told same_over
         (subst (λ (t : List Item). ActIsDue step is_closed is_finished out role t n so_far act) (sym (items_did acts log)) due.0),
-    did_due log n so_far out acts c told same_over due.1 all,
+    did_due log n so_far out acts c came told same_over due.1 all,
   )
 
   -- ---- the view
@@ -332,16 +353,16 @@ module _ {P H : Type 0} (step : H → HandlerCall → H → Type 0) (fails : H �
   pub around_acts : (log : List (Entry H)) (fed sent : List ℕ) (before after : State) (streams now : ℕ → Option (Streaming H)) (past : List (Earlier H)) (n : ℕ) (view : Seen)
       (rest : List Told) (so_far : Past H) (out : Bool) (acts : List Act)
       → Around step fails is_closed is_finished inbound_makes outbound_makes eager names peer role log fed sent before streams past n view rest
-      → HasCome step fails is_closed is_finished inbound_makes outbound_makes eager names peer role log n so_far
+      → HasCome step fails is_closed is_finished inbound_makes outbound_makes eager names peer role log n so_far → inbound role (items log) n ≡ so_far.got
       → (out ≡ true → was_done role log n ≡ true) → is_over role log n ≡ was_done role log n
       → AreDue step is_closed is_finished out role (items log) n so_far acts
       → SessionStands role (map Did acts ++ items log) fed sent after
       → ((m : ℕ) → (n == m) ≡ false → now m ≡ streams m)
       → Around step fails is_closed is_finished inbound_makes outbound_makes eager names peer role (did acts ++ log) fed sent after now past n (view_by acts view) rest
-  around_acts log fed sent before after streams now past n view rest so_far out acts a c told same_over due there elsewhere =
+  around_acts log fed sent before after streams now past n view rest so_far out acts a c came told same_over due there elsewhere =
       let on = all_on (items log) n so_far out acts due in
       grown step fails is_closed is_finished inbound_makes outbound_makes eager names peer role log (did acts) fed sent before after streams now past n view (view_by acts view) rest a
-      (did_due log n so_far out acts c told same_over due a.due) (λ m apart. did_same log n m acts apart on)
+      (did_due log n so_far out acts c came told same_over due a.due) (λ m apart. did_same log n m acts apart on)
       (subst (λ (t : List Item). SessionStands role t fed sent after) (sym (items_did acts log)) there) elsewhere
       (did_heard log n view rest acts on a.opens_none a.heard) (view_ended n acts view on) (did_left log n acts on)
       (did_resets log n acts on) (did_ends log n acts on n) (λ m over. did_over log n acts on m ∙ over) (did_only n acts on)

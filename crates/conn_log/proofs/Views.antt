@@ -8,7 +8,7 @@ use Rattle.yamux_session.specs.History.Item.{Did}
 use Rattle.yamux_session.specs.History.Act.{Write, Taken, Close, Reset}
 use Rattle.yamux_session.specs.Events.{Told}
 use Rattle.yamux_session.specs.Seen.{Seen, seen, does, hears, all_heard, just_opened, AgreesOn, ActsDo}
-use Rattle.conn_log.specs.Routes.{IsNoOpening, EndsLast}
+use Rattle.conn_log.specs.Routes.{IsNoOpening, IsNoData, EndsLast}
 use Rattle.conn_log.proofs.Same.{IsOn}
 
 pub same : (n : ℕ) → (n == n) ≡ true
@@ -197,21 +197,36 @@ came_front n view (t ∷ rest) none =
     came_by (Told.GoAway code) e = ([], sym (append-nil view.came))
     came_by (Told.Fault fault) e = ([], sym (append-nil view.came))
 
--- and behind the end, or a reset, no more came
-pub none_behind : (n : ℕ) (view : Seen) (rest : List Told) → AllByRecursion (IsNoOpening n) rest → EndsLast true rest → (all_heard n view rest).came ≡ view.came
-none_behind n view [] none last = refl
-none_behind n view (Told.Opened m ∷ rest) none last =
-    none_behind n (hears n view (Told.Opened m)) rest none.1 last ∙ ap (λ b. (cond b just_opened view).came) none.0
-none_behind n view (Told.Payload m b ∷ rest) none last = absurd (let e = last.0 in cc e)
-none_behind n view (Told.Ended m ∷ rest) none last = none_behind n (hears n view (Told.Ended m)) rest none.1 last.1 ∙ by_test (m == n) where
+-- where no data is behind it, no more came
+pub no_data_behind : (n : ℕ) (view : Seen) (rest : List Told) → AllByRecursion (IsNoOpening n) rest → AllByRecursion IsNoData rest → (all_heard n view rest).came ≡ view.came
+no_data_behind n view [] none no_data = refl
+no_data_behind n view (Told.Opened m ∷ rest) none no_data =
+    no_data_behind n (hears n view (Told.Opened m)) rest none.1 no_data.1 ∙ ap (λ b. (cond b just_opened view).came) none.0
+no_data_behind n view (Told.Payload m b ∷ rest) none no_data = absurd no_data.0
+no_data_behind n view (Told.Ended m ∷ rest) none no_data = no_data_behind n (hears n view (Told.Ended m)) rest none.1 no_data.1 ∙ by_test (m == n) where
   by_test : (b : Bool) → (cond b (record view { ended = true; live = view.live && not view.closed }) view).came ≡ view.came
   by_test true = refl
   by_test false = refl
-none_behind n view (Told.Reset m ∷ rest) none last = none_behind n (hears n view (Told.Reset m)) rest none.1 last ∙ by_test (m == n) where
+no_data_behind n view (Told.Reset m ∷ rest) none no_data = no_data_behind n (hears n view (Told.Reset m)) rest none.1 no_data.1 ∙ by_test (m == n) where
   by_test : (b : Bool) → (cond b (record view { live = false }) view).came ≡ view.came
   by_test true = refl
   by_test false = refl
-none_behind n view (Told.Accepted m ∷ rest) none last = none_behind n view rest none.1 last
-none_behind n view (Told.Credit m ∷ rest) none last = none_behind n view rest none.1 last
-none_behind n view (Told.GoAway code ∷ rest) none last = none_behind n view rest none.1 last
-none_behind n view (Told.Fault fault ∷ rest) none last = none_behind n view rest none.1 last
+no_data_behind n view (Told.Accepted m ∷ rest) none no_data = no_data_behind n view rest none.1 no_data.1
+no_data_behind n view (Told.Credit m ∷ rest) none no_data = no_data_behind n view rest none.1 no_data.1
+no_data_behind n view (Told.GoAway code ∷ rest) none no_data = no_data_behind n view rest none.1 no_data.1
+no_data_behind n view (Told.Fault fault ∷ rest) none no_data = no_data_behind n view rest none.1 no_data.1
+
+-- as behind the end, or a reset
+no_data_last : (rest : List Told) → EndsLast true rest → AllByRecursion IsNoData rest
+no_data_last [] last = tt
+no_data_last (Told.Opened m ∷ rest) last = (tt, no_data_last rest last)
+no_data_last (Told.Payload m b ∷ rest) last = absurd (let e = last.0 in cc e)
+no_data_last (Told.Ended m ∷ rest) last = (tt, no_data_last rest last.1)
+no_data_last (Told.Reset m ∷ rest) last = (tt, no_data_last rest last)
+no_data_last (Told.Accepted m ∷ rest) last = (tt, no_data_last rest last)
+no_data_last (Told.Credit m ∷ rest) last = (tt, no_data_last rest last)
+no_data_last (Told.GoAway code ∷ rest) last = (tt, no_data_last rest last)
+no_data_last (Told.Fault fault ∷ rest) last = (tt, no_data_last rest last)
+
+pub none_behind : (n : ℕ) (view : Seen) (rest : List Told) → AllByRecursion (IsNoOpening n) rest → EndsLast true rest → (all_heard n view rest).came ≡ view.came
+none_behind n view rest none last = no_data_behind n view rest none (no_data_last rest last)

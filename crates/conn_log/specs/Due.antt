@@ -19,7 +19,8 @@ use Rattle.streams.specs.declared.stop.Cause.TheVariants as causes
 use Rattle.streams.specs.declared.stage.Stage.{Stage}
 use Rattle.streams.specs.declared.stage.Stage.TheVariants.{Serving}
 use Rattle.streams.specs.Streams.{Past, IsServed}
-use Rattle.streams.specs.State.{Streaming, Stands, is_talking, handler_of, has_closed, has_finished, was_handed_out}
+use Rattle.streams.specs.State.{Streaming, Stands, is_talking, handler_of, is_open, has_closed, has_finished}
+use Rattle.streams.specs.State.{was_handed_out}
 use Rattle.dispatch.specs.declared.direction.Direction.{Direction}
 use Rattle.dispatch.specs.declared.direction.Direction.TheVariants.{Inbound, Outbound}
 use Rattle.dispatch.specs.Dispatch.{made_by}
@@ -55,6 +56,12 @@ abbrev pub end_was_told : Role → List Item → ℕ → Bool
 end_was_told role [] n = false
 end_was_told role (x ∷ past) n =
     if opens role past x n then false else told_end n (events_at role past x) || end_was_told role past n
+
+-- the newest entry agrees on a protocol for the stream, or makes its handler behind that
+abbrev pub HasJustAgreed : {H : Type 0} → ℕ → List (Entry H) → Type 0
+HasJustAgreed n (Says (event.Agreed m index) ∷ log) = m ≡ n
+HasJustAgreed n (Made k handler ∷ Says (event.Agreed m index) ∷ log) = (k ≡ n) × (m ≡ n)
+HasJustAgreed n log = ⊥
 
 -- the newest entry gives the stream up, and the other end didn't reset it
 abbrev pub IsGivenUp : {H : Type 0} → ℕ → List (Entry H) → Type 0
@@ -107,12 +114,14 @@ module _ {P H : Type 0} (step : H → HandlerCall → H → Type 0) (fails : H �
       (inbound role (items log) n ≡ so_far.got) × (finished role (items log) n ≡ true)
   IsAskedFor log n so_far waiting (ToGive room) = room ≡ credit role (items log) n - length waiting
 
-  -- It may be asked for that in its turn: what came, and its end, is told to a handler that serves the stream and
-  -- wasn't told of the end before; one that isn't closed is asked to give.
-  abbrev pub IsInTurn : Stage H → (ended : Bool) → H → Asked → Type 0
-  IsInTurn stage ended handler (ToTake bytes) = (stage ≡ Serving handler) × (ended ≡ false)
-  IsInTurn stage ended handler ToEnd = (stage ≡ Serving handler) × (ended ≡ false)
-  IsInTurn stage ended handler (ToGive room) = is_closed handler ≡ false
+  -- It may be asked for that in its turn: what came, and its end, is told to a handler that serves the stream, wasn't
+  -- told of the end before, and isn't finished: one that is finished was handed out, unless its talk has just agreed.
+  -- One that isn't closed is asked to give.
+  abbrev pub IsInTurn : List (Entry H) → ℕ → Stage H → (ended : Bool) → H → Asked → Type 0
+  IsInTurn log n stage ended handler (ToTake bytes) = (stage ≡ Serving handler) × (ended ≡ false)
+      × ((is_finished handler ≡ false) ⊎ HasJustAgreed n log)
+  IsInTurn log n stage ended handler ToEnd = (stage ≡ Serving handler) × (ended ≡ false) × (is_finished handler ≡ false)
+  IsInTurn log n stage ended handler (ToGive room) = is_closed handler ≡ false
 
   -- Its handler was asked for this, and failed with this number. By then Agreed was told of it, where its talk is over,
   -- and only there.
@@ -122,7 +131,7 @@ module _ {P H : Type 0} (step : H → HandlerCall → H → Type 0) (fails : H �
     pub held : handler_of there.stream.stage ≡ Some handler
     pub request : Asked
     pub asked_for : IsAskedFor log n there.so_far there.stream.waiting request
-    pub in_turn : IsInTurn there.stream.stage there.so_far.ended handler request
+    pub in_turn : IsInTurn log n there.stream.stage there.so_far.ended handler request
     pub fails_by : fails handler request number
     pub talking : is_talking there.stream.stage ≡ true → agreed role log n ≡ None
     pub agreed_on : is_talking there.stream.stage ≡ false → agreed role log n ≢ None
@@ -157,17 +166,22 @@ module _ {P H : Type 0} (step : H → HandlerCall → H → Type 0) (fails : H �
     pub asked : is_live role (items log) n ≡ true → closed role (items log) n ≡ false → is_closed handler ≡ false
         → so_far.left ≡ Some (credit role (items log) n)
 
-  -- The stream gives no more: nothing waits, and its handler is closed, or finished and was asked last with all the
-  -- credit, or was handed out and that was told.
-  pub record HasGiven (log : List (Entry H)) (n : ℕ) : Type 0 where
+  -- The stream gave what it has by all data that came: nothing waits, and its handler was asked last with all the
+  -- credit, unless it is closed, or was handed out and that was told.
+  pub record GaveAll (log : List (Entry H)) (n : ℕ) : Type 0 where
     pub there : IsThere log n
+    pub all_came : inbound role (items log) n ≡ there.so_far.got
     pub none_waits : there.stream.waiting ≡ []
-    pub over : (has_closed is_closed there.stream.stage ≡ true)
-        ⊎ ((has_finished is_finished there.stream.stage ≡ true)
-        × (there.so_far.left ≡ Some (credit role (items log) n)))
+    pub asked : is_open is_closed there.stream.stage ≡ true → there.so_far.left ≡ Some (credit role (items log) n)
     pub was_told : was_handed_out there.stream.stage ≡ true → was_done role log n ≡ true
     -- neither Refused nor Broken was told of it
     pub not_given_up : is_over role log n ≡ was_done role log n
+
+  -- It gives no more: its handler is closed, or finished, or was handed out.
+  pub record HasGiven (log : List (Entry H)) (n : ℕ) : Type 0 where
+    pub all : GaveAll log n
+    pub over : (has_closed is_closed all.there.stream.stage ≡ true)
+        ⊎ (has_finished is_finished all.there.stream.stage ≡ true)
 
   -- why a handler is made: the newest entry agrees on its protocol, or opens the stream for an eager one
   abbrev pub MayBeMade : List (Entry H) → ℕ → H → Type 0
@@ -184,9 +198,9 @@ module _ {P H : Type 0} (step : H → HandlerCall → H → Type 0) (fails : H �
   IsDue log (Of (Did (Start n))) = ⊥
   -- what is written is what the stream gave
   IsDue log (Of (Did (Write n pieces))) = IsThere (Of (Did (Write n pieces)) ∷ log) n
-  -- all that came is taken, where credit is left or this direction is closed
+  -- all that came is taken, where this direction is closed, or credit is left by a stream that gave what it has
   IsDue log (Of (Did (Taken n count))) = (count ≡ untaken role (items log) n)
-      × ((0 < credit role (items log) n) ⊎ (closed role (items log) n ≡ true))
+      × ((closed role (items log) n ≡ true) ⊎ ((0 < credit role (items log) n) × GaveAll log n))
   IsDue log (Of (Did (Close n))) = HasGiven log n
   IsDue log (Of (Did (Reset n))) = IsGivenUp n log
   IsDue log (Of (Did (Act.GoAway code))) = ⊥

@@ -19,7 +19,8 @@ use Rattle.conn_log.specs.declared.event.ConnEvent.TheVariants as event
 use Rattle.conn_log.specs.Entries.{Entry}
 use Rattle.conn_log.specs.Entries.Entry.{Of, Says, Made, Asks}
 use Rattle.conn_log.specs.AskedRows.{is_1}
-use Rattle.conn_log.specs.Due.{direction_of, told_reset, was_reset, told_end, end_was_told, IsGivenUp, MayBeMade}
+use Rattle.conn_log.specs.Due.{direction_of, told_reset, was_reset, told_end, end_was_told, HasJustAgreed, IsGivenUp}
+use Rattle.conn_log.specs.Due.{MayBeMade}
 
 pub record DirectionRows : Type 0 where
   pub own_of_a_client : direction_of Client 1 ≡ Outbound
@@ -65,6 +66,18 @@ pub record EndRows : Type 0 where
   pub stays : end_was_told Client (Did (Close 4) ∷ frame 1 4 ++ frame 4 2 ++ frame 1 2) 2 ≡ true
   pub reset_behind : end_was_told Client (frame 8 2 ++ frame 4 2 ++ frame 1 2) 2 ≡ true
   pub opened_anew : end_was_told Client (frame 1 2 ++ frame 8 2 ++ frame 4 2 ++ frame 1 2) 2 ≡ false
+
+-- stream 2 has agreed just now: that is the newest entry, or its handler was made behind it
+pub record JustAgreedRows : Type 0 where
+  pub agreed : HasJustAgreed {H = ℕ} 2 (Says (event.Agreed 2 1) ∷ [])
+  pub made_behind : HasJustAgreed {H = ℕ} 2 (Made 2 7 ∷ Says (event.Agreed 2 1) ∷ [])
+  pub another : ¬ HasJustAgreed {H = ℕ} 2 (Says (event.Agreed 4 1) ∷ [])
+  pub another_made : ¬ HasJustAgreed {H = ℕ} 2 (Made 4 7 ∷ Says (event.Agreed 2 1) ∷ [])
+  pub made_of_another : ¬ HasJustAgreed {H = ℕ} 2 (Made 2 7 ∷ Says (event.Agreed 4 1) ∷ [])
+  pub made_early : ¬ HasJustAgreed {H = ℕ} 2 (Made 2 7 ∷ Asks 2 1 ∷ [])
+  pub handed_out : ¬ HasJustAgreed {H = ℕ} 2 (Says (event.Done 2 7) ∷ Says (event.Agreed 2 1) ∷ [])
+  pub acted_behind : ¬ HasJustAgreed {H = ℕ} 2 (Of (Did (Close 2)) ∷ Says (event.Agreed 2 1) ∷ [])
+  pub of_nothing : ¬ HasJustAgreed {H = ℕ} 2 []
 
 -- what gives up stream 2: that it is refused or broken is the newest entry
 pub record GivenUpRows : Type 0 where

@@ -10,7 +10,7 @@ use Rattle.yamux_frames.specs.Frames.Arrival.{Byte, Tail}
 use Rattle.yamux_session.specs.declared.event.Role.TheVariants.{Client}
 use Rattle.yamux_session.specs.History.{Act}
 use Rattle.yamux_session.specs.History.Item.{Came, Did}
-use Rattle.yamux_session.specs.History.Act.{Start, Taken, Reset}
+use Rattle.yamux_session.specs.History.Act.{Start, Taken, Close, Reset}
 use Rattle.yamux_session.specs.Rows.{header}
 use Rattle.streams.specs.declared.stop.Cause.TheVariants as causes
 use Rattle.conn_log.specs.declared.event.ConnFault.TheVariants as faults
@@ -78,9 +78,11 @@ pub record LastPlaceRows : Type 0 where
 pub record ActPlaceRows : Type 0 where
   pub starts : ¬ is_due [] (Of (Did (Start 1)))
   pub goes_away : ¬ is_due [] (Of (Did (Act.GoAway 0)))
-  pub takes_all : is_due has_come (Of (Did (Taken 2 1)))
-  pub takes_more : ¬ is_due has_come (Of (Did (Taken 2 2)))
-  pub takes_none : ¬ is_due has_come (Of (Did (Taken 2 0)))
+  pub takes_all : is_due (Of (Did (Close 2)) ∷ has_come) (Of (Did (Taken 2 1)))
+  pub takes_more : ¬ is_due (Of (Did (Close 2)) ∷ has_come) (Of (Did (Taken 2 2)))
+  pub takes_none : ¬ is_due (Of (Did (Close 2)) ∷ has_come) (Of (Did (Taken 2 0)))
+  pub takes_given_up : ¬ is_due (refuses 2 ∷ has_come) (Of (Did (Taken 2 1)))
+  pub closes_given_up : ¬ is_due (refuses 2 ∷ has_come) (Of (Did (Close 2)))
   pub resets : is_due (refuses 2 ∷ opened 2) (Of (Did (Reset 2)))
   pub resets_unbroken : ¬ is_due (opened 2) (Of (Did (Reset 2)))
   pub asks : is_due [] (Asks 1 1)

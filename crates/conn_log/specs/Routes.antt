@@ -41,6 +41,11 @@ abbrev pub IsNoOpening : ℕ → Told → Type 0
 IsNoOpening n (Told.Opened m) = (m == n) ≡ false
 IsNoOpening n other = Unit {0}
 
+-- it tells no data
+abbrev pub IsNoData : Told → Type 0
+IsNoData (Told.Payload m b) = ⊥
+IsNoData other = Unit {0}
+
 -- the end is told once, and neither data nor the end behind it or behind a reset
 abbrev pub EndsLast : Bool → List Told → Type 0
 EndsLast ended [] = Unit {0}

@@ -4,7 +4,7 @@ ghost use Rattle.conn_log.specs.MakingRows.{MakingRows};
 ghost use Rattle.conn_log.specs.EntryRows.{ListRows, SinceRows, AgreedRows, OverRows, HandlerRows, LeftRows};
 ghost use Rattle.conn_log.specs.EntryRows.{AsideRows, AskedForRows};
 ghost use Rattle.conn_log.specs.TurnRows.{TurnRows, AboutRows, InTurnRows, RestedRows};
-ghost use Rattle.conn_log.specs.DueRows.{DirectionRows, ResetRows, EndRows, GivenUpRows, MayBeMadeRows};
+ghost use Rattle.conn_log.specs.DueRows.{DirectionRows, ResetRows, EndRows, JustAgreedRows, GivenUpRows, MayBeMadeRows};
 ghost use Rattle.conn_log.specs.PlaceRows.{TalkPlaceRows, LastPlaceRows, ActPlaceRows};
 ghost use Rattle.conn_log.specs.AskedRows.{RefusedAsRows, EarlyRows, ToldOfRows, MadeEarlyRows, BrokenOfRows};
 
@@ -22,6 +22,7 @@ pub fn worked_rows()
     ensures directions { DirectionRows }
     ensures resets { ResetRows }
     ensures ends { EndRows }
+    ensures just_agreed { JustAgreedRows }
     ensures given_up { GivenUpRows }
     ensures may_be_made { MayBeMadeRows }
     ensures talk_places { TalkPlaceRows }

@@ -12,7 +12,7 @@ use Rattle.yamux_session.specs.History.{Item, arrivals}
 use Rattle.yamux_session.specs.History.Item.{Came}
 use Rattle.yamux_session.specs.Arrives.{tellings, HasData}
 use Rattle.yamux_session.specs.Events.{Told, events}
-use Rattle.yamux_session.specs.Naming.{NamesOne}
+use Rattle.yamux_session.specs.Naming.{IsNoData as HoldsNoData, NamesOne}
 use Rattle.yamux_session.specs.Seen.{TellsFrom}
 use Rattle.yamux_session.specs.State.{State, Stands as SessionStands, Led, EndsWith, IsOneFrame}
 use Rattle.streams.specs.State.{Streaming}
@@ -20,12 +20,24 @@ use Rattle.conn_log.specs.declared.earlier.Earlier.{Earlier}
 use Rattle.conn_log.specs.declared.event.ConnEvent.{ConnEvent}
 use Rattle.conn_log.specs.Entries.{Entry, items, said}
 use Rattle.conn_log.specs.Rests.{AreAtRest, AreRested, Grows}
-use Rattle.conn_log.specs.Routes.{IsFor, Awaits}
+use Rattle.conn_log.specs.Routes.{IsFor, IsNoData, Awaits}
 use Rattle.conn_log.proofs.Arriving.{arrived, said_arrived, asks_arrived}
 use Rattle.conn_log.proofs.Settling.{said_append, none_asked}
 use Rattle.conn_log.proofs.Heads.{rested_arrived}
 use Rattle.conn_log.proofs.Facing.{SessionLaws, faced}
 use Rattle.mux.specs.Faults.{Faults}
+
+-- events without data tell none
+pub no_data_told : (told : List Event) → AllByRecursion HoldsNoData told → AllByRecursion IsNoData (tellings told)
+no_data_told [] none = tt
+no_data_told (event.Opened n ∷ told) none = (tt, no_data_told told none.1)
+no_data_told (event.Accepted n ∷ told) none = (tt, no_data_told told none.1)
+no_data_told (event.Payload n bytes ∷ told) none = absurd none.0
+no_data_told (event.Ended n ∷ told) none = (tt, no_data_told told none.1)
+no_data_told (event.Reset n ∷ told) none = (tt, no_data_told told none.1)
+no_data_told (event.Credit n ∷ told) none = (tt, no_data_told told none.1)
+no_data_told (event.GoAway code ∷ told) none = (tt, no_data_told told none.1)
+no_data_told (event.Fault fault ∷ told) none = (tt, no_data_told told none.1)
 
 module _ {P H : Type 0} (step : H → HandlerCall → H → Type 0) (fails : H → Asked → ℕ → Type 0)
     (is_closed is_finished : H → Bool) (inbound_makes outbound_makes : P → ℕ → List ℕ → H → Type 0)

@@ -13,7 +13,7 @@ use Rattle.conn_log.specs.declared.event.ConnEvent.TheVariants as event
 use Rattle.conn_log.specs.Entries.{Entry, items, is_over, made_of, is_kept}
 use Rattle.conn_log.specs.Entries.Entry.{Of, Says, Made, Asks}
 use Rattle.conn_log.specs.Turns.{turn, about, IsTurnOf}
-use Rattle.conn_log.specs.Due.{told_reset, was_reset, told_end, end_was_told}
+use Rattle.conn_log.specs.Due.{told_reset, was_reset, told_end, end_was_told, HasJustAgreed}
 use Rattle.conn_log.specs.Asked.{IsBrokenOf}
 use Rattle.conn_log.specs.Making.{Leads}
 use Rattle.row_check.specs.AnyLogRows.{AnyListRows, AnyStreamEntryRows, AnyEarlierRows, AnyTurnRows, AnyEndingRows, AnyMakingRows}
@@ -134,6 +134,31 @@ broken_of_is n (event.Done m handler) is = absurd is
 broken_of_is n (event.Fault fault) is = absurd is
 broken_of_is n event.Shut is = absurd is
 
+just_agreed_is : {H : Type 0} (n : ℕ) (log : List (Entry H)) → HasJustAgreed n log → (index : ℕ) × (older : List (Entry H))
+    × ((log ≡ Says (event.Agreed n index) ∷ older) ⊎ ((handler : H) × (log ≡ Made n handler ∷ Says (event.Agreed n index) ∷ older)))
+just_agreed_is n [] is = absurd is
+just_agreed_is n (Of x ∷ log) is = absurd is
+just_agreed_is n (Asks m index ∷ log) is = absurd is
+just_agreed_is n (Says (event.Agreed m index) ∷ log) is = (index, log, inl (ap (λ k. Says (event.Agreed k index) ∷ log) is))
+just_agreed_is n (Says (event.Upgraded key) ∷ log) is = absurd is
+just_agreed_is n (Says (event.Refused m) ∷ log) is = absurd is
+just_agreed_is n (Says (event.Done m handler) ∷ log) is = absurd is
+just_agreed_is n (Says (event.Broken m cause) ∷ log) is = absurd is
+just_agreed_is n (Says (event.Fault fault) ∷ log) is = absurd is
+just_agreed_is n (Says event.Shut ∷ log) is = absurd is
+just_agreed_is n (Made k handler ∷ []) is = absurd is
+just_agreed_is n (Made k handler ∷ Of x ∷ log) is = absurd is
+just_agreed_is n (Made k handler ∷ Asks m index ∷ log) is = absurd is
+just_agreed_is n (Made k handler ∷ Made m other ∷ log) is = absurd is
+just_agreed_is n (Made k handler ∷ Says (event.Agreed m index) ∷ log) is =
+    (index, log, inr (handler, ap (λ j. Made j handler ∷ Says (event.Agreed m index) ∷ log) is.0 ∙ ap (λ j. Made n handler ∷ Says (event.Agreed j index) ∷ log) is.1))
+just_agreed_is n (Made k handler ∷ Says (event.Upgraded key) ∷ log) is = absurd is
+just_agreed_is n (Made k handler ∷ Says (event.Refused m) ∷ log) is = absurd is
+just_agreed_is n (Made k handler ∷ Says (event.Done m other) ∷ log) is = absurd is
+just_agreed_is n (Made k handler ∷ Says (event.Broken m cause) ∷ log) is = absurd is
+just_agreed_is n (Made k handler ∷ Says (event.Fault fault) ∷ log) is = absurd is
+just_agreed_is n (Made k handler ∷ Says event.Shut ∷ log) is = absurd is
+
 pub any_endings : {H : Type 0} → AnyEndingRows H
 any_endings = record {
   no_reset = λ n. refl;
@@ -151,6 +176,9 @@ any_endings = record {
   end_was_told_is = λ role x past n e. rw e (or_is (told_end n (events_at role past x)) (end_was_told role past n));
   own_is_outbound = λ role n e. rw e refl;
   other_is_inbound = λ role n e. rw e refl;
+  just_agreed = λ n m index log. (λ h. h, λ h. h);
+  just_made = λ n k m index handler log. (λ h. h, λ h. h);
+  just_agreed_is = just_agreed_is;
   refused = λ n m log. (λ h. h, λ h. h);
   broken = λ n m cause log. (λ h. h, λ h. h);
   told = λ n handler cause. (refl, refl, refl, refl);

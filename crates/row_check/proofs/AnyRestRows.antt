@@ -76,9 +76,9 @@ module _ {P H : Type 0} (step : H → HandlerCall → H → Type 0) (fails : H �
     fails_by = λ log n number there handler request held asked turn by talking agreed_on.
         record { there = there; handler = handler; held = held; request = request; asked_for = asked; in_turn = turn; fails_by = by; talking = talking; agreed_on = agreed_on };
     fails_by_is = λ log n number f. (f.there, f.handler, f.request, f.held, f.asked_for, f.in_turn, f.fails_by, f.talking, f.agreed_on);
-    takes_in_turn = λ stage ended handler bytes. (λ h. h, λ h. h);
-    ends_in_turn = λ stage ended handler. (λ h. h, λ h. h);
-    gives_in_turn = λ stage ended handler room. (λ h. h, λ h. h);
+    takes_in_turn = λ log n stage ended handler bytes. (λ h. h, λ h. h);
+    ends_in_turn = λ log n stage ended handler. (λ h. h, λ h. h);
+    gives_in_turn = λ log n stage ended handler room. (λ h. h, λ h. h);
     heard = λ log n stream held unfinished. record { stream = stream; held = held; unfinished = unfinished };
     heard_is = λ log n h. (h.stream, h.held, h.unfinished);
     broken_in_talk = λ log n fault. (
@@ -105,9 +105,14 @@ module _ {P H : Type 0} (step : H → HandlerCall → H → Type 0) (fails : H �
     );
     done = λ log n handler so_far waiting come served finished asked. record { so_far = so_far; waiting = waiting; come = come; served = served; finished = finished; asked = asked };
     done_is = λ log n handler d. (d.so_far, d.waiting, d.come, d.served, d.finished, d.asked);
-    given = λ log n there none over told same. record { there = there; none_waits = none; over = over; was_told = told; not_given_up = same };
-    given_is = λ log n g. (g.there, g.none_waits, g.over, g.was_told, g.not_given_up);
-    not_given = λ log n over undone g. absurd (let same = g.not_given_up in cc (over, undone, same));
+    gave = λ log n there came none asked told same. record { there = there; all_came = came; none_waits = none; asked = asked; was_told = told; not_given_up = same };
+    gave_is = λ log n g. (g.there, g.all_came, g.none_waits, g.asked, g.was_told, g.not_given_up);
+    given = λ log n all over. record { all = all; over = over };
+    given_is = λ log n g. (g.all, g.over);
+    not_gave = λ log n over undone. (
+      λ g. absurd (let same = g.not_given_up in cc (over, undone, same)),
+      λ g. absurd (let same = g.all.not_given_up in cc (over, undone, same)),
+    );
   }
 
   made_is : (log : List (Entry H)) (n : ℕ) (handler : H) → may_be_made step fails is_closed is_finished inbound_makes outbound_makes eager names peer role log n handler

@@ -221,6 +221,7 @@ any_named_rows = record {
   about = λ n m bytes. (λ e. e, λ e. e, λ e. e, λ e. e, λ e. e, λ e. e);
   names = λ told it. (it.stream, it.named, it.opened_first);
   no_opening = λ n it. it;
+  data_told = λ n bytes it. it;
   no_empty = λ n bytes has. has;
   its_data = λ n b. ap (λ t. if t then b ∷ [] else []) (same n);
   data_of_another = λ m n b ne. ap (λ t. if t then b ∷ [] else []) (ne_eqb m n ne);

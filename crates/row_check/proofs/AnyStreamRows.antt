@@ -1,5 +1,5 @@
 -- The rows of streams, and of how they are served and routed to.
-use Rattle.std.proofs.Common.{◌≡◌, ◌↔◌, ℕ, ◌+◌, Bool, true, false, List, [], ◌∷◌, ◌++◌, map, length, Option, Some, IfSome, refl, sym, ap, ◌∙◌, subst}
+use Rattle.std.proofs.Common.{◌≡◌, ◌⊎◌, inl, inr, ◌↔◌, ℕ, ◌+◌, Bool, true, false, List, [], ◌∷◌, ◌++◌, map, length, Option, Some, IfSome, refl, sym, ap, ◌∙◌, subst}
 use Rattle.handlers.specs.Calls.{HandlerCall, Give, Asked}
 use Rattle.talks.specs.Talks.{Side, Asks, Answers}
 use Rattle.yamux_session.specs.declared.event.Role.{Role}
@@ -9,6 +9,11 @@ use Rattle.streams.specs.Handled.{AskedLast}
 use Rattle.streams.specs.State.{is_talking}
 use Rattle.streams.specs.Streams.{IsAsking}
 use Rattle.row_check.specs.AnyStreamRows.{AnyStageRows, AnyHearingRows, AnyStandingRows, AnyServingRows, AnyDirectionRows, AnyRoutingRows}
+
+-- either of two
+or_on : {A B C D : Type 0} → (A → C) → (B → D) → A ⊎ B → C ⊎ D
+or_on f g (inl a) = inl (f a)
+or_on f g (inr b) = inr (g b)
 
 pub any_stages : {H : Type 0} → AnyStageRows H
 any_stages = record {
@@ -111,10 +116,23 @@ module _ {H : Type 0} (step : H → HandlerCall → H → Type 0) (fails : H →
       λ h. (h.0, (h.1.stream, h.1.left, h.1.stands)),
       λ h. (h.0, record { stream = h.1.0; left = h.1.1; stands = h.1.2 }),
     );
-    takes = λ role past n m count so_far. (λ h. h, λ h. h);
+    takes = λ role past n m count so_far. (
+      λ h. (h.0, h.1, or_on (λ t. t) (λ t. (t.0, (t.1.stream, t.1.left, t.1.stands, t.1.none_waits, t.1.asked, t.1.out_before, tt))) h.2),
+      λ h. (
+        h.0,
+        h.1,
+        or_on (λ t. t) (λ t. (t.0, record { stream = t.1.0; left = t.1.1; stands = t.1.2; none_waits = t.1.3; asked = t.1.4; out_before = t.1.5 })) h.2,
+      ),
+    );
     closes = λ role past n m so_far. (
-      λ h. (h.0, (h.1.stream, h.1.left, h.1.stands, h.1.none_waits, h.1.over, h.1.out_before)),
-      λ h. (h.0, record { stream = h.1.0; left = h.1.1; stands = h.1.2; none_waits = h.1.3; over = h.1.4; out_before = h.1.5 }),
+      λ h. (h.0, (h.1.all.stream, h.1.all.left, h.1.all.stands, h.1.all.none_waits, h.1.all.asked, h.1.all.out_before, h.1.over)),
+      λ h. (
+        h.0,
+        record {
+          all = record { stream = h.1.0; left = h.1.1; stands = h.1.2; none_waits = h.1.3; asked = h.1.4; out_before = h.1.5 };
+          over = h.1.6;
+        },
+      ),
     );
     does_nothing_else = λ role past n m code so_far. (λ h. h, λ h. h, λ h. h);
     no_act = λ role past n so_far. tt;

@@ -38,7 +38,8 @@ defined_arrives_rows = record {
   filled = λ n bytes. (λ h. h, λ h. h);
   always_filled = λ n code why. (tt, tt, tt, tt, tt, tt, tt);
   put_behind = λ said also. refl;
-  extends = λ said also. (λ h. h, λ h. h);
+  adds_no_data = λ said also. (λ h. h, λ h. h);
+  adds_data_first = λ said also. (λ h. h, λ h. h);
   adds_says = λ said also told r. (r.added, r.telling, r.filled);
   adds_is = λ said also told more p0 p1 p2. record { more = more; added = p0; telling = p1; filled = p2 };
   of_tail = λ n. (refl, refl, refl);
@@ -49,6 +50,7 @@ defined_arrives_rows = record {
   about = λ n m bytes. ((λ h. h, λ h. h), (λ h. h, λ h. h), (λ h. h, λ h. h), (λ h. h, λ h. h), (λ h. h, λ h. h), (λ h. h, λ h. h));
   about_none = λ n code why. (tt, tt);
   opens_none = λ n bytes code why. ((λ f. f), tt, tt, tt, tt, tt, tt, tt);
+  tells_no_data = λ n bytes code why. ((λ f. f), tt, tt, tt, tt, tt, tt, tt);
   names_one_says = λ said r. (r.named, r.opened_first);
   names_one_is = λ said stream p0 p1. record { stream = stream; named = p0; opened_first = p1 };
 }

@@ -28,7 +28,7 @@ use Rattle.conn_log.specs.Entries.{is_kept, left_behind, put_aside}
 use Rattle.conn_log.specs.Entries.Entry.{Of, Says, Made, Asks}
 use Rattle.conn_log.specs.Turns.{turn, about, AreInTurn}
 use Rattle.conn_log.specs.Held.{earlier_of}
-use Rattle.conn_log.specs.Due.{direction_of, told_reset, was_reset, told_end, end_was_told, IsGivenUp}
+use Rattle.conn_log.specs.Due.{direction_of, told_reset, was_reset, told_end, end_was_told, HasJustAgreed, IsGivenUp}
 use Rattle.conn_log.specs.Making.{Leads, AreMadeInTurn, MakesOn}
 use Rattle.conn_log.specs.Asked.{IsEarly, told_of, AreMadeEarly, IsBrokenOf}
 
@@ -222,6 +222,14 @@ pub record AnyEndingRows (H : Type 0) : Type 0 where
       ↔ ((told_end n (events_at role past x) ≡ true) ⊎ (end_was_told role past n ≡ true))
   pub own_is_outbound : (role : Role) (n : ℕ) → is_own role n ≡ true → direction_of role n ≡ Outbound
   pub other_is_inbound : (role : Role) (n : ℕ) → is_own role n ≡ false → direction_of role n ≡ Inbound
+  -- what has just agreed
+  pub just_agreed : (n m index : ℕ) (log : List (Entry H))
+      → HasJustAgreed n (Says (event.Agreed m index) ∷ log) ↔ (m ≡ n)
+  pub just_made : (n k m index : ℕ) (handler : H) (log : List (Entry H))
+      → HasJustAgreed n (Made k handler ∷ Says (event.Agreed m index) ∷ log) ↔ ((k ≡ n) × (m ≡ n))
+  pub just_agreed_is : (n : ℕ) (log : List (Entry H)) → HasJustAgreed n log → (index : ℕ) × (older : List (Entry H))
+      × ((log ≡ Says (event.Agreed n index) ∷ older)
+      ⊎ ((handler : H) × (log ≡ Made n handler ∷ Says (event.Agreed n index) ∷ older)))
   -- what gives a stream up
   pub refused : (n m : ℕ) (log : List (Entry H)) → IsGivenUp n (Says (event.Refused m) ∷ log) ↔ (m ≡ n)
   pub broken : (n m : ℕ) (cause : Cause) (log : List (Entry H))

@@ -27,8 +27,8 @@ use Rattle.streams.specs.declared.stage.Stage.TheVariants as stages
 use Rattle.streams.specs.declared.stop.Cause.{Cause}
 use Rattle.streams.specs.declared.stop.Cause.TheVariants as causes
 use Rattle.streams.specs.Streams.{Past, IsServed}
-use Rattle.streams.specs.State.{Streaming, Stands, is_talking, awaits_handler, handler_of, has_closed, has_finished}
-use Rattle.streams.specs.State.{was_handed_out}
+use Rattle.streams.specs.State.{Streaming, Stands, is_talking, awaits_handler, handler_of, is_open, has_closed}
+use Rattle.streams.specs.State.{has_finished, was_handed_out}
 use Rattle.serving.specs.Served.{IsSettled}
 use Rattle.conn_log.specs.declared.earlier.Earlier.{Earlier}
 use Rattle.conn_log.specs.declared.event.ConnEvent.{ConnEvent}
@@ -40,9 +40,9 @@ use Rattle.conn_log.specs.Entries.{put_aside}
 use Rattle.conn_log.specs.Entries.Entry.{Of, Says, Made, Asks}
 use Rattle.conn_log.specs.Turns.{AreInTurn}
 use Rattle.conn_log.specs.Held.{IsSide, IsHeld, IsAtRest, IsPast, AreLeft, earlier_of}
-use Rattle.conn_log.specs.Due.{was_reset, end_was_told, MayBeMade, HasCome, IsThere, IsAskedFor, IsInTurn, HandlerFails}
+use Rattle.conn_log.specs.Due.{was_reset, end_was_told, HasJustAgreed, MayBeMade, HasCome, IsThere, IsAskedFor}
 use Rattle.conn_log.specs.Due.{HasHeard}
-use Rattle.conn_log.specs.Due.{IsBroken, IsDone, HasGiven, IsDue, AllDue}
+use Rattle.conn_log.specs.Due.{IsInTurn, HandlerFails, IsBroken, IsDone, GaveAll, HasGiven, IsDue, AllDue}
 use Rattle.conn_log.specs.Rests.{AreAtRest, IsRested, AreRested, Grows}
 use Rattle.conn_log.specs.Asked.{IsBrokenOf, Asked as AskedOf}
 
@@ -122,7 +122,7 @@ module _ {P H : Type 0} (step : H → HandlerCall → H → Type 0) (fails : H �
   abbrev pub handler_fails : List (Entry H) → ℕ → ℕ → Type 0
   handler_fails = HandlerFails step fails is_closed is_finished inbound_makes outbound_makes eager names peer role
 
-  abbrev pub in_turn : Stage H → Bool → H → Asked → Type 0
+  abbrev pub in_turn : List (Entry H) → ℕ → Stage H → Bool → H → Asked → Type 0
   in_turn = IsInTurn step fails is_closed is_finished inbound_makes outbound_makes eager names peer role
 
   abbrev pub has_heard : List (Entry H) → ℕ → Type 0
@@ -133,6 +133,9 @@ module _ {P H : Type 0} (step : H → HandlerCall → H → Type 0) (fails : H �
 
   abbrev pub is_done : List (Entry H) → ℕ → H → Type 0
   is_done = IsDone step fails is_closed is_finished inbound_makes outbound_makes eager names peer role
+
+  abbrev pub gave_all : List (Entry H) → ℕ → Type 0
+  gave_all = GaveAll step fails is_closed is_finished inbound_makes outbound_makes eager names peer role
 
   abbrev pub has_given : List (Entry H) → ℕ → Type 0
   has_given = HasGiven step fails is_closed is_finished inbound_makes outbound_makes eager names peer role
@@ -178,21 +181,23 @@ module _ {P H : Type 0} (step : H → HandlerCall → H → Type 0) (fails : H �
     pub fails_by : (log : List (Entry H)) (n number : ℕ) (there : is_there log n) (handler : H) (request : Asked)
         → handler_of there.stream.stage ≡ Some handler
         → asked_with log n there.so_far there.stream.waiting request
-        → in_turn there.stream.stage there.so_far.ended handler request → fails handler request number
+        → in_turn log n there.stream.stage there.so_far.ended handler request → fails handler request number
         → (is_talking there.stream.stage ≡ true → agreed role log n ≡ None)
         → (is_talking there.stream.stage ≡ false → agreed role log n ≢ None) → handler_fails log n number
     pub fails_by_is : (log : List (Entry H)) (n number : ℕ) → handler_fails log n number → (there : is_there log n)
         × (handler : H) × (request : Asked) × (handler_of there.stream.stage ≡ Some handler)
         × asked_with log n there.so_far there.stream.waiting request
-        × in_turn there.stream.stage there.so_far.ended handler request × fails handler request number
+        × in_turn log n there.stream.stage there.so_far.ended handler request × fails handler request number
         × (is_talking there.stream.stage ≡ true → agreed role log n ≡ None)
         × (is_talking there.stream.stage ≡ false → agreed role log n ≢ None)
-    pub takes_in_turn : (stage : Stage H) (ended : Bool) (handler : H) (bytes : List ℕ)
-        → in_turn stage ended handler (ToTake bytes) ↔ ((stage ≡ stages.Serving handler) × (ended ≡ false))
-    pub ends_in_turn : (stage : Stage H) (ended : Bool) (handler : H)
-        → in_turn stage ended handler ToEnd ↔ ((stage ≡ stages.Serving handler) × (ended ≡ false))
-    pub gives_in_turn : (stage : Stage H) (ended : Bool) (handler : H) (room : ℕ)
-        → in_turn stage ended handler (ToGive room) ↔ (is_closed handler ≡ false)
+    pub takes_in_turn : (log : List (Entry H)) (n : ℕ) (stage : Stage H) (ended : Bool) (handler : H) (bytes : List ℕ)
+        → in_turn log n stage ended handler (ToTake bytes) ↔ ((stage ≡ stages.Serving handler) × (ended ≡ false)
+        × ((is_finished handler ≡ false) ⊎ HasJustAgreed n log))
+    pub ends_in_turn : (log : List (Entry H)) (n : ℕ) (stage : Stage H) (ended : Bool) (handler : H)
+        → in_turn log n stage ended handler ToEnd
+        ↔ ((stage ≡ stages.Serving handler) × (ended ≡ false) × (is_finished handler ≡ false))
+    pub gives_in_turn : (log : List (Entry H)) (n : ℕ) (stage : Stage H) (ended : Bool) (handler : H) (room : ℕ)
+        → in_turn log n stage ended handler (ToGive room) ↔ (is_closed handler ≡ false)
     pub heard : (log : List (Entry H)) (n : ℕ) (stream : Streaming H)
         → held_by step is_closed is_finished names role log n (inbound role (items log) n)
         (end_was_told role (items log) n) stream → has_finished is_finished stream.stage ≡ false → has_heard log n
@@ -220,20 +225,25 @@ module _ {P H : Type 0} (step : H → HandlerCall → H → Type 0) (fails : H �
         × (is_finished handler ≡ true)
         × (is_live role (items log) n ≡ true → closed role (items log) n ≡ false → is_closed handler ≡ false
         → so_far.left ≡ Some (credit role (items log) n))
-    pub given : (log : List (Entry H)) (n : ℕ) (there : is_there log n) → there.stream.waiting ≡ []
-        → (has_closed is_closed there.stream.stage ≡ true) ⊎ ((has_finished is_finished there.stream.stage ≡ true)
-        × (there.so_far.left ≡ Some (credit role (items log) n)))
+    pub gave : (log : List (Entry H)) (n : ℕ) (there : is_there log n)
+        → inbound role (items log) n ≡ there.so_far.got → there.stream.waiting ≡ []
+        → (is_open is_closed there.stream.stage ≡ true → there.so_far.left ≡ Some (credit role (items log) n))
         → (was_handed_out there.stream.stage ≡ true → was_done role log n ≡ true)
-        → is_over role log n ≡ was_done role log n → has_given log n
-    pub given_is : (log : List (Entry H)) (n : ℕ) → has_given log n → (there : is_there log n)
-        × (there.stream.waiting ≡ [])
-        × ((has_closed is_closed there.stream.stage ≡ true) ⊎ ((has_finished is_finished there.stream.stage ≡ true)
-        × (there.so_far.left ≡ Some (credit role (items log) n))))
+        → is_over role log n ≡ was_done role log n → gave_all log n
+    pub gave_is : (log : List (Entry H)) (n : ℕ) → gave_all log n → (there : is_there log n)
+        × (inbound role (items log) n ≡ there.so_far.got) × (there.stream.waiting ≡ [])
+        × (is_open is_closed there.stream.stage ≡ true → there.so_far.left ≡ Some (credit role (items log) n))
         × (was_handed_out there.stream.stage ≡ true → was_done role log n ≡ true)
         × (is_over role log n ≡ was_done role log n)
-    -- a stream that was refused or broken isn't closed
-    pub not_given : (log : List (Entry H)) (n : ℕ) → is_over role log n ≡ true → was_done role log n ≡ false
-        → ¬ has_given log n
+    pub given : (log : List (Entry H)) (n : ℕ) (all : gave_all log n)
+        → (has_closed is_closed all.there.stream.stage ≡ true) ⊎ (has_finished is_finished all.there.stream.stage ≡ true)
+        → has_given log n
+    pub given_is : (log : List (Entry H)) (n : ℕ) → has_given log n → (all : gave_all log n)
+        × ((has_closed is_closed all.there.stream.stage ≡ true)
+        ⊎ (has_finished is_finished all.there.stream.stage ≡ true))
+    -- of a stream that was refused or broken nothing counts as taken, and it isn't closed
+    pub not_gave : (log : List (Entry H)) (n : ℕ) → is_over role log n ≡ true → was_done role log n ≡ false
+        → ¬ gave_all log n × ¬ has_given log n
 
   -- Which entry may stand where: at any list
   pub record AnyDueRows : Type 0 where
@@ -248,7 +258,7 @@ module _ {P H : Type 0} (step : H → HandlerCall → H → Type 0) (fails : H �
         ↔ is_there (Of (Did (Write n pieces)) ∷ log) n
     pub takes : (log : List (Entry H)) (n count : ℕ) → is_due log (Of (Did (Taken n count)))
         ↔ ((count ≡ untaken role (items log) n)
-        × ((0 < credit role (items log) n) ⊎ (closed role (items log) n ≡ true)))
+        × ((closed role (items log) n ≡ true) ⊎ ((0 < credit role (items log) n) × gave_all log n)))
     pub closes : (log : List (Entry H)) (n : ℕ) → is_due log (Of (Did (Close n))) ↔ has_given log n
     pub resets_refused : (log : List (Entry H)) (n m : ℕ)
         → is_due (Says (event.Refused m) ∷ log) (Of (Did (Reset n))) ↔ (m ≡ n)

@@ -31,8 +31,8 @@ use Rattle.conn_log.specs.Turns.{turn, AreInTurn}
 use Rattle.conn_log.specs.Due.{AllDue, told_reset, was_reset, told_end, end_was_told}
 use Rattle.conn_log.specs.Held.{IsHeld, IsAtRest, AreLeft, earlier_of}
 use Rattle.conn_log.specs.Rests.{AreAtRest, AreRested}
-use Rattle.conn_log.specs.Routes.{IsStill, IsNoOpening, EndsLast, set_aside, KeepsTurn, Resets, IsFor, IsMoving, Around}
-use Rattle.conn_log.specs.Routes.{Routes, Comes, Routed, Opening, Awaits, IsUnderWay}
+use Rattle.conn_log.specs.Routes.{IsStill, IsNoOpening, IsNoData, EndsLast, set_aside, KeepsTurn, Resets, IsFor}
+use Rattle.conn_log.specs.Routes.{IsMoving, Around, Routes, Comes, Routed, Opening, Awaits, IsUnderWay}
 use Rattle.conn_log.specs.Making.{MakesOn}
 use Rattle.board.specs.declared.board.Board.{Board}
 use Rattle.board.specs.Boards.{Keeps, MakesOnBoard}
@@ -50,6 +50,10 @@ pub record AnyRouteToldRows (H : Type 0) : Type 0 where
   pub no_opening : (n m b : ℕ) (fault : Fault) → IsNoOpening n (Told.Accepted m) × IsNoOpening n (Told.Payload m b)
       × IsNoOpening n (Told.Ended m) × IsNoOpening n (Told.Reset m) × IsNoOpening n (Told.Credit m)
       × IsNoOpening n (Told.GoAway m) × IsNoOpening n (Told.Fault fault)
+  pub a_byte_told : (n b : ℕ) → ¬ IsNoData (Told.Payload n b)
+  pub no_data : (n : ℕ) (fault : Fault) → IsNoData (Told.Opened n) × IsNoData (Told.Accepted n)
+      × IsNoData (Told.Ended n) × IsNoData (Told.Reset n) × IsNoData (Told.Credit n) × IsNoData (Told.GoAway n)
+      × IsNoData (Told.Fault fault)
   pub nothing_more : (ended : Bool) → EndsLast ended []
   pub a_byte : (ended : Bool) (m b : ℕ) (rest : List Told) → EndsLast ended (Told.Payload m b ∷ rest)
       ↔ ((ended ≡ false) × EndsLast ended rest)

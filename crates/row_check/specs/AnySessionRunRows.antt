@@ -45,7 +45,7 @@ use Rattle.yamux_session.specs.declared.calls.Act.TheVariants as call
 use Rattle.yamux_session.specs.declared.calls.ActAnswer.{ActAnswer}
 use Rattle.yamux_session.specs.declared.calls.ActAnswer.TheVariants.{Events, Stream, Count, Done, Refused}
 use Rattle.yamux_session.specs.Arrives.{HasData, telling, tellings}
-use Rattle.yamux_session.specs.Naming.{IsAbout, IsNoOpening, NamesOne}
+use Rattle.yamux_session.specs.Naming.{IsAbout, IsNoOpening, IsNoData, NamesOne}
 use Rattle.yamux_session.specs.Joined.{AllBeforeTheEnd, Balance, End, IsDone, IsFed, IsOnTheWay, Joined, NoFault}
 use Rattle.yamux_session.specs.Joined.{NothingIsLost, NothingStandsStill, length_of_data, length_of_update}
 use Rattle.yamux_session.specs.Data.{inbound, written}
@@ -167,6 +167,7 @@ pub record AnyNamedRows : Type 0 where
   pub names : (told : List Event) → NamesOne told → (n : ℕ) × AllByRecursion (IsAbout n) told
       × AllByRecursion IsNoOpening (drop 1 told)
   pub no_opening : (n : ℕ) → ¬ IsNoOpening (event.Opened n)
+  pub data_told : (n : ℕ) (bytes : List ℕ) → ¬ IsNoData (event.Payload n bytes)
   pub no_empty : (n : ℕ) (bytes : List ℕ) → HasData (event.Payload n bytes) → bytes ≢ []
   pub its_data : (n b : ℕ) → data_in n (Told.Payload n b) ≡ b ∷ []
   pub data_of_another : (m n b : ℕ) → m ≢ n → data_in n (Told.Payload m b) ≡ []

@@ -201,6 +201,13 @@ module _ {H : Type 0} (step : H → HandlerCall → H → Type 0) where
 
 module _ {H : Type 0} (step : H → HandlerCall → H → Type 0) (fails : H → Asked → ℕ → Type 0)
     (is_closed is_finished : H → Bool) where
+  -- A stream gave what it has, and this holds of it.
+  abbrev pub Gave : (was_done : Bool) → Role → List Item → ℕ → Past H → (Streaming H → Type 0) → Type 0
+  Gave was_done role past n so_far fact = (stream : Streaming H) × (left : Option ℕ)
+      × Stands step stream (with_sent role past n so_far left) × (stream.waiting ≡ [])
+      × (is_open is_closed stream.stage ≡ true → left ≡ Some (credit role past n))
+      × (was_handed_out stream.stage ≡ true → was_done ≡ true) × fact stream
+
   -- Serving a stream: these facts, and no others
   pub record AnyServingRows (was_done : Bool) : Type 0 where
     pub sent : (role : Role) (past : List Item) (n : ℕ) (so_far : Past H) (left : Option ℕ)
@@ -218,13 +225,12 @@ module _ {H : Type 0} (step : H → HandlerCall → H → Type 0) (fails : H →
         × Stands step stream (with_sent role (Did (Write m pieces) ∷ past) n so_far left)))
     pub takes : (role : Role) (past : List Item) (n m count : ℕ) (so_far : Past H)
         → IsDue step is_closed is_finished was_done role past n so_far (Taken m count) ↔ ((m ≡ n)
-        × (count ≡ untaken role past n) × ((0 < credit role past n) ⊎ (closed role past n ≡ true)))
+        × (count ≡ untaken role past n) × ((closed role past n ≡ true)
+        ⊎ ((0 < credit role past n) × Gave was_done role past n so_far (λ stream. Unit {0}))))
     pub closes : (role : Role) (past : List Item) (n m : ℕ) (so_far : Past H)
-        → IsDue step is_closed is_finished was_done role past n so_far (Close m) ↔ ((m ≡ n) × ((stream : Streaming H)
-        × (left : Option ℕ) × Stands step stream (with_sent role past n so_far left) × (stream.waiting ≡ [])
-        × ((has_closed is_closed stream.stage ≡ true)
-        ⊎ ((has_finished is_finished stream.stage ≡ true) × (left ≡ Some (credit role past n))))
-        × (was_handed_out stream.stage ≡ true → was_done ≡ true)))
+        → IsDue step is_closed is_finished was_done role past n so_far (Close m) ↔ ((m ≡ n)
+        × Gave was_done role past n so_far (λ stream.
+        (has_closed is_closed stream.stage ≡ true) ⊎ (has_finished is_finished stream.stage ≡ true)))
     pub does_nothing_else : (role : Role) (past : List Item) (n m code : ℕ) (so_far : Past H)
         → ¬ IsDue step is_closed is_finished was_done role past n so_far (Start m)
         × ¬ IsDue step is_closed is_finished was_done role past n so_far (Reset m)

@@ -33,12 +33,12 @@ use Rattle.yamux_session.specs.declared.heads.Effect.{Effect}
 use Rattle.yamux_session.specs.Acts.{first_own, next_own, remote_go_away, own_count, start_refusal, stream_refusal}
 use Rattle.yamux_session.specs.Acts.{direction_refusal, IsRefusedFor, longest_piece, IsPiece, Carries, frames_length}
 use Rattle.yamux_session.specs.Acts.{IsAnswered, AreAnswered, open_credit}
-use Rattle.yamux_session.specs.Arrives.{telling, tellings, HasData, added, Extends, Tells, told_of_tail, written_header}
-use Rattle.yamux_session.specs.Arrives.{began, IsFaultOnly, Arrives}
+use Rattle.yamux_session.specs.Arrives.{telling, tellings, HasData, added, AddsNoData, AddsDataFirst, Tells}
+use Rattle.yamux_session.specs.Arrives.{told_of_tail, written_header, began, IsFaultOnly, Arrives}
 use Rattle.yamux_session.specs.Heads.{charged, row_fault, HeadDone, IsHeadRefused, IsNotTaken, told_of}
 use Rattle.yamux_session.specs.Table.{Table, table_of, row_at, is_taker, Rewrites, Forgets, opened, Opens}
 use Rattle.yamux_session.specs.Keeps.{IsRow, IsRowAt, Keeps}
-use Rattle.yamux_session.specs.Naming.{IsAbout, IsNoOpening, NamesOne}
+use Rattle.yamux_session.specs.Naming.{IsAbout, IsNoOpening, IsNoData, NamesOne}
 use Rattle.yamux_session.specs.declared.event.Event.TheVariants as event
 use Rattle.yamux_session.specs.declared.event.ActRefused.TheVariants as refused
 use Rattle.yamux_session.specs.declared.arrivals.TailEffect.TheVariants as tail
@@ -122,7 +122,10 @@ pub record DefinedArrivesRows : Type 0 where
       × HasData (event.Ended n) × HasData (event.Reset n) × HasData (event.Credit n) × HasData (event.GoAway code)
       × HasData (event.Fault why)
   pub put_behind : (said also : List Event) → added said also ≡ drop (length said) also
-  pub extends : (said also : List Event) → Extends said also ↔ ((more : List Event) × (also ≡ said ++ more))
+  pub adds_no_data : (said also : List Event) → AddsNoData said also
+      ↔ ((more : List Event) × (also ≡ said ++ more) × AllByRecursion IsNoData more)
+  pub adds_data_first : (said also : List Event) → AddsDataFirst said also
+      ↔ ((more : List Event) × (also ≡ said ++ more) × AllByRecursion IsNoData (drop 1 more))
   pub adds_says : (said also : List Event) (told : List Told) (r : Tells said also told)
       → (also ≡ said ++ r.more) × (tellings r.more ≡ told) × AllByRecursion HasData r.more
   pub adds_is : (said also : List Event) (told : List Told) (more : List Event) → also ≡ said ++ more
@@ -148,6 +151,10 @@ pub record DefinedArrivesRows : Type 0 where
       → (¬ IsNoOpening (event.Opened n)) × IsNoOpening (event.Accepted n) × IsNoOpening (event.Payload n bytes)
       × IsNoOpening (event.Ended n) × IsNoOpening (event.Reset n) × IsNoOpening (event.Credit n)
       × IsNoOpening (event.GoAway code) × IsNoOpening (event.Fault why)
+  pub tells_no_data : (n : ℕ) (bytes : List ℕ) (code : ℕ) (why : Fault)
+      → (¬ IsNoData (event.Payload n bytes)) × IsNoData (event.Opened n) × IsNoData (event.Accepted n)
+      × IsNoData (event.Ended n) × IsNoData (event.Reset n) × IsNoData (event.Credit n)
+      × IsNoData (event.GoAway code) × IsNoData (event.Fault why)
   pub names_one_says : (said : List Event) (r : NamesOne said)
       → AllByRecursion (IsAbout r.stream) said × AllByRecursion IsNoOpening (drop 1 said)
   pub names_one_is : (said : List Event) (stream : ℕ) → AllByRecursion (IsAbout stream) said

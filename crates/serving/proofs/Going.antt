@@ -19,7 +19,7 @@ use Rattle.streams.specs.declared.stage.Stage.{Stage}
 use Rattle.streams.specs.declared.stage.Stage.TheVariants as stages
 use Rattle.streams.specs.Streams.{Past, IsServed}
 use Rattle.streams.specs.State.{Streaming, Stands, StandsAt, is_open, has_closed, has_finished, was_handed_out}
-use Rattle.serving.specs.Served.{Goes, HasGiven, HandsOut, Serves, with_sent}
+use Rattle.serving.specs.Served.{Goes, GaveAll, HasGiven, HandsOut, Serves, with_sent}
 use Rattle.serving.specs.Steps.{Sends, WasAsked, WasClosed, Closes, Counts}
 use Rattle.serving.proofs.Acts.{taken_keeps, none_left, has_written, is_closed_then, closing_writes_nothing}
 use Rattle.serving.proofs.Refusals.{open_with, not_open, not_used_up, some_left, nothing_left}
@@ -175,26 +175,53 @@ module _ {H : Type 0} (step : H → HandlerCall → H → Type 0) (is_closed is_
     pub both : (waiting : List ℕ) (stage : Bool) → (length waiting == 0) && stage ≡ true → (waiting ≡ []) × (stage ≡ true)
     both waiting stage e = let it = both_by (length waiting == 0) stage e in (is_empty waiting it.0, it.1)
 
-    -- a handler that is handed out was held before, and finished
-    has_given : (role : Role) (now : List Item) (n : ℕ) (so_far : Past H) (left : Option ℕ) (handler : Option H) (x : Streaming H)
+    open_by : (b : Bool) → not b ≡ true → b ≡ false
+    open_by true e = absurd (cc e)
+    open_by false e = refl
+
+    -- a handler that is handed out was held before
+    gave_all : (role : Role) (now : List Item) (n : ℕ) (so_far : Past H) (left : Option ℕ) (handler : Option H) (x : Streaming H)
         → HandsOut step is_closed is_finished (with_sent role now n so_far left) handler x
         → (handler ≡ None → was_handed_out x.stage ≡ true → was_done ≡ true)
         → IfSome handler (λ it. is_closed it ≡ false → left ≡ Some (credit role now n))
-        → Stands step x (with_sent role now n so_far left) → x.waiting ≡ [] → has_closed is_closed x.stage ≡ true
-        → HasGiven step is_closed is_finished was_done role now n so_far
-    has_given role now n so_far left None x out out_before asked_last stands none over =
-        record { stream = x; left = left; stands = stands; none_waits = none; over = inl over; out_before = out_before refl }
-    has_given role now n so_far left (Some it) x out out_before asked_last stands none over = record {
+        → Stands step x (with_sent role now n so_far left) → x.waiting ≡ []
+        → (is_open is_closed x.stage ≡ true → left ≡ Some (credit role now n))
+        → GaveAll step is_closed is_finished was_done role now n so_far
+    gave_all role now n so_far left None x out out_before asked_last stands none asked =
+        record { stream = x; left = left; stands = stands; none_waits = none; asked = asked; out_before = out_before refl }
+    gave_all role now n so_far left (Some it) x out out_before asked_last stands none asked = record {
       stream = record { waiting = x.waiting; stage = stages.Serving it };
       left = left;
       stands = out.0.0;
       none_waits = none;
-      over = by_closed (is_closed it) refl;
+      asked = λ open_still. asked_last (open_by (is_closed it) open_still);
       out_before = λ done. absurd (cc done);
-    } where
-      by_closed : (b : Bool) → is_closed it ≡ b → (is_closed it ≡ true) ⊎ ((is_finished it ≡ true) × (left ≡ Some (credit role now n)))
+    }
+
+    -- and finished
+    has_given : (role : Role) (now : List Item) (n : ℕ) (so_far : Past H) (left : Option ℕ) (handler : Option H) (x : Streaming H)
+        → HandsOut step is_closed is_finished (with_sent role now n so_far left) handler x
+        → (handler ≡ None → was_handed_out x.stage ≡ true → was_done ≡ true)
+        → IfSome handler (λ it. is_closed it ≡ false → left ≡ Some (credit role now n))
+        → Stands step x (with_sent role now n so_far left) → x.waiting ≡ []
+        → (is_open is_closed x.stage ≡ true → left ≡ Some (credit role now n)) → has_closed is_closed x.stage ≡ true
+        → HasGiven step is_closed is_finished was_done role now n so_far
+    unfolding gave_all
+    has_given role now n so_far left None x out out_before asked_last stands none asked over =
+        record { all = gave_all role now n so_far left None x out out_before asked_last stands none asked; over = inl over }
+    has_given role now n so_far left (Some it) x out out_before asked_last stands none asked over =
+        record { all = gave_all role now n so_far left (Some it) x out out_before asked_last stands none asked; over = inr out.0.1 }
+
+    -- what came may be taken
+    may_take : (role : Role) (now : List Item) (n : ℕ) (so_far : Past H) → (0 < credit role now n) ⊎ (closed role now n ≡ true)
+        → (closed role now n ≡ false → 0 < credit role now n → GaveAll step is_closed is_finished was_done role now n so_far)
+        → (closed role now n ≡ true) ⊎ ((0 < credit role now n) × GaveAll step is_closed is_finished was_done role now n so_far)
+    may_take role now n so_far (inr shut) gave = inl shut
+    may_take role now n so_far (inl some) gave = by_closed (closed role now n) refl where
+      by_closed : (b : Bool) → closed role now n ≡ b
+          → (closed role now n ≡ true) ⊎ ((0 < credit role now n) × GaveAll step is_closed is_finished was_done role now n so_far)
       by_closed true is = inl is
-      by_closed false is = inr (out.0.1, asked_last is)
+      by_closed false is = inr (some, gave is some)
 
     pub was_closed : (role : Role) (past : List Item) (fed sent : List ℕ) (n : ℕ) (so_far : Past H) (handler : Option H) (before session : State) (x : Streaming H)
         → (a : WasAsked step is_closed is_finished was_done role past fed sent n so_far before x)
@@ -237,7 +264,7 @@ module _ {H : Type 0} (step : H → HandlerCall → H → Type 0) (is_closed is_
               (
                 refl,
                 subst (λ (t : List Item). HasGiven step is_closed is_finished was_done role t n so_far) a.goes.now_is
-                    (has_given role a.goes.now n so_far a.goes.left handler x out out_before (asked_last live unclosed) a.goes.stream_stands given.0 given.1),
+                    (has_given role a.goes.now n so_far a.goes.left handler x out out_before (asked_last live unclosed) a.goes.stream_stands given.0 (a.asked live unclosed) given.1),
               ),
               a.goes.due,
             );
@@ -266,9 +293,10 @@ module _ {H : Type 0} (step : H → HandlerCall → H → Type 0) (is_closed is_
     -- and what came was counted as taken
     pub was_settled : (role : Role) (past : List Item) (fed sent : List ℕ) (n : ℕ) (so_far : Past H) (handler : Option H) (before session : State) (x : Streaming H)
         → (a : WasClosed step is_closed is_finished was_done role past fed sent n so_far handler before x)
+        → (handler ≡ None → was_handed_out x.stage ≡ true → was_done ≡ true)
         → Counts role a.goes.now fed sent n before session
         → Serves step is_closed is_finished was_done role past fed sent n so_far handler session x
-    was_settled role past fed sent n so_far handler before session x a (inl (same, why)) = record {
+    was_settled role past fed sent n so_far handler before session x a out_before (inl (same, why)) = record {
       goes = record {
         acts = a.goes.acts;
         now = a.goes.now;
@@ -291,7 +319,7 @@ module _ {H : Type 0} (step : H → HandlerCall → H → Type 0) (is_closed is_
           → (0 < credit role a.goes.now n) ⊎ (closed role a.goes.now n ≡ true) → untaken role a.goes.now n ≡ 0
       by_why (inl none) live some = absurd (nothing_left role a.goes.now n none some)
       by_why (inr dead) live some = absurd (not_both live dead)
-    was_settled role past fed sent n so_far handler before session x a (inr (not_none, live, at)) =
+    was_settled role past fed sent n so_far handler before session x a out_before (inr (not_none, live, at)) =
         let count = untaken role a.goes.now n in
         let now = Did (Taken n count) ∷ a.goes.now in
         let k = taken_keeps acts_do acts_move role a.goes.now n count in
@@ -301,7 +329,13 @@ module _ {H : Type 0} (step : H → HandlerCall → H → Type 0) (is_closed is_
             now = now;
             now_is = ap (λ (t : List Item). Did (Taken n count) ∷ t) a.goes.now_is;
             due = (
-              (refl, ap (λ (t : List Item). untaken role t n) a.goes.now_is, subst (λ (t : List Item). (0 < credit role t n) ⊎ (closed role t n ≡ true)) a.goes.now_is (some_left role a.goes.now n not_none live)),
+              (
+                refl,
+                ap (λ (t : List Item). untaken role t n) a.goes.now_is,
+                subst (λ (t : List Item). (closed role t n ≡ true) ⊎ ((0 < credit role t n) × GaveAll step is_closed is_finished was_done role t n so_far)) a.goes.now_is
+                    (may_take role a.goes.now n so_far (some_left role a.goes.now n not_none live) (λ unclosed some.
+                    gave_all role a.goes.now n so_far a.goes.left handler x a.handed_out out_before (a.asked_last live unclosed) a.goes.stream_stands (a.none_waits live unclosed some) (a.asked live unclosed))),
+              ),
               a.goes.due,
             );
             session_stands = at;

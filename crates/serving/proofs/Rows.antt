@@ -1,5 +1,5 @@
 -- The worked rows of serving.
-use Rattle.std.proofs.Common.{◌≡◌, ◌⊎◌, ℕ, ◌<◌, Bool, true, false, List, [], ◌∷◌, ◌++◌, Option, Some, None, refl, sym, ◌∙◌, subst, inl, inr, arith}
+use Rattle.std.proofs.Common.{◌≡◌, ◌⊎◌, ℕ, ◌<◌, Bool, true, false, not, List, [], ◌∷◌, ◌++◌, Option, Some, None, refl, sym, ap, ◌∙◌, subst, inl, inr, arith}
 use Rattle.std.specs.Prelude.{IfSome}
 use Rattle.ms_select.specs.Rows.{header_bytes, y_bytes}
 use Rattle.handlers.specs.Calls.{HandlerCall, Take, Give, ToGive, Arises}
@@ -13,11 +13,11 @@ use Rattle.streams.specs.declared.stage.Stage.{Stage}
 use Rattle.streams.specs.declared.stage.Stage.TheVariants as stages
 use Rattle.streams.specs.Handled.{AskedLast}
 use Rattle.streams.specs.Streams.{Past, HasAgreed}
-use Rattle.streams.specs.State.{StandsAt, has_closed, has_finished, was_handed_out}
+use Rattle.streams.specs.State.{StandsAt, is_open, has_closed, has_finished, was_handed_out}
 use Rattle.talks.proofs.Rows.{answer_rows}
 use Rattle.streams.proofs.Rows.{something_waits, sends_its_talk}
-use Rattle.serving.specs.Served.{MayGrow, with_sent}
-use Rattle.serving.specs.Rows.{any_step, itself, never, Stays, Unasked, came_behind, unsent, unsent_with, talk_sent, DueRows, WriteRows, CloseRows, HandRows, SettledRows, RefusalRows, taken}
+use Rattle.serving.specs.Served.{MayGrow, GaveAll, with_sent}
+use Rattle.serving.specs.Rows.{any_step, itself, never, Stays, Unasked, came_behind, unsent, unsent_with, talk_sent, DueRows, WriteRows, CloseRows, TakeRows, HandRows, SettledRows, RefusalRows, taken}
 
 -- ---- what is due
 
@@ -25,14 +25,17 @@ no_credit : (0 < credit Client all_written 1) ⊎ (closed Client all_written 1 �
 no_credit (inl some) = let none : credit Client all_written 1 ≡ 0 = refl in omega (arith, some, none)
 no_credit (inr shut) = let unclosed : closed Client all_written 1 ≡ false = refl in absurd (let e : true ≡ false = sym shut ∙ unclosed in cc e)
 
+by_credit : {A B C : Type 0} → A ⊎ (B × C) → B ⊎ A
+by_credit (inl shut) = inr shut
+by_credit (inr some) = inl some.0
+
 pub due_rows : (so_far : Past Bool) → DueRows so_far
 due_rows so_far = record {
   written_on_another = λ d. absurd (cc d.0);
-  all_taken = (refl, refl, inl (omega arith));
   part_taken = λ d. absurd (cc d.1);
   taken_of_another = λ d. absurd (cc d.0);
-  without_credit = λ d. no_credit d.2;
-  closed_without_credit = (refl, refl, inr refl);
+  without_credit = λ d. no_credit (by_credit d.2);
+  closed_without_credit = (refl, refl, inl refl);
   closed_another = λ d. absurd (cc d.0);
   opened = λ d. d;
   reset = λ d. d;
@@ -78,20 +81,17 @@ write_rows = record {
 }
 
 -- a stream that has sent nothing of its talk gives more
-gives_more : (stage : Stage Bool) (waiting : List ℕ) (left : Option ℕ) → StandsAt any_step stage (with_sent Server two_bytes 1 unsent left) waiting → waiting ≡ []
-    → (has_closed itself stage ≡ true) ⊎ ((has_finished itself stage ≡ true) × (left ≡ Some (credit Server two_bytes 1))) → ⊥
-gives_more (stages.Talking talk None) waiting left s none (inl over) = absurd (cc over)
-gives_more (stages.Talking talk None) waiting left s none (inr over) = absurd (let e = over.0 in cc e)
-gives_more (stages.Talking talk (Some handler)) waiting left s none over = s.early.0
-gives_more (stages.Agreed index) waiting left s none (inl over) = absurd (cc over)
-gives_more (stages.Agreed index) waiting left s none (inr over) = absurd (let e = over.0 in cc e)
-gives_more (stages.Serving handler) waiting left s none over =
+gives_more : (stage : Stage Bool) (waiting : List ℕ) (left : Option ℕ) → StandsAt any_step stage (with_sent Server two_bytes 1 unsent left) waiting → waiting ≡ [] → ⊥
+gives_more (stages.Talking talk None) waiting left s none = absurd (let e = s.early.0 in cc e)
+gives_more (stages.Talking talk (Some handler)) waiting left s none = s.early.0
+gives_more (stages.Agreed index) waiting left s none = absurd (let e = s.none_made in cc e)
+gives_more (stages.Serving handler) waiting left s none =
     let past = with_sent Server two_bytes 1 unsent left in
     something_waits past s.index s.rest s.gave refl refl refl (subst (λ (t : List ℕ). HasAgreed past s.index s.rest s.gave t) none s.agreed)
-gives_more stages.Done waiting left s none over =
+gives_more stages.Done waiting left s none =
     let past = with_sent Server two_bytes 1 unsent left in
     something_waits past s.index (s.front ++ s.rest) s.gave refl refl refl (subst (λ (t : List ℕ). HasAgreed past s.index (s.front ++ s.rest) s.gave t) none s.agreed)
-gives_more stages.Over waiting left s none over = s
+gives_more stages.Over waiting left s none = s
 
 -- all of the talk was sent
 agreed_with : (handler : Bool) → HasAgreed (with_sent Server talk_sent 1 (unsent_with handler) None) 1 (1 ∷ 2 ∷ []) [] []
@@ -152,6 +152,10 @@ stays_on : (made value : Bool) (calls : List HandlerCall) → Arises Stays made 
 stays_on made value [] a = sym a
 stays_on made value (call ∷ calls) (mid, same, a) = stays_on mid value calls a ∙ same
 
+stays_unasked : (made value : Bool) (calls : List HandlerCall) → Arises Unasked made calls value → value ≡ made
+stays_unasked made value [] a = sym a
+stays_unasked made value (call ∷ calls) (mid, (same, is), a) = stays_unasked mid value calls a ∙ same
+
 -- one that was never asked was not asked last
 never_asked : (made value : Bool) (before : List HandlerCall) (room : ℕ) (bytes : List ℕ) → Arises Unasked made (before ++ Give room bytes ∷ []) value → ⊥
 never_asked made value [] room bytes (mid, (same, is), a) = absurd (cc is)
@@ -169,47 +173,93 @@ both_ways on off = absurd (let e : true ≡ false = sym on ∙ off in cc e)
 
 -- a handler that is neither closed nor finished, and wasn't handed out, may give more
 serves_on : (stage : Stage Bool) (waiting : List ℕ) (left : Option ℕ) → StandsAt Stays stage (with_sent Server talk_sent 1 (unsent_with false) left) waiting
-    → (has_closed itself stage ≡ true) ⊎ ((has_finished itself stage ≡ true) × (left ≡ Some (credit Server talk_sent 1))) → (was_handed_out stage ≡ true → false ≡ true) → ⊥
-serves_on (stages.Talking talk None) waiting left s (inl over) out = absurd (cc over)
-serves_on (stages.Talking talk None) waiting left s (inr over) out = absurd (let e = over.0 in cc e)
+    → (has_closed itself stage ≡ true) ⊎ (has_finished itself stage ≡ true) → (was_handed_out stage ≡ true → false ≡ true) → ⊥
+serves_on (stages.Talking talk None) waiting left s over out = absurd (let e = s.early.0 in cc e)
 serves_on (stages.Talking talk (Some handler)) waiting left s over out = s.early.0
-serves_on (stages.Agreed index) waiting left s (inl over) out = absurd (cc over)
-serves_on (stages.Agreed index) waiting left s (inr over) out = absurd (let e = over.0 in cc e)
+serves_on (stages.Agreed index) waiting left s over out = absurd (let e = s.none_made in cc e)
 serves_on (stages.Serving handler) waiting left s over out = by_either over where
   unclosed : handler ≡ false
   unclosed = stays_on s.made handler s.handled.was_handed.calls s.handled.was_handed.arises ∙ sym (made_of s.made_is)
 
-  by_either : (handler ≡ true) ⊎ ((handler ≡ true) × (left ≡ Some (credit Server talk_sent 1))) → ⊥
+  by_either : (handler ≡ true) ⊎ (handler ≡ true) → ⊥
   by_either (inl over) = both_ways over unclosed
-  by_either (inr over) = both_ways over.0 unclosed
+  by_either (inr over) = both_ways over unclosed
 serves_on stages.Done waiting left s over out = absurd (let e = out refl in cc e)
 serves_on stages.Over waiting left s over out = s
 
--- nor is one finished that may have more to give
-may_give : (stage : Stage Bool) (waiting : List ℕ) (left : Option ℕ) → StandsAt Unasked stage (with_sent Server talk_sent 1 (unsent_with true) left) waiting
-    → (has_closed never stage ≡ true) ⊎ ((has_finished itself stage ≡ true) × (left ≡ Some (credit Server talk_sent 1))) → (was_handed_out stage ≡ true → false ≡ true) → ⊥
-may_give (stages.Talking talk None) waiting left s (inl over) out = absurd (cc over)
-may_give (stages.Talking talk None) waiting left s (inr over) out = absurd (let e = over.0 in cc e)
-may_give (stages.Talking talk (Some handler)) waiting left s over out = s.early.0
-may_give (stages.Agreed index) waiting left s (inl over) out = absurd (cc over)
-may_give (stages.Agreed index) waiting left s (inr over) out = absurd (let e = over.0 in cc e)
-may_give (stages.Serving handler) waiting left s (inl over) out = absurd (cc over)
-may_give (stages.Serving handler) waiting left s (inr over) out =
+-- nor did one give what it has that is open, and was never asked
+may_give : (closed : Bool → Bool) (made : Bool) → closed made ≡ false → (stage : Stage Bool) (waiting : List ℕ) (left : Option ℕ)
+    → StandsAt Unasked stage (with_sent Server talk_sent 1 (unsent_with made) left) waiting
+    → (is_open closed stage ≡ true → left ≡ Some (credit Server talk_sent 1)) → (was_handed_out stage ≡ true → false ≡ true) → ⊥
+may_give closed made unclosed (stages.Talking talk None) waiting left s asked out = absurd (let e = s.early.0 in cc e)
+may_give closed made unclosed (stages.Talking talk (Some handler)) waiting left s asked out = s.early.0
+may_give closed made unclosed (stages.Agreed index) waiting left s asked out = absurd (let e = s.none_made in cc e)
+may_give closed made unclosed (stages.Serving handler) waiting left s asked out =
+    let same : handler ≡ made = stays_unasked s.made handler s.handled.was_handed.calls s.handled.was_handed.arises ∙ sym (made_of s.made_is) in
+    let open_still : not (closed handler) ≡ true = ap (λ b. not (closed b)) same ∙ ap not unclosed in
     asked_never s.made handler s.handled.was_handed.calls (credit Server talk_sent 1) s.handled.was_handed.arises
-    (subst (λ (l : Option ℕ). IfSome l (AskedLast s.handled.was_handed.calls)) over.1 s.handled.asked)
-may_give stages.Done waiting left s over out = absurd (let e = out refl in cc e)
-may_give stages.Over waiting left s over out = s
+    (subst (λ (l : Option ℕ). IfSome l (AskedLast s.handled.was_handed.calls)) (asked open_still) s.handled.asked)
+may_give closed made unclosed stages.Done waiting left s asked out = absurd (let e = out refl in cc e)
+may_give closed made unclosed stages.Over waiting left s asked out = s
+
+-- those that gave what they have
+closed_gave : GaveAll Unasked itself never false Server talk_sent 1 (unsent_with true)
+closed_gave = record {
+  stream = record { waiting = []; stage = stages.Serving true };
+  left = None;
+  stands = unasked_with true;
+  none_waits = refl;
+  asked = λ open_still. absurd (cc open_still);
+  out_before = λ out. absurd (cc out);
+}
+
+asked_gave : (closed finished : Bool → Bool) (handler : Bool) → GaveAll Stays closed finished false Server talk_sent 1 (unsent_with handler)
+unfolding left_then
+asked_gave closed finished handler = record {
+  stream = record { waiting = []; stage = stages.Serving handler };
+  left = Some left_then;
+  stands = asked_with handler;
+  none_waits = refl;
+  asked = λ open_still. refl;
+  out_before = λ out. absurd (cc out);
+}
+
+out_gave : (closed : Bool → Bool) → GaveAll Unasked closed never true Server talk_sent 1 (unsent_with false)
+out_gave closed = record {
+  stream = record { waiting = []; stage = stages.Done };
+  left = None;
+  stands = done_with_it false;
+  none_waits = refl;
+  asked = λ open_still. absurd (cc open_still);
+  out_before = λ out. refl;
+}
 
 pub close_rows : CloseRows
-unfolding left_then
+unfolding closed_gave asked_gave out_gave
 close_rows = record {
-  waiting = λ d. let given = d.1 in gives_more given.stream.stage given.stream.waiting given.left given.stands given.none_waits given.over;
-  closed = (refl, record { stream = record { waiting = []; stage = stages.Serving true }; left = None; stands = unasked_with true; none_waits = refl; over = inl refl; out_before = λ out. absurd (cc out) });
-  finished = (refl, record { stream = record { waiting = []; stage = stages.Serving true }; left = Some left_then; stands = asked_with true; none_waits = refl; over = inr (refl, refl); out_before = λ out. absurd (cc out) });
-  finished_unasked = λ d. let given = d.1 in may_give given.stream.stage given.stream.waiting given.left given.stands given.over given.out_before;
-  handed_out = (refl, record { stream = record { waiting = []; stage = stages.Done }; left = None; stands = done_with_it false; none_waits = refl; over = inl refl; out_before = λ out. refl });
-  serving = λ d. let given = d.1 in serves_on given.stream.stage given.stream.waiting given.left given.stands given.over given.out_before;
+  waiting = λ d. let all = d.1.all in gives_more all.stream.stage all.stream.waiting all.left all.stands all.none_waits;
+  closed = (refl, record { all = closed_gave; over = inl refl });
+  finished = (refl, record { all = asked_gave never itself true; over = inr refl });
+  finished_unasked = λ d. let all = d.1.all in may_give never true refl all.stream.stage all.stream.waiting all.left all.stands all.asked all.out_before;
+  handed_out = (refl, record { all = out_gave never; over = inl refl });
+  serving = λ d. let all = d.1.all in serves_on all.stream.stage all.stream.waiting all.left all.stands d.1.over all.out_before;
 }
+
+pub take_rows : TakeRows
+unfolding left_then
+take_rows = record {
+  waiting = λ d. by_gave gives_nothing d.2;
+  closed = (refl, refl, inr (omega arith, closed_gave));
+  asked = (refl, refl, inr (omega arith, asked_gave itself never false));
+  unasked = λ d. by_gave (λ all. may_give itself false refl all.stream.stage all.stream.waiting all.left all.stands all.asked all.out_before) d.2;
+  handed_out = (refl, refl, inr (omega arith, out_gave itself));
+} where
+  gives_nothing : GaveAll any_step itself itself false Server two_bytes 1 unsent → ⊥
+  gives_nothing all = gives_more all.stream.stage all.stream.waiting all.left all.stands all.none_waits
+
+  by_gave : {B C : Type 0} → (C → ⊥) → (false ≡ true) ⊎ (B × C) → ⊥
+  by_gave not_given (inl shut) = absurd (cc shut)
+  by_gave not_given (inr gave) = not_given gave.1
 
 pub hand_rows : (so_far : Past Bool) → HandRows so_far
 hand_rows so_far = record {

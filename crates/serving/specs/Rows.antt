@@ -27,10 +27,9 @@ any_step old call new = Unit {0}
 abbrev pub Due : Past Bool → Role → List Item → Act → Type 0
 Due so_far role past act = IsDue any_step itself itself false role past 1 so_far act
 
--- which acts serve the stream: all that came is taken, while there is credit or once this direction is closed
+-- which acts serve the stream, whatever came of it
 pub record DueRows (so_far : Past Bool) : Type 0 where
   pub written_on_another : ¬ Due so_far Server two_bytes (Write 3 ((7 ∷ []) ∷ []))
-  pub all_taken : Due so_far Server two_bytes (Taken 1 2)
   pub part_taken : ¬ Due so_far Server two_bytes (Taken 1 1)
   pub taken_of_another : ¬ Due so_far Server two_bytes (Taken 3 0)
   pub without_credit : ¬ Due so_far Client all_written (Taken 1 0)
@@ -94,6 +93,20 @@ pub record CloseRows : Type 0 where
   pub finished_unasked : ¬ MayClose Unasked never itself false true
   pub handed_out : MayClose Unasked never never true false
   pub serving : ¬ MayClose Stays itself itself false false
+
+-- whether what came may count as taken then
+abbrev pub MayTake : (Bool → HandlerCall → Bool → Type 0) → (closed : Bool → Bool) → (was_done handler : Bool) → Type 0
+MayTake step closed was_done handler =
+    IsDue step closed never was_done Server talk_sent 1 (unsent_with handler) (Taken 1 2)
+
+-- What came is taken where the stream gave what it has: nothing waits, and its handler is closed, or was asked, or was
+-- handed out before.
+pub record TakeRows : Type 0 where
+  pub waiting : ¬ Due unsent Server two_bytes (Taken 1 2)
+  pub closed : MayTake Unasked itself false true
+  pub asked : MayTake Stays itself false false
+  pub unasked : ¬ MayTake Unasked itself false false
+  pub handed_out : MayTake Unasked itself true false
 
 abbrev pub serving_of : List ℕ → Bool → Streaming Bool
 serving_of waiting handler = record { waiting = waiting; stage = Serving handler }

@@ -40,16 +40,20 @@ module _ {H : Type 0} (step : H → HandlerCall → H → Type 0) (is_closed is_
 
 -- Of a stream whose handler was handed out before it was served, or was not.
 module _ {H : Type 0} (step : H → HandlerCall → H → Type 0) (is_closed is_finished : H → Bool) (was_done : Bool) where
-  -- The stream gives no more: nothing waits, and its handler is closed, or finished and was asked last with all the
-  -- credit, or was handed out before.
-  pub record HasGiven (role : Role) (past : List Item) (n : ℕ) (so_far : Past H) : Type 0 where
+  -- The stream gave what it has: nothing waits, and its handler was asked last with all the credit, unless it is closed
+  -- or was handed out before.
+  pub record GaveAll (role : Role) (past : List Item) (n : ℕ) (so_far : Past H) : Type 0 where
     pub stream : Streaming H
     pub left : Option ℕ
     pub stands : Stands step stream (with_sent role past n so_far left)
     pub none_waits : stream.waiting ≡ []
-    pub over : (has_closed is_closed stream.stage ≡ true)
-        ⊎ ((has_finished is_finished stream.stage ≡ true) × (left ≡ Some (credit role past n)))
+    pub asked : is_open is_closed stream.stage ≡ true → left ≡ Some (credit role past n)
     pub out_before : was_handed_out stream.stage ≡ true → was_done ≡ true
+
+  -- It gives no more: its handler is closed, or finished, or was handed out before.
+  pub record HasGiven (role : Role) (past : List Item) (n : ℕ) (so_far : Past H) : Type 0 where
+    pub all : GaveAll role past n so_far
+    pub over : (has_closed is_closed all.stream.stage ≡ true) ⊎ (has_finished is_finished all.stream.stage ≡ true)
 
   -- The stream stands where this is its session's list: what was written on it is what it gave.
   pub record HasSent (role : Role) (past : List Item) (n : ℕ) (so_far : Past H) : Type 0 where
@@ -57,12 +61,13 @@ module _ {H : Type 0} (step : H → HandlerCall → H → Type 0) (is_closed is_
     pub left : Option ℕ
     pub stands : Stands step stream (with_sent role past n so_far left)
 
-  -- Why an act is due that serves the stream: all that came is taken, where credit is left or this direction is closed;
-  -- this direction is closed where the stream gives no more; and what it gives is written.
+  -- Why an act is due that serves the stream: all that came is taken, where this direction is closed, or credit is left
+  -- by a stream that gave what it has; this direction is closed where the stream gives no more; and what it gives is
+  -- written.
   abbrev pub IsDue : Role → List Item → ℕ → Past H → Act → Type 0
   IsDue role past n so_far (Write m pieces) = (m ≡ n) × HasSent role (Did (Write m pieces) ∷ past) n so_far
   IsDue role past n so_far (Taken m count) = (m ≡ n) × (count ≡ untaken role past n)
-      × ((0 < credit role past n) ⊎ (closed role past n ≡ true))
+      × ((closed role past n ≡ true) ⊎ ((0 < credit role past n) × GaveAll role past n so_far))
   IsDue role past n so_far (Close m) = (m ≡ n) × HasGiven role past n so_far
   IsDue role past n so_far (Start m) = ⊥
   IsDue role past n so_far (Reset m) = ⊥

@@ -28,6 +28,21 @@ answers_length side room steps answer (Breaks asks error is same) = let long = a
 answers_length side room steps answer (Moves asks count is same) = let long = ap length is in omega (arith, long)
 answers_length side room steps answer (Fails asks error not is same) = let long = ap length is in omega (arith, long)
 
+answers_shortly : (side : Side) (room : ℕ) (steps : List Step) (answer : Poll (Result ℕ LinkFault)) → Answers side room steps answer → length steps ≤ 2
+answers_shortly side room steps answer (Waits asks is same) = let long = ap length is in omega (arith, long)
+answers_shortly side room steps answer (Breaks asks error is same) = let long = ap length is in omega (arith, long)
+answers_shortly side room steps answer (Moves asks count is same) = let long = ap length is in omega (arith, long)
+answers_shortly side room steps answer (Fails asks error not is same) = let long = ap length is in omega (arith, long)
+
+-- no call takes more than four
+four_at_most : (side : Side) (room : ℕ) (steps : List Step) (answer : Poll (Result ℕ LinkFault)) (may_ask : Bool) → Takes side room steps answer may_ask → length steps ≤ 4
+four_at_most side room steps answer may_ask (Answered times blocked last less some answers is none_asked) =
+    let long = blocked_length side room times blocked some in
+    let few = answers_shortly side room last answer answers in
+    let all = ap length is ∙ length-append blocked last in omega (arith, less, long, few, all)
+four_at_most side room steps answer may_ask (Yields both is may) =
+    let long = blocked_length side room 2 steps both in omega (arith, long)
+
 -- two steps are those of a first try
 first_try : (side : Side) (room : ℕ) (steps : List Step) (answer : Poll (Result ℕ LinkFault)) (may_ask : Bool) → length steps ≤ 2
     → Takes side room steps answer may_ask → Answers side room steps answer × (may_ask ≡ false)
@@ -103,6 +118,7 @@ no_try_rows = record {
   fails_too_soon = λ error blocks. never (ready Reading ∷ tried Reading (Err error) ∷ []) failure false (omega arith) (blocked_fails_not error blocks);
   asks_too_soon = λ error takes.
       let said = (first_try Reading 4 (ready Reading ∷ tried Reading (Err error) ∷ []) Pending true (omega arith) takes).1 in cc said;
+  asks_a_third_time = λ error answer may_ask takes. absurd (let few = four_at_most Reading 4 _ answer may_ask takes in omega (arith, few));
   asks_where_it_waits = λ takes.
       let said = (first_try Reading 4 (Asked Reading Pending false ∷ []) Pending true (omega arith) takes).1 in cc said;
 }

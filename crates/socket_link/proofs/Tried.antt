@@ -8,10 +8,11 @@ use Rattle.socket_link.specs.declared.link.SocketLink.{SocketLink}
 use Rattle.socket_link.specs.Sockets.{LinkMoves}
 
 module _ {S : Type 0} (moves : S → List ℕ → List ℕ → S → Type 0) where
-  pub tried_on : MovesOn moves → (first mid same last : S) (given taken : List ℕ) → moves first [] [] mid → same ≡ mid
-      → moves same given taken last → moves first given taken last
-  tried_on on first mid same last given taken before is behind =
-      on first mid last [] [] given taken before (subst (λ (s : S). moves s given taken last) is behind)
+  -- the socket was asked, and tried
+  pub tried_on : MovesOn moves → (first mid next last : S) (given taken : List ℕ) → moves first [] [] mid → moves mid [] [] next
+      → moves next given taken last → moves first given taken last
+  tried_on on first mid next last given taken before asked behind =
+      on first next last [] [] given taken (on first mid next [] [] [] [] before asked) behind
 
   -- it failed: only the failures are more
   pub failed_on : (is_shut : S → Type 0) (first mid last : SocketLink S) → mid.has_ended ≡ first.has_ended → mid.is_shut ≡ first.is_shut

@@ -71,6 +71,9 @@ pub record NoTryRows : Type 0 where
       → ¬ Takes Reading 4 (ready Reading ∷ tried Reading (Err error) ∷ []) failure false
   pub asks_too_soon : (error : Error)
       → ¬ Takes Reading 4 (ready Reading ∷ tried Reading (Err error) ∷ []) Pending true
+  pub asks_a_third_time : (error : Error) (answer : Poll (Result ℕ LinkFault)) (may_ask : Bool)
+      → ¬ Takes Reading 4 (ready Reading ∷ tried Reading (Err error) ∷ ready Reading ∷ tried Reading (Err error)
+      ∷ ready Reading ∷ []) answer may_ask
   pub asks_where_it_waits : ¬ Takes Reading 4 (Asked Reading Pending false ∷ []) Pending true
 
 -- a call of 4 bytes that asks for no other poll

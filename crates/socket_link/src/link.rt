@@ -101,6 +101,7 @@ impl<S: Socket> Link for SocketLink<S> {
                 }
             }
         }
+        // Nothing else wakes a reader whose socket says that it is ready and isn't.
         cx.yield_now()
     }
 
@@ -120,6 +121,7 @@ impl<S: Socket> Link for SocketLink<S> {
                 }
             }
         }
+        // Nothing else wakes a writer whose socket says that it is ready and isn't.
         cx.yield_now()
     }
 

@@ -36,15 +36,19 @@ pub trait Socket: Drop {
 
     /// Ready once a read is worth a try.
     fn poll_readable(&mut self, cx: &mut Context<'_>) -> Poll<io::Result<()>>
-        ensures same { self.new ≡ self.old }
+        ensures moved { moves self.old [] [] self.new }
         ensures stepped { steps self.old (Asked Reading result (asks_between cx.old cx.new) ∷ []) self.new }
+        ensures not_shut { is_shut self.new → is_shut self.old }
+        ensures sources { (reads_at self.new ≡ reads_at self.old) × (writes_at self.new ≡ writes_at self.old) }
         ensures registered { OnPending result (Covers cx.new (λ source. source ≡ reads_at self.new)) }
         ensures kept { Keeps cx.old cx.new };
 
     /// Ready once a write is worth a try.
     fn poll_writable(&mut self, cx: &mut Context<'_>) -> Poll<io::Result<()>>
-        ensures same { self.new ≡ self.old }
+        ensures moved { moves self.old [] [] self.new }
         ensures stepped { steps self.old (Asked Writing result (asks_between cx.old cx.new) ∷ []) self.new }
+        ensures not_shut { is_shut self.new → is_shut self.old }
+        ensures sources { (reads_at self.new ≡ reads_at self.old) × (writes_at self.new ≡ writes_at self.old) }
         ensures registered { OnPending result (Covers cx.new (λ source. source ≡ writes_at self.new)) }
         ensures kept { Keeps cx.old cx.new };
 

@@ -206,7 +206,7 @@ impl Pair {
 }
 
 /// Each script of a handler that gives back what it is handed.
-static SCRIPTS: [&[Step]; 2] = [
+static SCRIPTS: [&[Step]; 3] = [
     &[
         Step {
             does: Does::Writes(5),
@@ -252,6 +252,26 @@ static SCRIPTS: [&[Step]; 2] = [
             ended: false,
             credit: Some(262144),
             left: Some(262144),
+        },
+    ],
+    &[
+        // All that came is given back, and credit for one byte is left: what came counts as taken.
+        Step {
+            does: Does::Writes(262119),
+            served: Served::Going,
+            told: 262143,
+            ended: false,
+            credit: Some(1),
+            left: Some(262144),
+        },
+        // Of a whole window one byte is given back, and that uses up the credit: nothing counts as taken.
+        Step {
+            does: Does::Writes(262144),
+            served: Served::Going,
+            told: 1,
+            ended: false,
+            credit: Some(0),
+            left: Some(0),
         },
     ],
 ];

@@ -79,7 +79,7 @@ frame_led role past fed bytes sent at used before after s t within going kept le
 -- and its events have data where those before have it
 pub frame_filled : (before after : List Event) → after ≡ before ++ added before after
     → AllByRecursion HasData before → AllByRecursion HasData (added before after) → AllByRecursion HasData after
-frame_filled before after kept filled more = subst (AllByRecursion HasData) (sym kept) (all_both before (added before after) filled more)
+frame_filled before after kept filled more = subst (AllByRecursion HasData) (sym kept) (all_both HasData before (added before after) filled more)
 
 -- no bytes
 pub nothing_led : (role : Role) (past : List Item) (fed sent : List ℕ) (s : State) → Stands role past fed sent s → Led role past past fed [] sent [] s

@@ -21,14 +21,22 @@ use Rattle.yamux_session.specs.Output.{output, output_unless, answer_to}
 use Rattle.yamux_session.specs.Table.{Table}
 use Rattle.yamux_session.specs.Keeps.{Keeps}
 use Rattle.yamux_session.specs.Heads.{HeadDone, told_of}
-use Rattle.yamux_session.specs.Arrives.{telling, tellings, HasData, Tells, began, Arrives}
+use Rattle.yamux_session.specs.Arrives.{telling, tellings, HasData, AddsNoData, Tells, began, Arrives}
+use Rattle.yamux_session.specs.Naming.{IsNoData}
 use Rattle.yamux_session.proofs.Arriving.{belongs_on}
 
 -- ---- events added
 
-pub all_both : (xs ys : List Event) → AllByRecursion HasData xs → AllByRecursion HasData ys → AllByRecursion HasData (xs ++ ys)
-all_both [] ys a b = b
-all_both (x ∷ xs) ys a b = (a.0, all_both xs ys a.1 b)
+pub all_both : (P : Event → Type 0) (xs ys : List Event) → AllByRecursion P xs → AllByRecursion P ys → AllByRecursion P (xs ++ ys)
+all_both P [] ys a b = b
+all_both P (x ∷ xs) ys a b = (a.0, all_both P xs ys a.1 b)
+
+pub no_data_then : (a b c : List Event) → AddsNoData a b → AddsNoData b c → AddsNoData a c
+no_data_then a b c one two = (
+  one.0 ++ two.0,
+  two.1 ∙ ap (λ (xs : List Event). xs ++ two.0) one.1 ∙ append_assoc a one.0 two.0,
+  all_both IsNoData one.0 two.0 one.2 two.2,
+)
 
 pub tells_nothing : (xs : List Event) → Tells xs xs []
 tells_nothing xs = record { more = []; added = sym (append-nil xs); telling = refl; filled = tt }
@@ -41,7 +49,7 @@ tells_then a b c t u one two = record {
   more = one.more ++ two.more;
   added = two.added ∙ ap (λ (xs : List Event). xs ++ two.more) one.added ∙ append_assoc a one.more two.more;
   telling = flat_map-append telling one.more two.more ∙ ap (λ (xs : List Told). xs ++ tellings two.more) one.telling ∙ ap (λ (xs : List Told). t ++ xs) two.telling;
-  filled = all_both one.more two.more one.filled two.filled;
+  filled = all_both HasData one.more two.more one.filled two.filled;
 }
 
 pub tells_as : (a b : List Event) (t u : List Told) → t ≡ u → Tells a b t → Tells a b u

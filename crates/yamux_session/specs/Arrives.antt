@@ -17,6 +17,7 @@ use Rattle.yamux_session.specs.History.{Item}
 use Rattle.yamux_session.specs.History.Item.{Came}
 use Rattle.yamux_session.specs.Faults.{HasNoFault}
 use Rattle.yamux_session.specs.Events.{Told, events}
+use Rattle.yamux_session.specs.Naming.{IsNoData}
 use Rattle.yamux_session.specs.Output.{output}
 use Rattle.yamux_session.specs.Table.{Table}
 use Rattle.yamux_session.specs.Keeps.{Keeps}
@@ -44,9 +45,13 @@ HasData other = Unit {0}
 abbrev pub added : List Event → List Event → List Event
 added old new = drop (length old) new
 
--- events were only put behind
-abbrev pub Extends : List Event → List Event → Type 0
-Extends old new = (more : List Event) × (new ≡ old ++ more)
+-- events were only put behind, and tell no data
+abbrev pub AddsNoData : List Event → List Event → Type 0
+AddsNoData old new = (more : List Event) × (new ≡ old ++ more) × AllByRecursion IsNoData more
+
+-- events were only put behind, and the first alone may tell data
+abbrev pub AddsDataFirst : List Event → List Event → Type 0
+AddsDataFirst old new = (more : List Event) × (new ≡ old ++ more) × AllByRecursion IsNoData (drop 1 more)
 
 -- events that tell this were added
 pub record Tells (old new : List Event) (told : List Told) : Type 0 where

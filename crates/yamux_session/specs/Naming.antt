@@ -1,4 +1,4 @@
--- Which stream an event names.
+-- Which stream an event names, and whether it tells data.
 -- Source: This project's profile of a session.
 use Rattle.std.specs.Prelude.{◌≡◌, ℕ, List, drop}
 use Rattle.std.specs.List.{AllByRecursion}
@@ -19,6 +19,11 @@ IsAbout n (event.Fault fault) = Unit {0}
 abbrev pub IsNoOpening : Event → Type 0
 IsNoOpening (event.Opened n) = ⊥
 IsNoOpening other = Unit {0}
+
+-- it tells no data
+abbrev pub IsNoData : Event → Type 0
+IsNoData (event.Payload n bytes) = ⊥
+IsNoData other = Unit {0}
 
 -- events that name one stream at most, and open it, if at all, with the first
 pub record NamesOne (told : List Event) : Type 0 where

@@ -30,7 +30,7 @@ use Rattle.yamux_session.specs.declared.event.Event.{Event}
 use Rattle.yamux_session.specs.declared.event.Event.TheVariants as event
 use Rattle.yamux_session.specs.Seen.{IsQuiet, AgreesOn, just_opened}
 use Rattle.yamux_session.specs.Endings.{opened_in, told_opened, EndsOnce, IsUntold}
-use Rattle.yamux_session.specs.Naming.{NamesOne}
+use Rattle.yamux_session.specs.Naming.{NamesOne, IsNoData}
 use Rattle.yamux_session.specs.Faults.{HasNoFault, fault_at}
 use Rattle.yamux_session.specs.State.{IsOneFrame, FirstFaults}
 use Rattle.yamux_session.specs.State.{Brings}
@@ -635,7 +635,7 @@ pub record FlagRows : Type 0 where
   pub much_data_opens_and_resets : events Server (Came (header Payload 9 1 262145) ∷ [])
       ≡ Told.Fault WindowExceeded ∷ []
 
--- Events that name two streams are not those of one frame; and no data is empty
+-- Events that name two streams are not those of one frame; no data is empty, and a Payload alone tells data
 pub record NamingRows : Type 0 where
   pub opened : ¬ NamesOne (event.Opened 1 ∷ event.Ended 3 ∷ [])
   pub accepted : ¬ NamesOne (event.Accepted 1 ∷ event.Ended 3 ∷ [])
@@ -644,6 +644,9 @@ pub record NamingRows : Type 0 where
   pub credit : ¬ NamesOne (event.Credit 1 ∷ event.Ended 3 ∷ [])
   pub no_empty_data : ¬ HasData (event.Payload 1 [])
   pub some_data : HasData (event.Payload 1 (7 ∷ []))
+  pub data_told : ¬ IsNoData (event.Payload 1 (7 ∷ []))
+  pub no_data_told : AllByRecursion IsNoData (event.Opened 1 ∷ event.Accepted 1 ∷ event.Ended 1 ∷ event.Reset 1
+      ∷ event.Credit 1 ∷ event.GoAway 0 ∷ event.Fault BadFrame ∷ [])
   pub one_stream : (n : ℕ) → NamesOne (event.Opened n ∷ event.Accepted n ∷ event.Payload n (7 ∷ []) ∷ event.Ended n
       ∷ event.Reset n ∷ event.Credit n ∷ [])
   pub no_stream : NamesOne (event.GoAway 0 ∷ event.Fault BadFrame ∷ [])

@@ -15,8 +15,9 @@ ghost use Rattle.yamux_session.specs.Acts.{AreAnswered};
 ghost use Rattle.yamux_session.specs.Keeps.{Keeps};
 ghost use Rattle.yamux_session.specs.Table.{table_of};
 ghost use Rattle.yamux_session.specs.Heads.{IsNotTaken, told_of};
-ghost use Rattle.yamux_session.specs.Arrives.{Arrives, Tells, Extends, HasData, telling, told_of_tail, written_header};
-ghost use Rattle.yamux_session.specs.Arrives.{began, IsFaultOnly};
+ghost use Rattle.yamux_session.specs.Arrives.{Arrives, Tells, AddsNoData, AddsDataFirst, telling};
+ghost use Rattle.yamux_session.specs.Arrives.{told_of_tail, written_header, began, IsFaultOnly};
+ghost use Rattle.yamux_session.specs.Naming.{IsNoData};
 
 use crate::event::Event;
 use crate::heads::{Effect, HeadRefused};
@@ -105,9 +106,9 @@ impl Streams {
 
 /// Tells an event where the condition holds.
 fn tell_if(told: &mut Vec<Event>, condition: bool, event: Event) -> Result<(), AllocError>
-    requires { HasData event }
+    requires { IsNoData event }
     ensures ok { OnOk result (Tells told.old.items told.new.items (if condition then telling event else [])) }
-    ensures extends { Extends told.old.items told.new.items }
+    ensures no_data { AddsNoData told.old.items told.new.items }
     ensures memory { OnErr result (condition ≡ true) }
 {
     if condition {
@@ -126,7 +127,7 @@ fn is_leaving(header: Header) -> bool
 /// Tells what a head did.
 fn tell_head(told: &mut Vec<Event>, header: Header, effect: Effect) -> Result<(), AllocError>
     ensures ok { OnOk result (Tells told.old.items told.new.items (told_of header effect)) }
-    ensures extends { Extends told.old.items told.new.items }
+    ensures no_data { AddsNoData told.old.items told.new.items }
     ensures memory { OnErr result (0 < length (told_of header effect)) }
 {
     tell_if(told, is_leaving(header), Event::GoAway(header.length))?;
@@ -189,7 +190,7 @@ fn take_head(
         → Keeps role past (table_of streams.old)
         → IsNotTaken role past header (Came (Head header) ∷ past) refused) }
     ensures told { IfErr result (λ refused. IsFaultOnly refused (told.new.items ≡ told.old.items)) }
-    ensures extends { Extends told.old.items told.new.items }
+    ensures no_data { AddsNoData told.old.items told.new.items }
 {
     let effect = match streams.head(header) {
         Ok(effect) => effect,
@@ -217,7 +218,7 @@ pub fn take_payload(
         → to - from ≤ bytes_left (arrivals past)
         → Arrives role past (came_bytes (take (to - from) (drop from piece.now)) past) (table_of streams.now)
         told.old.items told.new.items output output) }
-    ensures extends { Extends told.old.items told.new.items }
+    ensures data_first { AddsDataFirst told.old.items told.new.items }
     ensures memory { OnErr result ((role : Role) (past : List Item) → Keeps role past (table_of streams.now)
         → TellsMore role past (came_bytes (take (to - from) (drop from piece.now)) past)) }
 {
@@ -235,7 +236,7 @@ pub fn take_tail(streams: &mut Streams, told: &mut Vec<Event>) -> Result<(), All
         → bytes_left (arrivals past) ≡ 0
         → Keeps role past (table_of streams.old)
         → Arrives role past (Came Tail ∷ past) (table_of streams.new) told.old.items told.new.items output output) }
-    ensures extends { Extends told.old.items told.new.items }
+    ensures no_data { AddsNoData told.old.items told.new.items }
     ensures memory { OnErr result ((role : Role) (past : List Item) → Keeps role past (table_of streams.old)
         → TellsMore role past (Came Tail ∷ past)) }
 {
@@ -263,7 +264,7 @@ pub fn take_frame(
         → bytes_left (arrivals past) ≡ 0
         → Keeps role past (table_of streams.old) → IsNotTaken role past header (began header past) refused) }
     ensures told { IfErr result (λ refused. IsFaultOnly refused (told.new.items ≡ told.old.items)) }
-    ensures extends { Extends told.old.items told.new.items }
+    ensures no_data { AddsNoData told.old.items told.new.items }
 {
     let answer = match take_head(streams, told, header) {
         Ok(answer) => answer,

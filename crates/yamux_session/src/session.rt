@@ -12,8 +12,8 @@ ghost use Rattle.yamux_session.specs.Acts.{frames_length};
 ghost use Rattle.yamux_session.specs.Windows.{credit, given_back, untaken};
 ghost use Rattle.yamux_session.specs.Output.{frame};
 ghost use Rattle.yamux_frames.specs.Frames.{EndsWithin};
-ghost use Rattle.yamux_session.specs.Arrives.{Tells, HasData, Extends, added};
-ghost use Rattle.yamux_session.specs.Naming.{NamesOne};
+ghost use Rattle.yamux_session.specs.Arrives.{Tells, HasData, AddsNoData, AddsDataFirst, added};
+ghost use Rattle.yamux_session.specs.Naming.{NamesOne, IsNoData};
 ghost use Rattle.yamux_session.specs.Events.{Told};
 ghost use Rattle.yamux_session.specs.State.{Stands, Whenever, Adds, AddsWrite, Steps, Feeds, FeedsFrame, RunsOut};
 ghost use Rattle.yamux_session.specs.State.{BringsMore};
@@ -371,7 +371,7 @@ impl Session {
     ///
     /// What one call tells names one stream at most, and opens it, if at all, with its first event. So an act behind
     /// each call is about the very stream that the events named: behind a whole piece a stream of the same number may
-    /// have been opened since.
+    /// have been opened since. Data is told, if at all, by the first event alone.
     ///
     /// Where memory was refused, the call has told and sent nothing.
     pub fn feed_frame(
@@ -387,6 +387,8 @@ impl Session {
             AllByRecursion HasData (added told.old.items told.new.items))) }
         ensures one_stream { OnOk result (Whenever self.old (λ role past.
             NamesOne (added told.old.items told.new.items))) }
+        // Data is told by one event, and by the first.
+        ensures data_first { OnOk result (AllByRecursion IsNoData (drop 1 (added told.old.items told.new.items))) }
         // A fault is all that its call tells.
         ensures fault_alone { OnOk result (self.old.failed ≡ false → self.new.failed ≡ true
             → (fault : Fault) × (added told.old.items told.new.items ≡ Event.Fault fault ∷ [])) }
@@ -437,7 +439,7 @@ impl Session {
             → Steps role past fed (take used (drop at piece.now)) sent told.old.items told.new.items self.new) }
         ensures fault_alone { OnOk result (self.new.failed ≡ true
             → (fault : Fault) × (told.new.items ≡ told.old.items ++ Event.Fault fault ∷ [])) }
-        ensures extends { Extends told.old.items told.new.items }
+        ensures data_first { AddsDataFirst told.old.items told.new.items }
         ensures kept { OnErr result (self.new.pending ≡ self.old.pending) }
         ensures memory { OnErr result (BringsMore self.old (drop at piece.now)) }
     {
@@ -478,7 +480,7 @@ impl Session {
         }) }
         ensures told { OnOk result (Tells told.old.items told.new.items (Told.Fault fault ∷ [])) }
         ensures event { OnOk result (told.new.items ≡ told.old.items ++ Event.Fault fault ∷ []) }
-        ensures extends { Extends told.old.items told.new.items }
+        ensures no_data { AddsNoData told.old.items told.new.items }
         ensures kept { OnErr result (self.new ≡ self.old) }
     {
         told.push(Event::Fault(fault))?;

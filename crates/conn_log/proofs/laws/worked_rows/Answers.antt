@@ -1,5 +1,5 @@
 use Rattle.conn_log.proofs.MadeRows.{making_rows}
-use Rattle.conn_log.proofs.ListRows.{list_rows, since_rows, agreed_rows, over_rows, handler_rows, left_rows, aside_rows, asked_for_rows, direction_rows, reset_rows, end_rows, given_up_rows, may_be_made_rows, refused_as_rows, early_rows, told_of_rows, made_early_rows, broken_of_rows}
+use Rattle.conn_log.proofs.ListRows.{list_rows, since_rows, agreed_rows, over_rows, handler_rows, left_rows, aside_rows, asked_for_rows, direction_rows, reset_rows, end_rows, just_agreed_rows, given_up_rows, may_be_made_rows, refused_as_rows, early_rows, told_of_rows, made_early_rows, broken_of_rows}
 use Rattle.conn_log.proofs.TurnRows.{turn_rows, about_rows, in_turn_rows, rested_rows}
 use Rattle.conn_log.proofs.Placed.{talk_place_rows, last_place_rows, act_place_rows}
 use Rattle.conn_log.proofs.laws.worked_rows.Goals as goal
@@ -39,6 +39,9 @@ returns-clause-resets c = reset_rows
 
 pub returns-clause-ends : goal.returns-clause-ends
 returns-clause-ends c = end_rows
+
+pub returns-clause-just_agreed : goal.returns-clause-just_agreed
+returns-clause-just_agreed c = just_agreed_rows
 
 pub returns-clause-given_up : goal.returns-clause-given_up
 returns-clause-given_up c = given_up_rows

@@ -1,4 +1,4 @@
-use Rattle.serving.proofs.Rows.{due_rows, write_rows, close_rows, hand_rows, settled_rows, refusal_rows}
+use Rattle.serving.proofs.Rows.{due_rows, write_rows, close_rows, take_rows, hand_rows, settled_rows, refusal_rows}
 use Rattle.serving.proofs.laws.worked_rows.Goals as goal
 
 pub returns-clause-due : goal.returns-clause-due
@@ -15,6 +15,9 @@ returns-clause-writes c = write_rows
 
 pub returns-clause-closes : goal.returns-clause-closes
 returns-clause-closes c = close_rows
+
+pub returns-clause-takes : goal.returns-clause-takes
+returns-clause-takes c = take_rows
 
 pub returns-clause-hands : goal.returns-clause-hands
 returns-clause-hands c = hand_rows

@@ -47,10 +47,11 @@ returns-clause-serves g c = λ role past fed sent so_far at stands e.
     let now = h.was_asked.goes.now in
     let closes = subst (λ (over : Bool). Closes role now fed sent n over c.ask.new.session c.close.new.session) c.closed.ensures
     (c.in_ok-close.ensures.closes role now fed sent h.was_asked.goes.session_stands) in
+    let out = out_before _ c.finish-handler.result c.args.stream.now c.ask.new.stream c.finish-handler.new.self c.in_ok-is_left.ensures.kind c.finish-handler.ensures.none in
     let w = was_closed g.H.Handler.steps g.H.Handler.is_closed g.H.Handler.is_finished done seen windows role past fed sent n so_far c.finish-handler.result
     c.ask.new.session c.close.new.session c.finish-handler.new.self h.was_asked h.handed_out
-    (out_before _ c.finish-handler.result c.args.stream.now c.ask.new.stream c.finish-handler.new.self c.in_ok-is_left.ensures.kind c.finish-handler.ensures.none) h.asked_last closes in
+    out h.asked_last closes in
     let left : c.in_ok-is_left.is_left ≡ true → open_credit role w.goes.now n ≢ Some 0 = λ is_left. left_on g.H.Handler.steps g.H.Handler.is_closed g.H.Handler.is_finished done seen windows role past fed sent n so_far c.finish-handler.result
     c.ask.new.session c.close.new.session now c.finish-handler.new.self closes (c.in_ok-is_left.ensures.left is_left) w in
     was_settled g.H.Handler.steps g.H.Handler.is_closed g.H.Handler.is_finished done seen windows role past fed sent n so_far c.finish-handler.result
-    c.close.new.session c.count_taken.new.session c.finish-handler.new.self w (c.in_ok-count_taken.ensures.counts role w.goes.now fed sent w.goes.session_stands left)
+    c.close.new.session c.count_taken.new.session c.finish-handler.new.self w out (c.in_ok-count_taken.ensures.counts role w.goes.now fed sent w.goes.session_stands left)

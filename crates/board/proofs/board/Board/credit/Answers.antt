@@ -6,7 +6,7 @@ use Rattle.board.proofs.Telling.{credit_came, held_of}
 use Rattle.board.proofs.board.Board.credit.Goals as goal
 
 pub returns-clause-routes : goal.returns-clause-routes
-returns-clause-routes g c = λ log fed sent view rest r.
+returns-clause-routes g c = λ log fed sent view rest r no_data.
     let H = g.P.H.Handler in
     let makes = g.P.Protocols in
     let board = c.args.self.now in
@@ -16,4 +16,4 @@ returns-clause-routes g c = λ log fed sent view rest r.
     c.args.told.now.items c.args.told.now.items fed sent c.args.session.now old board.past.items n rest view r in
     let it = held_of H.steps H.fails H.is_closed H.is_finished makes.makes_inbound makes.makes_outbound (makes.is_eager board.protocols) (makes.listed board.protocols) board.peer board.role log
     c.args.told.now.items c.args.told.now.items fed sent c.args.session.now old board.past.items n rest view (Told.Credit n ∷ rest) (old n) r.own in
-    c.serve.ensures.serves log fed sent view rest around it r.own_held r.own_kept r.own_to_reset
+    c.serve.ensures.serves log fed sent view rest around no_data it r.own_held r.own_kept r.own_to_reset

@@ -10,6 +10,7 @@ use Rattle.routing.specs.Routing.{Delivers}
 use Rattle.conn_log.specs.Entries.{items, agreement}
 use Rattle.conn_log.specs.Making.{MakesOn}
 use Rattle.conn_log.specs.Routes.{IsMoving, Routed, Comes}
+use Rattle.conn_log.proofs.Views.{no_data_behind}
 use Rattle.conn_log.proofs.Data.{with_bytes, data_came, before_the_end, is_known, delivered_to}
 use Rattle.conn_log.proofs.Settling.{routed_behind}
 use Rattle.board.proofs.Tables.{elsewhere, here}
@@ -17,7 +18,7 @@ use Rattle.board.proofs.Telling.{on_ok, data_dropped}
 use Rattle.board.proofs.board.Board.data.Goals as goal
 
 pub returns-in_default-clause-routes : goal.returns-in_default-clause-routes
-returns-in_default-clause-routes g c = λ log fed sent view rest r some.
+returns-in_default-clause-routes g c = λ log fed sent view rest r some no_data.
     let H = g.P.H.Handler in
     let makes = g.P.Protocols in
     let board = c.args.self.now in
@@ -31,7 +32,7 @@ returns-in_default-clause-routes g c = λ log fed sent view rest r some.
     (sym c.in_default.ensures.value) r)
 
 pub returns-clause-routes : goal.returns-clause-routes
-returns-clause-routes g c = λ log fed sent view rest r some_data.
+returns-clause-routes g c = λ log fed sent view rest r some_data no_data.
     let H = g.P.H.Handler in
     let makes = g.P.Protocols in
     let board = c.args.self.now in
@@ -55,8 +56,8 @@ returns-clause-routes g c = λ log fed sent view rest r some_data.
     moving.held.sent_is) in
     let now = delivered_to H.steps H.fails H.is_closed H.is_finished makes.makes_inbound makes.makes_outbound (makes.is_eager board.protocols) (makes.listed board.protocols) board.peer board.role
     c.acts_tell.ensures.seen c.acts_tell.ensures.windows fed sent c.args.session.now c.deliver.new.session old _ board.past.items n (with_bytes c.args.bytes.now view) rest c.deliver.new.stream
-    moving.over_by_end (elsewhere old _ n (Some c.deliver.new.stream) updates.0) (here old _ n (Some c.deliver.new.stream) updates.0)
-    makes.leads_inbound makes.leads_outbound board.protocols c.deliver.new.protocols log c.args.bytes.now c.in-Some.stream.now view.came around refl going moving.held c.in_ok-delivered.delivered delivers in
+    moving.over_by_end (no_data_behind n (with_bytes c.args.bytes.now view) rest around.opens_none no_data) (elsewhere old _ n (Some c.deliver.new.stream) updates.0) (here old _ n (Some c.deliver.new.stream) updates.0)
+    makes.leads_inbound makes.leads_outbound board.protocols c.deliver.new.protocols log c.args.bytes.now c.in-Some.stream.now view.came around refl going moving.held moving.unfinished c.in_ok-delivered.delivered delivers in
     let table = tree.get nat_cmp (c.get_mut.follows.lender c.deliver.new.stream) in
     on_ok c.settle.result
     (λ routed. routed_behind H.steps H.fails H.is_closed H.is_finished makes.makes_inbound makes.makes_outbound (makes.is_eager board.protocols) (makes.listed board.protocols) board.peer board.role log

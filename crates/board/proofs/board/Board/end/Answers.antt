@@ -45,7 +45,7 @@ returns-clause-routes g c = λ log fed sent view rest r.
     let ends = c.in_ok-outcome.ensures.ends board.role (items log) fed sent moving.held.so_far around.session_stands moving.held.stands (moving.held.ended_is ∙ going) moving.held.served moving.held.sent_is in
     let now = has_ended H.steps H.fails H.is_closed H.is_finished makes.makes_inbound makes.makes_outbound (makes.is_eager board.protocols) (makes.listed board.protocols) board.peer board.role
     c.acts_tell.ensures.seen c.acts_tell.ensures.windows log fed sent c.args.session.now c.deliver_end.new.session old _ board.past.items n view rest c.in-Some.stream.now c.deliver_end.new.stream
-    around moving.held going (elsewhere old _ n (Some c.deliver_end.new.stream) updates.0) (here old _ n (Some c.deliver_end.new.stream) updates.0)
+    around moving.held going moving.unfinished (elsewhere old _ n (Some c.deliver_end.new.stream) updates.0) (here old _ n (Some c.deliver_end.new.stream) updates.0)
     c.in_ok-outcome.outcome ends in
     on_ok c.settle.result
     (λ routed. routed_on H.steps H.fails H.is_closed H.is_finished makes.makes_inbound makes.makes_outbound (makes.is_eager board.protocols) (makes.listed board.protocols) board.peer board.role log

@@ -10,7 +10,7 @@ use Rattle.board.proofs.Tables.{elsewhere, here}
 use Rattle.board.proofs.board.Board.open.Goals as goal
 
 pub returns-clause-routes : goal.returns-clause-routes
-returns-clause-routes g c = λ log fed sent rest a none theirs.
+returns-clause-routes g c = λ log fed sent rest a no_data none theirs.
     let H = g.P.H.Handler in
     let makes = g.P.Protocols in
     let board = c.args.self.now in
@@ -26,7 +26,7 @@ returns-clause-routes g c = λ log fed sent rest a none theirs.
     let fresh_one = is_fresh H.steps H.fails H.is_closed H.is_finished makes.makes_inbound makes.makes_outbound (makes.is_eager board.protocols) (makes.listed board.protocols) board.peer board.role log
     fed sent c.args.session.now old now board.past.items c.put_aside.new.past.items n rest a stream _ c.names.ensures.names c.in-Ok.ensures.stands c.in-Ok.ensures.talks.0 none theirs in
     let placed : now n ≡ Some stream = here middle now n (Some stream) updates in
-    c.serve.ensures.serves log fed sent just_opened rest around
+    c.serve.ensures.serves log fed sent just_opened rest around no_data
     (subst (λ (t : Option (Streaming _)). IfSome t (λ it. IsHeld H.steps H.is_closed H.is_finished (makes.listed board.protocols) board.role log n just_opened.came just_opened.ended it
     × (just_opened.live ≡ false → just_opened.ended ≡ true))) (sym placed) (fresh_one, λ off. absurd (cc off)))
     (λ live. subst (λ (t : Option (Streaming _)). IsSome t) (sym placed) refl)

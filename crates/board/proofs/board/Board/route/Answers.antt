@@ -9,12 +9,12 @@ use Rattle.board.proofs.Stepping.{kept_on}
 use Rattle.board.proofs.board.Board.route.Goals as goal
 
 pub returns-in-Some-clause-routes : goal.returns-in-Some-clause-routes
-returns-in-Some-clause-routes g c = λ log fed sent n all awaits.
+returns-in-Some-clause-routes g c = λ log fed sent n all awaits no_data.
     let H = g.P.H.Handler in
     let makes = g.P.Protocols in
     let board = c.args.self.now in
     let middle = c.route_all.new.self in
-    let grows = c.in_ok-route_all.ensures.routes log fed sent n all awaits in
+    let grows = c.in_ok-route_all.ensures.routes log fed sent n all awaits no_data in
     let rests = kept_on makes.listed makes.is_eager board middle c.route_all.ensures.keeps
     (λ eager names peer role. AreAtRest H.steps H.fails H.is_closed H.is_finished makes.makes_inbound makes.makes_outbound eager names peer role (grows.newer ++ log) fed sent
     c.route_all.new.session (tree.get nat_cmp middle.streams) middle.past.items

@@ -11,7 +11,7 @@ use Rattle.board.proofs.Stepping.{data_came_to, routed_over}
 use Rattle.board.proofs.board.Board.route_event.Goals as goal
 
 pub returns-in-Payload-clause-routes : goal.returns-in-Payload-clause-routes
-returns-in-Payload-clause-routes g c = λ log fed sent n rest is_for awaits.
+returns-in-Payload-clause-routes g c = λ log fed sent n rest is_for awaits no_data.
     let H = g.P.H.Handler in
     let makes = g.P.Protocols in
     let board = c.args.self.now in
@@ -32,10 +32,10 @@ returns-in-Payload-clause-routes g c = λ log fed sent n rest is_for awaits.
     (c.data.ensures.routes log fed sent came.0 rest
     (subst (λ (b : List ℕ). Routes H.steps H.fails H.is_closed H.is_finished makes.makes_inbound makes.makes_outbound (makes.is_eager board.protocols) (makes.listed board.protocols)
     board.peer board.role log fed sent c.args.session.now streams board.past.items number came.0 (map (Told.Payload number) b ++ rest)) given came.1)
-    (λ none. known.1 (given ∙ none)))
+    (λ none. known.1 (given ∙ none)) no_data)
 
 pub returns-in-Accepted-clause-routes : goal.returns-in-Accepted-clause-routes
-returns-in-Accepted-clause-routes g c = λ log fed sent n rest is_for awaits.
+returns-in-Accepted-clause-routes g c = λ log fed sent n rest is_for awaits no_data.
     let H = g.P.H.Handler in
     let makes = g.P.Protocols in
     let board = c.args.self.now in
@@ -46,7 +46,7 @@ returns-in-Accepted-clause-routes g c = λ log fed sent n rest is_for awaits.
     (MakesOn makes.leads_inbound makes.leads_outbound board.peer board.role board.protocols board.protocols) (λ first was. was) c.args.told.now.items (Told.Accepted _) rest tt (λ left e. absurd (cc e)) waits
 
 pub returns-in-GoAway-clause-routes : goal.returns-in-GoAway-clause-routes
-returns-in-GoAway-clause-routes g c = λ log fed sent n rest is_for awaits.
+returns-in-GoAway-clause-routes g c = λ log fed sent n rest is_for awaits no_data.
     let H = g.P.H.Handler in
     let makes = g.P.Protocols in
     let board = c.args.self.now in
@@ -57,7 +57,7 @@ returns-in-GoAway-clause-routes g c = λ log fed sent n rest is_for awaits.
     (MakesOn makes.leads_inbound makes.leads_outbound board.peer board.role board.protocols board.protocols) (λ first was. was) c.args.told.now.items (Told.GoAway _) rest tt (λ left e. absurd (cc e)) waits
 
 pub returns-in-Fault-clause-routes : goal.returns-in-Fault-clause-routes
-returns-in-Fault-clause-routes g c = λ log fed sent n rest is_for awaits.
+returns-in-Fault-clause-routes g c = λ log fed sent n rest is_for awaits no_data.
     let H = g.P.H.Handler in
     let makes = g.P.Protocols in
     let board = c.args.self.now in

@@ -8,6 +8,7 @@ use Rattle.conn_log.specs.Held.{IsHeld}
 use Rattle.conn_log.specs.Making.{MakesOn}
 use Rattle.conn_log.specs.Routes.{IsMoving, Routed}
 use Rattle.conn_log.proofs.Comes.{went}
+use Rattle.conn_log.proofs.Views.{no_data_behind}
 use Rattle.conn_log.proofs.Making.{makes_none}
 use Rattle.conn_log.proofs.Settling.{routed_on}
 use Rattle.board.proofs.Tables.{elsewhere, here}
@@ -15,7 +16,7 @@ use Rattle.board.proofs.Telling.{on_ok, told_none}
 use Rattle.board.proofs.board.Board.serve.Goals as goal
 
 pub returns-in_default-clause-serves : goal.returns-in_default-clause-serves
-returns-in_default-clause-serves g c = λ log fed sent view rest a held own kept to_reset.
+returns-in_default-clause-serves g c = λ log fed sent view rest a no_data held own kept to_reset.
     let H = g.P.H.Handler in
     let makes = g.P.Protocols in
     let board = c.args.self.now in
@@ -36,7 +37,7 @@ returns-in_default-clause-serves g c = λ log fed sent view rest a held own kept
     }))
 
 pub returns-clause-serves : goal.returns-clause-serves
-returns-clause-serves g c = λ log fed sent view rest a is_held own kept to_reset.
+returns-clause-serves g c = λ log fed sent view rest a no_data is_held own kept to_reset.
     let H = g.P.H.Handler in
     let makes = g.P.Protocols in
     let board = c.args.self.now in
@@ -50,7 +51,7 @@ returns-clause-serves g c = λ log fed sent view rest a is_held own kept to_rese
     let came = c.in_ok-outcome.ensures.came board.role (items log) fed sent held.so_far a.session_stands held.stands held.sent_is in
     let now = went H.steps H.fails H.is_closed H.is_finished makes.makes_inbound makes.makes_outbound (makes.is_eager board.protocols) (makes.listed board.protocols) board.peer board.role
     c.acts_tell.ensures.seen c.acts_tell.ensures.windows log fed sent c.args.session.now c.deliver_credit.new.session old _ board.past.items n view rest c.in-Some.stream.now c.deliver_credit.new.stream
-    a held both.1 (elsewhere old _ n (Some c.deliver_credit.new.stream) updates.0) (here old _ n (Some c.deliver_credit.new.stream) updates.0)
+    a (no_data_behind n view rest a.opens_none no_data) held both.1 (elsewhere old _ n (Some c.deliver_credit.new.stream) updates.0) (here old _ n (Some c.deliver_credit.new.stream) updates.0)
     c.in_ok-outcome.outcome came in
     on_ok c.settle.result
     (λ routed. routed_on H.steps H.fails H.is_closed H.is_finished makes.makes_inbound makes.makes_outbound (makes.is_eager board.protocols) (makes.listed board.protocols) board.peer board.role log

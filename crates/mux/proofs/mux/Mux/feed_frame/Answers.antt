@@ -5,14 +5,14 @@ use Rattle.std.specs.BTreeMap as tree
 use Rattle.yamux_session.specs.declared.event.Event.{Event}
 use Rattle.yamux_session.specs.Arrives.{added, tellings}
 use Rattle.conn_log.specs.Entries.{Entry, items}
-use Rattle.conn_log.specs.Routes.{IsFor, Awaits}
+use Rattle.conn_log.specs.Routes.{IsFor, IsNoData, Awaits}
 use Rattle.conn_log.specs.Rests.{AreAtRest, Grows}
 use Rattle.conn_log.proofs.Facing.{SessionLaws}
 use Rattle.conn_log.specs.Making.{MakesOn}
 use Rattle.conn_log.proofs.Arriving.{arrived}
 use Rattle.conn_log.proofs.Making.{makes_none, arrived_none}
 use Rattle.board.specs.Boards.{MakesOnBoard}
-use Rattle.mux.proofs.Framing.{framed, faulted, grows_behind}
+use Rattle.mux.proofs.Framing.{framed, faulted, grows_behind, no_data_told}
 use Rattle.mux.proofs.mux.Mux.feed_frame.Goals as goal
 
 pub returns-then-has_failed-clause-faults : goal.returns-then-has_failed-clause-faults
@@ -69,7 +69,8 @@ went g c log fed sent rests =
     (c.in_ok-route.ensures.routes then (fed ++ bytes) sent it.stream
     (subst (λ (t : List Event). AllByRecursion (IsFor it.stream) t) told_is it.all_for)
     (subst (λ (t : List Event). Awaits H.steps H.fails H.is_closed H.is_finished makes.makes_inbound makes.makes_outbound (makes.is_eager board.protocols) (makes.listed board.protocols)
-    board.peer board.role then (fed ++ bytes) sent c.feed_frame.new.self (tree.get nat_cmp board.streams) board.past.items it.stream (tellings t)) told_is it.awaits))
+    board.peer board.role then (fed ++ bytes) sent c.feed_frame.new.self (tree.get nat_cmp board.streams) board.past.items it.stream (tellings t)) told_is it.awaits)
+    (subst (λ (t : List Event). AllByRecursion IsNoData (tellings (drop 1 t))) told_is (no_data_told (drop 1 told) c.in-Ok.ensures.data_first)))
 
 pub returns-clause-goes : goal.returns-clause-goes
 unfolding went

@@ -13,9 +13,22 @@ use Rattle.socket_link.proofs.Tried.{tried_on, failed_on, none_moved}
 use Rattle.socket_link.specs.Sockets.{LinkMoves}
 use Rattle.socket_link.proofs.link.SocketLinkLink.poll_read.Goals as goal
 
+pub returns-in-Pending-clause-moved : goal.returns-in-Pending-clause-moved
+returns-in-Pending-clause-moved g c = (
+  g.met.S.Socket.moves_on c.args.self.now.socket c.loop-round.self.socket c.poll_readable.new.self [] [] [] [] c.loop-round.invariant.moved c.poll_readable.ensures.moved,
+  λ ended. (refl, c.loop-round.invariant.has_ended ∙ ended),
+  λ is. c.loop-round.invariant.is_shut ∙ is,
+)
+
+pub returns-in-Ready-Err-clause-moved : goal.returns-in-Ready-Err-clause-moved
+returns-in-Ready-Err-clause-moved g c =
+    subst (λ (bytes : List ℕ). LinkMoves g.S.Socket.moves g.S.Socket.is_shut c.args.self.now bytes [] c.fail.new.self) (sym (none_moved c.fail.result c.loop-round.buffer _ c.fail.ensures.0))
+    (failed_on g.S.Socket.moves g.S.Socket.is_shut c.args.self.now (record c.loop-round.self { socket = c.poll_readable.new.self }) c.fail.new.self c.loop-round.invariant.has_ended c.loop-round.invariant.is_shut
+    (g.met.S.Socket.moves_on c.args.self.now.socket c.loop-round.self.socket c.poll_readable.new.self [] [] [] [] c.loop-round.invariant.moved c.poll_readable.ensures.moved) (c.fail.ensures.1 ∙ ap (λ n. record c.loop-round.self { socket = c.poll_readable.new.self; failures = n }) (sym (ap (λ l. l.failures) c.fail.ensures.1))))
+
 pub returns-in-Ok-clause-moved : goal.returns-in-Ok-clause-moved
 returns-in-Ok-clause-moved g c = (
-  tried_on g.S.Socket.moves g.met.S.Socket.moves_on c.args.self.now.socket c.loop-round.self.socket c.poll_readable.new.self c.try_read.new.self (take c.in-Ok.count c.try_read.new.buffer) [] c.loop-round.invariant.moved c.poll_readable.ensures.same c.in-Ok.ensures.moved,
+  tried_on g.S.Socket.moves g.met.S.Socket.moves_on c.args.self.now.socket c.loop-round.self.socket c.poll_readable.new.self c.try_read.new.self (take c.in-Ok.count c.try_read.new.buffer) [] c.loop-round.invariant.moved c.poll_readable.ensures.moved c.in-Ok.ensures.moved,
   λ ended. absurd (cc (ended, c.if-self.false)),
   λ is. c.loop-round.invariant.is_shut ∙ is,
 )
@@ -24,14 +37,14 @@ pub returns-then-ne-clause-moved : goal.returns-then-ne-clause-moved
 returns-then-ne-clause-moved g c =
     subst (λ (bytes : List ℕ). LinkMoves g.S.Socket.moves g.S.Socket.is_shut c.args.self.now bytes [] c.fail-then-ne.new.self) (sym (none_moved c.fail-then-ne.result c.try_read.new.buffer _ c.fail-then-ne.ensures.0))
     (failed_on g.S.Socket.moves g.S.Socket.is_shut c.args.self.now (record c.loop-round.self { socket = c.try_read.new.self }) c.fail-then-ne.new.self c.loop-round.invariant.has_ended c.loop-round.invariant.is_shut
-    (tried_on g.S.Socket.moves g.met.S.Socket.moves_on c.args.self.now.socket c.loop-round.self.socket c.poll_readable.new.self c.try_read.new.self [] [] c.loop-round.invariant.moved c.poll_readable.ensures.same c.in-Err.ensures.moved) (c.fail-then-ne.ensures.1 ∙ ap (λ n. record c.loop-round.self { socket = c.try_read.new.self; failures = n }) (sym (ap (λ l. l.failures) c.fail-then-ne.ensures.1))))
+    (tried_on g.S.Socket.moves g.met.S.Socket.moves_on c.args.self.now.socket c.loop-round.self.socket c.poll_readable.new.self c.try_read.new.self [] [] c.loop-round.invariant.moved c.poll_readable.ensures.moved c.in-Err.ensures.moved) (c.fail-then-ne.ensures.1 ∙ ap (λ n. record c.loop-round.self { socket = c.try_read.new.self; failures = n }) (sym (ap (λ l. l.failures) c.fail-then-ne.ensures.1))))
 
 pub loop-round-preserved : goal.loop-round-preserved
 loop-round-preserved g c = record {
-  moved = tried_on g.S.Socket.moves g.met.S.Socket.moves_on c.args.self.now.socket c.loop-round.self.socket c.poll_readable.new.self c.try_read.new.self [] [] c.loop-round.invariant.moved c.poll_readable.ensures.same c.in-Err.ensures.moved;
-  not_shut = λ shut. c.loop-round.invariant.not_shut (subst g.S.Socket.is_shut c.poll_readable.ensures.same (c.try_read.ensures.not_shut shut));
-  reads_at = c.try_read.ensures.sources.0 ∙ ap g.S.Socket.reads_at c.poll_readable.ensures.same ∙ c.loop-round.invariant.reads_at;
-  writes_at = c.try_read.ensures.sources.1 ∙ ap g.S.Socket.writes_at c.poll_readable.ensures.same ∙ c.loop-round.invariant.writes_at;
+  moved = tried_on g.S.Socket.moves g.met.S.Socket.moves_on c.args.self.now.socket c.loop-round.self.socket c.poll_readable.new.self c.try_read.new.self [] [] c.loop-round.invariant.moved c.poll_readable.ensures.moved c.in-Err.ensures.moved;
+  not_shut = λ shut. c.loop-round.invariant.not_shut (c.poll_readable.ensures.not_shut (c.try_read.ensures.not_shut shut));
+  reads_at = c.try_read.ensures.sources.0 ∙ c.poll_readable.ensures.sources.0 ∙ c.loop-round.invariant.reads_at;
+  writes_at = c.try_read.ensures.sources.1 ∙ c.poll_readable.ensures.sources.1 ∙ c.loop-round.invariant.writes_at;
   has_ended = c.loop-round.invariant.has_ended;
   is_shut = c.loop-round.invariant.is_shut;
   failures = c.loop-round.invariant.failures;
