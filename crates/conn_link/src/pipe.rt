@@ -160,6 +160,8 @@ impl Link for Pipe {
           failures = counted self.old.failures result;
         } }
         ensures room { self.old.room ≤ self.new.room + count_moved result }
+        // A pending call takes no memory.
+        ensures still { OnPending result (self.new.room ≡ self.old.room) }
         ensures again { OnPending result ((cx.new.is_woken ≡ true) × IsArmed cx.new) }
         ensures calm { result ≢ Poll.Pending → cx.new ≡ cx.old }
         ensures kept { Keeps cx.old cx.new }

@@ -36,7 +36,7 @@ use Rattle.conn_log.proofs.Around.{grown, still}
 use Rattle.conn_log.proofs.Views.{same}
 use Rattle.serving.proofs.StageKinds.{same_talking, same_awaiting, same_handed, served_talking, served_handed}
 use Rattle.conn_log.proofs.Making.{did_none}
-use Rattle.conn_log.proofs.Served.{did, items_did, said_did, did_untold, did_keeps, view_by, AllOn, Own, did_own, all_on, come_of, come_on, view_came, view_ended, view_over, around_acts}
+use Rattle.conn_log.proofs.Served.{did, items_did, said_did, did_untold, did_keeps, view_by, AllOn, Own, did_own, all_on, was_open, was_live, come_of, come_on, view_came, view_ended, view_over, around_acts}
 
 pub or_on : (b : Bool) → b || true ≡ true
 or_on true = refl
@@ -141,6 +141,10 @@ module _ {P H : Type 0} (step : H → HandlerCall → H → Type 0) (fails : H �
         let is = list_is (Some handler) s in
         let so_far : Past H = with_sent role (items log_now) n h.so_far s.goes.left in
         let stage_is : new.stage ≡ stages.Done = s.handed_out.0.2 in
+        let was_unclosed : closed role s.goes.now n ≡ false → closed role (items log) n ≡ false =
+        λ now. was_open step fails is_closed is_finished inbound_makes outbound_makes eager names peer role acts_do acts_move log n s.goes.acts on (sym (ap (λ (t : List Item). closed role t n) is) ∙ now) in
+        let was_alive : is_live role s.goes.now n ≡ true → is_live role (items log) n ≡ true =
+        λ now. was_live step fails is_closed is_finished inbound_makes outbound_makes eager names peer role acts_do acts_move log n s.goes.acts on (sym (ap (λ (t : List Item). is_live role t n) is) ∙ now) in
         let not_talking = served_talking old.stage kind in
         let was_due : IsDue step fails is_closed is_finished inbound_makes outbound_makes eager names peer role log_now (Says (event.Done n handler)) = (
           λ none. h.agreed_on not_talking (sym own.agreed_is ∙ none),
@@ -151,7 +155,7 @@ module _ {P H : Type 0} (step : H → HandlerCall → H → Type 0) (fails : H �
             come = come_on step fails is_closed is_finished inbound_makes outbound_makes eager names peer role acts_do acts_move log log_now n h.so_far s.goes.left own come;
             served = subst (λ (t : List Item). Rattle.streams.specs.Streams.IsServed step (with_sent role t n h.so_far s.goes.left) handler new.waiting) is s.handed_out.0.0;
             finished = s.handed_out.0.1;
-            asked = subst (λ (t : List Item). is_live role t n ≡ true → closed role t n ≡ false → is_closed handler ≡ false → s.goes.left ≡ Some (credit role t n)) is s.asked_last;
+            asked = subst (λ (t : List Item). is_live role t n ≡ true → closed role t n ≡ false → is_closed handler ≡ false → s.goes.left ≡ Some (credit role t n)) is (λ live unclosed. s.asked_last (was_alive live) (was_unclosed unclosed));
           },
         ) in
         let held : IsHeld step is_closed is_finished names role (Says (event.Done n handler) ∷ log_now) n seen_now.came seen_now.ended new = record {

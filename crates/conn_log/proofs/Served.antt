@@ -7,7 +7,7 @@ use Rattle.yamux_session.specs.declared.event.Role.{Role}
 use Rattle.yamux_session.specs.History.{Item, Act}
 use Rattle.yamux_session.specs.History.Item.{Did}
 use Rattle.yamux_session.specs.History.Act.{Start, Write, Taken, Close, Reset}
-use Rattle.yamux_session.specs.Openings.{closed, finished}
+use Rattle.yamux_session.specs.Openings.{is_live, closed, finished}
 use Rattle.yamux_session.specs.Windows.{credit, untaken}
 use Rattle.yamux_session.specs.Data.{inbound, written}
 use Rattle.yamux_session.specs.Events.{Told, events}
@@ -115,6 +115,37 @@ module _ {P H : Type 0} (step : H → HandlerCall → H → Type 0) (fails : H �
   pub did_own : (log : List (Entry H)) (n : ℕ) (acts : List Act) → AllOn n acts → Own role log (did acts ++ log) n
   did_own log n [] on = record { came_is = refl; ended_is = refl; agreed_is = refl; over_is = refl; done_is = refl; made_is = refl; asked_is = refl }
   did_own log n (act ∷ acts) on = own_trans role log (did acts ++ log) _ n (did_own log n acts on.1) (own_by acts_do role (did acts ++ log) n act on.0)
+
+  -- a stream that is open behind them, and live, was so before
+  pub was_open : (log : List (Entry H)) (n : ℕ) (acts : List Act) → AllOn n acts → closed role (items (did acts ++ log)) n ≡ false → closed role (items log) n ≡ false
+  was_open log n [] on is = is
+  was_open log n (act ∷ acts) on is =
+      let before = seen role (items (did acts ++ log)) n in
+      was_open log n acts on.1 (kept act before on.0 (sym (ap (λ (s : Seen). s.closed) (acts_do role (items (did acts ++ log)) act n ∙ does_is n before act on.0)) ∙ is)) where
+        kept : (act : Act) (s : Seen) → IsOn n act → (done_by act s).closed ≡ false → s.closed ≡ false
+        kept (Write k pieces) s on is = is
+        kept (Taken k count) s on is = is
+        kept (Close k) s on is = absurd (cc is)
+        kept (Reset k) s on is = is
+        kept (Start k) s on is = absurd on
+        kept (Act.GoAway code) s on is = absurd on
+
+  pub was_live : (log : List (Entry H)) (n : ℕ) (acts : List Act) → AllOn n acts → is_live role (items (did acts ++ log)) n ≡ true → is_live role (items log) n ≡ true
+  was_live log n [] on is = is
+  was_live log n (act ∷ acts) on is =
+      let before = seen role (items (did acts ++ log)) n in
+      was_live log n acts on.1 (kept act before on.0 (sym (ap (λ (s : Seen). s.live) (acts_do role (items (did acts ++ log)) act n ∙ does_is n before act on.0)) ∙ is)) where
+        first : (a b : Bool) → a && b ≡ true → a ≡ true
+        first true b e = refl
+        first false b e = e
+
+        kept : (act : Act) (s : Seen) → IsOn n act → (done_by act s).live ≡ true → s.live ≡ true
+        kept (Write k pieces) s on is = is
+        kept (Taken k count) s on is = is
+        kept (Close k) s on is = first s.live (not s.ended) is
+        kept (Reset k) s on is = absurd (cc is)
+        kept (Start k) s on is = absurd on
+        kept (Act.GoAway code) s on is = absurd on
 
   pub did_same : (log : List (Entry H)) (n m : ℕ) (acts : List Act) → (n == m) ≡ false → AllOn n acts → Same role log (did acts ++ log) m
   did_same log n m [] e on = same_refl role log m

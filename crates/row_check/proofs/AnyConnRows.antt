@@ -31,7 +31,7 @@ use Rattle.conn_core.specs.Made.{answered_all}
 use Rattle.conn_core.specs.Runs.{Point, has_ended, IsSpent, IsTurnedAway, StaysBehind}
 use Rattle.conn_core.specs.Runs.Explains.{Coming, Up, Over}
 use Rattle.held_order.specs.Orders.{Held}
-use Rattle.row_check.specs.AnyConnRows.{AnyConnAnswerRows, AnyHolderRows, AnySumRows, AnyConnEndRows, AnyWholeRunRows, ends, explains, is_faulty, is_up}
+use Rattle.row_check.specs.AnyConnRows.{AnyConnAnswerRows, AnyKeptRows, AnyHolderRows, AnySumRows, AnyConnEndRows, AnyWholeRunRows, ends, explains, is_faulty, is_up}
 
 -- ---- calls
 
@@ -93,6 +93,9 @@ none_more H held (one ∷ early) = refl
 both_true : (a b : Bool) → a && b ≡ true → (a ≡ true) × (b ≡ true)
 both_true true b e = (refl, e)
 both_true false b e = absurd (cc e)
+
+pub any_kept : {P H : Type 0} → AnyKeptRows P H
+any_kept = record { core_keeps = λ core. refl; mux_keeps = λ mux. refl; board_keeps = λ board. refl }
 
 pub any_holders : {P H : Type 0} → AnyHolderRows P H
 any_holders = record {

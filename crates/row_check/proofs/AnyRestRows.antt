@@ -107,6 +107,7 @@ module _ {P H : Type 0} (step : H → HandlerCall → H → Type 0) (fails : H �
     done_is = λ log n handler d. (d.so_far, d.waiting, d.come, d.served, d.finished, d.asked);
     gave = λ log n there came none asked told same. record { there = there; all_came = came; none_waits = none; asked = asked; was_told = told; not_given_up = same };
     gave_is = λ log n g. (g.there, g.all_came, g.none_waits, g.asked, g.was_told, g.not_given_up);
+    gave_by_name = λ log n g. (g.all_came, g.none_waits, g.asked, g.was_told);
     given = λ log n all over. record { all = all; over = over };
     given_is = λ log n g. (g.all, g.over);
     not_gave = λ log n over undone. (

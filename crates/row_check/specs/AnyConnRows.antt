@@ -39,6 +39,7 @@ use Rattle.conn_log.specs.Asked.{AreMadeEarly, IsRefusedAs, IsBrokenOf}
 use Rattle.conn_log.specs.Making.{AreMadeInTurn, MakesOn}
 use Rattle.conn_log.specs.Rests.{AreAtRest, AreRested}
 use Rattle.held_order.specs.Orders.{Held, with_early, hears_all, arranged}
+use Rattle.board.specs.declared.board.Board.{Board}
 use Rattle.board.specs.Handlers.{handlers_of, handlers_past}
 use Rattle.mux.specs.declared.mux.Mux.{Mux}
 use Rattle.mux.specs.Faults.{Faults}
@@ -103,6 +104,24 @@ pub record AnyConnAnswerRows (P H : Type 0) : Type 0 where
   pub ordered : (mux : Mux P H) → IsOrderedIn (phases.Up mux) ↔ tree.IsOrdered nat_cmp mux.board.streams
   pub ordered_else : (x : Upgrading) (protocols : P)
       → IsOrderedIn {H = H} (phases.Upgrading x protocols) × IsOrderedIn {P = P} {H = H} phases.Over
+
+-- What an end, its session and its streams keep: these, and nothing else
+pub record AnyKeptRows (P H : Type 0) : Type 0 where
+  pub core_keeps : (core : ConnCore P H) → core ≡ record {
+    role = core.role;
+    phase = core.phase;
+    owed = core.owed;
+    output = core.output;
+    alloc = core.alloc;
+  }
+  pub mux_keeps : (mux : Mux P H) → mux ≡ record { session = mux.session; board = mux.board; alloc = mux.alloc }
+  pub board_keeps : (board : Board P H) → board ≡ record {
+    role = board.role;
+    peer = board.peer;
+    protocols = board.protocols;
+    streams = board.streams;
+    past = board.past;
+  }
 
 -- Which handlers are held, by their streams; and the order in which they were made, by answers
 pub record AnyHolderRows (P H : Type 0) : Type 0 where

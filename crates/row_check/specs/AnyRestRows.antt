@@ -235,6 +235,11 @@ module _ {P H : Type 0} (step : H → HandlerCall → H → Type 0) (fails : H �
         × (is_open is_closed there.stream.stage ≡ true → there.so_far.left ≡ Some (credit role (items log) n))
         × (was_handed_out there.stream.stage ≡ true → was_done role log n ≡ true)
         × (is_over role log n ≡ was_done role log n)
+    -- it is the stream that it names
+    pub gave_by_name : (log : List (Entry H)) (n : ℕ) (g : gave_all log n)
+        → (inbound role (items log) n ≡ g.there.so_far.got) × (g.there.stream.waiting ≡ [])
+        × (is_open is_closed g.there.stream.stage ≡ true → g.there.so_far.left ≡ Some (credit role (items log) n))
+        × (was_handed_out g.there.stream.stage ≡ true → was_done role log n ≡ true)
     pub given : (log : List (Entry H)) (n : ℕ) (all : gave_all log n)
         → (has_closed is_closed all.there.stream.stage ≡ true) ⊎ (has_finished is_finished all.there.stream.stage ≡ true)
         → has_given log n

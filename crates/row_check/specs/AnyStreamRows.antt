@@ -268,8 +268,10 @@ module _ {H : Type 0} (step : H → HandlerCall → H → Type 0) (fails : H →
         (g : Goes step is_closed is_finished was_done role past fed sent n so_far session stream)
         → HandsOut step is_closed is_finished (with_sent role g.now n so_far g.left) handler stream
         → (is_live role g.now n ≡ true → IsSettled step is_closed is_finished role g.now n g.left stream)
-        → (is_live role g.now n ≡ true → closed role g.now n ≡ false
+        → (is_live role past n ≡ true → closed role past n ≡ false
         → IfSome handler (λ it. is_closed it ≡ false → g.left ≡ Some (credit role g.now n)))
+        → (closed role past n ≡ false → closed role g.now n ≡ true
+        → (stream.waiting ≡ []) × (has_closed is_closed stream.stage ≡ true))
         → Serves step is_closed is_finished was_done role past fed sent n so_far handler session stream
     pub serves_is : (role : Role) (past : List Item) (fed sent : List ℕ) (n : ℕ) (so_far : Past H) (handler : Option H)
         (session : State) (stream : Streaming H)
@@ -277,8 +279,10 @@ module _ {H : Type 0} (step : H → HandlerCall → H → Type 0) (fails : H →
         → (g : Goes step is_closed is_finished was_done role past fed sent n so_far session stream)
         × HandsOut step is_closed is_finished (with_sent role g.now n so_far g.left) handler stream
         × (is_live role g.now n ≡ true → IsSettled step is_closed is_finished role g.now n g.left stream)
-        × (is_live role g.now n ≡ true → closed role g.now n ≡ false
+        × (is_live role past n ≡ true → closed role past n ≡ false
         → IfSome handler (λ it. is_closed it ≡ false → g.left ≡ Some (credit role g.now n)))
+        × (closed role past n ≡ false → closed role g.now n ≡ true
+        → (stream.waiting ≡ []) × (has_closed is_closed stream.stage ≡ true))
     pub fails_by : (handler : H) (asked : Asked) (stop : Stop) → FailsBy fails handler asked stop
         ↔ ((fault : HandlerFault) × (stop ≡ stops.Broken (causes.Handler fault)) × fails handler asked fault.number)
     pub gives_up : (stream : Streaming H) (room : ℕ) (stop : Stop) → GivesUp fails is_closed stream room stop

@@ -49,7 +49,7 @@ ghost use Rattle.row_check.specs.AnyPoolRows.{AnyAddedRows, AnyRowRows, AnyBound
 ghost use Rattle.row_check.specs.AnyLogRows.{AnyListRows, AnyStreamEntryRows, AnyEarlierRows, AnyTurnRows};
 ghost use Rattle.row_check.specs.AnyLogRows.{AnyEndingRows, AnyMakingRows};
 ghost use Rattle.row_check.specs.AnyRestRows.{AnySideRows, AnyHeldRows, AnyComingRows, AnyDueRows, AnyRestRows};
-ghost use Rattle.row_check.specs.AnyConnRows.{AnyConnAnswerRows, AnyHolderRows, AnySumRows};
+ghost use Rattle.row_check.specs.AnyConnRows.{AnyConnAnswerRows, AnyKeptRows, AnyHolderRows, AnySumRows};
 ghost use Rattle.row_check.specs.AnyConnRows.{AnyConnEndRows, AnyWholeRunRows};
 ghost use Rattle.row_check.specs.AnyStreamRows.{AnyStageRows, AnyHearingRows, AnyStandingRows, AnyServingRows};
 ghost use Rattle.row_check.specs.AnyStreamRows.{AnyDirectionRows, AnyRoutingRows};
@@ -307,6 +307,7 @@ pub fn any_rest_rows<P: Protocols>()
 /// The definitions of an end of a connection, and of whole runs, say what they are to say, whatever they are.
 pub fn any_conn_rows<P: Protocols>()
     ensures calls { AnyConnAnswerRows P P.H }
+    ensures kept { AnyKeptRows P P.H }
     ensures holders { AnyHolderRows P P.H }
     ensures sums { AnySumRows P.H }
     ensures ends { (start : P) (role : ConnRole) (own : Key)

@@ -69,3 +69,6 @@ module _ (acts_do : ActsDo) (acts_move : ActsMove) where
   closing_writes_nothing role past n =
       let before = seen role past n in
       ap (λ (s : Seen). s.sent) (acts_do role past (Close n) n ∙ ap (λ b. cond b (record before { closed = true; live = before.live && not before.ended }) before) (same n))
+
+  pub closing_keeps_credit : (role : Role) (past : List Item) (n : ℕ) → credit role (Did (Close n) ∷ past) n ≡ credit role past n
+  closing_keeps_credit role past n = ap (λ (w : Windows). w.credit) (acts_move role past (Close n) n)

@@ -21,7 +21,7 @@ use Rattle.streams.specs.Streams.{Past, IsServed}
 use Rattle.streams.specs.State.{Streaming, Stands, StandsAt, is_open, has_closed, has_finished, was_handed_out}
 use Rattle.serving.specs.Served.{Goes, GaveAll, HasGiven, HandsOut, Serves, with_sent}
 use Rattle.serving.specs.Steps.{Sends, WasAsked, WasClosed, Closes, Counts}
-use Rattle.serving.proofs.Acts.{taken_keeps, none_left, has_written, is_closed_then, closing_writes_nothing}
+use Rattle.serving.proofs.Acts.{taken_keeps, none_left, has_written, is_closed_then, closing_writes_nothing, closing_keeps_credit}
 use Rattle.serving.proofs.Refusals.{open_with, not_open, not_used_up, some_left, nothing_left}
 
 empty_or : (xs : List ℕ) → (xs ≢ [] → ⊥) → xs ≡ []
@@ -52,6 +52,8 @@ module _ {H : Type 0} (step : H → HandlerCall → H → Type 0) (is_closed is_
   unfolding begins
   not_asked role past fed sent n so_far session x at stands e none = record {
     goes = begins role past fed sent n so_far session x at stands e;
+    live_is = refl;
+    closed_is = refl;
     asked = λ live unclosed is. absurd (not_both (not_open role past n none live) unclosed);
     none_waits = λ live unclosed some. absurd (not_both (not_open role past n none live) unclosed);
   }
@@ -76,6 +78,8 @@ module _ {H : Type 0} (step : H → HandlerCall → H → Type 0) (is_closed is_
             left = s.left;
             stream_stands = there;
           };
+          live_is = w.live_is;
+          closed_is = w.closed_is;
           asked = λ live unclosed is. s.asked is ∙ ap Some (sym left);
           none_waits = λ live unclosed some. empty_or x.waiting (λ waits. let all = s.full waits in omega (arith, all, left));
         }
@@ -95,6 +99,8 @@ module _ {H : Type 0} (step : H → HandlerCall → H → Type 0) (is_closed is_
             left = s.left;
             stream_stands = there;
           };
+          live_is = refl;
+          closed_is = refl;
           asked = λ live unclosed is. s.asked is ∙ ap Some (sym left);
           none_waits = λ live unclosed some. empty_or x.waiting (λ waits. let all = s.full waits in omega (arith, all, left));
         }
@@ -129,6 +135,8 @@ module _ {H : Type 0} (step : H → HandlerCall → H → Type 0) (is_closed is_
             left = a.goes.left;
             stream_stands = stands;
           };
+          live_is = a.live_is;
+          closed_is = a.closed_is;
           asked = λ live unclosed it. absurd (not_both it shut);
           none_waits = λ live unclosed some. ap (λ (x : Streaming H). x.waiting) is ∙ a.none_waits live unclosed some;
         }
@@ -245,7 +253,9 @@ module _ {H : Type 0} (step : H → HandlerCall → H → Type 0) (is_closed is_
       none_waits = a.none_waits;
       handed_out = out;
       over = by_why why;
-      asked_last = asked_last;
+      asked_still = asked_last;
+      asked_last = λ live unclosed. asked_last (a.live_is ∙ live) (a.closed_is ∙ unclosed);
+      closed_by = λ unclosed shut. absurd (not_both shut (a.closed_is ∙ unclosed));
     } where
       by_why : (((length x.waiting == 0) && has_closed is_closed x.stage) ≡ false) ⊎ (open_credit role a.goes.now n ≡ None)
           → is_live role a.goes.now n ≡ true → has_closed is_closed x.stage ≡ true → x.waiting ≡ [] → closed role a.goes.now n ≡ true
@@ -276,7 +286,10 @@ module _ {H : Type 0} (step : H → HandlerCall → H → Type 0) (is_closed is_
           none_waits = λ live unclosed some. absurd (not_both shut unclosed);
           handed_out = subst (λ t. HandsOut step is_closed is_finished (record so_far { sent = t; left = a.goes.left }) handler x) (sym (closing_writes_nothing acts_do acts_move role a.goes.now n)) out;
           over = λ live on none. shut;
-          asked_last = λ live unclosed. absurd (not_both shut unclosed);
+          asked_still = λ live unclosed. absurd (not_both shut unclosed);
+          asked_last = λ was_live was_unclosed. subst (λ (c : ℕ). IfSome handler (λ it. is_closed it ≡ false → a.goes.left ≡ Some c))
+              (sym (closing_keeps_credit acts_do acts_move role a.goes.now n)) (asked_last live unclosed);
+          closed_by = λ was_unclosed is. given;
         }
 
     -- credit that was left before is left still, or this direction is closed
@@ -314,6 +327,7 @@ module _ {H : Type 0} (step : H → HandlerCall → H → Type 0) (is_closed is_
         was_taken = by_why why live;
       };
       asked_last = a.asked_last;
+      closed_by = a.closed_by;
     } where
       by_why : (open_credit role a.goes.now n ≡ Some 0) ⊎ (is_live role a.goes.now n ≡ false) → is_live role a.goes.now n ≡ true
           → (0 < credit role a.goes.now n) ⊎ (closed role a.goes.now n ≡ true) → untaken role a.goes.now n ≡ 0
@@ -334,7 +348,7 @@ module _ {H : Type 0} (step : H → HandlerCall → H → Type 0) (is_closed is_
                 ap (λ (t : List Item). untaken role t n) a.goes.now_is,
                 subst (λ (t : List Item). (closed role t n ≡ true) ⊎ ((0 < credit role t n) × GaveAll step is_closed is_finished was_done role t n so_far)) a.goes.now_is
                     (may_take role a.goes.now n so_far (some_left role a.goes.now n not_none live) (λ unclosed some.
-                    gave_all role a.goes.now n so_far a.goes.left handler x a.handed_out out_before (a.asked_last live unclosed) a.goes.stream_stands (a.none_waits live unclosed some) (a.asked live unclosed))),
+                    gave_all role a.goes.now n so_far a.goes.left handler x a.handed_out out_before (a.asked_still live unclosed) a.goes.stream_stands (a.none_waits live unclosed some) (a.asked live unclosed))),
               ),
               a.goes.due,
             );
@@ -349,6 +363,7 @@ module _ {H : Type 0} (step : H → HandlerCall → H → Type 0) (is_closed is_
             over = λ on none. k.closed_is ∙ a.over live on none;
             was_taken = λ some. none_left acts_do acts_move role a.goes.now n;
           };
-          asked_last = λ still unclosed. subst (λ (c : ℕ). IfSome handler (λ it. is_closed it ≡ false → a.goes.left ≡ Some c)) (sym k.credit_is)
-              (a.asked_last live (sym k.closed_is ∙ unclosed));
+          asked_last = λ was_live unclosed. subst (λ (c : ℕ). IfSome handler (λ it. is_closed it ≡ false → a.goes.left ≡ Some c)) (sym k.credit_is)
+              (a.asked_last was_live unclosed);
+          closed_by = λ unclosed is. a.closed_by unclosed (sym k.closed_is ∙ is);
         }

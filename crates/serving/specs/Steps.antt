@@ -47,6 +47,8 @@ module _ {H : Type 0} (step : H → HandlerCall → H → Type 0) (is_closed is_
   pub record WasAsked (role : Role) (past : List Item) (fed sent : List ℕ) (n : ℕ) (so_far : Past H) (session : State)
       (stream : Streaming H) : Type 0 where
     pub goes : Goes step is_closed is_finished was_done role past fed sent n so_far session stream
+    pub live_is : is_live role goes.now n ≡ is_live role past n
+    pub closed_is : closed role goes.now n ≡ closed role past n
     pub asked : is_live role goes.now n ≡ true → closed role goes.now n ≡ false
         → is_open is_closed stream.stage ≡ true → goes.left ≡ Some (credit role goes.now n)
     pub none_waits : is_live role goes.now n ≡ true → closed role goes.now n ≡ false → 0 < credit role goes.now n
@@ -63,5 +65,9 @@ module _ {H : Type 0} (step : H → HandlerCall → H → Type 0) (is_closed is_
     pub handed_out : HandsOut step is_closed is_finished (with_sent role goes.now n so_far goes.left) handler stream
     pub over : is_live role goes.now n ≡ true → has_closed is_closed stream.stage ≡ true → stream.waiting ≡ []
         → closed role goes.now n ≡ true
-    pub asked_last : is_live role goes.now n ≡ true → closed role goes.now n ≡ false
+    pub asked_still : is_live role goes.now n ≡ true → closed role goes.now n ≡ false
         → IfSome handler (λ it. is_closed it ≡ false → goes.left ≡ Some (credit role goes.now n))
+    pub asked_last : is_live role past n ≡ true → closed role past n ≡ false
+        → IfSome handler (λ it. is_closed it ≡ false → goes.left ≡ Some (credit role goes.now n))
+    pub closed_by : closed role past n ≡ false → closed role goes.now n ≡ true
+        → (stream.waiting ≡ []) × (has_closed is_closed stream.stage ≡ true)

@@ -1,8 +1,11 @@
-use Rattle.row_check.proofs.AnyConnRows.{any_calls, any_holders, any_sums, any_ends, any_runs}
+use Rattle.row_check.proofs.AnyConnRows.{any_calls, any_kept, any_holders, any_sums, any_ends, any_runs}
 use Rattle.row_check.proofs.laws.any_conn_rows.Goals as goal
 
 pub returns-clause-calls : goal.returns-clause-calls
 returns-clause-calls g c = any_calls
+
+pub returns-clause-kept : goal.returns-clause-kept
+returns-clause-kept g c = any_kept
 
 pub returns-clause-holders : goal.returns-clause-holders
 returns-clause-holders g c = any_holders
