@@ -14,7 +14,8 @@ use Rattle.conn_core.specs.Runs.{is_end}
 use Rattle.conn_future.specs.declared.stage.Stage.{Stage}
 use Rattle.conn_future.specs.declared.stage.Stage.TheVariants.{Going, Shutting, Starved, Over}
 use Rattle.conn_future.specs.Follows.Ends.{Told, Failed, Refused, Shut}
-use Rattle.conn_future.specs.StageRows.{StageRows, WaitRows, CameRows, DrainRows, Line, line, ended, shut}
+use Rattle.conn_future.specs.StageRows.{StageRows, WaitRows, CameRows, DrainRows, Line, lines, line, ended, shut}
+use Rattle.conn_future.proofs.Unlinked.{told_once}
 use Rattle.conn_future.specs.FollowRows.{JoinRows, GoingRows, RefusedRows, EndRows, FollowRows, core_stands, joins, parts, ends}
 
 is_stage : (stage : Stage) → (stage ≡ Going) ⊎ ((stage ≡ Shutting) ⊎ ((stage ≡ Starved) ⊎ (stage ≡ Over)))
@@ -157,8 +158,27 @@ module _ {P H : Type 0} (protocols : ProtocolsGhosts P H) (handler : HandlerGhos
 
   refused_rows : RefusedRows protocols handler start role own
   refused_rows = record {
-    heard = λ held it. (sym (ap (λ l. drop 1 l) it.moved.0), sym it.moved.1);
-    told = λ one other it. (it.stands, it.goes_on);
+    heard = λ core held it. (sym (ap (λ l. drop 1 l) it.moved.0), sym it.moved.1);
+    told = λ core one other it. (it.stands, it.goes_on);
+    kept = λ core goes asked one other it. it.kept goes;
+    missing = λ core goes key input taken stands it.
+        told_once lines protocols handler start role own input it.given false it.ended [] ([] ++ it.opened) key taken (it.took ++ (it.left ++ it.more)) core goes stands (it.kept goes);
+    ended_there = λ core goes held it. let e : ◌≡◌ {A = Bool} false true = it.unended goes refl in cc e;
+    spent = λ core other over held it. record {
+      given = it.given;
+      lost = it.lost;
+      took = it.took;
+      left = it.left;
+      ended = it.ended;
+      core = it.core;
+      moved = it.moved;
+      stands = it.stands;
+      goes_on = it.goes_on;
+      opened = it.opened;
+      more = it.more;
+      kept = λ goes. absurd (cc (goes, over));
+      unended = λ goes. absurd (cc (goes, over));
+    };
   }
 
   unsaid : (core : ConnCore P H) → is_over core.phase ≡ false → (held : List (ConnEvent H)) → End [] (line [] []) core held → ⊥
@@ -202,11 +222,11 @@ module _ {P H : Type 0} (protocols : ProtocolsGhosts P H) (handler : HandlerGhos
   failed_there core goes (Shut before none gave shut joins) = absurd (cc ((one_is _ _ before gave).1))
 
   refused_there : (core : ConnCore P H) → is_over core.phase ≡ false → End (event.Fault fault.OutOfMemory ∷ []) (line [] []) core []
-      → parts protocols handler start role own (line [] []) [] [] (line [] []) []
+      → parts protocols handler start role own (line [] []) [] [] (line [] []) core []
   refused_there core goes (Told ended left over joins) = absurd (cc (goes, over))
   refused_there core goes (Failed before left none gave joins) = absurd (cc ((one_is _ _ before gave).1))
   refused_there core goes (Refused before none gave it) =
-      subst (λ (l : List (ConnEvent H)). parts protocols handler start role own (line [] []) [] l (line [] []) []) (one_is _ _ before gave).0 it
+      subst (λ (l : List (ConnEvent H)). parts protocols handler start role own (line [] []) [] l (line [] []) core []) (one_is _ _ before gave).0 it
   refused_there core goes (Shut before none gave shut joins) = absurd (cc ((one_is _ _ before gave).1))
 
   all_taken : (core : ConnCore P H) → is_over core.phase ≡ false → End (event.Shut ∷ []) (shut (2 ∷ []) (9 ∷ [])) core [] → Core (2 ∷ []) false [] [] (9 ∷ []) core
@@ -248,7 +268,7 @@ module _ {P H : Type 0} (protocols : ProtocolsGhosts P H) (handler : HandlerGhos
       ⊎ (((before : List (ConnEvent H)) × (left : List ℕ) × (held ≡ [])
       × (gave ≡ before ++ event.Fault fault.Link ∷ []) × joins protocols handler start role own first asked before false now core left [])
       ⊎ (((before : List (ConnEvent H)) × (held ≡ []) × (gave ≡ before ++ event.Fault fault.OutOfMemory ∷ [])
-      × parts protocols handler start role own first asked before now [])
+      × parts protocols handler start role own first asked before now core [])
       ⊎ ((before : List (ConnEvent H)) × (held ≡ []) × (gave ≡ before ++ event.Shut ∷ [])
       × (now.is_shut ≡ true) × joins protocols handler start role own first asked before false now core [] [])))
   is_ended first asked gave now core held (Told end left over it) = inl (end, left, over, it)

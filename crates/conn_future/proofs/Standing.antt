@@ -19,7 +19,7 @@ use Rattle.conn_future.specs.Follows.{CoreStands, Joins, GoesOn, Parts, Ends, St
 use Rattle.conn_future.specs.Follows.Ends.{Told, Failed, Refused, Shut}
 use Rattle.conn_future.proofs.Lists.{one_on, rest_of}
 use Rattle.conn_core.specs.Runs.{is_end, has_ended}
-use Rattle.conn_future.proofs.Unlinked.{never_links, none_behind_end, none_ends, over_is, fresh_goes_on, same_over}
+use Rattle.conn_future.proofs.Unlinked.{never_links, none_behind_end, none_ends, over_is, told_of_no_end, fresh_goes_on, same_over}
 
 module _ {L P H : Type 0} (link : LinkGhosts L) (protocols : ProtocolsGhosts P H) (handler : HandlerGhosts H)
     (start : P) (role : ConnRole) (own : Key) where
@@ -55,7 +55,7 @@ module _ {L P H : Type 0} (link : LinkGhosts L) (protocols : ProtocolsGhosts P H
   stays_give first asked gave now core left e held all Shutting is stays =
       goes_give first asked gave now core left e held (subst (λ (l : List (ConnEvent H)). GoesOn link protocols handler start role own first asked gave now core left l) is stays)
   stays_give first asked gave now core left e held all Starved is stays =
-      let parts = subst (λ (l : List (ConnEvent H)). Parts link protocols handler start role own first asked gave now l) is stays in record {
+      let parts = subst (λ (l : List (ConnEvent H)). Parts link protocols handler start role own first asked gave now core l) is stays in record {
         given = parts.given;
         lost = parts.lost;
         took = parts.took;
@@ -65,6 +65,10 @@ module _ {L P H : Type 0} (link : LinkGhosts L) (protocols : ProtocolsGhosts P H
         moved = parts.moved;
         stands = subst (λ (told : List (ConnEvent H)). CoreStands link protocols handler start role own parts.given parts.ended asked told (parts.took ++ parts.left) parts.core) (one_on gave e held) parts.stands;
         goes_on = parts.goes_on;
+        opened = parts.opened;
+        more = parts.more;
+        kept = λ goes. subst (λ (told : List (ConnEvent H)). CoreStands link protocols handler start role own parts.given parts.ended (asked ++ parts.opened) told (parts.took ++ (parts.left ++ parts.more)) core) (one_on gave e held) (parts.kept goes);
+        unended = parts.unended;
       }
   stays_give first asked gave now core left e held all Over is (Told ended rest over joins) =
       Told ended rest over (joins_give first asked gave ended now core rest e held (subst (λ (l : List (ConnEvent H)). Joins link protocols handler start role own first asked gave ended now core rest l) is joins))
@@ -105,7 +109,7 @@ module _ {L P H : Type 0} (link : LinkGhosts L) (protocols : ProtocolsGhosts P H
   gives_refused first asked gave now core left held after Going is same none stays = absurd (cc is)
   gives_refused first asked gave now core left held after Shutting is same none stays = absurd (cc is)
   gives_refused first asked gave now core left held after Starved is same none stays =
-      Refused gave (sym same ∙ none) refl (subst (λ (l : List (ConnEvent H)). Parts link protocols handler start role own first asked gave now l) none stays)
+      Refused gave (sym same ∙ none) refl (subst (λ (l : List (ConnEvent H)). Parts link protocols handler start role own first asked gave now core l) none stays)
   gives_refused first asked gave now core left held after Over is same none stays = absurd (cc is)
 
   -- ---- the link is called
@@ -204,10 +208,18 @@ module _ {L P H : Type 0} (link : LinkGhosts L) (protocols : ProtocolsGhosts P H
 
   -- ---- memory was refused
 
-  pub parts_of : (first : L) (asked : List (ℕ × ℕ)) (gave : List (ConnEvent H)) (ended : Bool) (now next : L) (core : ConnCore P H) (left : List ℕ) (held after : List (ConnEvent H)) → next ≡ now → after ≡ held → is_over core.phase ≡ false
+  -- where it was told of no end, a read that found one found it before
+  found_before : (first : L) (ended : Bool) → ended ≡ false → (ended ≡ true) ⊎ link.has_ended first → link.has_ended first
+  found_before first ended going (inl is) = absurd (cc (is, going))
+  found_before first ended going (inr there) = there
+
+  -- to what the core wrote no room was left: it may have opened a stream
+  pub parts_of : (first : L) (asked opened : List (ℕ × ℕ)) (gave : List (ConnEvent H)) (ended : Bool) (now next : L) (core last : ConnCore P H) (left more : List ℕ) (held after : List (ConnEvent H)) → next ≡ now → after ≡ held → is_over core.phase ≡ false
+      → ((input taken : List ℕ) → CoreStands link protocols handler start role own input ended asked (gave ++ held) (taken ++ left) core → is_over last.phase ≡ false
+      → CoreStands link protocols handler start role own input ended (asked ++ opened) (gave ++ held) (taken ++ (left ++ more)) last)
       → Joins link protocols handler start role own first asked gave ended now core left held
-      → Parts link protocols handler start role own first asked gave next after
-  parts_of first asked gave ended now next core left held after same kept goes joins = record {
+      → Parts link protocols handler start role own first asked gave next last after
+  parts_of first asked opened gave ended now next core last left more held after same kept goes stood joins = record {
     given = joins.given;
     lost = [];
     took = joins.took;
@@ -217,32 +229,51 @@ module _ {L P H : Type 0} (link : LinkGhosts L) (protocols : ProtocolsGhosts P H
     moved = subst (λ (l : List ℕ). link.moves first l joins.took next) (sym (append-nil joins.given)) (subst (λ (l : L). link.moves first joins.given joins.took l) (sym same) joins.moved);
     stands = subst (λ (l : List (ConnEvent H)). CoreStands link protocols handler start role own joins.given ended asked (gave ++ l) (joins.took ++ left) core) (sym kept) joins.stands;
     goes_on = goes;
+    opened = opened;
+    more = more;
+    kept = λ live. subst (λ (l : List (ConnEvent H)). CoreStands link protocols handler start role own joins.given ended (asked ++ opened) (gave ++ l) (joins.took ++ (left ++ more)) last) (sym kept) (stood joins.given joins.took joins.stands live);
+    unended = λ live there. found_before first ended (told_of_no_end link protocols handler start role own joins.given ended asked (gave ++ held) (joins.took ++ left) core joins.stands goes) (joins.found (subst link.has_ended same there));
   }
 
-  -- what the link gave last was lost
-  pub parts_heard : MovesOn link.moves → (first : L) (asked : List (ℕ × ℕ)) (gave : List (ConnEvent H)) (before now next : L) (core : ConnCore P H) (left piece : List ℕ) (after : List (ConnEvent H)) → next ≡ now → after ≡ []
+  -- no stream was opened
+  pub unopened : (input : List ℕ) (ended : Bool) (asked : List (ℕ × ℕ)) (told : List (ConnEvent H)) (written : List ℕ) (core : ConnCore P H)
+      → CoreStands link protocols handler start role own input ended asked told written core
+      → CoreStands link protocols handler start role own input ended (asked ++ []) told written core
+  unopened input ended asked told written core stands =
+      subst (λ (l : List (ℕ × ℕ)). CoreStands link protocols handler start role own input ended l told written core) (sym (append-nil asked)) stands
+
+  -- what the link gave last was lost, and the core is as it was, or over
+  pub parts_heard : MovesOn link.moves → (first : L) (asked : List (ℕ × ℕ)) (gave : List (ConnEvent H)) (before now next : L) (core last : ConnCore P H) (left piece : List ℕ) (after : List (ConnEvent H)) → next ≡ now → after ≡ [] → (is_over last.phase ≡ false → (last ≡ core) × (link.has_ended now → link.has_ended before))
       → GoesOn link protocols handler start role own first asked gave before core left [] → link.moves before piece [] now
-      → Parts link protocols handler start role own first asked gave next after
-  parts_heard on first asked gave before now next core left piece after same none goes moved = record {
-    given = goes.joins.given;
-    lost = piece;
-    took = goes.joins.took;
-    left = left;
-    ended = false;
-    core = core;
-    moved = subst (λ (l : L). link.moves first (goes.joins.given ++ piece) goes.joins.took l) (sym same)
-        (subst (λ (l : List ℕ). link.moves first (goes.joins.given ++ piece) l now) (append-nil goes.joins.took) (on first before now goes.joins.given goes.joins.took piece [] goes.joins.moved moved));
-    stands = subst (λ (l : List (ConnEvent H)). CoreStands link protocols handler start role own goes.joins.given false asked (gave ++ l) (goes.joins.took ++ left) core) (sym none) goes.joins.stands;
-    goes_on = goes.goes_on;
-  }
+      → Parts link protocols handler start role own first asked gave next last after
+  parts_heard on first asked gave before now next core last left piece after same none unchanged goes moved =
+      let stands = subst (λ (l : List (ConnEvent H)). CoreStands link protocols handler start role own goes.joins.given false asked (gave ++ l) (goes.joins.took ++ left) core) (sym none) goes.joins.stands in record {
+        given = goes.joins.given;
+        lost = piece;
+        took = goes.joins.took;
+        left = left;
+        ended = false;
+        core = core;
+        moved = subst (λ (l : L). link.moves first (goes.joins.given ++ piece) goes.joins.took l) (sym same)
+            (subst (λ (l : List ℕ). link.moves first (goes.joins.given ++ piece) l now) (append-nil goes.joins.took) (on first before now goes.joins.given goes.joins.took piece [] goes.joins.moved moved));
+        stands = stands;
+        goes_on = goes.goes_on;
+        opened = [];
+        more = [];
+        kept = λ live. subst (λ (c : ConnCore P H). CoreStands link protocols handler start role own goes.joins.given false (asked ++ []) (gave ++ after) (goes.joins.took ++ (left ++ [])) c) (sym (unchanged live).0)
+            (subst (λ (l : List ℕ). CoreStands link protocols handler start role own goes.joins.given false (asked ++ []) (gave ++ after) (goes.joins.took ++ l) core) (sym (append-nil left))
+            (unopened goes.joins.given false asked (gave ++ after) (goes.joins.took ++ left) core stands));
+        unended = λ live there. found_before first false refl (goes.joins.found ((unchanged live).1 (subst link.has_ended same there)));
+      }
 
-  pub parts_stay : (first : L) (asked : List (ℕ × ℕ)) (gave : List (ConnEvent H)) (now next : L) (core : ConnCore P H) (left : List ℕ) (held after : List (ConnEvent H)) (stage : Stage) → stage ≡ Starved → next ≡ now → after ≡ held
-      → Parts link protocols handler start role own first asked gave now held
-      → Stays link protocols handler start role own first asked gave next core left after stage
-  parts_stay first asked gave now next core left held after stage is same kept parts =
-      subst (λ (s : Stage). Stays link protocols handler start role own first asked gave next core left after s) (sym is)
-      (subst (λ (l : L). Parts link protocols handler start role own first asked gave l after) (sym same)
-      (subst (λ (l : List (ConnEvent H)). Parts link protocols handler start role own first asked gave now l) (sym kept) parts))
+  pub parts_stay : (first : L) (asked : List (ℕ × ℕ)) (gave : List (ConnEvent H)) (now next : L) (core last : ConnCore P H) (left : List ℕ) (held after : List (ConnEvent H)) (stage : Stage) → stage ≡ Starved → next ≡ now → last ≡ core → after ≡ held
+      → Parts link protocols handler start role own first asked gave now core held
+      → Stays link protocols handler start role own first asked gave next last left after stage
+  parts_stay first asked gave now next core last left held after stage is same unchanged kept parts =
+      subst (λ (s : Stage). Stays link protocols handler start role own first asked gave next last left after s) (sym is)
+      (subst (λ (l : L). Parts link protocols handler start role own first asked gave l last after) (sym same)
+      (subst (λ (c : ConnCore P H). Parts link protocols handler start role own first asked gave now c after) (sym unchanged)
+      (subst (λ (l : List (ConnEvent H)). Parts link protocols handler start role own first asked gave now core l) (sym kept) parts)))
 
   -- ---- the core was called
 

@@ -28,7 +28,7 @@ module _ {P H : Type 0} (protocols : ProtocolsGhosts P H) (handler : HandlerGhos
       → Type 0
   goes_on = GoesOn lines protocols handler start role own
 
-  abbrev pub parts : Line → List (ℕ × ℕ) → List (ConnEvent H) → Line → List (ConnEvent H) → Type 0
+  abbrev pub parts : Line → List (ℕ × ℕ) → List (ConnEvent H) → Line → ConnCore P H → List (ConnEvent H) → Type 0
   parts = Parts lines protocols handler start role own
 
   abbrev pub ends : Line → List (ℕ × ℕ) → List (ConnEvent H) → Line → ConnCore P H → List (ConnEvent H) → Type 0
@@ -57,11 +57,26 @@ module _ {P H : Type 0} (protocols : ProtocolsGhosts P H) (handler : HandlerGhos
   -- where memory was refused
   pub record RefusedRows : Type 0 where
     -- what came last may be lost, and nothing else: what was heard begins what the link gave
-    pub heard : (held : List (ConnEvent H)) (it : parts (line (1 ∷ []) []) [] [] (line (1 ∷ 2 ∷ 3 ∷ []) (9 ∷ [])) held)
+    pub heard : (core : ConnCore P H) (held : List (ConnEvent H))
+        (it : parts (line (1 ∷ []) []) [] [] (line (1 ∷ 2 ∷ 3 ∷ []) (9 ∷ [])) core held)
         → (it.given ++ it.lost ≡ 2 ∷ 3 ∷ []) × (it.took ≡ 9 ∷ [])
-    pub told : (one other : ConnEvent H) (it : parts (line [] []) [] (one ∷ []) (line [] []) (other ∷ []))
+    pub told : (core : ConnCore P H) (one other : ConnEvent H)
+        (it : parts (line [] []) [] (one ∷ []) (line [] []) core (other ∷ []))
         → core_stands it.given it.ended [] (one ∷ other ∷ []) (it.took ++ it.left) it.core
         × (is_over it.core.phase ≡ false)
+    -- its own core has told the same, where it goes on
+    pub kept : (core : ConnCore P H) → is_over core.phase ≡ false → (asked : List (ℕ × ℕ)) (one other : ConnEvent H)
+        (it : parts (line [] []) asked (one ∷ []) (line [] []) core (other ∷ []))
+        → core_stands it.given it.ended (asked ++ it.opened) (one ∷ other ∷ []) (it.took ++ (it.left ++ it.more)) core
+    -- so what it told isn't missing
+    pub missing : (core : ConnCore P H) → is_over core.phase ≡ false → (key : Key) (input taken : List ℕ)
+        → core_stands input false [] (event.Upgraded key ∷ []) taken core
+        → ¬ parts (line [] []) [] [] (line input []) core []
+    pub ended_there : (core : ConnCore P H) → is_over core.phase ≡ false → (held : List (ConnEvent H))
+        → ¬ parts (line [] []) [] [] (ended [] []) core held
+    -- and of one that is over nothing is known
+    pub spent : (core other : ConnCore P H) → is_over other.phase ≡ true → (held : List (ConnEvent H))
+        → parts (line [] []) [] [] (line (2 ∷ []) []) core held → parts (line [] []) [] [] (line (2 ∷ []) []) other held
 
   -- where it makes no link call more, and its core isn't over
   pub record EndRows : Type 0 where
@@ -79,7 +94,7 @@ module _ {P H : Type 0} (protocols : ProtocolsGhosts P H) (handler : HandlerGhos
         ↔ ((left : List ℕ) × core_stands (2 ∷ []) false [] [] (9 ∷ left) core)
     pub refused : (core : ConnCore P H) → is_over core.phase ≡ false
         → ends (line [] []) [] (event.Fault fault.OutOfMemory ∷ []) (line [] []) core []
-        ↔ parts (line [] []) [] [] (line [] []) []
+        ↔ parts (line [] []) [] [] (line [] []) core []
     -- Shut comes where the link took all, and is shut
     pub shut_there : (core : ConnCore P H) → is_over core.phase ≡ false
         → ends (line [] []) [] (event.Shut ∷ []) (shut (2 ∷ []) (9 ∷ [])) core []
@@ -100,7 +115,7 @@ module _ {P H : Type 0} (protocols : ProtocolsGhosts P H) (handler : HandlerGhos
         ⊎ (((before : List (ConnEvent H)) × (left : List ℕ) × (held ≡ [])
         × (gave ≡ before ++ event.Fault fault.Link ∷ []) × joins first asked before false now core left [])
         ⊎ (((before : List (ConnEvent H)) × (held ≡ []) × (gave ≡ before ++ event.Fault fault.OutOfMemory ∷ [])
-        × parts first asked before now [])
+        × parts first asked before now core [])
         ⊎ ((before : List (ConnEvent H)) × (held ≡ []) × (gave ≡ before ++ event.Shut ∷ [])
         × (now.is_shut ≡ true) × joins first asked before false now core [] [])))
 

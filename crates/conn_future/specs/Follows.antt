@@ -58,9 +58,12 @@ module _ {L P H : Type 0} (link : LinkGhosts L) (protocols : ProtocolsGhosts P H
     pub goes_on : is_over core.phase ≡ false
     pub none_waits : waiting_in core.phase core.output.items ≡ []
 
-  -- Memory was refused to it. The core as it was before that had been fed all that the link gave, but for what came
-  -- last, and told the events that were given or are held; the link took a first part of what it wrote.
-  pub record Parts (first : L) (asked : List (ℕ × ℕ)) (gave : List (ConnEvent H)) (now : L)
+  -- Memory was refused to it. Some core that goes on was fed all that the link gave, but for what was lost, and told
+  -- the events that were given or are held; the link took a first part of what it wrote. Unless its own core is over,
+  -- that one was fed just this and told just these, so no event is missing, and no end was found since; but an ask that
+  -- was refused may have opened a stream there, and it may have written more. Where memory was refused to the core
+  -- itself, it is over.
+  pub record Parts (first : L) (asked : List (ℕ × ℕ)) (gave : List (ConnEvent H)) (now : L) (last : ConnCore P H)
       (held : List (ConnEvent H)) : Type 0 where
     pub given : List ℕ
     pub lost : List ℕ
@@ -71,6 +74,11 @@ module _ {L P H : Type 0} (link : LinkGhosts L) (protocols : ProtocolsGhosts P H
     pub moved : link.moves first (given ++ lost) took now
     pub stands : CoreStands given ended asked (gave ++ held) (took ++ left) core
     pub goes_on : is_over core.phase ≡ false
+    pub opened : List (ℕ × ℕ)
+    pub more : List ℕ
+    pub kept : is_over last.phase ≡ false
+        → CoreStands given ended (asked ++ opened) (gave ++ held) (took ++ (left ++ more)) last
+    pub unended : is_over last.phase ≡ false → link.has_ended now → link.has_ended first
 
   -- why it makes no link call more
   pub data Ends (first : L) (asked : List (ℕ × ℕ)) (gave : List (ConnEvent H)) (now : L) (core : ConnCore P H)
@@ -84,7 +92,7 @@ module _ {L P H : Type 0} (link : LinkGhosts L) (protocols : ProtocolsGhosts P H
         → Ends first asked gave now core held
     -- memory was refused, and it told so
     Refused : (before : List (ConnEvent H)) → held ≡ [] → gave ≡ before ++ event.Fault fault.OutOfMemory ∷ []
-        → Parts first asked before now [] → Ends first asked gave now core held
+        → Parts first asked before now core [] → Ends first asked gave now core held
     -- the link took all of the output and is shut, and it told so
     Shut : (before : List (ConnEvent H)) → held ≡ [] → gave ≡ before ++ event.Shut ∷ [] → link.is_shut now
         → Joins first asked before false now core [] [] → Ends first asked gave now core held
@@ -94,7 +102,7 @@ module _ {L P H : Type 0} (link : LinkGhosts L) (protocols : ProtocolsGhosts P H
       → (held : List (ConnEvent H)) → Stage → Type 0
   Stays first asked gave now core left held Going = GoesOn first asked gave now core left held
   Stays first asked gave now core left held Shutting = GoesOn first asked gave now core left held
-  Stays first asked gave now core left held Starved = Parts first asked gave now held
+  Stays first asked gave now core left held Starved = Parts first asked gave now core held
   Stays first asked gave now core left held Over = Ends first asked gave now core held
 
   -- A connection over a link, since the link was in this first state, that has opened the streams that it was asked for

@@ -1,6 +1,6 @@
 //! What a read leads to.
 
-ghost use Rattle.std.specs.Prelude.{◌≡◌, ◌<◌, ℕ, Bool, true, false, List, [], ◌++◌, OnOk, take};
+ghost use Rattle.std.specs.Prelude.{◌≡◌, ◌<◌, ℕ, Bool, true, false, List, [], ◌++◌, OnOk, OnErr, take};
 ghost use Rattle.peer_ids.specs.Key.{Key};
 ghost use Rattle.upgrade.specs.declared.role.ConnRole.{ConnRole};
 ghost use Rattle.conn_log.specs.declared.event.ConnEvent.{ConnEvent};
@@ -33,6 +33,15 @@ impl<L: Link, P: Protocols> Conn<L, P> {
             → OnOk result (Stands P.H.steps P.H.fails P.H.is_closed P.H.is_finished P.makes_inbound P.makes_outbound
             P.listed P.is_eager P.leads_inbound P.leads_outbound start role own input ended asked told
             (taken ++ self.new.unsent) self.new.core) }
+        // What couldn't be put behind was taken from the core all the same.
+        ensures lost { (start : P) (role : ConnRole) (own : Key)
+            (input taken : List ℕ) (ended : Bool) (asked : List (ℕ × ℕ)) (told : List (ConnEvent P.H))
+            → Stands P.H.steps P.H.fails P.H.is_closed P.H.is_finished P.makes_inbound P.makes_outbound P.listed
+            P.is_eager P.leads_inbound P.leads_outbound start role own input ended asked told (taken ++ self.old.unsent)
+            self.old.core
+            → OnErr result (Stands P.H.steps P.H.fails P.H.is_closed P.H.is_finished P.makes_inbound P.makes_outbound
+            P.listed P.is_eager P.leads_inbound P.leads_outbound start role own input ended asked told
+            (taken ++ (self.old.unsent ++ waiting_in self.old.core.phase self.old.core.output.items)) self.new.core) }
         ensures none_waits { waiting_in self.new.core.phase self.new.core.output.items ≡ [] }
         ensures over { is_over self.new.core.phase ≡ is_over self.old.core.phase }
         ensures link { self.new.link ≡ self.old.link }
@@ -47,7 +56,7 @@ impl<L: Link, P: Protocols> Conn<L, P> {
     pub(crate) fn starve(&mut self) -> Turn<P::H>
         ensures follows { (start : P) (role : ConnRole) (own : Key) (first : L)
             (asked : List (ℕ × ℕ)) (gave : List (ConnEvent P.H))
-            → Parts L.Link P.Protocols P.H.Handler start role own first asked gave self.old.link
+            → Parts L.Link P.Protocols P.H.Handler start role own first asked gave self.old.link self.old.core
             self.old.held.items → Leads L.Link P.Protocols P.H.Handler start role own first asked gave
             result self.new }
         ensures gives { OnGoing result ⊥ }

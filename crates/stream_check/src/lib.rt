@@ -6,6 +6,8 @@ mod core_tests;
 #[cfg(test)]
 mod dispatch_tests;
 #[cfg(test)]
+mod dropping_tests;
+#[cfg(test)]
 mod routing_tests;
 #[cfg(test)]
 mod serving_tests;

@@ -1,4 +1,5 @@
-use Rattle.std.proofs.Common.{◌∙◌, ◌++◌, ◌∷◌, [], false, refl, ap}
+use Rattle.conn_core.specs.Connects.{is_over, waiting_in}
+use Rattle.std.proofs.Common.{◌∙◌, rules, ◌++◌, ◌∷◌, [], false, refl, ap}
 use Rattle.conn_future.proofs.Standing.{parts_stay, parts_of, goes_of, stays_none, stays_same_core, goes_asked, going_stays}
 use Rattle.conn_future.proofs.Opening.{opened_wants}
 use Rattle.conn_future.proofs.Unchanged.{same_core}
@@ -8,20 +9,25 @@ pub returns-in_default-collect-clause-refused : goal.returns-in_default-collect-
 returns-in_default-collect-clause-refused g c start role own first asked gave stays =
     stays_none g.L.Link g.P.Protocols g.P.H.Handler start role own first asked gave c.stop.new.self.link c.stop.new.self.core c.stop.new.self.unsent c.stop.new.self.held.items
     c.stop.new.self.held.items c.stop.new.self.stage refl
-    (parts_stay g.L.Link g.P.Protocols g.P.H.Handler start role own first asked gave c.args.self.now.link c.stop.new.self.link c.stop.new.self.core c.stop.new.self.unsent
-    c.args.self.now.held.items c.stop.new.self.held.items c.stop.new.self.stage c.stop.ensures.stage (c.stop.ensures.link ∙ c.collect.ensures.link) (ap (λ h. h.items) c.stop.ensures.held ∙ ap (λ h. h.items) c.collect.ensures.held)
-    (parts_of g.L.Link g.P.Protocols g.P.H.Handler start role own first asked gave false c.args.self.now.link c.args.self.now.link c.args.self.now.core c.args.self.now.unsent c.args.self.now.held.items c.args.self.now.held.items refl refl
+    (parts_stay g.L.Link g.P.Protocols g.P.H.Handler start role own first asked gave c.args.self.now.link c.stop.new.self.link c.collect.new.self.core c.stop.new.self.core c.stop.new.self.unsent
+    c.args.self.now.held.items c.stop.new.self.held.items c.stop.new.self.stage c.stop.ensures.stage (c.stop.ensures.link ∙ c.collect.ensures.link) c.stop.ensures.core (ap (λ h. h.items) c.stop.ensures.held ∙ ap (λ h. h.items) c.collect.ensures.held)
+    (parts_of g.L.Link g.P.Protocols g.P.H.Handler start role own first asked ((c.in-Ok.number, c.args.index) ∷ []) gave false c.args.self.now.link c.args.self.now.link c.args.self.now.core c.collect.new.self.core
+    c.args.self.now.unsent (waiting_in c.ask.new.self.phase c.ask.new.self.output.items) c.args.self.now.held.items c.args.self.now.held.items refl refl
     (goes_of g.L.Link g.P.Protocols g.P.H.Handler start role own first asked gave c.args.self.now.link c.args.self.now.core c.args.self.now.unsent c.args.self.now.held.items c.args.self.now.stage c.in-Going.is stays).goes_on
+    (λ input taken stood _. c.in_default-collect.ensures.lost start role own input taken false (asked ++ (c.in-Ok.number, c.args.index) ∷ []) (gave ++ c.args.self.now.held.items)
+    (c.in-Ok.ensures.asked role own start input (taken ++ c.args.self.now.unsent) asked (gave ++ c.args.self.now.held.items) stood))
     (goes_of g.L.Link g.P.Protocols g.P.H.Handler start role own first asked gave c.args.self.now.link c.args.self.now.core c.args.self.now.unsent c.args.self.now.held.items c.args.self.now.stage c.in-Going.is stays).joins))
 
 pub returns-in-OutOfMemory-clause-refused : goal.returns-in-OutOfMemory-clause-refused
 returns-in-OutOfMemory-clause-refused g c start role own first asked gave stays =
     stays_none g.L.Link g.P.Protocols g.P.H.Handler start role own first asked gave c.stop-in-OutOfMemory.new.self.link c.stop-in-OutOfMemory.new.self.core c.stop-in-OutOfMemory.new.self.unsent c.stop-in-OutOfMemory.new.self.held.items
     c.stop-in-OutOfMemory.new.self.held.items c.stop-in-OutOfMemory.new.self.stage refl
-    (parts_stay g.L.Link g.P.Protocols g.P.H.Handler start role own first asked gave c.args.self.now.link c.stop-in-OutOfMemory.new.self.link c.stop-in-OutOfMemory.new.self.core c.stop-in-OutOfMemory.new.self.unsent
-    c.args.self.now.held.items c.stop-in-OutOfMemory.new.self.held.items c.stop-in-OutOfMemory.new.self.stage c.stop-in-OutOfMemory.ensures.stage (c.stop-in-OutOfMemory.ensures.link) (ap (λ h. h.items) c.stop-in-OutOfMemory.ensures.held)
-    (parts_of g.L.Link g.P.Protocols g.P.H.Handler start role own first asked gave false c.args.self.now.link c.args.self.now.link c.args.self.now.core c.args.self.now.unsent c.args.self.now.held.items c.args.self.now.held.items refl refl
+    (parts_stay g.L.Link g.P.Protocols g.P.H.Handler start role own first asked gave c.args.self.now.link c.stop-in-OutOfMemory.new.self.link c.ask.new.self c.stop-in-OutOfMemory.new.self.core c.stop-in-OutOfMemory.new.self.unsent
+    c.args.self.now.held.items c.stop-in-OutOfMemory.new.self.held.items c.stop-in-OutOfMemory.new.self.stage c.stop-in-OutOfMemory.ensures.stage (c.stop-in-OutOfMemory.ensures.link) c.stop-in-OutOfMemory.ensures.core (ap (λ h. h.items) c.stop-in-OutOfMemory.ensures.held)
+    (parts_of g.L.Link g.P.Protocols g.P.H.Handler start role own first asked [] gave false c.args.self.now.link c.args.self.now.link c.args.self.now.core c.ask.new.self
+    c.args.self.now.unsent [] c.args.self.now.held.items c.args.self.now.held.items refl refl
     (goes_of g.L.Link g.P.Protocols g.P.H.Handler start role own first asked gave c.args.self.now.link c.args.self.now.core c.args.self.now.unsent c.args.self.now.held.items c.args.self.now.stage c.in-Going.is stays).goes_on
+    (λ input taken stood live. let over = c.ask.ensures.memory (search rules) in absurd (cc (live, over)))
     (goes_of g.L.Link g.P.Protocols g.P.H.Handler start role own first asked gave c.args.self.now.link c.args.self.now.core c.args.self.now.unsent c.args.self.now.held.items c.args.self.now.stage c.in-Going.is stays).joins))
 
 pub returns-in-Ok-collect-clause-asked : goal.returns-in-Ok-collect-clause-asked

@@ -5,14 +5,14 @@ use Rattle.conn_future.proofs.conn.Conn.hear.Goals as goal
 pub returns-in_default-clause-follows : goal.returns-in_default-clause-follows
 returns-in_default-clause-follows g c start role own first asked gave before goes moved not_found =
     c.starve.ensures.follows start role own first asked gave
-    (parts_heard g.L.Link g.P.Protocols g.P.H.Handler start role own g.met.L.Link.moves_on first asked gave before c.args.self.now.link c.args.self.now.link c.args.self.now.core c.args.self.now.unsent
-    _ c.args.self.now.held.items refl c.requires.none_held goes moved)
+    (parts_heard g.L.Link g.P.Protocols g.P.H.Handler start role own g.met.L.Link.moves_on first asked gave before c.args.self.now.link c.args.self.now.link c.args.self.now.core c.args.self.now.core c.args.self.now.unsent
+    _ c.args.self.now.held.items refl c.requires.none_held (λ _. (refl, not_found)) goes moved)
 
 pub returns-in_default-from_vec-clause-follows : goal.returns-in_default-from_vec-clause-follows
 returns-in_default-from_vec-clause-follows g c start role own first asked gave before goes moved not_found =
     c.starve-in_default-from_vec.ensures.follows start role own first asked gave
-    (parts_heard g.L.Link g.P.Protocols g.P.H.Handler start role own g.met.L.Link.moves_on first asked gave before c.args.self.now.link c.args.self.now.link c.args.self.now.core c.args.self.now.unsent
-    _ c.args.self.now.held.items refl c.requires.none_held goes moved)
+    (parts_heard g.L.Link g.P.Protocols g.P.H.Handler start role own g.met.L.Link.moves_on first asked gave before c.args.self.now.link c.args.self.now.link c.args.self.now.core c.args.self.now.core c.args.self.now.unsent
+    _ c.args.self.now.held.items refl c.requires.none_held (λ _. (refl, not_found)) goes moved)
 
 pub returns-in-Ok-feed_shared-clause-follows : goal.returns-in-Ok-feed_shared-clause-follows
 returns-in-Ok-feed_shared-clause-follows g c start role own first asked gave before goes moved not_found =
@@ -26,5 +26,5 @@ returns-in-Ok-feed_shared-clause-follows g c start role own first asked gave bef
 pub returns-in-Err-clause-follows : goal.returns-in-Err-clause-follows
 returns-in-Err-clause-follows g c start role own first asked gave before goes moved not_found =
     c.starve-in-Err.ensures.follows start role own first asked gave
-    (parts_heard g.L.Link g.P.Protocols g.P.H.Handler start role own g.met.L.Link.moves_on first asked gave before c.args.self.now.link c.args.self.now.link c.args.self.now.core c.args.self.now.unsent
-    _ c.args.self.now.held.items refl c.requires.none_held goes moved)
+    (parts_heard g.L.Link g.P.Protocols g.P.H.Handler start role own g.met.L.Link.moves_on first asked gave before c.args.self.now.link c.args.self.now.link c.args.self.now.core c.feed_shared.new.self c.args.self.now.unsent
+    _ c.args.self.now.held.items refl c.requires.none_held (λ live. let over = (c.in-Err.ensures.refused goes.goes_on).1 in absurd (cc (live, over))) goes moved)

@@ -1,9 +1,9 @@
-use Rattle.std.proofs.Common.{◌≡◌, ◌∙◌, false, length, deque_len, arith, ap, sym, refl}
+use Rattle.std.proofs.Common.{◌≡◌, ◌∙◌, ◌++◌, [], false, length, deque_len, arith, ap, sym, refl}
 use Rattle.std.proofs.lemmas.Bool.{eq-eqb}
-use Rattle.conn_core.specs.Connects.{is_over}
+use Rattle.conn_core.specs.Connects.{is_over, waiting_in}
 use Rattle.conn_future.specs.Stages.{is_live}
 use Rattle.conn_future.proofs.Lists.{not_true, some_given}
-use Rattle.conn_future.proofs.Standing.{told_stays, parts_of, goes_collected, going_stays, stays_none, tells_some}
+use Rattle.conn_future.proofs.Standing.{told_stays, parts_of, unopened, goes_collected, going_stays, stays_none, tells_some}
 use Rattle.conn_future.proofs.conn.Conn.tell.Goals as goal
 
 pub returns-then-is_over-clause-follows : goal.returns-then-is_over-clause-follows
@@ -24,8 +24,12 @@ returns-then-is_over-clause-follows g c start role own first asked gave ended jo
 pub returns-in_default-clause-follows : goal.returns-in_default-clause-follows
 returns-in_default-clause-follows g c start role own first asked gave ended joins ends unended =
     c.starve.ensures.follows start role own first asked gave
-    (parts_of g.L.Link g.P.Protocols g.P.H.Handler start role own first asked gave ended c.args.self.now.link c.collect.new.self.link c.args.self.now.core c.args.self.now.unsent c.args.events.items
-    c.collect.new.self.held.items c.collect.ensures.link (ap (λ h. h.items) c.collect.ensures.held ∙ c.from.ensures.0) (sym c.is_over.ensures ∙ c.if-is_over.false) joins)
+    (parts_of g.L.Link g.P.Protocols g.P.H.Handler start role own first asked [] gave ended c.args.self.now.link c.collect.new.self.link c.args.self.now.core c.collect.new.self.core
+    c.args.self.now.unsent (waiting_in c.args.self.now.core.phase c.args.self.now.core.output.items) c.args.events.items
+    c.collect.new.self.held.items c.collect.ensures.link (ap (λ h. h.items) c.collect.ensures.held ∙ c.from.ensures.0) (sym c.is_over.ensures ∙ c.if-is_over.false)
+    (λ input taken stood _. unopened g.L.Link g.P.Protocols g.P.H.Handler start role own input ended asked (gave ++ c.args.events.items)
+    (taken ++ (c.args.self.now.unsent ++ waiting_in c.args.self.now.core.phase c.args.self.now.core.output.items)) c.collect.new.self.core
+    (c.in_default.ensures.lost start role own input taken ended asked (gave ++ c.args.events.items) stood)) joins)
 
 pub returns-then-is_empty-clause-follows : goal.returns-then-is_empty-clause-follows
 returns-then-is_empty-clause-follows g c start role own first asked gave ended joins ends unended =
