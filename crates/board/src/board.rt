@@ -343,8 +343,9 @@ impl<P: Protocols> Board<P> {
             (P.is_eager self.old.protocols) (P.listed self.old.protocols) self.old.peer self.old.role log fed sent
             session.old (tree.get nat_cmp self.old.streams) self.old.past.items number view
             (map (Told.Payload number) bytes.now ++ rest)
-            → bytes.now ≢ [] → AllByRecursion IsNoData rest → OnOk result (Routed P.H.steps P.H.fails P.H.is_closed P.H.is_finished P.makes_inbound
-            P.makes_outbound (P.is_eager self.old.protocols) (P.listed self.old.protocols) self.old.peer self.old.role
+            → bytes.now ≢ [] → AllByRecursion IsNoData rest
+            → OnOk result (Routed P.H.steps P.H.fails P.H.is_closed P.H.is_finished P.makes_inbound P.makes_outbound
+            (P.is_eager self.old.protocols) (P.listed self.old.protocols) self.old.peer self.old.role
             (MakesOnBoard P.leads_inbound P.leads_outbound self.old self.new) log told.old.items told.new.items fed sent
             session.new (tree.get nat_cmp self.new.streams) self.new.past.items number rest) }
     {

@@ -153,6 +153,7 @@ module _ {P H : Type 0} (step : H → HandlerCall → H → Type 0) (fails : H �
             so_far = so_far;
             waiting = new.waiting;
             come = come_on step fails is_closed is_finished inbound_makes outbound_makes eager names peer role acts_do acts_move log log_now n h.so_far s.goes.left own come;
+            all_came = own.came_is ∙ a.heard.came ∙ no_more ∙ sym h.got_is;
             served = subst (λ (t : List Item). Rattle.streams.specs.Streams.IsServed step (with_sent role t n h.so_far s.goes.left) handler new.waiting) is s.handed_out.0.0;
             finished = s.handed_out.0.1;
             asked = subst (λ (t : List Item). is_live role t n ≡ true → closed role t n ≡ false → is_closed handler ≡ false → s.goes.left ≡ Some (credit role t n)) is (λ live unclosed. s.asked_last (was_alive live) (was_unclosed unclosed));
@@ -213,7 +214,10 @@ module _ {P H : Type 0} (step : H → HandlerCall → H → Type 0) (fails : H �
         handler = g.handler;
         held = g.held;
         request = ToGive (credit_now - Rattle.std.specs.Prelude.length old.waiting);
-        asked_for = ap (λ k. k - Rattle.std.specs.Prelude.length old.waiting) (sym (open_with role (items log) n credit_now is_open).credit_is);
+        asked_for = (
+          a.heard.came ∙ no_more ∙ sym h.got_is,
+          ap (λ k. k - Rattle.std.specs.Prelude.length old.waiting) (sym (open_with role (items log) n credit_now is_open).credit_is),
+        );
         in_turn = g.unclosed;
         fails_by = failed;
         talking = h.talking;

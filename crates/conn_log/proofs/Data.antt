@@ -180,9 +180,7 @@ module _ {P H : Type 0} (step : H → HandlerCall → H → Type 0) (fails : H �
         elsewhere here outcome served.3 in
         record { newer = it.newer; said_is = it.none_said; untold = it.untold; same_turn = it.same_turn; makes = keeps it.newer it.unmade; seen_now = it.seen_now; comes = it.comes }
     takes making log keeps bytes old got outcome turn a came going h (inr f) =
-        let front = came_front n view rest a.opens_none in
-        let data_is : inbound role (items log) n ≡ h.so_far.got ++ bytes ++ front.0 =
-        a.heard.came ∙ front.1 ∙ ap (λ t. t ++ front.0) (came ∙ ap (λ t. t ++ bytes) (sym h.got_is)) in
+        let data_is : inbound role (items log) n ≡ h.so_far.got ++ bytes = a.heard.came ∙ no_more ∙ came ∙ ap (λ t. t ++ bytes) (sym h.got_is) in
         let handler = f.1.0 in
         let fault : HandlerFault = f.1.1 in
         stopped making log keeps outcome (event.Broken n (causes.Handler fault)) f.0 a
@@ -196,8 +194,8 @@ module _ {P H : Type 0} (step : H → HandlerCall → H → Type 0) (fails : H �
               stream = old;
               come = record {
                 side_is = h.side_is;
-                rest = bytes ++ front.0;
-                got_is = data_is ∙ append_assoc h.so_far.got bytes front.0;
+                rest = bytes;
+                got_is = data_is;
                 ended_by = λ is. absurd (let e : true ≡ false = sym is ∙ h.ended_is ∙ going in cc e);
                 sent_is = h.sent_is;
                 made_is = h.made_is;
@@ -207,7 +205,7 @@ module _ {P H : Type 0} (step : H → HandlerCall → H → Type 0) (fails : H �
             handler = handler;
             held = ap Rattle.streams.specs.State.handler_of f.1.2;
             request = ToTake bytes;
-            asked_for = (front.0, data_is);
+            asked_for = data_is;
             in_turn = (f.1.2, h.ended_is ∙ going, in_turn_by turn f.1.2);
             fails_by = f.1.3;
             talking = h.talking;

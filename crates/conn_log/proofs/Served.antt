@@ -256,7 +256,8 @@ module _ {P H : Type 0} (step : H → HandlerCall → H → Type 0) (fails : H �
         come = come_on log (Of (Did (Write k pieces)) ∷ did acts ++ log) n so_far due.1.left own c;
         stands = due.1.stands;
       } in
-      subst (λ m. IsThere step fails is_closed is_finished inbound_makes outbound_makes eager names peer role (Of (Did (Write k pieces)) ∷ did acts ++ log) m) (sym on) there
+      subst (λ m. (it : IsThere step fails is_closed is_finished inbound_makes outbound_makes eager names peer role (Of (Did (Write k pieces)) ∷ did acts ++ log) m)
+      × (inbound role (items (did acts ++ log)) m ≡ it.so_far.got)) (sym on) (there, (did_own log n acts all).came_is ∙ came)
   entry_due log n so_far out acts (Taken k count) all on c came told same_over due =
       subst (λ m. (count ≡ untaken role (items (did acts ++ log)) m)
       × ((closed role (items (did acts ++ log)) m ≡ true) ⊎ ((0 < credit role (items (did acts ++ log)) m)

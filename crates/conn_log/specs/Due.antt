@@ -105,14 +105,14 @@ module _ {P H : Type 0} (step : H → HandlerCall → H → Type 0) (fails : H �
   Makes n index handler = (protocols : P)
       × made_by (inbound_makes protocols) (outbound_makes protocols) (direction_of role n) peer index handler
 
-  -- the handler is asked for this where the stream stands: for what came next, for the end, or for as much as there is
-  -- credit behind what waits
+  -- the handler is asked for this where the stream stands: for what came last, or behind all that came for the end, or
+  -- for as much as there is credit behind what waits
   abbrev pub IsAskedFor : List (Entry H) → ℕ → Past H → List ℕ → Asked → Type 0
-  IsAskedFor log n so_far waiting (ToTake bytes) =
-      (rest : List ℕ) × (inbound role (items log) n ≡ so_far.got ++ bytes ++ rest)
+  IsAskedFor log n so_far waiting (ToTake bytes) = inbound role (items log) n ≡ so_far.got ++ bytes
   IsAskedFor log n so_far waiting ToEnd =
       (inbound role (items log) n ≡ so_far.got) × (finished role (items log) n ≡ true)
-  IsAskedFor log n so_far waiting (ToGive room) = room ≡ credit role (items log) n - length waiting
+  IsAskedFor log n so_far waiting (ToGive room) =
+      (inbound role (items log) n ≡ so_far.got) × (room ≡ credit role (items log) n - length waiting)
 
   -- It may be asked for that in its turn: what came, and its end, is told to a handler that serves the stream, wasn't
   -- told of the end before, and isn't finished: one that is finished was handed out, unless its talk has just agreed.
@@ -155,12 +155,13 @@ module _ {P H : Type 0} (step : H → HandlerCall → H → Type 0) (fails : H �
 
   -- ---- each entry where it stands
 
-  -- The handler was handed a beginning of its stream's data, and is finished. While this direction is open it was asked
+  -- The handler was handed all data that came on its stream, and is finished. While this direction is open it was asked
   -- last, with all the credit, unless it is closed.
   pub record IsDone (log : List (Entry H)) (n : ℕ) (handler : H) : Type 0 where
     pub so_far : Past H
     pub waiting : List ℕ
     pub come : HasCome log n so_far
+    pub all_came : inbound role (items log) n ≡ so_far.got
     pub served : IsServed step so_far handler waiting
     pub finished : is_finished handler ≡ true
     pub asked : is_live role (items log) n ≡ true → closed role (items log) n ≡ false → is_closed handler ≡ false
@@ -196,8 +197,9 @@ module _ {P H : Type 0} (step : H → HandlerCall → H → Type 0) (fails : H �
       → was_reset role (items log) n ≡ true → is_over role log n ≡ true
   -- a stream is opened only where one was asked for
   IsDue log (Of (Did (Start n))) = ⊥
-  -- what is written is what the stream gave
-  IsDue log (Of (Did (Write n pieces))) = IsThere (Of (Did (Write n pieces)) ∷ log) n
+  -- what is written is what the stream gave by all data that came
+  IsDue log (Of (Did (Write n pieces))) = (there : IsThere (Of (Did (Write n pieces)) ∷ log) n)
+      × (inbound role (items log) n ≡ there.so_far.got)
   -- all that came is taken, where this direction is closed, or credit is left by a stream that gave what it has
   IsDue log (Of (Did (Taken n count))) = (count ≡ untaken role (items log) n)
       × ((closed role (items log) n ≡ true) ⊎ ((0 < credit role (items log) n) × GaveAll log n))

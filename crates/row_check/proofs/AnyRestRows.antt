@@ -103,8 +103,8 @@ module _ {P H : Type 0} (step : H → HandlerCall → H → Type 0) (fails : H �
         },
       ),
     );
-    done = λ log n handler so_far waiting come served finished asked. record { so_far = so_far; waiting = waiting; come = come; served = served; finished = finished; asked = asked };
-    done_is = λ log n handler d. (d.so_far, d.waiting, d.come, d.served, d.finished, d.asked);
+    done = λ log n handler so_far waiting come all served finished asked. record { so_far = so_far; waiting = waiting; come = come; all_came = all; served = served; finished = finished; asked = asked };
+    done_is = λ log n handler d. (d.so_far, d.waiting, d.come, d.all_came, d.served, d.finished, d.asked);
     gave = λ log n there came none asked told same. record { there = there; all_came = came; none_waits = none; asked = asked; was_told = told; not_given_up = same };
     gave_is = λ log n g. (g.there, g.all_came, g.none_waits, g.asked, g.was_told, g.not_given_up);
     gave_by_name = λ log n g. (g.all_came, g.none_waits, g.asked, g.was_told);

@@ -171,13 +171,13 @@ module _ {P H : Type 0} (step : H → HandlerCall → H → Type 0) (fails : H �
     pub there_by_name : (log : List (Entry H)) (n : ℕ) (t : is_there log n)
         → has_come log n t.so_far × Stands step t.stream t.so_far
     pub asked_to_take : (log : List (Entry H)) (n : ℕ) (so_far : Past H) (waiting bytes : List ℕ)
-        → asked_with log n so_far waiting (ToTake bytes)
-        ↔ ((rest : List ℕ) × (inbound role (items log) n ≡ so_far.got ++ bytes ++ rest))
+        → asked_with log n so_far waiting (ToTake bytes) ↔ (inbound role (items log) n ≡ so_far.got ++ bytes)
     pub asked_to_end : (log : List (Entry H)) (n : ℕ) (so_far : Past H) (waiting : List ℕ)
         → asked_with log n so_far waiting ToEnd
         ↔ ((inbound role (items log) n ≡ so_far.got) × (finished role (items log) n ≡ true))
     pub asked_to_give : (log : List (Entry H)) (n room : ℕ) (so_far : Past H) (waiting : List ℕ)
-        → asked_with log n so_far waiting (ToGive room) ↔ (room ≡ credit role (items log) n - length waiting)
+        → asked_with log n so_far waiting (ToGive room)
+        ↔ ((inbound role (items log) n ≡ so_far.got) × (room ≡ credit role (items log) n - length waiting))
     pub fails_by : (log : List (Entry H)) (n number : ℕ) (there : is_there log n) (handler : H) (request : Asked)
         → handler_of there.stream.stage ≡ Some handler
         → asked_with log n there.so_far there.stream.waiting request
@@ -217,11 +217,13 @@ module _ {P H : Type 0} (step : H → HandlerCall → H → Type 0) (fails : H �
         × ((side : Side) × (output : List ℕ) × IsSide role names log n side
         × IsOpen side (inbound role (items log) n) output))
     pub done : (log : List (Entry H)) (n : ℕ) (handler : H) (so_far : Past H) (waiting : List ℕ)
-        → has_come log n so_far → IsServed step so_far handler waiting → is_finished handler ≡ true
+        → has_come log n so_far → inbound role (items log) n ≡ so_far.got → IsServed step so_far handler waiting
+        → is_finished handler ≡ true
         → (is_live role (items log) n ≡ true → closed role (items log) n ≡ false → is_closed handler ≡ false
         → so_far.left ≡ Some (credit role (items log) n)) → is_done log n handler
     pub done_is : (log : List (Entry H)) (n : ℕ) (handler : H) → is_done log n handler → (so_far : Past H)
-        × (waiting : List ℕ) × has_come log n so_far × IsServed step so_far handler waiting
+        × (waiting : List ℕ) × has_come log n so_far × (inbound role (items log) n ≡ so_far.got)
+        × IsServed step so_far handler waiting
         × (is_finished handler ≡ true)
         × (is_live role (items log) n ≡ true → closed role (items log) n ≡ false → is_closed handler ≡ false
         → so_far.left ≡ Some (credit role (items log) n))
@@ -241,12 +243,12 @@ module _ {P H : Type 0} (step : H → HandlerCall → H → Type 0) (fails : H �
         × (is_open is_closed g.there.stream.stage ≡ true → g.there.so_far.left ≡ Some (credit role (items log) n))
         × (was_handed_out g.there.stream.stage ≡ true → was_done role log n ≡ true)
     pub given : (log : List (Entry H)) (n : ℕ) (all : gave_all log n)
-        → (has_closed is_closed all.there.stream.stage ≡ true) ⊎ (has_finished is_finished all.there.stream.stage ≡ true)
-        → has_given log n
+        → (has_closed is_closed all.there.stream.stage ≡ true)
+        ⊎ (has_finished is_finished all.there.stream.stage ≡ true) → has_given log n
     pub given_is : (log : List (Entry H)) (n : ℕ) → has_given log n → (all : gave_all log n)
         × ((has_closed is_closed all.there.stream.stage ≡ true)
         ⊎ (has_finished is_finished all.there.stream.stage ≡ true))
-    -- of a stream that was refused or broken nothing counts as taken, and it isn't closed
+    -- a stream that was refused or broken didn't give all, and isn't closed
     pub not_gave : (log : List (Entry H)) (n : ℕ) → is_over role log n ≡ true → was_done role log n ≡ false
         → ¬ gave_all log n × ¬ has_given log n
 
@@ -260,7 +262,7 @@ module _ {P H : Type 0} (step : H → HandlerCall → H → Type 0) (fails : H �
     pub unasked : (log : List (Entry H)) (n code : ℕ) → ¬ is_due log (Of (Did (Start n)))
         × ¬ is_due log (Of (Did (Act.GoAway code)))
     pub writes : (log : List (Entry H)) (n : ℕ) (pieces : List (List ℕ)) → is_due log (Of (Did (Write n pieces)))
-        ↔ is_there (Of (Did (Write n pieces)) ∷ log) n
+        ↔ ((there : is_there (Of (Did (Write n pieces)) ∷ log) n) × (inbound role (items log) n ≡ there.so_far.got))
     pub takes : (log : List (Entry H)) (n count : ℕ) → is_due log (Of (Did (Taken n count)))
         ↔ ((count ≡ untaken role (items log) n)
         × ((closed role (items log) n ≡ true) ⊎ ((0 < credit role (items log) n) × gave_all log n)))

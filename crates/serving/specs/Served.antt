@@ -97,7 +97,8 @@ module _ {H : Type 0} (step : H → HandlerCall → H → Type 0) (is_closed is_
     pub handed_out : HandsOut step is_closed is_finished (with_sent role goes.now n so_far goes.left) handler stream
     pub settled : is_live role goes.now n ≡ true
         → IsSettled step is_closed is_finished role goes.now n goes.left stream
-    -- a handler that is handed out was asked last, with all the credit, unless it is closed, or this direction was before
+    -- a handler that is handed out was asked last, with all the credit, unless it is closed, or this direction was
+    -- before
     pub asked_last : is_live role past n ≡ true → closed role past n ≡ false
         → IfSome handler (λ it. is_closed it ≡ false → goes.left ≡ Some (credit role goes.now n))
     -- this direction was closed only where it is this stream that gives no more
