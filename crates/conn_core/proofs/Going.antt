@@ -1,6 +1,8 @@
 -- A connection that is up goes on, or meets a fault.
-use Rattle.std.proofs.Common.{◌≡◌, ℕ, Bool, List, [], ◌∷◌, ◌++◌, map, Option, refl, sym, ap, ◌∙◌, subst}
+use Rattle.std.proofs.Common.{◌≡◌, ℕ, Bool, true, List, [], ◌∷◌, ◌++◌, map, Option, refl, sym, ap, ◌∙◌, subst}
 use Rattle.std.proofs.lemmas.List.{append_assoc, append-nil}
+use Rattle.std.specs.Ordering.{nat_cmp}
+use Rattle.std.specs.BTreeMap as tree
 use Rattle.handlers.specs.Calls.{HandlerCall, Asked}
 use Rattle.peer_ids.specs.Key.{Key}
 use Rattle.peer_ids.specs.PeerId.{id_of}
@@ -21,7 +23,8 @@ use Rattle.conn_log.specs.Rests.{AreAtRest, AreRested, Grows}
 use Rattle.conn_log.proofs.Settling.{said_append, asks_append}
 use Rattle.conn_log.proofs.Early.{early_grows}
 use Rattle.mux.specs.Faults.{Faults}
-use Rattle.conn_core.specs.Connects.{IsUp, IsFaulty, session_role}
+use Rattle.mux.specs.declared.mux.Mux.{Mux}
+use Rattle.conn_core.specs.Connects.{IsUp, IsUpWith, IsFaulty, session_role}
 
 -- what is said of a board is said of what it is known to be
 pub as_known : (e known_e : ℕ → Bool) (n known_n : List (List ℕ)) (p known_p : List ℕ) (r known_r : Role) → e ≡ known_e → n ≡ known_n → p ≡ known_p → r ≡ known_r
@@ -128,3 +131,27 @@ module _ {P H : Type 0} (step : H → HandlerCall → H → Type 0) (fails : H �
         told_is = ap (λ t. before ++ t) all_is ∙ sym (append_assoc before new (event.Fault fault.Mux ∷ []));
         written_is = ap (λ t. t ++ pending) up.written_is ∙ append_assoc up.greeting sent pending;
       }
+
+  -- what the session wrote was moved behind what waited
+  pub up_breaks : (input piece taken waiting moved : List ℕ) (asked : List (ℕ × ℕ)) (before old new : List (ConnEvent H)) (mux after : Mux P H)
+      → IsUpWith step fails is_closed is_finished inbound_makes outbound_makes listed is_eager inbound_leads outbound_leads start role own input asked (before ++ old) (taken ++ waiting) mux
+      → ((log : List (Entry H)) (fed sent : List ℕ) → AreAtRest step fails is_closed is_finished inbound_makes outbound_makes (is_eager mux.board.protocols) (listed mux.board.protocols) mux.board.peer mux.board.role log fed sent mux.session (tree.get nat_cmp mux.board.streams) mux.board.past.items
+      → after.session.failed ≡ true
+      → Faults step fails is_closed is_finished inbound_makes outbound_makes (is_eager mux.board.protocols) (listed mux.board.protocols) mux.board.peer mux.board.role (MakesOn inbound_leads outbound_leads mux.board.peer mux.board.role mux.board.protocols after.board.protocols) log [] old new fed piece sent after.session.pending)
+      → after.session.failed ≡ true → moved ≡ waiting ++ after.session.pending
+      → IsFaulty step fails is_closed is_finished inbound_makes outbound_makes listed is_eager inbound_leads outbound_leads start role own (input ++ piece) asked (before ++ (new ++ event.Fault fault.Mux ∷ [])) (taken ++ moved)
+  up_breaks input piece taken waiting moved asked before old new mux after upw faults_by failed moved_is =
+      let board = mux.board in
+      let up = upw.3.0 in
+      let sent = output (session_role role) (items up.log) in
+      let streams = tree.get nat_cmp board.streams in
+      let faults = as_known (is_eager board.protocols) (is_eager start) (listed board.protocols) (listed start) board.peer (id_of up.key) board.role (session_role role) upw.1 upw.0 upw.3.1 upw.2
+      (λ e n p r. AreAtRest step fails is_closed is_finished inbound_makes outbound_makes e n p r up.log up.rest sent mux.session streams board.past.items
+      → after.session.failed ≡ true
+      → Faults step fails is_closed is_finished inbound_makes outbound_makes e n p r (MakesOn inbound_leads outbound_leads p r board.protocols after.board.protocols) up.log [] old new up.rest piece sent after.session.pending)
+      (faults_by up.log up.rest sent) up.at_rest failed in
+      let from_now = subst (λ q. Faults step fails is_closed is_finished inbound_makes outbound_makes (is_eager start) (listed start) (id_of up.key) (session_role role)
+      (MakesOn inbound_leads outbound_leads (id_of up.key) (session_role role) q after.board.protocols) up.log [] old new up.rest piece sent after.session.pending) upw.3.2 faults in
+      let it = up_faults input piece asked before old new (new ++ event.Fault fault.Mux ∷ []) (taken ++ waiting) after.session.pending mux.session streams board.past.items up after.board.protocols from_now refl in
+      let written : (taken ++ waiting) ++ after.session.pending ≡ taken ++ moved = append_assoc taken waiting after.session.pending ∙ ap (λ (t : List ℕ). taken ++ t) (sym moved_is) in
+      subst (λ (t : List ℕ). IsFaulty step fails is_closed is_finished inbound_makes outbound_makes listed is_eager inbound_leads outbound_leads start role own (input ++ piece) asked (before ++ (new ++ event.Fault fault.Mux ∷ [])) t) written it

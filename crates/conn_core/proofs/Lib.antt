@@ -11,4 +11,5 @@ pub mod Counting
 pub mod Listed
 mod MadeOrder
 pub mod Waiting
+pub mod Wanting
 pub mod Rows

@@ -20,7 +20,7 @@ use Rattle.conn_log.specs.Entries.Entry.{Of, Says, Made, Asks}
 use Rattle.conn_log.specs.Due.{AllDue}
 use Rattle.conn_core.specs.declared.connection.Phase.{Phase}
 use Rattle.conn_core.specs.declared.connection.Phase.TheVariants as phases
-use Rattle.conn_core.specs.Connects.{IsComing, Ends, Connects, MayOpen, IsRefused, session_role, is_over, waiting_in, held_in, IsOrderedIn}
+use Rattle.conn_core.specs.Connects.{IsComing, Ends, Connects, MayOpen, IsRefused, session_role, is_over, is_spent, waiting_in, held_in, IsOrderedIn}
 use Rattle.conn_core.specs.Connects.Ends.{Upgrade, Session, Early, Within, Shut}
 use Rattle.conn_core.specs.Runs.{Explains, MayBeAsked, IsNotOpened, Holds, is_end, has_ended}
 use Rattle.conn_core.specs.Runs.Explains.{Coming, Up, Over}
@@ -86,6 +86,7 @@ module _ {P H : Type 0} (step : H → HandlerCall → H → Type 0) (fails : H �
       front_goes_on told owed (ap has_ended up.told_is
       ∙ said_goes_on step fails is_closed is_finished inbound_makes outbound_makes (is_eager start) (listed start) (id_of up.key) (session_role role) up.log up.at_rest.due)
   told_over input ended asked told taken phases.Over owed waiting it = ends_told input ended asked told (taken ++ waiting) it.1
+  told_over input ended asked told taken phases.Spent owed waiting it = absurd it
 
   -- the input ends only where it is over
   pub unended : (input : List ℕ) (ended : Bool) (asked : List (ℕ × ℕ)) (told : List (ConnEvent H)) (taken : List ℕ) (phase : Phase P H) (owed : List (ConnEvent H)) (waiting : List ℕ)
@@ -94,10 +95,11 @@ module _ {P H : Type 0} (step : H → HandlerCall → H → Type 0) (fails : H �
   unended input ended asked told taken (phases.Upgrading x protocols) owed waiting it going = it.0
   unended input ended asked told taken (phases.Up mux) owed waiting it going = it.0
   unended input ended asked told taken phases.Over owed waiting it going = absurd (cc going)
+  unended input ended asked told taken phases.Spent owed waiting it going = absurd it
 
   -- ---- why it is there
 
-  coming : (input taken : List ℕ) (told : List (ConnEvent H)) (x : Upgrading) (protocols : P)
+  pub coming : (input taken : List ℕ) (told : List (ConnEvent H)) (x : Upgrading) (protocols : P)
       → IsComing step fails is_closed is_finished inbound_makes outbound_makes listed is_eager inbound_leads outbound_leads start role own input told taken x protocols → Upgrades role own input (Ok None) (taken ++ x.pending)
   coming input taken told x protocols it =
       let there : Upgrades x.role x.own input (Ok None) (taken ++ x.pending) = going_by x.stage x.role x.own input (taken ++ x.pending) it.stands in
@@ -110,6 +112,7 @@ module _ {P H : Type 0} (step : H → HandlerCall → H → Type 0) (fails : H �
   why_there input ended asked told taken (phases.Upgrading x protocols) owed waiting it = Coming it.0 it.1 it.4.none_told it.2 (coming input taken told x protocols it.4)
   why_there input ended asked told taken (phases.Up mux) owed waiting it = Up mux.session (tree.get nat_cmp mux.board.streams) mux.board.past.items it.0 it.1.3.0
   why_there input ended asked told taken phases.Over owed waiting it = Over it.0 it.1
+  why_there input ended asked told taken phases.Spent owed waiting it = absurd it
 
   -- a stream may be opened
   pub may_ask : (input : List ℕ) (ended : Bool) (asked : List (ℕ × ℕ)) (told : List (ConnEvent H)) (taken : List ℕ) (phase : Phase P H) (owed : List (ConnEvent H)) (waiting : List ℕ) (index : ℕ)
@@ -128,6 +131,7 @@ module _ {P H : Type 0} (step : H → HandlerCall → H → Type 0) (fails : H �
         ),
       )
   may_ask input ended asked told taken phases.Over owed waiting index it may = absurd may
+  may_ask input ended asked told taken phases.Spent owed waiting index it may = absurd may
 
   -- or why none is
   pub not_asked : (input : List ℕ) (ended : Bool) (asked : List (ℕ × ℕ)) (told : List (ConnEvent H)) (taken : List ℕ) (phase : Phase P H) (owed : List (ConnEvent H)) (waiting : List ℕ) (index : ℕ) (why : ConnRefused)
@@ -150,6 +154,7 @@ module _ {P H : Type 0} (step : H → HandlerCall → H → Type 0) (fails : H �
         ),
       )
   not_asked input ended asked told taken phases.Over owed waiting index why it refused = (why_there input ended asked told taken phases.Over owed waiting it, refused)
+  not_asked input ended asked told taken phases.Spent owed waiting index why it refused = absurd it
 
   -- the handlers that are held there
   pub holds : (input : List ℕ) (ended : Bool) (asked : List (ℕ × ℕ)) (told : List (ConnEvent H)) (taken : List ℕ) (phase : Phase P H) (owed : List (ConnEvent H)) (waiting : List ℕ)
@@ -166,9 +171,11 @@ module _ {P H : Type 0} (step : H → HandlerCall → H → Type 0) (fails : H �
     handlers_are = refl;
   }
   holds input ended asked told taken phases.Over owed waiting it ordered = refl
+  holds input ended asked told taken phases.Spent owed waiting it ordered = absurd it
 
--- where it is over none is held
-pub over_holds : {P H : Type 0} (phase : Phase P H) → is_over phase ≡ true → held_in phase ≡ []
-over_holds (phases.Upgrading x protocols) over = refl
-over_holds (phases.Up mux) over = absurd (cc over)
-over_holds phases.Over over = refl
+-- where memory was refused none is held
+pub spent_holds : {P H : Type 0} (phase : Phase P H) → is_spent phase ≡ true → held_in phase ≡ []
+spent_holds (phases.Upgrading x protocols) spent = absurd (cc spent)
+spent_holds (phases.Up mux) spent = absurd (cc spent)
+spent_holds phases.Over spent = refl
+spent_holds phases.Spent spent = refl

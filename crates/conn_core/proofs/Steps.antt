@@ -5,7 +5,6 @@ use Rattle.std.specs.Global.{Vec}
 use Rattle.handlers.specs.Calls.{HandlerCall, Asked}
 use Rattle.peer_ids.specs.Key.{Key}
 use Rattle.upgrade.specs.declared.role.ConnRole.{ConnRole}
-use Rattle.upgrade.specs.Upgrades.{Grows}
 use Rattle.conn_log.specs.declared.event.ConnEvent.{ConnEvent}
 use Rattle.conn_log.specs.declared.event.ConnRefused.{ConnRefused}
 use Rattle.conn_log.specs.declared.event.ConnRefused.TheVariants as refusals
@@ -16,10 +15,12 @@ use Rattle.conn_core.specs.declared.calls.ConnAct.{ConnAct}
 use Rattle.conn_core.specs.declared.calls.ConnAct.TheVariants.{Ask}
 use Rattle.conn_core.specs.declared.calls.ConnAnswer.{ConnAnswer}
 use Rattle.conn_core.specs.declared.calls.ConnAnswer.TheVariants.{Events, Refused}
-use Rattle.conn_core.specs.Connects.{Connects, Stands, MayOpen, IsRefused, OwesOf, is_over, waiting_in, held_in, IsOrderedIn}
-use Rattle.conn_core.specs.Runs.{Point, Explains, IsExplained, MayBeAsked, IsNotOpened, IsTurnedAway, AnswersAt, Holds, Leaves, Answers, AnswersAll, IsAt, has_ended, events_or, stream_or}
+use Rattle.conn_core.specs.Connects.{Connects, Stands, MayOpen, IsRefused, OwesOf, is_over, is_spent, waiting_in, held_in, IsOrderedIn}
+use Rattle.upgrade.specs.Upgrades.{Grows}
+use Rattle.conn_core.specs.Wanting.{Wrote}
+use Rattle.conn_core.specs.Runs.{Point, Explains, IsExplained, MayBeAsked, IsNotOpened, IsTurnedAway, IsKept, AnswersAt, Holds, Leaves, Answers, AnswersAll, IsAt, has_ended, events_or, stream_or}
 use Rattle.conn_core.specs.Runs.Point.{At, Spent}
-use Rattle.conn_core.proofs.Points.{told_over, unended, why_there, may_ask, not_asked, holds, over_holds}
+use Rattle.conn_core.proofs.Points.{told_over, unended, why_there, may_ask, not_asked, holds, spent_holds}
 
 is_memory : (why : ConnRefused) → (why ≡ refusals.OutOfMemory) ⊎ (why ≢ refusals.OutOfMemory)
 is_memory refusals.OutOfMemory = inl refl
@@ -34,19 +35,24 @@ open_goes_on : {P H : Type 0} (listed : P → List (List ℕ)) (phase : Phase P 
 open_goes_on listed (phases.Upgrading x protocols) index may = absurd may
 open_goes_on listed (phases.Up mux) index may = refl
 open_goes_on listed phases.Over index may = absurd may
+open_goes_on listed phases.Spent index may = absurd may
 
 over_refuses : {P H : Type 0} (listed : P → List (List ℕ)) (phase : Phase P H) (index : ℕ) (why : ConnRefused) → is_over phase ≡ true → IsRefused listed phase index why → why ≡ refusals.Failed
 over_refuses listed (phases.Upgrading x protocols) index why over refused = absurd (cc over)
 over_refuses listed (phases.Up mux) index why over refused = absurd (cc over)
 over_refuses listed phases.Over index why over refused = refused
+over_refuses listed phases.Spent index why over refused = refused
+
+-- what is spent is over
+spent_over : {P H : Type 0} (phase : Phase P H) → is_spent phase ≡ true → is_over phase ≡ true
+spent_over (phases.Upgrading x protocols) spent = spent
+spent_over (phases.Up mux) spent = spent
+spent_over phases.Over spent = refl
+spent_over phases.Spent spent = refl
 
 pub and_then : {A E : Type 0} (Q : A → Type 0) (X : Type 0) (r : Result A E) → OnOk r X → IfOk r Q → IfOk r (λ x. Q x × X)
 and_then Q X (Ok x) then q = (q, then)
 and_then Q X (Err e) then q = tt
-
-pub err_and : {A E : Type 0} (X Y : Type 0) (r : Result A E) → Y → OnErr r X → OnErr r (X × Y)
-err_and X Y (Ok x) y none = tt
-err_and X Y (Err e) y none = (none, y)
 
 pub on_err : {A E : Type 0} (X : Type 0) (r : Result A E) → X → OnErr r X
 on_err X (Ok x) it = tt
@@ -76,6 +82,13 @@ module _ {P H : Type 0} (step : H → HandlerCall → H → Type 0) (fails : H �
   explained_at (At input ended asked told owed) core at = (waiting_in core.phase core.output.items, written_at input ended asked told owed core at)
   explained_at (Spent w) core at = tt
 
+  -- where memory was refused to a feed
+  pub feed_keeps : {A : Type 0} (input piece : List ℕ) (asked : List (ℕ × ℕ)) (told owed : List (ConnEvent H)) (before after : List ℕ) (r : Result A ConnRefused)
+      → Explains step fails is_closed is_finished inbound_makes outbound_makes listed is_eager inbound_leads outbound_leads start role own input false asked told owed before → OnErr r (Grows before after) → OnErr r (Wrote step fails is_closed is_finished inbound_makes outbound_makes listed is_eager inbound_leads outbound_leads start role own input piece asked told after)
+      → OnErr r ((first : List ℕ) × Explains step fails is_closed is_finished inbound_makes outbound_makes listed is_eager inbound_leads outbound_leads start role own input false asked told owed first × Grows first after × Wrote step fails is_closed is_finished inbound_makes outbound_makes listed is_eager inbound_leads outbound_leads start role own input piece asked told after)
+  feed_keeps input piece asked told owed before after (Ok x) there waits wrote = tt
+  feed_keeps input piece asked told owed before after (Err why) there waits wrote = (before, there, waits, wrote)
+
   -- ---- a feed, or the end of the input
 
   pub tells : (point : Point H) (call : ConnAct) (after : List ℕ → List ℕ) (b : Bool) (old new : ConnCore P H) (r : Result (Vec (ConnEvent H)) ConnRefused)
@@ -85,11 +98,13 @@ module _ {P H : Type 0} (step : H → HandlerCall → H → Type 0) (fails : H �
       → AnswersAt step fails is_closed is_finished inbound_makes outbound_makes listed is_eager inbound_leads outbound_leads start role own input ended asked told owed call (Refused why) next)
       → ((input : List ℕ) (asked : List (ℕ × ℕ)) (told : List (ConnEvent H)) → Stands step fails is_closed is_finished inbound_makes outbound_makes listed is_eager inbound_leads outbound_leads start role own input false asked told [] old → is_over old.phase ≡ false
       → IfOk r (λ events. Stands step fails is_closed is_finished inbound_makes outbound_makes listed is_eager inbound_leads outbound_leads start role own (after input) b asked (told ++ events.items) [] new × (new.owed.items ≡ [])))
-      → (is_over old.phase ≡ false → OnErr r ((r ≡ Err refusals.OutOfMemory) × (is_over new.phase ≡ true)))
-      → OnErr r (Grows (waiting_in old.phase old.output.items) (waiting_in new.phase new.output.items))
+      → (is_over old.phase ≡ false → OnErr r ((r ≡ Err refusals.OutOfMemory) × (is_spent new.phase ≡ true)))
+      → ((input : List ℕ) (asked : List (ℕ × ℕ)) (told owed : List (ConnEvent H)) → Explains step fails is_closed is_finished inbound_makes outbound_makes listed is_eager inbound_leads outbound_leads start role own input false asked told owed (waiting_in old.phase old.output.items)
+      → Stands step fails is_closed is_finished inbound_makes outbound_makes listed is_eager inbound_leads outbound_leads start role own input false asked told [] old → is_over old.phase ≡ false
+      → OnErr r (IsKept step fails is_closed is_finished inbound_makes outbound_makes listed is_eager inbound_leads outbound_leads start role own input false asked told owed call (waiting_in new.phase new.output.items)))
       → (is_over old.phase ≡ true → (r ≡ Err refusals.Failed) × (new ≡ old))
       → IsAt step fails is_closed is_finished inbound_makes outbound_makes listed is_eager inbound_leads outbound_leads start role own point old → Leads point call (events_or r) new
-  tells (At input ended asked told owed) call after b old new (Ok events) shape away fed refused waits failed at = by_over (is_over old.phase) refl
+  tells (At input ended asked told owed) call after b old new (Ok events) shape away fed refused kept failed at = by_over (is_over old.phase) refl
     where
       by_over : (c : Bool) → is_over old.phase ≡ c → Leads (At input ended asked told owed) call (Events events) new
       by_over true over = absurd (let e = (failed over).0 in cc)
@@ -106,7 +121,7 @@ module _ {P H : Type 0} (step : H → HandlerCall → H → Type 0) (fails : H �
             ),
             there,
           )
-  tells (At input ended asked told owed) call after b old new (Err why) shape away fed refused waits failed at = by_over (is_over old.phase) refl
+  tells (At input ended asked told owed) call after b old new (Err why) shape away fed refused kept failed at = by_over (is_over old.phase) refl
     where
       by_over : (c : Bool) → is_over old.phase ≡ c → Leads (At input ended asked told owed) call (Refused why) new
       by_over true over =
@@ -125,20 +140,23 @@ module _ {P H : Type 0} (step : H → HandlerCall → H → Type 0) (fails : H �
       by_over false going =
           let out = refused going in
           let why_is : why ≡ refusals.OutOfMemory = (let e = out.0 in cc) in
-          let written = waiting_in old.phase old.output.items in (
+          let open_still = unended step fails is_closed is_finished inbound_makes outbound_makes listed is_eager inbound_leads outbound_leads start role own input ended asked told [] old.phase old.owed.items old.output.items at.1.1 going in
+          let written = waiting_in new.phase new.output.items in (
             Spent written,
             (
               away input ended asked told owed why (Spent written) (inr (told_over step fails is_closed is_finished inbound_makes outbound_makes listed is_eager inbound_leads outbound_leads start role own input ended asked told [] old.phase old.owed.items old.output.items at.1.1 ∙ going, why_is, (written, refl))),
               tt,
-              written_at input ended asked told owed old at,
+              subst (λ (x : Bool). IsKept step fails is_closed is_finished inbound_makes outbound_makes listed is_eager inbound_leads outbound_leads start role own input x asked told owed call written) (sym open_still)
+                  (kept input asked told owed (subst (λ (x : Bool). Explains step fails is_closed is_finished inbound_makes outbound_makes listed is_eager inbound_leads outbound_leads start role own input x asked told owed (waiting_in old.phase old.output.items)) open_still (written_at input ended asked told owed old at))
+                  (subst (λ (x : Bool). Stands step fails is_closed is_finished inbound_makes outbound_makes listed is_eager inbound_leads outbound_leads start role own input x asked told [] old) open_still at.1) going),
             ),
-            (out.1, waits),
+            (out.1, refl),
           )
-  tells (Spent w) call after b old new (Ok events) shape away fed refused waits failed at = absurd (let e = (failed at.0).0 in cc)
-  tells (Spent w) call after b old new (Err why) shape away fed refused waits failed at =
-      let same = failed at.0 in
+  tells (Spent w) call after b old new (Ok events) shape away fed refused kept failed at = absurd (let e = (failed (spent_over old.phase at.0)).0 in cc)
+  tells (Spent w) call after b old new (Err why) shape away fed refused kept failed at =
+      let same = failed (spent_over old.phase at.0) in
       let why_is : why ≡ refusals.Failed = (let e = same.0 in cc) in
-      (Spent w, (ap Refused why_is, refl), subst (λ (c : ConnCore P H). (is_over c.phase ≡ true) × Grows w (waiting_in c.phase c.output.items)) (sym same.1) at)
+      (Spent w, (ap Refused why_is, refl), subst (λ (c : ConnCore P H). (is_spent c.phase ≡ true) × (waiting_in c.phase c.output.items ≡ w)) (sym same.1) at)
 
   -- what is over owes nothing
   pub over_owes : (input : List ℕ) (ended : Bool) (asked : List (ℕ × ℕ)) (told : List (ConnEvent H)) (taken : List ℕ) (phase : Phase P H) (owed : List (ConnEvent H)) (waiting : List ℕ)
@@ -146,6 +164,7 @@ module _ {P H : Type 0} (step : H → HandlerCall → H → Type 0) (fails : H �
   over_owes input ended asked told taken (phases.Upgrading x protocols) owed waiting over it = absurd (cc over)
   over_owes input ended asked told taken (phases.Up mux) owed waiting over it = absurd (cc over)
   over_owes input ended asked told taken phases.Over owed waiting over it = it.0
+  over_owes input ended asked told taken phases.Spent owed waiting over it = absurd it
 
   -- ---- an opening
 
@@ -157,7 +176,7 @@ module _ {P H : Type 0} (step : H → HandlerCall → H → Type 0) (fails : H �
       → IfOk r (λ number. MayOpen listed old.phase index)
       → IfErr r (λ why. IsRefused listed old.phase index why)
       → IfErr r (λ why. why ≢ refusals.OutOfMemory → new ≡ old)
-      → (r ≡ Err refusals.OutOfMemory → is_over new.phase ≡ true)
+      → (r ≡ Err refusals.OutOfMemory → is_spent new.phase ≡ true)
       → OnErr r (waiting_in new.phase new.output.items ≡ waiting_in old.phase old.output.items)
       → IsAt step fails is_closed is_finished inbound_makes outbound_makes listed is_eager inbound_leads outbound_leads start role own point old → Leads point (Ask index) (stream_or r) new
   asks (At input ended asked told owed) index old new (Ok n) stands owes may refused kept memory waits at =
@@ -195,15 +214,15 @@ module _ {P H : Type 0} (step : H → HandlerCall → H → Type 0) (fails : H �
       by_memory : (why ≡ refusals.OutOfMemory) ⊎ (why ≢ refusals.OutOfMemory) → Leads here (Ask index) (Refused why) new
       by_memory (inl is) =
           let written = waiting_in old.phase old.output.items in
-          (Spent written, ((reason, inr (is, (written, refl))), tt, written_at input ended asked told owed old at), (memory (ap Err is), ([], waits ∙ sym (append-nil written))))
+          (Spent written, ((reason, inr (is, (written, refl))), tt, written_at input ended asked told owed old at), (memory (ap Err is), waits))
       by_memory (inr other) =
           let there : IsAt step fails is_closed is_finished inbound_makes outbound_makes listed is_eager inbound_leads outbound_leads start role own here new = subst (IsAt step fails is_closed is_finished inbound_makes outbound_makes listed is_eager inbound_leads outbound_leads start role own here) (sym (kept other)) at in
           (here, ((reason, inl (other, refl)), explained_at here new there, tt), there)
-  asks (Spent w) index old new (Ok n) stands owes may refused kept memory waits at = absurd (let going = open_goes_on listed old.phase index may in let both : true ≡ false = sym at.0 ∙ going in cc both)
+  asks (Spent w) index old new (Ok n) stands owes may refused kept memory waits at = absurd (let going = open_goes_on listed old.phase index may in let both : true ≡ false = sym (spent_over old.phase at.0) ∙ going in cc both)
   asks (Spent w) index old new (Err why) stands owes may refused kept memory waits at =
-      let why_is : why ≡ refusals.Failed = over_refuses listed old.phase index why at.0 refused in
+      let why_is : why ≡ refusals.Failed = over_refuses listed old.phase index why (spent_over old.phase at.0) refused in
       let same : new ≡ old = kept (λ e. (let both : refusals.Failed ≡ refusals.OutOfMemory = sym why_is ∙ e in cc both)) in
-      (Spent w, (ap Refused why_is, refl), subst (λ (c : ConnCore P H). (is_over c.phase ≡ true) × Grows w (waiting_in c.phase c.output.items)) (sym same) at)
+      (Spent w, (ap Refused why_is, refl), subst (λ (c : ConnCore P H). (is_spent c.phase ≡ true) × (waiting_in c.phase c.output.items ≡ w)) (sym same) at)
 
   -- ---- one call after another
 
@@ -218,9 +237,9 @@ module _ {P H : Type 0} (step : H → HandlerCall → H → Type 0) (fails : H �
 
   pub leaves : (point : Point H) (old new : ConnCore P H) (output : List ℕ) (handlers : List (ℕ × H))
       → ((input : List ℕ) (ended : Bool) (asked : List (ℕ × ℕ)) (told : List (ConnEvent H)) → Stands step fails is_closed is_finished inbound_makes outbound_makes listed is_eager inbound_leads outbound_leads start role own input ended asked told [] old → Stands step fails is_closed is_finished inbound_makes outbound_makes listed is_eager inbound_leads outbound_leads start role own input ended asked told output new)
-      → output ≡ waiting_in old.phase old.output.items → waiting_in new.phase new.output.items ≡ [] → new.owed.items ≡ old.owed.items → is_over new.phase ≡ is_over old.phase
+      → output ≡ waiting_in old.phase old.output.items → waiting_in new.phase new.output.items ≡ [] → new.owed.items ≡ old.owed.items → is_spent new.phase ≡ is_spent old.phase
       → handlers ≡ held_in new.phase → IsOrderedIn new.phase → IsAt step fails is_closed is_finished inbound_makes outbound_makes listed is_eager inbound_leads outbound_leads start role own point old → Leaves step fails is_closed is_finished inbound_makes outbound_makes listed is_eager inbound_leads outbound_leads start role own point output handlers
-  leaves (At input ended asked told owed) old new output handlers stands taken none same over held ordered at =
+  leaves (At input ended asked told owed) old new output handlers stands taken none same spent held ordered at =
       let now = (stands input ended asked told at.1).1 in
       let written = output ++ waiting_in new.phase new.output.items in
       let written_is : written ≡ output = ap (λ t. output ++ t) none ∙ append-nil output in
@@ -228,4 +247,4 @@ module _ {P H : Type 0} (step : H → HandlerCall → H → Type 0) (fails : H �
       (subst (λ (o : List (ConnEvent H)). (there : Explains step fails is_closed is_finished inbound_makes outbound_makes listed is_eager inbound_leads outbound_leads start role own input ended asked told o written) × Holds step fails is_closed is_finished inbound_makes outbound_makes listed is_eager inbound_leads outbound_leads start role own input ended asked told o written there handlers) (same ∙ at.0)
       (subst (λ (h : List (ℕ × H)). (there : Explains step fails is_closed is_finished inbound_makes outbound_makes listed is_eager inbound_leads outbound_leads start role own input ended asked told new.owed.items written) × Holds step fails is_closed is_finished inbound_makes outbound_makes listed is_eager inbound_leads outbound_leads start role own input ended asked told new.owed.items written there h) (sym held)
       (why_there step fails is_closed is_finished inbound_makes outbound_makes listed is_eager inbound_leads outbound_leads start role own input ended asked told output new.phase new.owed.items new.output.items now, holds step fails is_closed is_finished inbound_makes outbound_makes listed is_eager inbound_leads outbound_leads start role own input ended asked told output new.phase new.owed.items new.output.items now ordered)))
-  leaves (Spent w) old new output handlers stands taken none same over held ordered at = (subst (Grows w) (sym taken) at.1, held ∙ over_holds new.phase (over ∙ at.0))
+  leaves (Spent w) old new output handlers stands taken none same spent held ordered at = (taken ∙ at.1, held ∙ spent_holds new.phase (spent ∙ at.0))

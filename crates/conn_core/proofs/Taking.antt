@@ -37,3 +37,11 @@ module _ {P H : Type 0} (step : H → HandlerCall → H → Type 0) (fails : H �
     subst (λ (t : List ℕ). Ends step fails is_closed is_finished inbound_makes outbound_makes listed is_eager inbound_leads outbound_leads start role own input ended asked told t)
         (ap (λ t. taken ++ t) (sym given_is) ∙ sym (ap (λ t. (taken ++ given) ++ t) left_is ∙ append-nil (taken ++ given))) it.1,
   )
+  output_taken input ended asked told taken phases.Spent owed waiting given left given_is left_is it = absurd it
+
+-- where an end stands is where its parts do, taken by themselves
+pub connects_by : {P H : Type 0} (stands : ConnRole → Phase P H → List (ConnEvent H) → Type 0) (known role : ConnRole) (held phase : Phase P H) (owes owed : List (ConnEvent H))
+    → known ≡ role → held ≡ phase → owes ≡ owed → stands role phase owed → stands known held owes
+connects_by stands known role held phase owes owed role_is phase_is owed_is it =
+    subst (λ (r : ConnRole). stands r held owes) (sym role_is) (subst (λ (x : Phase _ _). stands role x owes) (sym phase_is)
+    (subst (λ (o : List (ConnEvent _)). stands role phase o) (sym owed_is) it))

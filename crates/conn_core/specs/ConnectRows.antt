@@ -18,7 +18,7 @@ use Rattle.conn_log.specs.declared.event.ConnRefused.{ConnRefused}
 use Rattle.conn_log.specs.declared.event.ConnRefused.TheVariants as refusals
 use Rattle.mux.specs.declared.mux.Mux.{Mux}
 use Rattle.conn_core.specs.declared.connection.Phase.TheVariants as phases
-use Rattle.conn_core.specs.Connects.{session_role, told_of, Ends, is_over, MayOpen, IsRefused, OwesOf}
+use Rattle.conn_core.specs.Connects.{session_role, told_of, Ends, is_over, is_spent, MayOpen, IsRefused, OwesOf}
 use Rattle.conn_core.specs.Connects.{waiting_in, held_in}
 use Rattle.conn_core.specs.Runs.{is_end}
 
@@ -36,19 +36,29 @@ pub record PhaseRows (P H : Type 0) : Type 0 where
   pub coming_goes_on : (x : Upgrading) (protocols : P) → is_over {H = H} (phases.Upgrading x protocols) ≡ false
   pub up_goes_on : (mux : Mux P H) → is_over (phases.Up mux) ≡ false
   pub over_is : is_over {P = P} {H = H} phases.Over ≡ true
+  pub spent_is_over : is_over {P = P} {H = H} phases.Spent ≡ true
+  pub spent_is : is_spent {P = P} {H = H} phases.Spent ≡ true
+  pub coming_is_unspent : (x : Upgrading) (protocols : P) → is_spent {H = H} (phases.Upgrading x protocols) ≡ false
+  pub up_is_unspent : (mux : Mux P H) → is_spent (phases.Up mux) ≡ false
+  pub over_is_unspent : is_spent {P = P} {H = H} phases.Over ≡ false
   pub coming_waits : (x : Upgrading) (protocols : P)
       → waiting_in {H = H} (phases.Upgrading x protocols) (7 ∷ []) ≡ x.pending
   pub up_waits : (mux : Mux P H) → waiting_in (phases.Up mux) (7 ∷ []) ≡ 7 ∷ []
   pub over_waits : waiting_in {P = P} {H = H} phases.Over (7 ∷ []) ≡ 7 ∷ []
+  pub spent_waits : waiting_in {P = P} {H = H} phases.Spent (7 ∷ []) ≡ 7 ∷ []
   pub coming_holds_none : (x : Upgrading) (protocols : P) → held_in {H = H} (phases.Upgrading x protocols) ≡ []
   pub over_holds_none : held_in {P = P} {H = H} phases.Over ≡ []
+  pub spent_holds_none : held_in {P = P} {H = H} phases.Spent ≡ []
   pub coming_opens_none : (listed : P → List (List ℕ)) (x : Upgrading) (protocols : P) (index : ℕ)
       → ¬ MayOpen {H = H} listed (phases.Upgrading x protocols) index
   pub over_opens_none : (listed : P → List (List ℕ)) (index : ℕ) → ¬ MayOpen {H = H} listed phases.Over index
+  pub spent_opens_none : (listed : P → List (List ℕ)) (index : ℕ) → ¬ MayOpen {H = H} listed phases.Spent index
   pub coming_refuses : (listed : P → List (List ℕ)) (x : Upgrading) (protocols : P) (index : ℕ) (why : ConnRefused)
       → IsRefused {H = H} listed (phases.Upgrading x protocols) index why ↔ (why ≡ refusals.NotUp)
   pub over_refuses : (listed : P → List (List ℕ)) (index : ℕ) (why : ConnRefused)
       → IsRefused {H = H} listed phases.Over index why ↔ (why ≡ refusals.Failed)
+  pub spent_refuses : (listed : P → List (List ℕ)) (index : ℕ) (why : ConnRefused)
+      → IsRefused {H = H} listed phases.Spent index why ↔ (why ≡ refusals.Failed)
   pub owes_nothing_more : (e : ConnEvent H) → OwesOf 3 (e ∷ []) (e ∷ [])
   pub owes_behind : (e : ConnEvent H) (cause : Cause) → OwesOf 3 (e ∷ []) (e ∷ event.Broken 3 cause ∷ [])
   pub owes_no_more : (e : ConnEvent H) → ¬ OwesOf 3 (e ∷ []) []

@@ -144,7 +144,8 @@ module _ {P H : Type 0} (step : H → HandlerCall → H → Type 0) (fails : H �
       × ((up : IsUp input asked told written mux.session (tree.get nat_cmp mux.board.streams) mux.board.past.items)
       × (mux.board.peer ≡ id_of up.key) × (mux.board.protocols ≡ up.now))
 
-  -- where it stands, in each phase; what is owed is told by the next call
+  -- Where it stands, in each phase; what is owed is told by the next call. Where memory was refused to it, it stands
+  -- nowhere.
   abbrev pub Connects : List ℕ → Bool → List (ℕ × ℕ) → List (ConnEvent H) → List ℕ → Phase P H → List (ConnEvent H)
       → List ℕ → Type 0
   Connects input ended asked told taken (phases.Upgrading x protocols) owed waiting =
@@ -153,6 +154,7 @@ module _ {P H : Type 0} (step : H → HandlerCall → H → Type 0) (fails : H �
       (ended ≡ false) × IsUpWith input asked (told ++ owed) (taken ++ waiting) mux
   Connects input ended asked told taken phases.Over owed waiting =
       (owed ≡ []) × Ends input ended asked told (taken ++ waiting)
+  Connects input ended asked told taken phases.Spent owed waiting = ⊥
 
   -- An end of this role, with this key and these protocols, that was fed this input, opened the streams that it was
   -- asked for, has told these events, and of whose output this was taken.
@@ -165,10 +167,19 @@ abbrev pub is_over : {P H : Type 0} → Phase P H → Bool
 is_over (phases.Upgrading x protocols) = false
 is_over (phases.Up mux) = false
 is_over phases.Over = true
+is_over phases.Spent = true
+
+-- memory was refused to it
+abbrev pub is_spent : {P H : Type 0} → Phase P H → Bool
+is_spent (phases.Upgrading x protocols) = false
+is_spent (phases.Up mux) = false
+is_spent phases.Over = false
+is_spent phases.Spent = true
 
 -- a stream may be opened for the protocol of this index
 abbrev pub MayOpen : {P H : Type 0} → (P → List (List ℕ)) → Phase P H → ℕ → Type 0
 MayOpen listed phases.Over index = ⊥
+MayOpen listed phases.Spent index = ⊥
 MayOpen listed (phases.Upgrading x protocols) index = ⊥
 MayOpen listed (phases.Up mux) index = (index < length (listed mux.board.protocols))
     × Whenever mux.session (λ role past. start_refusal role past ≡ None)
@@ -176,6 +187,7 @@ MayOpen listed (phases.Up mux) index = (index < length (listed mux.board.protoco
 -- why none is opened: where several reasons hold, the lowest is answered
 abbrev pub IsRefused : {P H : Type 0} → (P → List (List ℕ)) → Phase P H → ℕ → ConnRefused → Type 0
 IsRefused listed phases.Over index why = why ≡ refusals.Failed
+IsRefused listed phases.Spent index why = why ≡ refusals.Failed
 IsRefused listed (phases.Upgrading x protocols) index why = why ≡ refusals.NotUp
 IsRefused listed (phases.Up mux) index why =
     ((length (listed mux.board.protocols) ≤ index) × (why ≡ refusals.BadIndex))
@@ -192,15 +204,18 @@ abbrev pub waiting_in : {P H : Type 0} → Phase P H → List ℕ → List ℕ
 waiting_in (phases.Upgrading x protocols) output = x.pending
 waiting_in (phases.Up mux) output = output
 waiting_in phases.Over output = output
+waiting_in phases.Spent output = output
 
 -- the handlers that are held
 abbrev pub held_in : {P H : Type 0} → Phase P H → List (ℕ × H)
 held_in (phases.Upgrading x protocols) = []
 held_in (phases.Up mux) = handlers_past mux.board.past.items ++ handlers_of mux.board.streams.entries
 held_in phases.Over = []
+held_in phases.Spent = []
 
 -- the numbers of the streams in the table ascend
 abbrev pub IsOrderedIn : {P H : Type 0} → Phase P H → Type 0
 IsOrderedIn (phases.Upgrading x protocols) = Unit {0}
 IsOrderedIn (phases.Up mux) = tree.IsOrdered nat_cmp mux.board.streams
 IsOrderedIn phases.Over = Unit {0}
+IsOrderedIn phases.Spent = Unit {0}

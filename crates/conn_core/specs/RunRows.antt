@@ -139,7 +139,7 @@ module _ {P H : Type 0} (step : H → HandlerCall → H → Type 0) (fails : H �
     pub two_spent : (written : List ℕ) (one other : ConnAct) (last : Point H)
         → answers_all (Spent written) (one ∷ other ∷ []) (Refused refusals.Failed ∷ Refused refusals.Failed ∷ []) last
         ↔ (last ≡ Spent written)
-    -- what was written stands at the front of the output, and no handler is left
+    -- what was written is the output, and no handler is left
     pub left : (output : List ℕ) (handlers : List (ℕ × H)) → Leaves step fails is_closed is_finished inbound_makes
         outbound_makes listed is_eager inbound_leads outbound_leads start role own (Spent (7 ∷ 8 ∷ [])) output handlers
-        ↔ (((more : List ℕ) × (output ≡ 7 ∷ 8 ∷ more)) × (handlers ≡ []))
+        ↔ ((output ≡ 7 ∷ 8 ∷ []) × (handlers ≡ []))

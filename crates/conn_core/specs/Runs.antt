@@ -31,11 +31,12 @@ use Rattle.conn_core.specs.declared.calls.ConnAnswer.{ConnAnswer}
 use Rattle.conn_core.specs.declared.calls.ConnAnswer.TheVariants.{Events, Stream, Refused}
 use Rattle.held_order.specs.Orders.{arranged}
 use Rattle.conn_core.specs.Made.{made_in}
-use Rattle.conn_core.specs.Connects.{IsUp, Ends, Stands, session_role, is_over, waiting_in}
+use Rattle.conn_core.specs.Wanting.{Wrote}
+use Rattle.conn_core.specs.Connects.{IsUp, Ends, Stands, session_role, is_spent, waiting_in}
 
 -- Where an end is. At: this came, whether the input has ended, these streams were opened for these protocols, these
--- events were told, and these are owed: they are told by the next call. Spent: memory was refused, and this had been
--- written before the call that met it.
+-- events were told, and these are owed: they are told by the next call. Spent: memory was refused, and this was written
+-- until then.
 pub data Point (H : Type 0) : Type 0 where
   At : List ℕ → Bool → List (ℕ × ℕ) → List (ConnEvent H) → List (ConnEvent H) → Point H
   Spent : List ℕ → Point H
@@ -112,10 +113,20 @@ module _ {P H : Type 0} (step : H → HandlerCall → H → Type 0) (fails : H �
   IsExplained (At input ended asked told owed) = (written : List ℕ) × Explains input ended asked told owed written
   IsExplained (Spent written) = Unit {0}
 
-  -- where memory is refused there, what had been written until then is kept
-  abbrev pub KeepsWritten : List ℕ → Bool → List (ℕ × ℕ) → List (ConnEvent H) → List (ConnEvent H) → Point H → Type 0
-  KeepsWritten input ended asked told owed (Spent written) = Explains input ended asked told owed written
-  KeepsWritten input ended asked told owed (At now over opened said owes) = Unit {0}
+  -- Where memory is refused to a call, what had been written until then is kept. Behind it stands what a feed has
+  -- written before it met that, and nothing else.
+  abbrev pub IsKept : List ℕ → Bool → List (ℕ × ℕ) → List (ConnEvent H) → List (ConnEvent H) → ConnAct → List ℕ → Type 0
+  IsKept input ended asked told owed (Feed bytes) written =
+      (before : List ℕ) × Explains input ended asked told owed before × Grows before written
+      × Wrote step fails is_closed is_finished inbound_makes outbound_makes listed is_eager inbound_leads outbound_leads
+      start role own input bytes.items asked told written
+  IsKept input ended asked told owed (Ask index) written = Explains input ended asked told owed written
+  IsKept input ended asked told owed Ended written = Explains input ended asked told owed written
+
+  abbrev pub KeepsWritten : List ℕ → Bool → List (ℕ × ℕ) → List (ConnEvent H) → List (ConnEvent H) → ConnAct → Point H
+      → Type 0
+  KeepsWritten input ended asked told owed call (Spent written) = IsKept input ended asked told owed call written
+  KeepsWritten input ended asked told owed call (At now over opened said owes) = Unit {0}
 
   -- a stream may be opened for the protocol of this index
   abbrev pub MayBeAsked : (input : List ℕ) (ended : Bool) (asked : List (ℕ × ℕ)) (told owed : List (ConnEvent H))
@@ -165,7 +176,7 @@ module _ {P H : Type 0} (step : H → HandlerCall → H → Type 0) (fails : H �
   abbrev pub Answers : Point H → ConnAct → ConnAnswer H → Point H → Type 0
   Answers (At input ended asked told owed) call answer next =
       AnswersAt input ended asked told owed call answer next × IsExplained next
-      × KeepsWritten input ended asked told owed next
+      × KeepsWritten input ended asked told owed call next
   Answers (Spent written) call answer next = (answer ≡ Refused refusals.Failed) × (next ≡ Spent written)
 
   -- one call after another
@@ -186,12 +197,11 @@ module _ {P H : Type 0} (step : H → HandlerCall → H → Type 0) (fails : H �
       AreHeld streams past handlers
   Holds input ended asked told owed written (Over none_owed ends) handlers = handlers ≡ []
 
-  -- all that was written until the last call is this, and these handlers are held still; where memory was refused, what
-  -- had been written before stands at its front
+  -- all that was written until the last call is this, and these handlers are held still
   abbrev pub Leaves : Point H → List ℕ → List (ℕ × H) → Type 0
   Leaves (At input ended asked told owed) output handlers = (there : Explains input ended asked told owed output)
       × Holds input ended asked told owed output there handlers
-  Leaves (Spent written) output handlers = Grows written output × (handlers ≡ [])
+  Leaves (Spent written) output handlers = (output ≡ written) × (handlers ≡ [])
 
   -- what a run answers: the handlers that are held still come in the order in which they were made
   abbrev pub Runs : List ConnAct → List (ConnAnswer H) → List ℕ → List (ℕ × H) → Type 0
@@ -204,5 +214,4 @@ module _ {P H : Type 0} (step : H → HandlerCall → H → Type 0) (fails : H �
   IsAt (At input ended asked told owed) core = (core.owed.items ≡ owed)
       × Stands step fails is_closed is_finished inbound_makes outbound_makes listed is_eager inbound_leads
       outbound_leads start role own input ended asked told [] core
-  IsAt (Spent written) core = (is_over core.phase ≡ true)
-      × Grows written (waiting_in core.phase core.output.items)
+  IsAt (Spent written) core = (is_spent core.phase ≡ true) × (waiting_in core.phase core.output.items ≡ written)

@@ -13,8 +13,9 @@ ghost use Rattle.yamux_session.specs.Acts.{start_refusal};
 ghost use Rattle.yamux_session.specs.State.{Stands as SessionStands, Whenever};
 ghost use Rattle.conn_log.specs.Asked.{IsRefusedAs};
 ghost use Rattle.yamux_session.specs.declared.event.Role.{Role};
-ghost use Rattle.conn_core.specs.Connects.{Stands, Connects, IsComing, IsUpWith, MayOpen, IsRefused, is_over};
+ghost use Rattle.conn_core.specs.Connects.{Stands, Connects, IsComing, IsUpWith, MayOpen, IsRefused, is_over, is_spent};
 ghost use Rattle.conn_core.specs.Connects.{session_role, OwesOf, waiting_in};
+ghost use Rattle.conn_core.specs.Wanting.{WroteOn, Wrote};
 
 use crate::telling::{fail, last_event, last_output, session_role, tell};
 use bytes::Bytes;
@@ -35,8 +36,10 @@ pub enum Phase<P: Protocols> {
     Upgrading(Upgrade, P),
     /// It is up.
     Up(Mux<P>),
-    /// It has failed or was shut, or ran out of memory.
+    /// It has told a Fault or Shut.
     Over,
+    /// Memory was refused to it.
+    Spent,
 }
 
 /// An end of a connection, without its link.
@@ -88,6 +91,13 @@ fn go_on<P: Protocols>(
         asked (before ++ told.new.items) taken phase [] output.new.items) }
     ensures memory { OnErr result (result ≡ Err ConnRefused.OutOfMemory) }
     ensures waits { OnErr result (Grows output.old.items output.new.items) }
+    ensures wrote { (role : ConnRole) (own : Key) (start : P) (input taken : List ℕ) (asked : List (ℕ × ℕ))
+        (before : List (ConnEvent P.H)) → IsUpWith P.H.steps P.H.fails P.H.is_closed P.H.is_finished P.makes_inbound
+        P.makes_outbound P.listed P.is_eager P.leads_inbound P.leads_outbound start role own input asked
+        (before ++ told.old.items) (taken ++ output.old.items) mux
+        → OnErr result (WroteOn P.H.steps P.H.fails P.H.is_closed P.H.is_finished P.makes_inbound P.makes_outbound
+        P.listed P.is_eager P.leads_inbound P.leads_outbound start role own input piece.now asked before
+        (taken ++ output.new.items)) }
 {
     let mut mux = mux;
     let Ok(()) = mux.feed(piece, told) else {
@@ -120,6 +130,13 @@ fn come_up<P: Protocols>(
         [] told.new.items taken phase [] output.new.items) }
     ensures memory { OnErr result (result ≡ Err ConnRefused.OutOfMemory) }
     ensures waits { OnErr result (Grows output.old.items output.new.items) }
+    ensures wrote { (role : ConnRole) (own : Key) (start : P) (input taken : List ℕ)
+        → IsUpWith P.H.steps P.H.fails P.H.is_closed P.H.is_finished P.makes_inbound P.makes_outbound P.listed
+        P.is_eager P.leads_inbound P.leads_outbound start role own (input ++ take used piece.now) []
+        (event.Upgraded proven ∷ []) (taken ++ output.old.items) mux → told.old.items ≡ []
+        → OnErr result (WroteOn P.H.steps P.H.fails P.H.is_closed P.H.is_finished P.makes_inbound P.makes_outbound
+        P.listed P.is_eager P.leads_inbound P.leads_outbound start role own input piece.now [] []
+        (taken ++ output.new.items)) }
 {
     tell(told, ConnEvent::Upgraded(proven))?;
     let Ok(rest) = piece.slice(used..) else {
@@ -186,6 +203,13 @@ fn bring_up<P: Protocols>(
         [] told.new.items taken phase [] output.new.items) }
     ensures memory { OnErr result (result ≡ Err ConnRefused.OutOfMemory) }
     ensures waits { OnErr result (Grows upgrade.pending output.new.items) }
+    ensures wrote { (own : Key) (start : P) (input taken : List ℕ)
+        → IsComing P.H.steps P.H.fails P.H.is_closed P.H.is_finished P.makes_inbound P.makes_outbound P.listed
+        P.is_eager P.leads_inbound P.leads_outbound start role own input [] taken upgrade protocols
+        → output.old.items ≡ [] → told.old.items ≡ []
+        → OnErr result (Wrote P.H.steps P.H.fails P.H.is_closed P.H.is_finished P.makes_inbound P.makes_outbound
+        P.listed P.is_eager P.leads_inbound P.leads_outbound start role own input piece.now [] []
+        (taken ++ output.new.items)) }
 {
     let mut upgrade = upgrade;
     match upgrade.feed(piece) {
@@ -205,7 +229,7 @@ fn bring_up<P: Protocols>(
     }
 }
 
-/// Takes what came, in any phase but the last.
+/// Takes what came, unless the connection is over.
 fn take_on<P: Protocols>(
     alloc: Global,
     role: ConnRole,
@@ -223,13 +247,20 @@ fn take_on<P: Protocols>(
         asked (before ++ told.new.items) taken now [] output.new.items) }
     ensures memory { OnErr result (result ≡ Err ConnRefused.OutOfMemory) }
     ensures waits { OnErr result (Grows (waiting_in phase output.old.items) output.new.items) }
+    ensures wrote { (own : Key) (start : P) (input taken : List ℕ) (asked : List (ℕ × ℕ))
+        (before : List (ConnEvent P.H)) → Connects P.H.steps P.H.fails P.H.is_closed P.H.is_finished P.makes_inbound
+        P.makes_outbound P.listed P.is_eager P.leads_inbound P.leads_outbound start role own input false asked before
+        taken phase told.old.items output.old.items → is_over phase ≡ false
+        → OnErr result (Wrote P.H.steps P.H.fails P.H.is_closed P.H.is_finished P.makes_inbound P.makes_outbound
+        P.listed P.is_eager P.leads_inbound P.leads_outbound start role own input piece.now asked before
+        (taken ++ output.new.items)) }
 {
     match phase {
         Phase::Upgrading(upgrade, protocols) => {
             bring_up(alloc, role, upgrade, protocols, output, piece, told)
         }
         Phase::Up(mux) => go_on(mux, output, piece, told),
-        Phase::Over => Err(ConnRefused::OutOfMemory),
+        Phase::Over | Phase::Spent => Err(ConnRefused::OutOfMemory),
     }
 }
 
@@ -267,7 +298,7 @@ impl<P: Protocols> ConnCore<P> {
         match &self.phase {
             Phase::Upgrading(..) => false,
             Phase::Up(_) => false,
-            Phase::Over => true,
+            Phase::Over | Phase::Spent => true,
         }
     }
 
@@ -285,16 +316,23 @@ impl<P: Protocols> ConnCore<P> {
             asked (told ++ events.items) taken self.new) }
         ensures none_owed { OnOk result (self.new.owed.items ≡ []) }
         ensures refused { is_over self.old.phase ≡ false
-            → OnErr result ((result ≡ Err ConnRefused.OutOfMemory) × (is_over self.new.phase ≡ true)) }
-        // What was written before can still be taken.
+            → OnErr result ((result ≡ Err ConnRefused.OutOfMemory) × (is_spent self.new.phase ≡ true)) }
+        // What was written before can still be taken, and behind it what was written until memory was refused.
         ensures waits { OnErr result (Grows (waiting_in self.old.phase self.old.output.items)
             (waiting_in self.new.phase self.new.output.items)) }
+        ensures wrote { (role : ConnRole) (own : Key) (start : P) (input taken : List ℕ) (asked : List (ℕ × ℕ))
+            (told : List (ConnEvent P.H)) → Stands P.H.steps P.H.fails P.H.is_closed P.H.is_finished P.makes_inbound
+            P.makes_outbound P.listed P.is_eager P.leads_inbound P.leads_outbound start role own input false asked told
+            taken self.old → is_over self.old.phase ≡ false
+            → OnErr result (Wrote P.H.steps P.H.fails P.H.is_closed P.H.is_finished P.makes_inbound P.makes_outbound
+            P.listed P.is_eager P.leads_inbound P.leads_outbound start role own input piece asked told
+            (taken ++ waiting_in self.new.phase self.new.output.items)) }
         ensures failed { is_over self.old.phase ≡ true → (result ≡ Err ConnRefused.Failed) × (self.new ≡ self.old) }
     {
         if self.is_over() {
             return Err(ConnRefused::Failed);
         }
-        let phase = mem::replace(&mut self.phase, Phase::Over);
+        let phase = mem::replace(&mut self.phase, Phase::Spent);
         let mut told = mem::replace(&mut self.owed, Vec::new(self.alloc));
         self.phase = take_on(
             self.alloc,
@@ -318,10 +356,17 @@ impl<P: Protocols> ConnCore<P> {
             false asked (told ++ events.items) taken self.new) }
         ensures none_owed { OnOk result (self.new.owed.items ≡ []) }
         ensures refused { is_over self.old.phase ≡ false
-            → OnErr result ((result ≡ Err ConnRefused.OutOfMemory) × (is_over self.new.phase ≡ true)) }
-        // What was written before can still be taken.
+            → OnErr result ((result ≡ Err ConnRefused.OutOfMemory) × (is_spent self.new.phase ≡ true)) }
+        // What was written before can still be taken, and behind it what was written until memory was refused.
         ensures waits { OnErr result (Grows (waiting_in self.old.phase self.old.output.items)
             (waiting_in self.new.phase self.new.output.items)) }
+        ensures wrote { (role : ConnRole) (own : Key) (start : P) (input taken : List ℕ) (asked : List (ℕ × ℕ))
+            (told : List (ConnEvent P.H)) → Stands P.H.steps P.H.fails P.H.is_closed P.H.is_finished P.makes_inbound
+            P.makes_outbound P.listed P.is_eager P.leads_inbound P.leads_outbound start role own input false asked told
+            taken self.old → is_over self.old.phase ≡ false
+            → OnErr result (Wrote P.H.steps P.H.fails P.H.is_closed P.H.is_finished P.makes_inbound P.makes_outbound
+            P.listed P.is_eager P.leads_inbound P.leads_outbound start role own input bytes.now asked told
+            (taken ++ waiting_in self.new.phase self.new.output.items)) }
         ensures failed { is_over self.old.phase ≡ true → (result ≡ Err ConnRefused.Failed) × (self.new ≡ self.old) }
     {
         if self.is_over() {
@@ -332,7 +377,7 @@ impl<P: Protocols> ConnCore<P> {
             Err(_) => {
                 // What an upgrade has written waits in it.
                 self.output = self.take_output();
-                self.phase = Phase::Over;
+                self.phase = Phase::Spent;
                 Err(ConnRefused::OutOfMemory)
             }
         }
@@ -357,7 +402,7 @@ impl<P: Protocols> ConnCore<P> {
         ensures opened { IfOk result (λ number. MayOpen P.listed self.old.phase index) }
         ensures refused { IfErr result (λ refused. IsRefused P.listed self.old.phase index refused) }
         ensures kept { IfErr result (λ refused. refused ≢ ConnRefused.OutOfMemory → self.new ≡ self.old) }
-        ensures memory { result ≡ Err ConnRefused.OutOfMemory → is_over self.new.phase ≡ true }
+        ensures memory { result ≡ Err ConnRefused.OutOfMemory → is_spent self.new.phase ≡ true }
         // What was written before can still be taken.
         ensures waits { OnErr result (waiting_in self.new.phase self.new.output.items
             ≡ waiting_in self.old.phase self.old.output.items) }
@@ -365,10 +410,10 @@ impl<P: Protocols> ConnCore<P> {
         let asked = match &mut self.phase {
             Phase::Upgrading(..) => Err(ConnRefused::NotUp),
             Phase::Up(mux) => open(mux, index, &mut self.owed, &mut self.output),
-            Phase::Over => Err(ConnRefused::Failed),
+            Phase::Over | Phase::Spent => Err(ConnRefused::Failed),
         };
         if asked == Err(ConnRefused::OutOfMemory) {
-            self.phase = Phase::Over;
+            self.phase = Phase::Spent;
         }
         asked
     }
@@ -384,7 +429,8 @@ impl<P: Protocols> ConnCore<P> {
             P.makes_outbound P.listed P.is_eager P.leads_inbound P.leads_outbound start role own input true asked
             (told ++ events.items) taken self.new) }
         ensures over { is_over self.new.phase ≡ true }
-        ensures refused { is_over self.old.phase ≡ false → OnErr result (result ≡ Err ConnRefused.OutOfMemory) }
+        ensures refused { is_over self.old.phase ≡ false
+            → OnErr result ((result ≡ Err ConnRefused.OutOfMemory) × (is_spent self.new.phase ≡ true)) }
         // What was written can still be taken.
         ensures waits { waiting_in self.new.phase self.new.output.items
             ≡ waiting_in self.old.phase self.old.output.items }
@@ -393,10 +439,11 @@ impl<P: Protocols> ConnCore<P> {
         if self.is_over() {
             return Err(ConnRefused::Failed);
         }
-        let phase = mem::replace(&mut self.phase, Phase::Over);
+        let phase = mem::replace(&mut self.phase, Phase::Spent);
         let mut told = mem::replace(&mut self.owed, Vec::new(self.alloc));
         let last = last_event(phase, &mut self.output);
         tell(&mut told, last)?;
+        self.phase = Phase::Over;
         Ok(told)
     }
 
@@ -413,6 +460,7 @@ impl<P: Protocols> ConnCore<P> {
         ensures none_waits { waiting_in self.new.phase self.new.output.items ≡ [] }
         ensures owed { self.new.owed.items ≡ self.old.owed.items }
         ensures over { is_over self.new.phase ≡ is_over self.old.phase }
+        ensures spent { is_spent self.new.phase ≡ is_spent self.old.phase }
     {
         if let Phase::Upgrading(upgrade, _) = &mut self.phase {
             return upgrade.take_output();

@@ -17,7 +17,7 @@ impl<P: Protocols> ConnCore<P> {
         let Self { phase, alloc, .. } = self;
         match phase {
             Phase::Up(mux) => mux.into_handlers(),
-            Phase::Upgrading(..) | Phase::Over => Ok(Vec::new(alloc)),
+            Phase::Upgrading(..) | Phase::Over | Phase::Spent => Ok(Vec::new(alloc)),
         }
     }
 }

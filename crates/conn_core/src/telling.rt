@@ -96,6 +96,6 @@ pub(crate) fn last_event<P: Protocols>(phase: Phase<P>, output: &mut Vec<u8>) ->
             }
             ConnEvent::Shut
         }
-        Phase::Over => ConnEvent::Shut,
+        Phase::Over | Phase::Spent => ConnEvent::Shut,
     }
 }

@@ -10,3 +10,4 @@ pub opened_wants : {P H : Type 0} (listed : P → List (List ℕ)) (phase : Phas
 opened_wants listed (phases.Upgrading x protocols) index may = absurd may
 opened_wants listed (phases.Up mux) index may = inr may
 opened_wants listed phases.Over index may = absurd may
+opened_wants listed phases.Spent index may = absurd may

@@ -9,13 +9,13 @@ use Rattle.conn_log.specs.declared.event.ConnEvent.TheVariants as event
 use Rattle.conn_log.specs.declared.event.ConnFault.{ConnFault}
 use Rattle.conn_log.specs.declared.event.ConnFault.TheVariants as fault
 use Rattle.conn_core.specs.declared.connection.ConnCore.{ConnCore}
-use Rattle.conn_core.specs.Connects.{is_over}
+use Rattle.conn_core.specs.Connects.{is_over, is_spent}
 use Rattle.conn_core.specs.Runs.{is_end}
 use Rattle.conn_future.specs.declared.stage.Stage.{Stage}
 use Rattle.conn_future.specs.declared.stage.Stage.TheVariants.{Going, Shutting, Starved, Over}
 use Rattle.conn_future.specs.Follows.Ends.{Told, Failed, Refused, Shut}
 use Rattle.conn_future.specs.StageRows.{StageRows, WaitRows, CameRows, DrainRows, Line, lines, line, ended, shut}
-use Rattle.conn_future.proofs.Unlinked.{told_once}
+use Rattle.conn_future.proofs.Unlinked.{same_over, told_once}
 use Rattle.conn_future.specs.FollowRows.{JoinRows, GoingRows, RefusedRows, EndRows, FollowRows, core_stands, joins, parts, ends}
 
 is_stage : (stage : Stage) → (stage ≡ Going) ⊎ ((stage ≡ Shutting) ⊎ ((stage ≡ Starved) ⊎ (stage ≡ Over)))
@@ -156,15 +156,21 @@ module _ {P H : Type 0} (protocols : ProtocolsGhosts P H) (handler : HandlerGhos
     waits_in_the_core = λ core waits it. cc (waits, it.none_waits);
   }
 
+  still_going : (core : ConnCore P H) → is_spent core.phase ≡ false → (held : List (ConnEvent H))
+      → parts protocols handler start role own (line [] []) [] [] (line [] []) core held → is_over core.phase ≡ false
+  still_going core unspent held it =
+      sym (same_over lines protocols handler start role own it.given it.given it.ended it.ended [] ([] ++ it.opened) held (it.took ++ it.left) (it.took ++ (it.left ++ it.more)) it.core core it.stands (it.kept unspent)) ∙ it.goes_on
+
   refused_rows : RefusedRows protocols handler start role own
   refused_rows = record {
     heard = λ core held it. (sym (ap (λ l. drop 1 l) it.moved.0), sym it.moved.1);
     told = λ core one other it. (it.stands, it.goes_on);
-    kept = λ core goes asked one other it. it.kept goes;
-    missing = λ core goes key input taken stands it.
-        told_once lines protocols handler start role own input it.given false it.ended [] ([] ++ it.opened) key taken (it.took ++ (it.left ++ it.more)) core goes stands (it.kept goes);
-    ended_there = λ core goes held it. let e : ◌≡◌ {A = Bool} false true = it.unended goes refl in cc e;
-    spent = λ core other over held it. record {
+    kept = λ core unspent asked one other it. it.kept unspent;
+    over = λ core unspent held it. still_going core unspent held it;
+    missing = λ core unspent key input taken stands it.
+        told_once lines protocols handler start role own input it.given false it.ended [] ([] ++ it.opened) key taken (it.took ++ (it.left ++ it.more)) core stands (it.kept unspent);
+    ended_there = λ core unspent held it. let e : ◌≡◌ {A = Bool} false true = it.unended unspent refl in cc e;
+    spent = λ core other spent held it. record {
       given = it.given;
       lost = it.lost;
       took = it.took;
@@ -176,8 +182,8 @@ module _ {P H : Type 0} (protocols : ProtocolsGhosts P H) (handler : HandlerGhos
       goes_on = it.goes_on;
       opened = it.opened;
       more = it.more;
-      kept = λ goes. absurd (cc (goes, over));
-      unended = λ goes. absurd (cc (goes, over));
+      kept = λ unspent. absurd (cc (unspent, spent));
+      unended = λ unspent. absurd (cc (unspent, spent));
     };
   }
 

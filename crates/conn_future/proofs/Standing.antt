@@ -11,7 +11,7 @@ use Rattle.conn_log.specs.declared.event.ConnEvent.{ConnEvent}
 use Rattle.conn_log.specs.declared.event.ConnEvent.TheVariants as event
 use Rattle.conn_log.specs.declared.event.ConnFault.TheVariants as fault
 use Rattle.conn_core.specs.declared.connection.ConnCore.{ConnCore}
-use Rattle.conn_core.specs.Connects.{is_over, waiting_in}
+use Rattle.conn_core.specs.Connects.{is_over, is_spent, waiting_in}
 use Rattle.conn_future.specs.declared.stage.Stage.{Stage}
 use Rattle.conn_future.specs.declared.stage.Stage.TheVariants.{Going, Shutting, Starved, Over}
 use Rattle.conn_future.specs.Stages.{is_live}
@@ -215,7 +215,7 @@ module _ {L P H : Type 0} (link : LinkGhosts L) (protocols : ProtocolsGhosts P H
 
   -- to what the core wrote no room was left: it may have opened a stream
   pub parts_of : (first : L) (asked opened : List (ℕ × ℕ)) (gave : List (ConnEvent H)) (ended : Bool) (now next : L) (core last : ConnCore P H) (left more : List ℕ) (held after : List (ConnEvent H)) → next ≡ now → after ≡ held → is_over core.phase ≡ false
-      → ((input taken : List ℕ) → CoreStands link protocols handler start role own input ended asked (gave ++ held) (taken ++ left) core → is_over last.phase ≡ false
+      → ((input taken : List ℕ) → CoreStands link protocols handler start role own input ended asked (gave ++ held) (taken ++ left) core → is_spent last.phase ≡ false
       → CoreStands link protocols handler start role own input ended (asked ++ opened) (gave ++ held) (taken ++ (left ++ more)) last)
       → Joins link protocols handler start role own first asked gave ended now core left held
       → Parts link protocols handler start role own first asked gave next last after
@@ -231,8 +231,8 @@ module _ {L P H : Type 0} (link : LinkGhosts L) (protocols : ProtocolsGhosts P H
     goes_on = goes;
     opened = opened;
     more = more;
-    kept = λ live. subst (λ (l : List (ConnEvent H)). CoreStands link protocols handler start role own joins.given ended (asked ++ opened) (gave ++ l) (joins.took ++ (left ++ more)) last) (sym kept) (stood joins.given joins.took joins.stands live);
-    unended = λ live there. found_before first ended (told_of_no_end link protocols handler start role own joins.given ended asked (gave ++ held) (joins.took ++ left) core joins.stands goes) (joins.found (subst link.has_ended same there));
+    kept = λ unspent. subst (λ (l : List (ConnEvent H)). CoreStands link protocols handler start role own joins.given ended (asked ++ opened) (gave ++ l) (joins.took ++ (left ++ more)) last) (sym kept) (stood joins.given joins.took joins.stands unspent);
+    unended = λ unspent there. found_before first ended (told_of_no_end link protocols handler start role own joins.given ended asked (gave ++ held) (joins.took ++ left) core joins.stands goes) (joins.found (subst link.has_ended same there));
   }
 
   -- no stream was opened
@@ -242,8 +242,8 @@ module _ {L P H : Type 0} (link : LinkGhosts L) (protocols : ProtocolsGhosts P H
   unopened input ended asked told written core stands =
       subst (λ (l : List (ℕ × ℕ)). CoreStands link protocols handler start role own input ended l told written core) (sym (append-nil asked)) stands
 
-  -- what the link gave last was lost, and the core is as it was, or over
-  pub parts_heard : MovesOn link.moves → (first : L) (asked : List (ℕ × ℕ)) (gave : List (ConnEvent H)) (before now next : L) (core last : ConnCore P H) (left piece : List ℕ) (after : List (ConnEvent H)) → next ≡ now → after ≡ [] → (is_over last.phase ≡ false → (last ≡ core) × (link.has_ended now → link.has_ended before))
+  -- what the link gave last was lost, and the core is as it was, or memory was refused to it
+  pub parts_heard : MovesOn link.moves → (first : L) (asked : List (ℕ × ℕ)) (gave : List (ConnEvent H)) (before now next : L) (core last : ConnCore P H) (left piece : List ℕ) (after : List (ConnEvent H)) → next ≡ now → after ≡ [] → (is_spent last.phase ≡ false → (last ≡ core) × (link.has_ended now → link.has_ended before))
       → GoesOn link protocols handler start role own first asked gave before core left [] → link.moves before piece [] now
       → Parts link protocols handler start role own first asked gave next last after
   parts_heard on first asked gave before now next core last left piece after same none unchanged goes moved =
@@ -260,10 +260,10 @@ module _ {L P H : Type 0} (link : LinkGhosts L) (protocols : ProtocolsGhosts P H
         goes_on = goes.goes_on;
         opened = [];
         more = [];
-        kept = λ live. subst (λ (c : ConnCore P H). CoreStands link protocols handler start role own goes.joins.given false (asked ++ []) (gave ++ after) (goes.joins.took ++ (left ++ [])) c) (sym (unchanged live).0)
+        kept = λ unspent. subst (λ (c : ConnCore P H). CoreStands link protocols handler start role own goes.joins.given false (asked ++ []) (gave ++ after) (goes.joins.took ++ (left ++ [])) c) (sym (unchanged unspent).0)
             (subst (λ (l : List ℕ). CoreStands link protocols handler start role own goes.joins.given false (asked ++ []) (gave ++ after) (goes.joins.took ++ l) core) (sym (append-nil left))
             (unopened goes.joins.given false asked (gave ++ after) (goes.joins.took ++ left) core stands));
-        unended = λ live there. found_before first false refl (goes.joins.found ((unchanged live).1 (subst link.has_ended same there)));
+        unended = λ unspent there. found_before first false refl (goes.joins.found ((unchanged unspent).1 (subst link.has_ended same there)));
       }
 
   pub parts_stay : (first : L) (asked : List (ℕ × ℕ)) (gave : List (ConnEvent H)) (now next : L) (core last : ConnCore P H) (left : List ℕ) (held after : List (ConnEvent H)) (stage : Stage) → stage ≡ Starved → next ≡ now → last ≡ core → after ≡ held

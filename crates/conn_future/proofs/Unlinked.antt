@@ -193,6 +193,7 @@ module _ {P H : Type 0} (step : H → HandlerCall → H → Type 0) (fails : H �
       NoneEnds (front_goes_on told owed (ap has_ended up.told_is
       ∙ said_goes_on step fails is_closed is_finished inbound_makes outbound_makes (is_eager start) (listed start) (id_of up.key) (session_role role) up.log up.at_rest.due))
   connects_tells input ended asked told taken phases.Over owed waiting it = ends_tell input ended asked told (taken ++ waiting) it.1
+  connects_tells input ended asked told taken phases.Spent owed waiting it = absurd it
 
   -- one that told that it is up stands at no list without it
   connects_once : (input more : List ℕ) (ended end : Bool) (asked opened : List (ℕ × ℕ)) (key : Key) (taken all : List ℕ) (phase : Phase P H) (owed : List (ConnEvent H)) (waiting : List ℕ) → is_over phase ≡ false
@@ -206,12 +207,14 @@ module _ {P H : Type 0} (step : H → HandlerCall → H → Type 0) (fails : H �
       let none = said_upgrades_not step fails is_closed is_finished inbound_makes outbound_makes (is_eager start) (listed start) (id_of up.key) (session_role role) up.log up.at_rest.due in
       let some : has_upgraded (said up.log) ≡ true = ap has_upgraded said_is in cc (none, some)
   connects_once input more ended end asked opened key taken all phases.Over owed waiting goes it other = cc goes
+  connects_once input more ended end asked opened key taken all phases.Spent owed waiting goes it other = it
 
   connects_unended : (input : List ℕ) (ended : Bool) (asked : List (ℕ × ℕ)) (told : List (ConnEvent H)) (taken : List ℕ) (phase : Phase P H) (owed : List (ConnEvent H)) (waiting : List ℕ) → is_over phase ≡ false
       → Connects step fails is_closed is_finished inbound_makes outbound_makes listed is_eager inbound_leads outbound_leads start role own input ended asked told taken phase owed waiting → ended ≡ false
   connects_unended input ended asked told taken (phases.Upgrading x protocols) owed waiting goes it = it.0
   connects_unended input ended asked told taken (phases.Up mux) owed waiting goes it = it.0
   connects_unended input ended asked told taken phases.Over owed waiting goes it = absurd (cc goes)
+  connects_unended input ended asked told taken phases.Spent owed waiting goes it = absurd it
 
 -- ---- of a connection over a link
 
@@ -256,11 +259,12 @@ module _ {L P H : Type 0} (link : LinkGhosts L) (protocols : ProtocolsGhosts P H
   same_over given more ended end asked opened told taken all core next stands other =
       sym (over_is given ended asked told taken core stands) ∙ over_is more end opened told all next other
 
-  pub told_once : (given more : List ℕ) (ended end : Bool) (asked opened : List (ℕ × ℕ)) (key : Key) (taken all : List ℕ) (core : ConnCore P H) → is_over core.phase ≡ false
+  pub told_once : (given more : List ℕ) (ended end : Bool) (asked opened : List (ℕ × ℕ)) (key : Key) (taken all : List ℕ) (core : ConnCore P H)
       → CoreStands link protocols handler start role own given ended asked (event.Upgraded key ∷ []) taken core → CoreStands link protocols handler start role own more end opened [] all core → ⊥
-  told_once given more ended end asked opened key taken all core goes stands other =
+  told_once given more ended end asked opened key taken all core stands other =
       connects_once handler.steps handler.fails handler.is_closed handler.is_finished protocols.makes_inbound
-      protocols.makes_outbound protocols.listed protocols.is_eager protocols.leads_inbound protocols.leads_outbound start role own given more ended end asked opened key taken all core.phase core.owed.items core.output.items goes stands.1 other.1
+      protocols.makes_outbound protocols.listed protocols.is_eager protocols.leads_inbound protocols.leads_outbound start role own given more ended end asked opened key taken all core.phase core.owed.items core.output.items
+      (sym (over_is given ended asked (event.Upgraded key ∷ []) taken core stands)) stands.1 other.1
 
   -- one that goes on was told of no end
   pub told_of_no_end : (given : List ℕ) (ended : Bool) (asked : List (ℕ × ℕ)) (told : List (ConnEvent H)) (taken : List ℕ) (core : ConnCore P H)

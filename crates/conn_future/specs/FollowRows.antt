@@ -10,7 +10,7 @@ use Rattle.conn_log.specs.declared.event.ConnEvent.TheVariants as event
 use Rattle.conn_log.specs.declared.event.ConnFault.{ConnFault}
 use Rattle.conn_log.specs.declared.event.ConnFault.TheVariants as fault
 use Rattle.conn_core.specs.declared.connection.ConnCore.{ConnCore}
-use Rattle.conn_core.specs.Connects.{is_over, waiting_in}
+use Rattle.conn_core.specs.Connects.{is_over, is_spent, waiting_in}
 use Rattle.conn_core.specs.Runs.{is_end}
 use Rattle.conn_future.specs.Follows.{CoreStands, Joins, GoesOn, Parts, Ends}
 use Rattle.conn_future.specs.StageRows.{Line, lines, line, ended, shut}
@@ -64,18 +64,21 @@ module _ {P H : Type 0} (protocols : ProtocolsGhosts P H) (handler : HandlerGhos
         (it : parts (line [] []) [] (one ∷ []) (line [] []) core (other ∷ []))
         → core_stands it.given it.ended [] (one ∷ other ∷ []) (it.took ++ it.left) it.core
         × (is_over it.core.phase ≡ false)
-    -- its own core has told the same, where it goes on
-    pub kept : (core : ConnCore P H) → is_over core.phase ≡ false → (asked : List (ℕ × ℕ)) (one other : ConnEvent H)
+    -- its own core has told the same, unless memory was refused to it
+    pub kept : (core : ConnCore P H) → is_spent core.phase ≡ false → (asked : List (ℕ × ℕ)) (one other : ConnEvent H)
         (it : parts (line [] []) asked (one ∷ []) (line [] []) core (other ∷ []))
         → core_stands it.given it.ended (asked ++ it.opened) (one ∷ other ∷ []) (it.took ++ (it.left ++ it.more)) core
-    -- so what it told isn't missing
-    pub missing : (core : ConnCore P H) → is_over core.phase ≡ false → (key : Key) (input taken : List ℕ)
+    -- so it goes on
+    pub over : (core : ConnCore P H) → is_spent core.phase ≡ false → (held : List (ConnEvent H))
+        → parts (line [] []) [] [] (line [] []) core held → is_over core.phase ≡ false
+    -- and what it told isn't missing
+    pub missing : (core : ConnCore P H) → is_spent core.phase ≡ false → (key : Key) (input taken : List ℕ)
         → core_stands input false [] (event.Upgraded key ∷ []) taken core
         → ¬ parts (line [] []) [] [] (line input []) core []
-    pub ended_there : (core : ConnCore P H) → is_over core.phase ≡ false → (held : List (ConnEvent H))
+    pub ended_there : (core : ConnCore P H) → is_spent core.phase ≡ false → (held : List (ConnEvent H))
         → ¬ parts (line [] []) [] [] (ended [] []) core held
-    -- and of one that is over nothing is known
-    pub spent : (core other : ConnCore P H) → is_over other.phase ≡ true → (held : List (ConnEvent H))
+    -- and of one to which memory was refused nothing is known
+    pub spent : (core other : ConnCore P H) → is_spent other.phase ≡ true → (held : List (ConnEvent H))
         → parts (line [] []) [] [] (line (2 ∷ []) []) core held → parts (line [] []) [] [] (line (2 ∷ []) []) other held
 
   -- where it makes no link call more, and its core isn't over

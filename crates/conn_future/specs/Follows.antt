@@ -16,7 +16,7 @@ use Rattle.conn_log.specs.Entries.{Entry}
 use Rattle.mux.specs.declared.mux.Mux.{Mux}
 use Rattle.conn_core.specs.declared.connection.ConnCore.{ConnCore}
 use Rattle.conn_core.specs.declared.connection.Phase.TheVariants as phases
-use Rattle.conn_core.specs.Connects.{Stands, is_over, waiting_in}
+use Rattle.conn_core.specs.Connects.{Stands, is_over, is_spent, waiting_in}
 use Rattle.conn_core.specs.Promises.{IsSplit}
 use Rattle.conn_core.specs.Runs.{is_end}
 use Rattle.conn_future.specs.declared.stage.Stage.{Stage}
@@ -59,10 +59,9 @@ module _ {L P H : Type 0} (link : LinkGhosts L) (protocols : ProtocolsGhosts P H
     pub none_waits : waiting_in core.phase core.output.items ≡ []
 
   -- Memory was refused to it. Some core that goes on was fed all that the link gave, but for what was lost, and told
-  -- the events that were given or are held; the link took a first part of what it wrote. Unless its own core is over,
-  -- that one was fed just this and told just these, so no event is missing, and no end was found since; but an ask that
-  -- was refused may have opened a stream there, and it may have written more. Where memory was refused to the core
-  -- itself, it is over.
+  -- the events that were given or are held; the link took a first part of what it wrote. Unless memory was refused to
+  -- its own core too, that one was fed just this and told just these, so no event is missing, and no end was found
+  -- since; but an ask that was refused may have opened a stream there, and it may have written more.
   pub record Parts (first : L) (asked : List (ℕ × ℕ)) (gave : List (ConnEvent H)) (now : L) (last : ConnCore P H)
       (held : List (ConnEvent H)) : Type 0 where
     pub given : List ℕ
@@ -76,9 +75,9 @@ module _ {L P H : Type 0} (link : LinkGhosts L) (protocols : ProtocolsGhosts P H
     pub goes_on : is_over core.phase ≡ false
     pub opened : List (ℕ × ℕ)
     pub more : List ℕ
-    pub kept : is_over last.phase ≡ false
+    pub kept : is_spent last.phase ≡ false
         → CoreStands given ended (asked ++ opened) (gave ++ held) (took ++ (left ++ more)) last
-    pub unended : is_over last.phase ≡ false → link.has_ended now → link.has_ended first
+    pub unended : is_spent last.phase ≡ false → link.has_ended now → link.has_ended first
 
   -- why it makes no link call more
   pub data Ends (first : L) (asked : List (ℕ × ℕ)) (gave : List (ConnEvent H)) (now : L) (core : ConnCore P H)

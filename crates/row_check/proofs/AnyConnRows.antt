@@ -4,7 +4,7 @@ use Rattle.handlers.specs.Calls.{HandlerCall, Asked}
 use Rattle.peer_ids.specs.Key.{Key}
 use Rattle.upgrade.specs.declared.role.ConnRole.{ConnRole}
 use Rattle.upgrade.specs.declared.fault.UpgradeFault.{UpgradeFault}
-use Rattle.upgrade.specs.Upgrades.{Upgrades, ComesTo}
+use Rattle.upgrade.specs.Upgrades.{Upgrades, ComesTo, RunsOut}
 use Rattle.yamux_frames.specs.Frames.{EndsWithin}
 use Rattle.yamux_session.specs.State.{State}
 use Rattle.streams.specs.State.{Streaming}
@@ -30,8 +30,9 @@ use Rattle.conn_core.specs.Connects.Ends.{Upgrade, Session, Early, Within, Shut}
 use Rattle.conn_core.specs.Made.{answered_all}
 use Rattle.conn_core.specs.Runs.{Point, has_ended, IsSpent, IsTurnedAway, StaysBehind}
 use Rattle.conn_core.specs.Runs.Explains.{Coming, Up, Over}
+use Rattle.conn_core.specs.Wanting.{WroteOn, Wrote}
 use Rattle.held_order.specs.Orders.{Held}
-use Rattle.row_check.specs.AnyConnRows.{AnyConnAnswerRows, AnyKeptRows, AnyHolderRows, AnySumRows, AnyConnEndRows, AnyWholeRunRows, ends, explains, is_faulty, is_up}
+use Rattle.row_check.specs.AnyConnRows.{AnyConnAnswerRows, AnyKeptRows, AnyHolderRows, AnySumRows, AnyConnEndRows, AnyWholeRunRows, ends, explains, is_faulty, is_up, wrote, wrote_on}
 
 -- ---- calls
 
@@ -70,11 +71,11 @@ any_calls = record {
   up_refuses_index = λ listed mux index reason le. (λ h. beyond (length (listed mux.board.protocols)) index reason le h, λ is. inl (le, is));
   up_refuses = λ listed mux index reason lt. (λ h. within (length (listed mux.board.protocols)) index lt h, λ h. inr (lt, h));
   owes = λ number before after. (λ h. h, λ h. h);
-  waits = λ mux written. (refl, refl);
+  waits = λ mux written. (refl, refl, refl);
   waits_coming = λ x protocols written. refl;
   holds = λ mux. refl;
   ordered = λ mux. (λ h. h, λ h. h);
-  ordered_else = λ x protocols. (tt, tt);
+  ordered_else = λ x protocols. (tt, tt, tt);
 } where
   beyond : {A : Type 0} (count index : ℕ) (reason : ConnRefused) → count ≤ index → ((count ≤ index) × (reason ≡ refusals.BadIndex)) ⊎ ((index < count) × A) → reason ≡ refusals.BadIndex
   beyond count index reason le (inl h) = h.1
@@ -233,6 +234,7 @@ module _ {P H : Type 0} (step : H → HandlerCall → H → Type 0) (fails : H �
     connects_coming = λ input taken waiting ended asked told owed x protocols. (λ h. h, λ h. h);
     connects_up = λ input taken waiting ended asked told owed mux. (λ h. h, λ h. h);
     connects_over = λ input taken waiting ended asked told owed. (λ h. h, λ h. h);
+    connects_spent = λ input taken waiting ended asked told owed h. h;
     an_end_stands = λ input taken ended asked told core. (λ h. h, λ h. h);
     breaks = λ peer now asked told newer front rest sent pending session streams past more reason used are makes rested at_rest first alone le whole out. record {
       newer = newer;
@@ -302,6 +304,41 @@ module _ {P H : Type 0} (step : H → HandlerCall → H → Type 0) (fails : H �
   explains_are input written ended asked told owed (Up session streams past e u) = inr (inl (session, streams, past, e, u, refl))
   explains_are input written ended asked told owed (Over o x) = inr (inr (o, x, refl))
 
+  abbrev wrote_so : List ℕ → List ℕ → List (ℕ × ℕ) → List (ConnEvent H) → List ℕ → Type 0
+  wrote_so = wrote step fails is_closed is_finished inbound_makes outbound_makes listed is_eager inbound_leads outbound_leads start role own
+
+  abbrev wrote_up : List ℕ → List ℕ → List (ℕ × ℕ) → List (ConnEvent H) → List ℕ → Type 0
+  wrote_up = wrote_on step fails is_closed is_finished inbound_makes outbound_makes listed is_eager inbound_leads outbound_leads start role own
+
+  abbrev SoFar : List ℕ → List ℕ → List (ℕ × ℕ) → List (ConnEvent H) → List ℕ → Type 0
+  SoFar input piece asked told written =
+      ((first : List ℕ) × (rest : List ℕ) × (more : List (ConnEvent H)) × (session : State) × (streams : ℕ → Option (Streaming H)) × (past : List (Earlier H)) × (piece ≡ first ++ rest)
+      × up_so (input ++ first) asked (told ++ more) written session streams past)
+      ⊎ ((more : List (ConnEvent H)) × over_by (input ++ piece) false asked (told ++ more) written)
+
+  wrote_on_is : (input piece written : List ℕ) (asked : List (ℕ × ℕ)) (told : List (ConnEvent H)) → wrote_up input piece asked told written → SoFar input piece asked told written
+  wrote_on_is input piece written asked told (WroteOn.Up first rest more session streams past is up) = inl (first, rest, more, session, streams, past, is, up)
+  wrote_on_is input piece written asked told (WroteOn.Over more x) = inr (more, x)
+
+  was_wrote_on : (input piece written : List ℕ) (asked : List (ℕ × ℕ)) (told : List (ConnEvent H)) → SoFar input piece asked told written → wrote_up input piece asked told written
+  was_wrote_on input piece written asked told (inl (first, rest, more, session, streams, past, is, up)) = WroteOn.Up first rest more session streams past is up
+  was_wrote_on input piece written asked told (inr (more, x)) = WroteOn.Over more x
+
+  abbrev AnyWay : List ℕ → List ℕ → List (ℕ × ℕ) → List (ConnEvent H) → List ℕ → Type 0
+  AnyWay input piece asked told written = ((asked ≡ []) × (told ≡ []) × Upgrades role own input (Ok None) written)
+      ⊎ (((pending : List ℕ) × (asked ≡ []) × (told ≡ []) × RunsOut role own input piece pending written)
+      ⊎ wrote_up input piece asked told written)
+
+  wrote_is : (input piece written : List ℕ) (asked : List (ℕ × ℕ)) (told : List (ConnEvent H)) → wrote_so input piece asked told written → AnyWay input piece asked told written
+  wrote_is input piece written asked told (Wrote.Coming a t u) = inl (a, t, u)
+  wrote_is input piece written asked told (Wrote.Upgrade pending a t r) = inr (inl (pending, a, t, r))
+  wrote_is input piece written asked told (Wrote.Later w) = inr (inr w)
+
+  was_wrote : (input piece written : List ℕ) (asked : List (ℕ × ℕ)) (told : List (ConnEvent H)) → AnyWay input piece asked told written → wrote_so input piece asked told written
+  was_wrote input piece written asked told (inl (a, t, u)) = Wrote.Coming a t u
+  was_wrote input piece written asked told (inr (inl (pending, a, t, r))) = Wrote.Upgrade pending a t r
+  was_wrote input piece written asked told (inr (inr w)) = Wrote.Later w
+
   pub any_runs : AnyWholeRunRows step fails is_closed is_finished inbound_makes outbound_makes listed is_eager inbound_leads outbound_leads start role own
   any_runs = record {
     coming = λ input written u. Coming refl refl refl refl u;
@@ -324,8 +361,11 @@ module _ {P H : Type 0} (step : H → HandlerCall → H → Type 0) (fails : H �
     ended_in_vain = λ input over asked told owed reason next. (λ h. h, λ h. h);
     other_answers = λ input over asked told owed bytes more index n next. (λ h. h, λ h. h, λ h. h);
     call = λ input ended asked told owed act answer next. (λ h. h, λ h. h);
-    kept_where_spent = λ input written ended asked told owed. (λ h. h, λ h. h);
-    kept_elsewhere = λ input now ended over asked opened told owed said owes. tt;
+    kept_by_a_feed = λ input written ended asked told owed bytes. (λ h. (h.0, h.2.0, h.1, h.2.1, h.3), λ h. (h.0, h.2, (h.1, h.3), h.4));
+    kept_by_another = λ input written ended asked told owed index. ((λ h. h, λ h. h), (λ h. h, λ h. h));
+    wrote_on_is = λ input piece written asked told. (wrote_on_is input piece written asked told, was_wrote_on input piece written asked told);
+    wrote_is = λ input piece written asked told. (wrote_is input piece written asked told, was_wrote input piece written asked told);
+    kept_elsewhere = λ input now ended over asked opened told owed said owes act. tt;
     call_spent = λ written act answer next. (λ h. h, λ h. h);
     no_call = λ point last. (λ h. h, λ h. h);
     calls = λ point last act acts answer answers. (λ h. h, λ h. h);

@@ -37,11 +37,11 @@ module _ {H : Type 0} (step : H → HandlerCall → H → Type 0) (is_closed is_
     closes = λ role past fed sent n over old session. (λ h. h, λ h. h);
     counts = λ role past fed sent n old session. (λ h. h, λ h. h);
     was_asked = λ role past fed sent n so_far session stream. (
-      λ w. (w.goes, w.live_is, w.closed_is, w.asked, w.none_waits),
-      λ h. record { goes = h.0; live_is = h.1; closed_is = h.2; asked = h.3; none_waits = h.4 },
+      λ w. (w.goes, w.live_is, w.closed_is, w.asked, w.none_waits, w.untaken_is),
+      λ h. record { goes = h.0; live_is = h.1; closed_is = h.2; asked = h.3; none_waits = h.4; untaken_is = h.5 },
     );
     was_closed = λ role past fed sent n so_far handler session stream. (
-      λ w. (w.goes, w.asked, w.none_waits, w.handed_out, w.over, w.asked_still, w.asked_last, w.closed_by),
-      λ h. record { goes = h.0; asked = h.1; none_waits = h.2; handed_out = h.3; over = h.4; asked_still = h.5; asked_last = h.6; closed_by = h.7 },
+      λ w. (w.goes, w.asked, w.none_waits, w.handed_out, w.over, w.asked_still, w.asked_last, w.closed_by, w.untaken_is),
+      λ h. record { goes = h.0; asked = h.1; none_waits = h.2; handed_out = h.3; over = h.4; asked_still = h.5; asked_last = h.6; closed_by = h.7; untaken_is = h.8 },
     );
   }

@@ -153,8 +153,8 @@ module _ {H : Type 0} (step : H → HandlerCall → H → Type 0) (fails : H →
     );
     hands_out = λ so_far handler stream. (λ h. h.0, λ h. (h, tt));
     hands_out_none = λ so_far stream. (λ h. h.1, λ h. (tt, h));
-    serves = λ role past fed sent n so_far handler session stream g out settled asked closed. record { goes = g; handed_out = out; settled = settled; asked_last = asked; closed_by = closed };
-    serves_is = λ role past fed sent n so_far handler session stream s. (s.goes, s.handed_out, s.settled, s.asked_last, s.closed_by);
+    serves = λ role past fed sent n so_far handler session stream g out settled asked closed taken. record { goes = g; handed_out = out; settled = settled; asked_last = asked; closed_by = closed; taken_by = taken };
+    serves_is = λ role past fed sent n so_far handler session stream s. (s.goes, s.handed_out, s.settled, s.asked_last, s.closed_by, s.taken_by);
     fails_by = λ handler asked stop. (λ h. h, λ h. h);
     gives_up = λ stream room stop. (
       λ g. (g.handler, g.held, g.unclosed, g.fails_by),

@@ -15,7 +15,7 @@ use Rattle.peer_ids.specs.Key.{Key}
 use Rattle.peer_ids.specs.PeerId.{id_of}
 use Rattle.upgrade.specs.declared.role.ConnRole.{ConnRole}
 use Rattle.upgrade.specs.declared.fault.UpgradeFault.{UpgradeFault}
-use Rattle.upgrade.specs.Upgrades.{Upgrades, ComesTo}
+use Rattle.upgrade.specs.Upgrades.{Upgrades, ComesTo, RunsOut}
 use Rattle.upgrade.specs.State.{Upgrading, Stands as UpgradeStands}
 use Rattle.yamux_frames.specs.Frames.{Arrival, EndsWithin}
 use Rattle.yamux_session.specs.declared.event.Fault.{Fault}
@@ -51,7 +51,8 @@ use Rattle.conn_core.specs.declared.calls.ConnAct.TheVariants.{Feed, Ask, Ended}
 use Rattle.conn_core.specs.declared.calls.ConnAnswer.{ConnAnswer}
 use Rattle.conn_core.specs.declared.calls.ConnAnswer.TheVariants.{Events, Stream, Refused}
 use Rattle.conn_core.specs.Connects.{session_role, told_of, IsComing, IsUp, IsFaulty, Ends, IsUpWith, Connects, Stands}
-use Rattle.conn_core.specs.Connects.{is_over, MayOpen, IsRefused, OwesOf, waiting_in, held_in, IsOrderedIn}
+use Rattle.conn_core.specs.Connects.{is_spent, MayOpen, IsRefused, OwesOf, waiting_in, held_in, IsOrderedIn}
+use Rattle.conn_core.specs.Wanting.{WroteOn, Wrote}
 use Rattle.conn_core.specs.Made.{none_held, answered, answered_all, asks_early, made_in}
 use Rattle.conn_core.specs.Runs.{Point, is_end, has_ended, events_or, stream_or, IsTurnedAway, StaysBehind, AreHeld}
 use Rattle.conn_core.specs.Runs.{Explains, IsExplained, MayBeAsked, IsNotOpened, AnswersAt, Answers, AnswersAll, Holds}
@@ -97,6 +98,7 @@ pub record AnyConnAnswerRows (P H : Type 0) : Type 0 where
       ↔ ((more : List (ConnEvent H)) × AllByRecursion (IsBrokenOf number) more × (after ≡ before ++ more))
   pub waits : (mux : Mux P H) (written : List ℕ) → (waiting_in (phases.Up mux) written ≡ written)
       × (waiting_in {P = P} {H = H} phases.Over written ≡ written)
+      × (waiting_in {P = P} {H = H} phases.Spent written ≡ written)
   pub waits_coming : (x : Upgrading) (protocols : P) (written : List ℕ)
       → waiting_in {H = H} (phases.Upgrading x protocols) written ≡ x.pending
   pub holds : (mux : Mux P H) → held_in (phases.Up mux)
@@ -104,6 +106,7 @@ pub record AnyConnAnswerRows (P H : Type 0) : Type 0 where
   pub ordered : (mux : Mux P H) → IsOrderedIn (phases.Up mux) ↔ tree.IsOrdered nat_cmp mux.board.streams
   pub ordered_else : (x : Upgrading) (protocols : P)
       → IsOrderedIn {H = H} (phases.Upgrading x protocols) × IsOrderedIn {P = P} {H = H} phases.Over
+      × IsOrderedIn {P = P} {H = H} phases.Spent
 
 -- What an end, its session and its streams keep: these, and nothing else
 pub record AnyKeptRows (P H : Type 0) : Type 0 where
@@ -330,6 +333,8 @@ module _ {P H : Type 0} (step : H → HandlerCall → H → Type 0) (fails : H �
     pub connects_over : (input taken waiting : List ℕ) (ended : Bool) (asked : List (ℕ × ℕ))
         (told owed : List (ConnEvent H)) → connects input ended asked told taken phases.Over owed waiting
         ↔ ((owed ≡ []) × ends input ended asked told (taken ++ waiting))
+    pub connects_spent : (input taken waiting : List ℕ) (ended : Bool) (asked : List (ℕ × ℕ))
+        (told owed : List (ConnEvent H)) → ¬ connects input ended asked told taken phases.Spent owed waiting
     pub an_end_stands : (input taken : List ℕ) (ended : Bool) (asked : List (ℕ × ℕ)) (told : List (ConnEvent H))
         (core : ConnCore P H) → stands input ended asked told taken core ↔ ((core.role ≡ role)
         × connects input ended asked told taken core.phase core.owed.items core.output.items)
@@ -393,9 +398,18 @@ module _ {P H : Type 0} (step : H → HandlerCall → H → Type 0) (fails : H �
   is_explained = IsExplained step fails is_closed is_finished inbound_makes outbound_makes listed is_eager
       inbound_leads outbound_leads start role own
 
-  abbrev pub keeps_written : List ℕ → Bool → List (ℕ × ℕ) → List (ConnEvent H) → List (ConnEvent H) → Point H → Type 0
+  abbrev pub keeps_written : List ℕ → Bool → List (ℕ × ℕ) → List (ConnEvent H) → List (ConnEvent H) → ConnAct
+      → Point H → Type 0
   keeps_written = KeepsWritten step fails is_closed is_finished inbound_makes outbound_makes listed is_eager
       inbound_leads outbound_leads start role own
+
+  abbrev pub wrote_on : List ℕ → List ℕ → List (ℕ × ℕ) → List (ConnEvent H) → List ℕ → Type 0
+  wrote_on = WroteOn step fails is_closed is_finished inbound_makes outbound_makes listed is_eager inbound_leads
+      outbound_leads start role own
+
+  abbrev pub wrote : List ℕ → List ℕ → List (ℕ × ℕ) → List (ConnEvent H) → List ℕ → Type 0
+  wrote = Wrote step fails is_closed is_finished inbound_makes outbound_makes listed is_eager inbound_leads
+      outbound_leads start role own
 
   abbrev pub answers_at : List ℕ → Bool → List (ℕ × ℕ) → List (ConnEvent H) → List (ConnEvent H) → ConnAct
       → ConnAnswer H → Point H → Type 0
@@ -510,13 +524,33 @@ module _ {P H : Type 0} (step : H → HandlerCall → H → Type 0) (fails : H �
     pub call : (input : List ℕ) (ended : Bool) (asked : List (ℕ × ℕ)) (told owed : List (ConnEvent H)) (act : ConnAct)
         (answer : ConnAnswer H) (next : Point H) → answers_one (At input ended asked told owed) act answer next
         ↔ (answers_at input ended asked told owed act answer next × is_explained next
-        × keeps_written input ended asked told owed next)
-    pub kept_where_spent : (input written : List ℕ) (ended : Bool) (asked : List (ℕ × ℕ))
-        (told owed : List (ConnEvent H)) → keeps_written input ended asked told owed (Spent written)
-        ↔ explains input ended asked told owed written
+        × keeps_written input ended asked told owed act next)
+    pub kept_by_a_feed : (input written : List ℕ) (ended : Bool) (asked : List (ℕ × ℕ))
+        (told owed : List (ConnEvent H)) (bytes : Vec ℕ)
+        → keeps_written input ended asked told owed (Feed bytes) (Spent written)
+        ↔ ((before more : List ℕ) × explains input ended asked told owed before × (written ≡ before ++ more)
+        × wrote input bytes.items asked told written)
+    pub kept_by_another : (input written : List ℕ) (ended : Bool) (asked : List (ℕ × ℕ))
+        (told owed : List (ConnEvent H)) (index : ℕ) → (keeps_written input ended asked told owed (Ask index)
+        (Spent written) ↔ explains input ended asked told owed written)
+        × (keeps_written input ended asked told owed Ended (Spent written)
+        ↔ explains input ended asked told owed written)
+    -- What a feed has written that met want of memory: what is written by no more than the piece, and by no less than
+    -- none of it
+    pub wrote_on_is : (input piece written : List ℕ) (asked : List (ℕ × ℕ)) (told : List (ConnEvent H))
+        → wrote_on input piece asked told written
+        ↔ (((first rest : List ℕ) × (more : List (ConnEvent H)) × (session : State)
+        × (streams : ℕ → Option (Streaming H)) × (past : List (Earlier H)) × (piece ≡ first ++ rest)
+        × is_up (input ++ first) asked (told ++ more) written session streams past)
+        ⊎ ((more : List (ConnEvent H)) × ends (input ++ piece) false asked (told ++ more) written))
+    pub wrote_is : (input piece written : List ℕ) (asked : List (ℕ × ℕ)) (told : List (ConnEvent H))
+        → wrote input piece asked told written
+        ↔ (((asked ≡ []) × (told ≡ []) × Upgrades role own input (Ok None) written)
+        ⊎ (((pending : List ℕ) × (asked ≡ []) × (told ≡ []) × RunsOut role own input piece pending written)
+        ⊎ wrote_on input piece asked told written))
     pub kept_elsewhere : (input now : List ℕ) (ended over : Bool) (asked opened : List (ℕ × ℕ))
-        (told owed said owes : List (ConnEvent H))
-        → keeps_written input ended asked told owed (At now over opened said owes)
+        (told owed said owes : List (ConnEvent H)) (act : ConnAct)
+        → keeps_written input ended asked told owed act (At now over opened said owes)
     pub call_spent : (written : List ℕ) (act : ConnAct) (answer : ConnAnswer H) (next : Point H)
         → answers_one (Spent written) act answer next
         ↔ ((answer ≡ Refused refusals.Failed) × (next ≡ Spent written))
@@ -532,7 +566,7 @@ module _ {P H : Type 0} (step : H → HandlerCall → H → Type 0) (fails : H �
         ↔ ((there : explains input ended asked told owed written)
         × holds input ended asked told owed written there handlers)
     pub left_spent : (written output : List ℕ) (handlers : List (ℕ × H)) → leaves (Spent written) output handlers
-        ↔ (((more : List ℕ) × (output ≡ written ++ more)) × (handlers ≡ []))
+        ↔ ((output ≡ written) × (handlers ≡ []))
     pub runs : (acts : List ConnAct) (answers : List (ConnAnswer H)) (written : List ℕ) (handlers : List (ℕ × H))
         → Runs step fails is_closed is_finished inbound_makes outbound_makes listed is_eager inbound_leads
         outbound_leads start role own acts answers written handlers
@@ -541,5 +575,5 @@ module _ {P H : Type 0} (step : H → HandlerCall → H → Type 0) (fails : H �
     pub at_point : (input : List ℕ) (ended : Bool) (asked : List (ℕ × ℕ)) (told owed : List (ConnEvent H))
         (core : ConnCore P H) → is_at (At input ended asked told owed) core
         ↔ ((core.owed.items ≡ owed) × stands input ended asked told [] core)
-    pub at_spent : (written : List ℕ) (core : ConnCore P H) → is_at (Spent written) core ↔ ((is_over core.phase ≡ true)
-        × ((more : List ℕ) × (waiting_in core.phase core.output.items ≡ written ++ more)))
+    pub at_spent : (written : List ℕ) (core : ConnCore P H) → is_at (Spent written) core ↔ ((is_spent core.phase ≡ true)
+        × (waiting_in core.phase core.output.items ≡ written))

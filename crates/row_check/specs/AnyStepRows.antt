@@ -91,7 +91,7 @@ module _ {H : Type 0} (step : H → HandlerCall → H → Type 0) (is_closed is_
         × (is_live role goes.now n ≡ true → closed role goes.now n ≡ false
         → is_open is_closed stream.stage ≡ true → goes.left ≡ Some (credit role goes.now n))
         × (is_live role goes.now n ≡ true → closed role goes.now n ≡ false → 0 < credit role goes.now n
-        → stream.waiting ≡ []))
+        → stream.waiting ≡ []) × (untaken role goes.now n ≡ untaken role past n))
     pub was_closed : (role : Role) (past : List Item) (fed sent : List ℕ) (n : ℕ) (so_far : Past H) (handler : Option H)
         (session : State) (stream : Streaming H)
         → WasClosed step is_closed is_finished was_done role past fed sent n so_far handler session stream
@@ -108,4 +108,5 @@ module _ {H : Type 0} (step : H → HandlerCall → H → Type 0) (is_closed is_
         × (is_live role past n ≡ true → closed role past n ≡ false
         → IfSome handler (λ it. is_closed it ≡ false → goes.left ≡ Some (credit role goes.now n)))
         × (closed role past n ≡ false → closed role goes.now n ≡ true
-        → (stream.waiting ≡ []) × (has_closed is_closed stream.stage ≡ true)))
+        → (stream.waiting ≡ []) × (has_closed is_closed stream.stage ≡ true))
+        × (untaken role goes.now n ≡ untaken role past n))

@@ -272,6 +272,7 @@ module _ {H : Type 0} (step : H → HandlerCall → H → Type 0) (fails : H →
         → IfSome handler (λ it. is_closed it ≡ false → g.left ≡ Some (credit role g.now n)))
         → (closed role past n ≡ false → closed role g.now n ≡ true
         → (stream.waiting ≡ []) × (has_closed is_closed stream.stage ≡ true))
+        → (closed role g.now n ≡ false → untaken role g.now n ≢ untaken role past n → 0 < credit role g.now n)
         → Serves step is_closed is_finished was_done role past fed sent n so_far handler session stream
     pub serves_is : (role : Role) (past : List Item) (fed sent : List ℕ) (n : ℕ) (so_far : Past H) (handler : Option H)
         (session : State) (stream : Streaming H)
@@ -283,6 +284,7 @@ module _ {H : Type 0} (step : H → HandlerCall → H → Type 0) (fails : H →
         → IfSome handler (λ it. is_closed it ≡ false → g.left ≡ Some (credit role g.now n)))
         × (closed role past n ≡ false → closed role g.now n ≡ true
         → (stream.waiting ≡ []) × (has_closed is_closed stream.stage ≡ true))
+        × (closed role g.now n ≡ false → untaken role g.now n ≢ untaken role past n → 0 < credit role g.now n)
     pub fails_by : (handler : H) (asked : Asked) (stop : Stop) → FailsBy fails handler asked stop
         ↔ ((fault : HandlerFault) × (stop ≡ stops.Broken (causes.Handler fault)) × fails handler asked fault.number)
     pub gives_up : (stream : Streaming H) (room : ℕ) (stop : Stop) → GivesUp fails is_closed stream room stop

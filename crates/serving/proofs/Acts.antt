@@ -27,6 +27,7 @@ pub record HasWritten (role : Role) (past now : List Item) (n : ℕ) (bytes : Li
   pub credit_is : credit role now n ≡ credit role past n - length bytes
   pub closed_is : closed role now n ≡ closed role past n
   pub live_is : is_live role now n ≡ is_live role past n
+  pub untaken_is : untaken role now n ≡ untaken role past n
 
 module _ (acts_do : ActsDo) (acts_move : ActsMove) where
   pub taken_keeps : (role : Role) (past : List Item) (n count : ℕ) → Keeps role past (Did (Taken n count) ∷ past) n
@@ -57,6 +58,7 @@ module _ (acts_do : ActsDo) (acts_move : ActsMove) where
         credit_is = ap (λ (w : Windows). w.credit) windows_are ∙ ap (λ k. credit role past n - k) (length_concat pieces);
         closed_is = ap (λ (s : Seen). s.closed) seen_is;
         live_is = ap (λ (s : Seen). s.live) seen_is;
+        untaken_is = ap (λ (w : Windows). w.untaken) windows_are;
       }
 
   -- a stream that was closed
@@ -72,3 +74,6 @@ module _ (acts_do : ActsDo) (acts_move : ActsMove) where
 
   pub closing_keeps_credit : (role : Role) (past : List Item) (n : ℕ) → credit role (Did (Close n) ∷ past) n ≡ credit role past n
   closing_keeps_credit role past n = ap (λ (w : Windows). w.credit) (acts_move role past (Close n) n)
+
+  pub closing_takes_nothing : (role : Role) (past : List Item) (n : ℕ) → untaken role (Did (Close n) ∷ past) n ≡ untaken role past n
+  closing_takes_nothing role past n = ap (λ (w : Windows). w.untaken) (acts_move role past (Close n) n)

@@ -21,7 +21,7 @@ use Rattle.streams.specs.Streams.{Past, IsServed}
 use Rattle.streams.specs.State.{Streaming, Stands, StandsAt, is_open, has_closed, has_finished, was_handed_out}
 use Rattle.serving.specs.Served.{Goes, GaveAll, HasGiven, HandsOut, Serves, with_sent}
 use Rattle.serving.specs.Steps.{Sends, WasAsked, WasClosed, Closes, Counts}
-use Rattle.serving.proofs.Acts.{taken_keeps, none_left, has_written, is_closed_then, closing_writes_nothing, closing_keeps_credit}
+use Rattle.serving.proofs.Acts.{taken_keeps, none_left, has_written, is_closed_then, closing_writes_nothing, closing_keeps_credit, closing_takes_nothing}
 use Rattle.serving.proofs.Refusals.{open_with, not_open, not_used_up, some_left, nothing_left}
 
 empty_or : (xs : List ℕ) → (xs ≢ [] → ⊥) → xs ≡ []
@@ -56,6 +56,7 @@ module _ {H : Type 0} (step : H → HandlerCall → H → Type 0) (is_closed is_
     closed_is = refl;
     asked = λ live unclosed is. absurd (not_both (not_open role past n none live) unclosed);
     none_waits = λ live unclosed some. absurd (not_both (not_open role past n none live) unclosed);
+    untaken_is = refl;
   }
 
   module _ (acts_do : ActsDo) (acts_move : ActsMove) where
@@ -82,6 +83,7 @@ module _ {H : Type 0} (step : H → HandlerCall → H → Type 0) (is_closed is_
           closed_is = w.closed_is;
           asked = λ live unclosed is. s.asked is ∙ ap Some (sym left);
           none_waits = λ live unclosed some. empty_or x.waiting (λ waits. let all = s.full waits in omega (arith, all, left));
+          untaken_is = w.untaken_is;
         }
     asked_by role past fed sent n amount so_far session x s e is_open (inr (none, nothing)) =
         let before = (open_with role past n amount is_open).credit_is in
@@ -103,6 +105,7 @@ module _ {H : Type 0} (step : H → HandlerCall → H → Type 0) (is_closed is_
           closed_is = refl;
           asked = λ live unclosed is. s.asked is ∙ ap Some (sym left);
           none_waits = λ live unclosed some. empty_or x.waiting (λ waits. let all = s.full waits in omega (arith, all, left));
+          untaken_is = refl;
         }
 
     -- what the stream gave was written, where it gave anything
@@ -139,6 +142,7 @@ module _ {H : Type 0} (step : H → HandlerCall → H → Type 0) (is_closed is_
           closed_is = a.closed_is;
           asked = λ live unclosed it. absurd (not_both it shut);
           none_waits = λ live unclosed some. ap (λ (x : Streaming H). x.waiting) is ∙ a.none_waits live unclosed some;
+          untaken_is = a.untaken_is;
         }
 
     pub has_finished_on : (role : Role) (past : List Item) (fed sent : List ℕ) (n : ℕ) (so_far : Past H) (session : State) (handler : Option H) (old new : Streaming H)
@@ -256,6 +260,7 @@ module _ {H : Type 0} (step : H → HandlerCall → H → Type 0) (is_closed is_
       asked_still = asked_last;
       asked_last = λ live unclosed. asked_last (a.live_is ∙ live) (a.closed_is ∙ unclosed);
       closed_by = λ unclosed shut. absurd (not_both shut (a.closed_is ∙ unclosed));
+      untaken_is = a.untaken_is;
     } where
       by_why : (((length x.waiting == 0) && has_closed is_closed x.stage) ≡ false) ⊎ (open_credit role a.goes.now n ≡ None)
           → is_live role a.goes.now n ≡ true → has_closed is_closed x.stage ≡ true → x.waiting ≡ [] → closed role a.goes.now n ≡ true
@@ -290,6 +295,7 @@ module _ {H : Type 0} (step : H → HandlerCall → H → Type 0) (is_closed is_
           asked_last = λ was_live was_unclosed. subst (λ (c : ℕ). IfSome handler (λ it. is_closed it ≡ false → a.goes.left ≡ Some c))
               (sym (closing_keeps_credit acts_do acts_move role a.goes.now n)) (asked_last live unclosed);
           closed_by = λ was_unclosed is. given;
+          untaken_is = closing_takes_nothing acts_do acts_move role a.goes.now n ∙ a.untaken_is;
         }
 
     -- credit that was left before is left still, or this direction is closed
@@ -302,6 +308,10 @@ module _ {H : Type 0} (step : H → HandlerCall → H → Type 0) (is_closed is_
     left_on role past fed sent n so_far handler before session now x (inr (over, live, unclosed, stands)) still w =
         let it = both x.waiting (has_closed is_closed x.stage) over in
         not_used_up role w.goes.now n (λ live. w.over live it.1 it.0)
+
+    credit_left : (shut : Bool) (amount : ℕ) → (0 < amount) ⊎ (shut ≡ true) → shut ≡ false → 0 < amount
+    credit_left shut amount (inl some) unclosed = some
+    credit_left shut amount (inr over) unclosed = absurd (not_both over unclosed)
 
     -- and what came was counted as taken
     pub was_settled : (role : Role) (past : List Item) (fed sent : List ℕ) (n : ℕ) (so_far : Past H) (handler : Option H) (before session : State) (x : Streaming H)
@@ -328,6 +338,7 @@ module _ {H : Type 0} (step : H → HandlerCall → H → Type 0) (is_closed is_
       };
       asked_last = a.asked_last;
       closed_by = a.closed_by;
+      taken_by = λ unclosed differs. absurd (differs a.untaken_is);
     } where
       by_why : (open_credit role a.goes.now n ≡ Some 0) ⊎ (is_live role a.goes.now n ≡ false) → is_live role a.goes.now n ≡ true
           → (0 < credit role a.goes.now n) ⊎ (closed role a.goes.now n ≡ true) → untaken role a.goes.now n ≡ 0
@@ -366,4 +377,5 @@ module _ {H : Type 0} (step : H → HandlerCall → H → Type 0) (is_closed is_
           asked_last = λ was_live unclosed. subst (λ (c : ℕ). IfSome handler (λ it. is_closed it ≡ false → a.goes.left ≡ Some c)) (sym k.credit_is)
               (a.asked_last was_live unclosed);
           closed_by = λ unclosed is. a.closed_by unclosed (sym k.closed_is ∙ is);
+          taken_by = λ unclosed differs. subst (λ (c : ℕ). 0 < c) (sym k.credit_is) (credit_left (closed role a.goes.now n) _ (some_left role a.goes.now n not_none live) (sym k.closed_is ∙ unclosed));
         }

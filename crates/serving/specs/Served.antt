@@ -1,7 +1,7 @@
 -- What the owner of a session does on one of its streams when it serves it, and why each act is due.
 -- Source: hashicorp yamux, "Flow Control" and "Flag Field"; that a handler is asked for as many bytes as there is
 -- credit, and when data counts as taken, is this project's profile.
-use Rattle.std.specs.Prelude.{◌≡◌, ◌⊎◌, ℕ, ◌<◌, ◌-◌, Bool, true, false, List, [], ◌∷◌, ◌++◌, map, length}
+use Rattle.std.specs.Prelude.{◌≡◌, ◌≢◌, ◌⊎◌, ℕ, ◌<◌, ◌-◌, Bool, true, false, List, [], ◌∷◌, ◌++◌, map, length}
 use Rattle.std.specs.Prelude.{Option, Some, IfSome, IfNone}
 use Rattle.handlers.specs.Calls.{HandlerCall, Asked, ToGive}
 use Rattle.yamux_session.specs.declared.event.Role.{Role}
@@ -104,6 +104,10 @@ module _ {H : Type 0} (step : H → HandlerCall → H → Type 0) (is_closed is_
     -- this direction was closed only where it is this stream that gives no more
     pub closed_by : closed role past n ≡ false → closed role goes.now n ≡ true
         → (stream.waiting ≡ []) × (has_closed is_closed stream.stage ≡ true)
+    -- what came was taken only where this direction is closed, or credit is left, so that it is this stream that gave
+    -- what it has
+    pub taken_by : closed role goes.now n ≡ false → untaken role goes.now n ≢ untaken role past n
+        → 0 < credit role goes.now n
 
 -- ---- refusals
 

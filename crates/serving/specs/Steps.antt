@@ -53,6 +53,7 @@ module _ {H : Type 0} (step : H → HandlerCall → H → Type 0) (is_closed is_
         → is_open is_closed stream.stage ≡ true → goes.left ≡ Some (credit role goes.now n)
     pub none_waits : is_live role goes.now n ≡ true → closed role goes.now n ≡ false → 0 < credit role goes.now n
         → stream.waiting ≡ []
+    pub untaken_is : untaken role goes.now n ≡ untaken role past n
 
   -- A handler that is finished was handed out, and this direction is closed where the stream gives no more.
   pub record WasClosed (role : Role) (past : List Item) (fed sent : List ℕ) (n : ℕ) (so_far : Past H)
@@ -71,3 +72,4 @@ module _ {H : Type 0} (step : H → HandlerCall → H → Type 0) (is_closed is_
         → IfSome handler (λ it. is_closed it ≡ false → goes.left ≡ Some (credit role goes.now n))
     pub closed_by : closed role past n ≡ false → closed role goes.now n ≡ true
         → (stream.waiting ≡ []) × (has_closed is_closed stream.stage ≡ true)
+    pub untaken_is : untaken role goes.now n ≡ untaken role past n

@@ -1,10 +1,10 @@
-use Rattle.std.proofs.Common.{ℕ, true, false, List, [], ◌++◌, IfOk, refl, sym, ◌∙◌, subst}
-use Rattle.std.proofs.lemmas.List.{append-nil}
+use Rattle.std.proofs.Common.{ℕ, true, false, List, [], ◌++◌, IfOk, OnErr, refl, sym, subst}
 use Rattle.conn_core.specs.declared.calls.ConnAct.TheVariants as act
-use Rattle.conn_core.specs.Connects.{Stands}
-use Rattle.conn_core.specs.Runs.{events_or, stream_or}
+use Rattle.conn_core.specs.Connects.{Stands, waiting_in}
+use Rattle.conn_core.specs.Wanting.{Wrote}
+use Rattle.conn_core.specs.Runs.{Explains, events_or, stream_or}
 use Rattle.conn_core.proofs.Asking.{ok_on}
-use Rattle.conn_core.proofs.Steps.{leads_as, and_then, err_and, on_err, tells, over_owes, asks}
+use Rattle.conn_core.proofs.Steps.{leads_as, and_then, on_err, feed_keeps, tells, over_owes, asks}
 use Rattle.conn_core.proofs.calls.perform.Goals as goal
 
 pub returns-in-Feed : goal.returns-in-Feed
@@ -19,7 +19,12 @@ returns-in-Feed g c = λ start role own point at.
     (λ input asked told stands going. and_then _ _ c.feed.result c.feed.ensures.none_owed
     (subst (λ (bytes : List ℕ). IfOk c.feed.result (λ events. Stands H.steps H.fails H.is_closed H.is_finished makes.makes_inbound makes.makes_outbound makes.listed makes.is_eager makes.leads_inbound makes.leads_outbound start role own (input ++ bytes) false asked (told ++ events.items) [] c.feed.new.self)) c.deref.ensures.value
     (c.feed.ensures.fed role own start input [] asked told stands going)))
-    c.feed.ensures.refused c.feed.ensures.waits c.feed.ensures.failed at)
+    c.feed.ensures.refused
+    (λ input asked told owed there stands going. feed_keeps H.steps H.fails H.is_closed H.is_finished makes.makes_inbound makes.makes_outbound makes.listed makes.is_eager makes.leads_inbound makes.leads_outbound start role own
+    input c.in-Feed.bytes.items asked told owed _ _ c.feed.result there c.feed.ensures.waits
+    (subst (λ (bytes : List ℕ). OnErr c.feed.result (Wrote H.steps H.fails H.is_closed H.is_finished makes.makes_inbound makes.makes_outbound makes.listed makes.is_eager makes.leads_inbound makes.leads_outbound start role own
+    input bytes asked told (waiting_in c.feed.new.self.phase c.feed.new.self.output.items))) c.deref.ensures.value (c.feed.ensures.wrote role own start input [] asked told stands going)))
+    c.feed.ensures.failed at)
 
 pub returns-in-Ended : goal.returns-in-Ended
 returns-in-Ended g c = λ start role own point at.
@@ -33,8 +38,11 @@ returns-in-Ended g c = λ start role own point at.
     (λ input asked told stands going. ok_on _ _ c.ended.result c.ended.result refl
     (λ events there. (there, over_owes H.steps H.fails H.is_closed H.is_finished makes.makes_inbound makes.makes_outbound makes.listed makes.is_eager makes.leads_inbound makes.leads_outbound start role own input true asked (told ++ events.items) [] new.phase new.owed.items new.output.items c.ended.ensures.over there.1))
     (c.ended.ensures.ends role own start input [] asked told stands going))
-    (λ going. err_and _ _ c.ended.result c.ended.ensures.over (c.ended.ensures.refused going))
-    (on_err _ c.ended.result ([], c.ended.ensures.waits ∙ sym (append-nil _))) c.ended.ensures.failed at)
+    c.ended.ensures.refused
+    (λ input asked told owed there stands going. on_err _ c.ended.result
+    (subst (λ (w : List ℕ). Explains H.steps H.fails H.is_closed H.is_finished makes.makes_inbound makes.makes_outbound makes.listed makes.is_eager makes.leads_inbound makes.leads_outbound start role own input false asked told owed w)
+    (sym c.ended.ensures.waits) there))
+    c.ended.ensures.failed at)
 
 pub returns-in-Ask : goal.returns-in-Ask
 returns-in-Ask g c = λ start role own point at.

@@ -66,7 +66,7 @@ returns g c =
         subst (λ (calls : List ConnAct). AnswersAll H.steps H.fails H.is_closed H.is_finished makes.makes_inbound makes.makes_outbound makes.listed makes.is_eager makes.leads_inbound makes.leads_outbound start role key (At [] false [] [] []) calls c.loop-act.answers.items led.0) all led.1,
         leaves H.steps H.fails H.is_closed H.is_finished makes.makes_inbound makes.makes_outbound makes.listed makes.is_eager makes.leads_inbound makes.leads_outbound start role key led.0 c.loop-act.core took.new.self took.result.items c.in_ok-held.held.items
             (λ input ended asked told stands. took.ensures.stands role key start input [] ended asked told stands)
-            took.ensures.taken took.ensures.none_waits took.ensures.owed took.ensures.over c.in_ok-held.ensures.held c.into_handlers.ensures.ordered led.2,
+            took.ensures.taken took.ensures.none_waits took.ensures.owed took.ensures.spent c.in_ok-held.ensures.held c.into_handlers.ensures.ordered led.2,
         in_made_order c.in_ok-handlers.handlers.items c.in_ok-held.held.items (map (asks_early makes.listed makes.is_eager start) acts) c.in_ok-early.early.items
             c.loop-act.answers.items c.in_ok-order.order c.deref.result.now c.deref-2.result.now c.in_ok-handlers.ensures.arranged c.in_ok-order.ensures
             c.deref.ensures.value c.deref-2.ensures.value c.in_ok-early.ensures,

@@ -1,4 +1,4 @@
-use Rattle.std.proofs.Common.{◌≡◌, ℕ, true, false, List, [], ◌++◌, refl, sym, ap, ◌∙◌, subst}
+use Rattle.std.proofs.Common.{◌≡◌, ℕ, true, false, List, [], ◌∷◌, ◌++◌, refl, sym, ap, ◌∙◌, subst}
 use Rattle.std.proofs.lemmas.List.{append_assoc, append-nil}
 use Rattle.std.specs.Ordering.{nat_cmp}
 use Rattle.std.specs.BTreeMap as tree
@@ -6,43 +6,61 @@ use Rattle.peer_ids.specs.PeerId.{id_of}
 use Rattle.yamux_session.specs.Output.{output}
 use Rattle.yamux_session.specs.State.{State}
 use Rattle.conn_log.specs.declared.event.ConnEvent.{ConnEvent}
+use Rattle.conn_log.specs.declared.event.ConnEvent.TheVariants as event
+use Rattle.conn_log.specs.declared.event.ConnFault.TheVariants as fault
 use Rattle.conn_log.specs.Entries.{items}
 use Rattle.conn_log.specs.Making.{MakesOn}
 use Rattle.conn_log.specs.Rests.{AreAtRest, Grows}
-use Rattle.mux.specs.Faults.{Faults}
 use Rattle.conn_core.specs.Connects.{IsUp, IsFaulty, session_role}
 use Rattle.conn_core.specs.Connects.Ends.{Session}
-use Rattle.conn_core.proofs.Going.{as_known, up_on, up_faults}
+use Rattle.conn_core.specs.Wanting.{WroteOn}
+use Rattle.conn_core.specs.Wanting.WroteOn.{Over}
+use Rattle.conn_core.proofs.Going.{as_known, up_on, up_breaks}
+use Rattle.conn_core.proofs.Waiting.{if_err}
+use Rattle.conn_core.proofs.Wanting.{wrote_up}
 use Rattle.conn_core.proofs.connection.go_on.Goals as goal
 
 pub returns-then-has_failed-clause-goes : goal.returns-then-has_failed-clause-goes
 returns-then-has_failed-clause-goes g c = λ role own start input taken asked before upw.
     let H = g.P.H.Handler in
     let makes = g.P.Protocols in
-    let mux = c.args.mux in
-    let board = mux.board in
     let piece = c.args.piece.now in
-    let up = upw.3.0 in
-    let sent = output (session_role role) (items up.log) in
-    let streams = tree.get nat_cmp board.streams in
-    let after = c.feed.new.self in
-    let failed : after.session.failed ≡ true = sym (ap (λ (s : State). s.failed) c.in_ok-collect.ensures.rest) ∙ sym c.has_failed.ensures ∙ c.if-has_failed.true in
-    let faults = as_known (makes.is_eager board.protocols) (makes.is_eager start) (makes.listed board.protocols) (makes.listed start) board.peer (id_of up.key) board.role (session_role role) upw.1 upw.0 upw.3.1 upw.2
-    (λ e n p r. AreAtRest H.steps H.fails H.is_closed H.is_finished makes.makes_inbound makes.makes_outbound e n p r up.log up.rest sent mux.session streams board.past.items
-    → after.session.failed ≡ true
-    → Faults H.steps H.fails H.is_closed H.is_finished makes.makes_inbound makes.makes_outbound e n p r (MakesOn makes.leads_inbound makes.leads_outbound p r board.protocols after.board.protocols) up.log [] c.args.told.now.items c.feed.new.told.items up.rest piece sent after.session.pending)
-    (c.in-Ok.ensures.faults up.log up.rest sent) up.at_rest failed in
-    let from_now = subst (λ q. Faults H.steps H.fails H.is_closed H.is_finished makes.makes_inbound makes.makes_outbound (makes.is_eager start) (makes.listed start) (id_of up.key) (session_role role)
-    (MakesOn makes.leads_inbound makes.leads_outbound (id_of up.key) (session_role role) q after.board.protocols) up.log [] c.args.told.now.items c.feed.new.told.items up.rest piece sent after.session.pending) upw.3.2 faults in
-    let it = up_faults H.steps H.fails H.is_closed H.is_finished makes.makes_inbound makes.makes_outbound makes.listed makes.is_eager makes.leads_inbound makes.leads_outbound start role own
-    input piece asked before c.args.told.now.items c.feed.new.told.items c.tell.new.told.items (taken ++ c.args.output.now.items) after.session.pending mux.session streams board.past.items up after.board.protocols from_now
-    c.in_ok-tell.ensures.told in
-    let written : (taken ++ c.args.output.now.items) ++ after.session.pending ≡ taken ++ c.collect.new.output.items =
-    append_assoc taken c.args.output.now.items after.session.pending ∙ ap (λ (t : List ℕ). taken ++ t) (sym c.in_ok-collect.ensures.moved) in (
+    let failed : c.feed.new.self.session.failed ≡ true = sym (ap (λ (s : State). s.failed) c.in_ok-collect.ensures.rest) ∙ sym c.has_failed.ensures ∙ c.if-has_failed.true in
+    let it = up_breaks H.steps H.fails H.is_closed H.is_finished makes.makes_inbound makes.makes_outbound makes.listed makes.is_eager makes.leads_inbound makes.leads_outbound start role own
+    input piece taken c.args.output.now.items c.collect.new.output.items asked before c.args.told.now.items c.feed.new.told.items c.args.mux c.feed.new.self upw c.in-Ok.ensures.faults failed c.in_ok-collect.ensures.moved in (
       refl,
-      Session (subst (λ (t : List ℕ). IsFaulty H.steps H.fails H.is_closed H.is_finished makes.makes_inbound makes.makes_outbound makes.listed makes.is_eager makes.leads_inbound makes.leads_outbound start role own
-          (input ++ piece) asked (before ++ c.tell.new.told.items) t) written it),
+      Session (subst (λ (t : List (ConnEvent _)). IsFaulty H.steps H.fails H.is_closed H.is_finished makes.makes_inbound makes.makes_outbound makes.listed makes.is_eager makes.leads_inbound makes.leads_outbound start role own
+          (input ++ piece) asked (before ++ t) (taken ++ c.collect.new.output.items)) (sym c.in_ok-tell.ensures.told) it),
     )
+
+pub returns-in_default-clause-wrote : goal.returns-in_default-clause-wrote
+returns-in_default-clause-wrote g c = λ role own start input taken asked before upw.
+    let H = g.P.H.Handler in
+    let makes = g.P.Protocols in
+    let mux = c.args.mux in
+    wrote_up H.steps H.fails H.is_closed H.is_finished makes.makes_inbound makes.makes_outbound makes.listed makes.is_eager makes.leads_inbound makes.leads_outbound start role own
+    input c.args.piece.now asked before c.args.told.now.items (taken ++ c.args.output.now.items) mux.session (tree.get nat_cmp mux.board.streams) mux.board.past.items upw.3.0
+
+pub returns-in_err-collect-clause-wrote : goal.returns-in_err-collect-clause-wrote
+returns-in_err-collect-clause-wrote g c = λ role own start input taken asked before upw.
+    let H = g.P.H.Handler in
+    let makes = g.P.Protocols in
+    let mux = c.args.mux in
+    if_err c.from_residual.result
+    (subst (λ (t : List ℕ). WroteOn H.steps H.fails H.is_closed H.is_finished makes.makes_inbound makes.makes_outbound makes.listed makes.is_eager makes.leads_inbound makes.leads_outbound start role own
+    input c.args.piece.now asked before (taken ++ t)) (sym c.in_err-collect.ensures.kept)
+    (wrote_up H.steps H.fails H.is_closed H.is_finished makes.makes_inbound makes.makes_outbound makes.listed makes.is_eager makes.leads_inbound makes.leads_outbound start role own
+    input c.args.piece.now asked before c.args.told.now.items (taken ++ c.args.output.now.items) mux.session (tree.get nat_cmp mux.board.streams) mux.board.past.items upw.3.0))
+
+pub returns-in_err-tell-clause-wrote : goal.returns-in_err-tell-clause-wrote
+returns-in_err-tell-clause-wrote g c = λ role own start input taken asked before upw.
+    let H = g.P.H.Handler in
+    let makes = g.P.Protocols in
+    let failed : c.feed.new.self.session.failed ≡ true = sym (ap (λ (s : State). s.failed) c.in_ok-collect.ensures.rest) ∙ sym c.has_failed.ensures ∙ c.if-has_failed.true in
+    if_err c.from_residual-in_err-tell.result
+    (Over (c.feed.new.told.items ++ event.Fault fault.Mux ∷ [])
+    (Session (up_breaks H.steps H.fails H.is_closed H.is_finished makes.makes_inbound makes.makes_outbound makes.listed makes.is_eager makes.leads_inbound makes.leads_outbound start role own
+    input c.args.piece.now taken c.args.output.now.items c.collect.new.output.items asked before c.args.told.now.items c.feed.new.told.items c.args.mux c.feed.new.self upw c.in-Ok.ensures.faults failed c.in_ok-collect.ensures.moved)))
 
 pub returns-clause-goes : goal.returns-clause-goes
 returns-clause-goes g c = λ role own start input taken asked before upw.

@@ -5,7 +5,7 @@ use Rattle.conn_core.specs.declared.connection.ConnCore.{ConnCore}
 use Rattle.conn_core.specs.Connects.{Connects, Stands, OwesOf}
 use Rattle.conn_core.proofs.Asking.{refused_none, ok_on}
 use Rattle.conn_core.proofs.connection.ConnCore.ask.Goals as goal
-use Rattle.conn_core.proofs.connection.ConnCore.ask.Goals.{in-Upgrading, in-Up, in-Over}
+use Rattle.conn_core.proofs.connection.ConnCore.ask.Goals.{in-Upgrading, in-Up, in-Over, in-Over-2}
 
 pub returns-else-eq-clause-asked : goal.returns-else-eq-clause-asked
 returns-else-eq-clause-asked g c = λ role own start input taken asked told stands.
@@ -22,6 +22,7 @@ returns-else-eq-clause-asked g c = λ role own start input taken asked told stan
           input false (asked ++ (number, c.args.index) ∷ []) told taken x) (sym w.self-is) (stands.0, (it.0, up)))
           (w.open-asked.ensures.opens role own start input taken asked told it.1)
       | in-Over w ↦ refused_none _ c.match-self.asked refusals.Failed w.asked-is
+      | in-Over-2 w ↦ refused_none _ c.match-self.asked refusals.Failed w.asked-is
     ]
 
 pub returns-else-eq-clause-owes : goal.returns-else-eq-clause-owes
@@ -38,4 +39,5 @@ returns-else-eq-clause-owes g c = λ role own start input taken asked told stand
           (λ number owes. subst (λ (x : ConnCore _ _). OwesOf number core.owed.items x.owed.items) (sym w.self-is) owes)
           (w.open-asked.ensures.owes role own start input (taken ++ core.output.items) asked (told ++ core.owed.items) it.1)
       | in-Over w ↦ refused_none _ c.match-self.asked refusals.Failed w.asked-is
+      | in-Over-2 w ↦ refused_none _ c.match-self.asked refusals.Failed w.asked-is
     ]

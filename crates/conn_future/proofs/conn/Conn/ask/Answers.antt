@@ -1,4 +1,4 @@
-use Rattle.conn_core.specs.Connects.{is_over, waiting_in}
+use Rattle.conn_core.specs.Connects.{waiting_in}
 use Rattle.std.proofs.Common.{◌∙◌, rules, ◌++◌, ◌∷◌, [], false, refl, ap}
 use Rattle.conn_future.proofs.Standing.{parts_stay, parts_of, goes_of, stays_none, stays_same_core, goes_asked, going_stays}
 use Rattle.conn_future.proofs.Opening.{opened_wants}
@@ -27,7 +27,7 @@ returns-in-OutOfMemory-clause-refused g c start role own first asked gave stays 
     (parts_of g.L.Link g.P.Protocols g.P.H.Handler start role own first asked [] gave false c.args.self.now.link c.args.self.now.link c.args.self.now.core c.ask.new.self
     c.args.self.now.unsent [] c.args.self.now.held.items c.args.self.now.held.items refl refl
     (goes_of g.L.Link g.P.Protocols g.P.H.Handler start role own first asked gave c.args.self.now.link c.args.self.now.core c.args.self.now.unsent c.args.self.now.held.items c.args.self.now.stage c.in-Going.is stays).goes_on
-    (λ input taken stood live. let over = c.ask.ensures.memory (search rules) in absurd (cc (live, over)))
+    (λ input taken stood unspent. let spent = c.ask.ensures.memory (search rules) in absurd (cc (unspent, spent)))
     (goes_of g.L.Link g.P.Protocols g.P.H.Handler start role own first asked gave c.args.self.now.link c.args.self.now.core c.args.self.now.unsent c.args.self.now.held.items c.args.self.now.stage c.in-Going.is stays).joins))
 
 pub returns-in-Ok-collect-clause-asked : goal.returns-in-Ok-collect-clause-asked

@@ -27,4 +27,4 @@ pub returns-in-Err-clause-follows : goal.returns-in-Err-clause-follows
 returns-in-Err-clause-follows g c start role own first asked gave before goes moved not_found =
     c.starve-in-Err.ensures.follows start role own first asked gave
     (parts_heard g.L.Link g.P.Protocols g.P.H.Handler start role own g.met.L.Link.moves_on first asked gave before c.args.self.now.link c.args.self.now.link c.args.self.now.core c.feed_shared.new.self c.args.self.now.unsent
-    _ c.args.self.now.held.items refl c.requires.none_held (λ live. let over = (c.in-Err.ensures.refused goes.goes_on).1 in absurd (cc (live, over))) goes moved)
+    _ c.args.self.now.held.items refl c.requires.none_held (λ unspent. let spent = (c.in-Err.ensures.refused goes.goes_on).1 in absurd (cc (unspent, spent))) goes moved)
