@@ -289,4 +289,5 @@ module _ {P H : Type 0} (protocols : ProtocolsGhosts P H) (handler : HandlerGhos
     refused = refused_rows;
     ended = end_rows;
     kinds = record { ended = is_ended };
+    kept = record { keeps = λ conn. refl };
   }

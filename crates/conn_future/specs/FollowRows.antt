@@ -12,6 +12,7 @@ use Rattle.conn_log.specs.declared.event.ConnFault.TheVariants as fault
 use Rattle.conn_core.specs.declared.connection.ConnCore.{ConnCore}
 use Rattle.conn_core.specs.Connects.{is_over, is_spent, waiting_in}
 use Rattle.conn_core.specs.Runs.{is_end}
+use Rattle.conn_future.specs.declared.conn.Conn.{Conn}
 use Rattle.conn_future.specs.Follows.{CoreStands, Joins, GoesOn, Parts, Ends}
 use Rattle.conn_future.specs.StageRows.{Line, lines, line, ended, shut}
 
@@ -122,6 +123,22 @@ module _ {P H : Type 0} (protocols : ProtocolsGhosts P H) (handler : HandlerGhos
         ⊎ ((before : List (ConnEvent H)) × (held ≡ []) × (gave ≡ before ++ event.Shut ∷ [])
         × (now.is_shut ≡ true) × joins first asked before false now core [] [])))
 
+  -- What it keeps from one poll to the next: this and nothing else, so no bytes that were heard, and no way to ask for
+  -- a poll later.
+  pub record KeptRows : Type 0 where
+    pub keeps : (conn : Conn Line P H lines protocols handler) → conn ≡ record {
+      link = conn.link;
+      core = conn.core;
+      unsent = conn.unsent;
+      held = conn.held;
+      stage = conn.stage;
+      buffer = conn.buffer;
+      alloc = conn.alloc;
+      can_fail = conn.can_fail;
+      has_room = conn.has_room;
+      none_left = conn.none_left;
+    }
+
   -- what a connection over a link gives, and where its bytes are
   pub record FollowRows : Type 0 where
     pub joined : JoinRows
@@ -129,3 +146,4 @@ module _ {P H : Type 0} (protocols : ProtocolsGhosts P H) (handler : HandlerGhos
     pub refused : RefusedRows
     pub ended : EndRows
     pub kinds : EndKinds
+    pub kept : KeptRows

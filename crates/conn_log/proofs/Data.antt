@@ -144,15 +144,15 @@ module _ {P H : Type 0} (step : H → HandlerCall → H → Type 0) (fails : H �
       comes = come (around_event step fails is_closed is_finished inbound_makes outbound_makes eager names peer role log fed sent after now past n view rest told of is_due (still step fails is_closed is_finished inbound_makes outbound_makes eager names peer role log fed sent before after streams now past n view rest same_session elsewhere a));
     }
 
-    in_turn_by : {stage : Stage H} {handler : H} {Q : Type 0} → (has_finished is_finished stage ≡ false) ⊎ Q → stage ≡ stages.Serving handler
-        → (is_finished handler ≡ false) ⊎ Q
-    in_turn_by (inl unfinished) serves = inl (sym (ap (has_finished is_finished) serves) ∙ unfinished)
+    in_turn_by : {stage : Stage H} {handler : H} {S Q : Type 0} → ((has_finished is_finished stage ≡ false) × S) ⊎ Q → stage ≡ stages.Serving handler
+        → ((is_finished handler ≡ false) × S) ⊎ Q
+    in_turn_by (inl (unfinished, some)) serves = inl (sym (ap (has_finished is_finished) serves) ∙ unfinished, some)
     in_turn_by (inr agreed) serves = inr agreed
 
     -- the handler took data behind the talk
     pub takes : (making : List (Entry H) → List (Entry H) → Type 0) (log : List (Entry H)) → ((newer : List (Entry H)) → MakesNone newer → making log (newer ++ log))
         → (bytes : List ℕ) (old : Streaming H) (got : List ℕ) (outcome : Outcome H)
-        → (has_finished is_finished old.stage ≡ false) ⊎ HasJustAgreed n log
+        → ((has_finished is_finished old.stage ≡ false) × (bytes ≢ [])) ⊎ HasJustAgreed n log
         → (a : Around step fails is_closed is_finished inbound_makes outbound_makes eager names peer role log fed sent before streams past n view rest)
         → view.came ≡ got ++ bytes → view.ended ≡ false
         → (h : IsHeld step is_closed is_finished names role log n got view.ended old)
@@ -218,7 +218,7 @@ module _ {P H : Type 0} (step : H → HandlerCall → H → Type 0) (fails : H �
     module _ (inbound_leads outbound_leads : P → ℕ → List ℕ → H → P → Type 0) (protocols behind_them : P) (log : List (Entry H)) (bytes : List ℕ) (old : Streaming H) (got : List ℕ)
         (a : Around step fails is_closed is_finished inbound_makes outbound_makes eager names peer role log fed sent before streams past n view rest)
         (came : view.came ≡ got ++ bytes) (going : view.ended ≡ false) (h : IsHeld step is_closed is_finished names role log n got view.ended old)
-        (unfinished : has_finished is_finished old.stage ≡ false) where
+        (unfinished : has_finished is_finished old.stage ≡ false) (some : bytes ≢ []) where
       abbrev pub makes : ℕ → H → Type 0
       makes = makes_once inbound_makes outbound_makes inbound_leads outbound_leads (direction_of role n) peer protocols behind_them
 
@@ -399,4 +399,4 @@ module _ {P H : Type 0} (step : H → HandlerCall → H → Type 0) (fails : H �
         by_talk : (b : Bool) → is_talking old.stage ≡ b → Went making log (agreement n delivered.agreed) fed sent after now past n rest delivered.outcome
         by_talk true e = in_talk delivered.agreed delivered.outcome e (d.0 e)
         by_talk false e = subst (λ (k : Option ℕ). Went making log (agreement n k) fed sent after now past n rest delivered.outcome) (sym (d.1 e).0)
-            (takes making log (keeps (d.1 e).1) bytes old got delivered.outcome (inl unfinished) a came going h (d.1 e).2)
+            (takes making log (keeps (d.1 e).1) bytes old got delivered.outcome (inl (unfinished, some)) a came going h (d.1 e).2)

@@ -11,7 +11,8 @@ use Rattle.talks.proofs.Outcomes.{one_outcome, by_all}
 use Rattle.talks.proofs.Rows.{answer_rows}
 use Rattle.yamux_frames.specs.declared.header.FrameKind.TheVariants.{Window}
 use Rattle.yamux_session.specs.declared.event.Role.TheVariants.{Client}
-use Rattle.yamux_session.specs.History.Item.{Came}
+use Rattle.yamux_session.specs.History.Item.{Came, Did}
+use Rattle.yamux_session.specs.History.Act.{Taken, Close}
 use Rattle.yamux_session.specs.Rows.{header}
 use Rattle.yamux_session.proofs.Hearing.{or_none}
 use Rattle.conn_log.specs.Entries.{items, since, over_in}
@@ -91,15 +92,19 @@ comes n opened was = by_number (eqb_tells 4 n) where
   by_number (inl it) = absurd (off_is_on (ap (was_reset Client (items rows.was_reset)) it.1 ∙ was))
   by_number (inr it) = absurd (off_is_on (sym it.0 ∙ sym (or_none (4 == n)) ∙ opened))
 
-unless_open : {A B : Type 0} → (false ≡ true) ⊎ (A × B) → (B → ⊥) → ⊥
-unless_open (inl shut) not_given = off_is_on shut
+unless_open : {A B C : Type 0} → ((false ≡ true) × C) ⊎ (A × B) → (B → ⊥) → ⊥
+unless_open (inl shut) not_given = off_is_on shut.0
 unless_open (inr gave) not_given = not_given gave.1
+
+takes_by_all : rows.is_due (Of (Did (Close 2)) ∷ rows.has_come) (Of (Did (Taken 2 1))) → (there : rows.is_there (Of (Did (Close 2)) ∷ rows.has_come)) × (there.so_far.got ≡ 99 ∷ [])
+takes_by_all (count, inl (shut, (there, came))) = (there, sym came)
+takes_by_all (count, inr (some, gave)) = (gave.there, sym gave.all_came)
 
 pub act_place_rows : ActPlaceRows
 act_place_rows = record {
   starts = λ h. h;
   goes_away = λ h. h;
-  takes_all = (refl, inl refl);
+  takes_all = (takes_by_all, λ h. (refl, inl (refl, (h.0, sym h.1))));
   takes_more = λ h. let e : ◌≡◌ {A = ℕ} 2 1 = h.0 in absurd (cc e);
   takes_none = λ h. let e : ◌≡◌ {A = ℕ} 0 1 = h.0 in absurd (cc e);
   takes_given_up = λ h. unless_open h.1 (λ gave. on_is_off gave.not_given_up);

@@ -14,8 +14,8 @@ use Rattle.yamux_session.specs.Events.{Told, events}
 use Rattle.yamux_session.specs.Seen.{Seen, seen, all_heard, hears, just_opened, AgreesOn, ActsDo, ActsMove}
 use Rattle.yamux_session.specs.State.{State, Stands as SessionStands}
 use Rattle.streams.specs.Streams.{Past}
-use Rattle.streams.specs.State.{Streaming}
-use Rattle.serving.specs.Served.{IsDue as ActIsDue, AreDue, GaveAll as StreamGaveAll, with_sent}
+use Rattle.streams.specs.State.{Streaming, Stands}
+use Rattle.serving.specs.Served.{IsDue as ActIsDue, AreDue, GaveAll as StreamGaveAll, HasSent as StreamHasSent, with_sent}
 use Rattle.conn_log.specs.declared.earlier.Earlier.{Earlier}
 use Rattle.conn_log.specs.Entries.{Entry, items, said, agreed, is_over, was_done, made_of, asked, left_behind}
 use Rattle.conn_log.specs.Entries.Entry.{Of}
@@ -222,19 +222,27 @@ module _ {P H : Type 0} (step : H → HandlerCall → H → Type 0) (fails : H �
 
   -- ---- why each act is due
 
+  -- the stream stands there
+  there_by : (log : List (Entry H)) (n : ℕ) (so_far : Past H) (acts : List Act) → AllOn n acts
+      → HasCome step fails is_closed is_finished inbound_makes outbound_makes eager names peer role log n so_far → (left : Option ℕ) (stream : Streaming H)
+      → Stands step stream (with_sent role (items (did acts ++ log)) n so_far left)
+      → IsThere step fails is_closed is_finished inbound_makes outbound_makes eager names peer role (did acts ++ log) n
+  there_by log n so_far acts all c left stream stands = record {
+    so_far = with_sent role (items (did acts ++ log)) n so_far left;
+    stream = stream;
+    come = come_on log (did acts ++ log) n so_far left (did_own log n acts all) c;
+    stands = stands;
+  }
+
   -- the stream gave what it has
   all_given : (log : List (Entry H)) (n : ℕ) (so_far : Past H) (out : Bool) (acts : List Act) → AllOn n acts
       → HasCome step fails is_closed is_finished inbound_makes outbound_makes eager names peer role log n so_far → inbound role (items log) n ≡ so_far.got
       → (out ≡ true → was_done role log n ≡ true) → is_over role log n ≡ was_done role log n
       → StreamGaveAll step is_closed is_finished out role (items (did acts ++ log)) n so_far
       → GaveAll step fails is_closed is_finished inbound_makes outbound_makes eager names peer role (did acts ++ log) n
+  unfolding there_by
   all_given log n so_far out acts all c came told same_over gave = record {
-    there = record {
-      so_far = with_sent role (items (did acts ++ log)) n so_far gave.left;
-      stream = gave.stream;
-      come = come_on log (did acts ++ log) n so_far gave.left (did_own log n acts all) c;
-      stands = gave.stands;
-    };
+    there = there_by log n so_far acts all c gave.left gave.stream gave.stands;
     all_came = (did_own log n acts all).came_is ∙ came;
     none_waits = gave.none_waits;
     asked = gave.asked;
@@ -247,7 +255,7 @@ module _ {P H : Type 0} (step : H → HandlerCall → H → Type 0) (fails : H �
       → (out ≡ true → was_done role log n ≡ true) → is_over role log n ≡ was_done role log n
       → ActIsDue step is_closed is_finished out role (items (did acts ++ log)) n so_far act
       → IsDue step fails is_closed is_finished inbound_makes outbound_makes eager names peer role (did acts ++ log) (Of (Did act))
-  unfolding all_given
+  unfolding all_given there_by
   entry_due log n so_far out acts (Write k pieces) all on c came told same_over due =
       let own = own_trans role log (did acts ++ log) _ n (did_own log n acts all) (own_by acts_do role (did acts ++ log) n (Write k pieces) on) in
       let there : IsThere step fails is_closed is_finished inbound_makes outbound_makes eager names peer role (Of (Did (Write k pieces)) ∷ did acts ++ log) n = record {
@@ -260,13 +268,17 @@ module _ {P H : Type 0} (step : H → HandlerCall → H → Type 0) (fails : H �
       × (inbound role (items (did acts ++ log)) m ≡ it.so_far.got)) (sym on) (there, (did_own log n acts all).came_is ∙ came)
   entry_due log n so_far out acts (Taken k count) all on c came told same_over due =
       subst (λ m. (count ≡ untaken role (items (did acts ++ log)) m)
-      × ((closed role (items (did acts ++ log)) m ≡ true) ⊎ ((0 < credit role (items (did acts ++ log)) m)
+      × (((closed role (items (did acts ++ log)) m ≡ true)
+      × ((it : IsThere step fails is_closed is_finished inbound_makes outbound_makes eager names peer role (did acts ++ log) m) × (inbound role (items (did acts ++ log)) m ≡ it.so_far.got)))
+      ⊎ ((0 < credit role (items (did acts ++ log)) m)
       × GaveAll step fails is_closed is_finished inbound_makes outbound_makes eager names peer role (did acts ++ log) m))) (sym on) (due.1, by_gave due.2) where
-        by_gave : (closed role (items (did acts ++ log)) n ≡ true)
+        by_gave : ((closed role (items (did acts ++ log)) n ≡ true) × StreamHasSent step is_closed is_finished out role (items (did acts ++ log)) n so_far)
             ⊎ ((0 < credit role (items (did acts ++ log)) n) × StreamGaveAll step is_closed is_finished out role (items (did acts ++ log)) n so_far)
-            → (closed role (items (did acts ++ log)) n ≡ true) ⊎ ((0 < credit role (items (did acts ++ log)) n)
+            → ((closed role (items (did acts ++ log)) n ≡ true)
+            × ((it : IsThere step fails is_closed is_finished inbound_makes outbound_makes eager names peer role (did acts ++ log) n) × (inbound role (items (did acts ++ log)) n ≡ it.so_far.got)))
+            ⊎ ((0 < credit role (items (did acts ++ log)) n)
             × GaveAll step fails is_closed is_finished inbound_makes outbound_makes eager names peer role (did acts ++ log) n)
-        by_gave (inl shut) = inl shut
+        by_gave (inl shut) = inl (shut.0, (there_by log n so_far acts all c shut.1.left shut.1.stream shut.1.stands, (did_own log n acts all).came_is ∙ came))
         by_gave (inr gave) = inr (gave.0, all_given log n so_far out acts all c came told same_over gave.1)
   entry_due log n so_far out acts (Close k) all on c came told same_over due =
       let given : HasGiven step fails is_closed is_finished inbound_makes outbound_makes eager names peer role (did acts ++ log) n = record {

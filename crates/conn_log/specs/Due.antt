@@ -116,10 +116,10 @@ module _ {P H : Type 0} (step : H → HandlerCall → H → Type 0) (fails : H �
 
   -- It may be asked for that in its turn: what came, and its end, is told to a handler that serves the stream, wasn't
   -- told of the end before, and isn't finished: one that is finished was handed out, unless its talk has just agreed.
-  -- One that isn't closed is asked to give.
+  -- It is handed some bytes, unless the talk took all of them. One that isn't closed is asked to give.
   abbrev pub IsInTurn : List (Entry H) → ℕ → Stage H → (ended : Bool) → H → Asked → Type 0
   IsInTurn log n stage ended handler (ToTake bytes) = (stage ≡ Serving handler) × (ended ≡ false)
-      × ((is_finished handler ≡ false) ⊎ HasJustAgreed n log)
+      × (((is_finished handler ≡ false) × (bytes ≢ [])) ⊎ HasJustAgreed n log)
   IsInTurn log n stage ended handler ToEnd = (stage ≡ Serving handler) × (ended ≡ false) × (is_finished handler ≡ false)
   IsInTurn log n stage ended handler (ToGive room) = is_closed handler ≡ false
 
@@ -200,9 +200,12 @@ module _ {P H : Type 0} (step : H → HandlerCall → H → Type 0) (fails : H �
   -- what is written is what the stream gave by all data that came
   IsDue log (Of (Did (Write n pieces))) = (there : IsThere (Of (Did (Write n pieces)) ∷ log) n)
       × (inbound role (items log) n ≡ there.so_far.got)
-  -- all that came is taken, where this direction is closed, or credit is left by a stream that gave what it has
+  -- all that came is taken, once the stream stands by it, where this direction is closed, or credit is left by a stream
+  -- that gave what it has
   IsDue log (Of (Did (Taken n count))) = (count ≡ untaken role (items log) n)
-      × ((closed role (items log) n ≡ true) ⊎ ((0 < credit role (items log) n) × GaveAll log n))
+      × (((closed role (items log) n ≡ true)
+      × ((there : IsThere log n) × (inbound role (items log) n ≡ there.so_far.got)))
+      ⊎ ((0 < credit role (items log) n) × GaveAll log n))
   IsDue log (Of (Did (Close n))) = HasGiven log n
   IsDue log (Of (Did (Reset n))) = IsGivenUp n log
   IsDue log (Of (Did (Act.GoAway code))) = ⊥

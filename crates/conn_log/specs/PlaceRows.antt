@@ -1,7 +1,7 @@
 -- Worked rows of which entries may stand where (multistream-select 1.0, "Protocol Negotiation"; hashicorp yamux, "Flag
 -- Field"; what a connection tells is this project's profile): of a client's connection whose protocols are called x and
 -- y, and on which the other end has opened stream 2. Lists have the newest first.
-use Rattle.std.specs.Prelude.{◌≡◌, ℕ, true, false, List, [], ◌∷◌, ◌++◌}
+use Rattle.std.specs.Prelude.{◌≡◌, ◌↔◌, ℕ, true, false, List, [], ◌∷◌, ◌++◌}
 use Rattle.peer_ids.specs.Key.{Key}
 use Rattle.ms_select.specs.declared.fault.SelectFault.TheVariants.{NotProposed, OutOfMemory}
 use Rattle.ms_select.specs.Rows.{x, y}
@@ -20,7 +20,7 @@ use Rattle.conn_log.specs.Entries.Entry.{Of, Says, Asks}
 use Rattle.conn_log.specs.EntryRows.{frame, opened, agrees, refuses, done, breaks}
 use Rattle.conn_log.specs.AskedRows.{is_1}
 use Rattle.conn_log.specs.DueRows.{inbound, outbound}
-use Rattle.conn_log.specs.Due.{HasHeard, IsDue, AllDue}
+use Rattle.conn_log.specs.Due.{IsThere, HasHeard, IsDue, AllDue}
 
 abbrev pub is_due : List (Entry ℕ) → Entry ℕ → Type 0
 is_due = IsDue (λ before call now. ⊥) (λ handler request number. ⊥) (λ handler. false) (λ handler. false)
@@ -33,6 +33,11 @@ all_due = AllDue (λ before call now. ⊥) (λ handler request number. ⊥) (λ 
 -- stream 2 stood by all that came when it was reset
 abbrev pub has_heard : List (Entry ℕ) → Type 0
 has_heard log = HasHeard (λ before call now. ⊥) (λ handler request number. ⊥) (λ handler. false) (λ handler. false)
+    inbound outbound is_1 (x ∷ y ∷ []) (9 ∷ []) Client log 2
+
+-- it stands there
+abbrev pub is_there : List (Entry ℕ) → Type 0
+is_there log = IsThere (λ before call now. ⊥) (λ handler request number. ⊥) (λ handler. false) (λ handler. false)
     inbound outbound is_1 (x ∷ y ∷ []) (9 ∷ []) Client log 2
 
 -- the other end has reset it, and has sent one byte on it
@@ -78,7 +83,9 @@ pub record LastPlaceRows : Type 0 where
 pub record ActPlaceRows : Type 0 where
   pub starts : ¬ is_due [] (Of (Did (Start 1)))
   pub goes_away : ¬ is_due [] (Of (Did (Act.GoAway 0)))
+  -- where it is closed, by all that came
   pub takes_all : is_due (Of (Did (Close 2)) ∷ has_come) (Of (Did (Taken 2 1)))
+      ↔ ((there : is_there (Of (Did (Close 2)) ∷ has_come)) × (there.so_far.got ≡ 99 ∷ []))
   pub takes_more : ¬ is_due (Of (Did (Close 2)) ∷ has_come) (Of (Did (Taken 2 2)))
   pub takes_none : ¬ is_due (Of (Did (Close 2)) ∷ has_come) (Of (Did (Taken 2 0)))
   pub takes_given_up : ¬ is_due (refuses 2 ∷ has_come) (Of (Did (Taken 2 1)))

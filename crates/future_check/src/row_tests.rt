@@ -246,6 +246,24 @@ fn is_idle_once_up(
     Some(is_up && stays_idle)
 }
 
+/// Behind the event no poll asks for another by a waker that an earlier one has kept.
+fn wakes_no_more(alloc: Global, task: &MockTask) -> Option<bool> {
+    let link = Quiet::new(true, UPGRADE.to_vec(alloc).ok()?);
+    let mut conn = connect(alloc, ConnRole::Listener, link)?;
+    let mut gave = Gave::new(alloc);
+    for _ in 0..20u32 {
+        if poll_once(task, &mut conn, &mut gave)? == Poll::Ready(Some(Said::Upgraded)) {
+            break;
+        }
+    }
+    for _ in 0..3u32 {
+        if !poll_once(task, &mut conn, &mut gave)?.is_pending() || task.is_woken() {
+            return Some(false);
+        }
+    }
+    Some(true)
+}
+
 fn waits_once_up(alloc: Global, task: &MockTask, takes: bool) -> Option<bool> {
     let link = Quiet::new(takes, UPGRADE.to_vec(alloc).ok()?);
     let mut conn = connect(alloc, ConnRole::Listener, link)?;
@@ -276,6 +294,8 @@ fn a_link_that_waits(rt: HostRuntime) -> Result<(), Fail> {
         let bounded = waits_bounded(rt.alloc(), &task, takes) == Some(true);
         assert!(rt; bounded, "a bounded one, whose link takes bytes: {takes}");
     }
+    let held = wakes_no_more(rt.alloc(), &task) == Some(true);
+    assert!(rt; held, "behind the event");
     Ok(())
 }
 

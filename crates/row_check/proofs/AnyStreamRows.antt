@@ -117,11 +117,11 @@ module _ {H : Type 0} (step : H → HandlerCall → H → Type 0) (fails : H →
       λ h. (h.0, record { stream = h.1.0; left = h.1.1; stands = h.1.2 }),
     );
     takes = λ role past n m count so_far. (
-      λ h. (h.0, h.1, or_on (λ t. t) (λ t. (t.0, (t.1.stream, t.1.left, t.1.stands, t.1.none_waits, t.1.asked, t.1.out_before, tt))) h.2),
+      λ h. (h.0, h.1, or_on (λ t. (t.0, (t.1.stream, t.1.left, t.1.stands))) (λ t. (t.0, (t.1.stream, t.1.left, t.1.stands, t.1.none_waits, t.1.asked, t.1.out_before, tt))) h.2),
       λ h. (
         h.0,
         h.1,
-        or_on (λ t. t) (λ t. (t.0, record { stream = t.1.0; left = t.1.1; stands = t.1.2; none_waits = t.1.3; asked = t.1.4; out_before = t.1.5 })) h.2,
+        or_on (λ t. (t.0, record { stream = t.1.0; left = t.1.1; stands = t.1.2 })) (λ t. (t.0, record { stream = t.1.0; left = t.1.1; stands = t.1.2; none_waits = t.1.3; asked = t.1.4; out_before = t.1.5 })) h.2,
       ),
     );
     closes = λ role past n m so_far. (

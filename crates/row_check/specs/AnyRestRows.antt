@@ -192,7 +192,7 @@ module _ {P H : Type 0} (step : H → HandlerCall → H → Type 0) (fails : H �
         × (is_talking there.stream.stage ≡ false → agreed role log n ≢ None)
     pub takes_in_turn : (log : List (Entry H)) (n : ℕ) (stage : Stage H) (ended : Bool) (handler : H) (bytes : List ℕ)
         → in_turn log n stage ended handler (ToTake bytes) ↔ ((stage ≡ stages.Serving handler) × (ended ≡ false)
-        × ((is_finished handler ≡ false) ⊎ HasJustAgreed n log))
+        × (((is_finished handler ≡ false) × (bytes ≢ [])) ⊎ HasJustAgreed n log))
     pub ends_in_turn : (log : List (Entry H)) (n : ℕ) (stage : Stage H) (ended : Bool) (handler : H)
         → in_turn log n stage ended handler ToEnd
         ↔ ((stage ≡ stages.Serving handler) × (ended ≡ false) × (is_finished handler ≡ false))
@@ -265,7 +265,9 @@ module _ {P H : Type 0} (step : H → HandlerCall → H → Type 0) (fails : H �
         ↔ ((there : is_there (Of (Did (Write n pieces)) ∷ log) n) × (inbound role (items log) n ≡ there.so_far.got))
     pub takes : (log : List (Entry H)) (n count : ℕ) → is_due log (Of (Did (Taken n count)))
         ↔ ((count ≡ untaken role (items log) n)
-        × ((closed role (items log) n ≡ true) ⊎ ((0 < credit role (items log) n) × gave_all log n)))
+        × (((closed role (items log) n ≡ true)
+        × ((there : is_there log n) × (inbound role (items log) n ≡ there.so_far.got)))
+        ⊎ ((0 < credit role (items log) n) × gave_all log n)))
     pub closes : (log : List (Entry H)) (n : ℕ) → is_due log (Of (Did (Close n))) ↔ has_given log n
     pub resets_refused : (log : List (Entry H)) (n m : ℕ)
         → is_due (Says (event.Refused m) ∷ log) (Of (Did (Reset n))) ↔ (m ≡ n)

@@ -19,7 +19,7 @@ use Rattle.streams.specs.declared.stage.Stage.{Stage}
 use Rattle.streams.specs.declared.stage.Stage.TheVariants as stages
 use Rattle.streams.specs.Streams.{Past, IsServed}
 use Rattle.streams.specs.State.{Streaming, Stands, StandsAt, is_open, has_closed, has_finished, was_handed_out}
-use Rattle.serving.specs.Served.{Goes, GaveAll, HasGiven, HandsOut, Serves, with_sent}
+use Rattle.serving.specs.Served.{Goes, GaveAll, HasGiven, HasSent, HandsOut, Serves, with_sent}
 use Rattle.serving.specs.Steps.{Sends, WasAsked, WasClosed, Closes, Counts}
 use Rattle.serving.proofs.Acts.{taken_keeps, none_left, has_written, is_closed_then, closing_writes_nothing, closing_keeps_credit, closing_takes_nothing}
 use Rattle.serving.proofs.Refusals.{open_with, not_open, not_used_up, some_left, nothing_left}
@@ -226,13 +226,14 @@ module _ {H : Type 0} (step : H → HandlerCall → H → Type 0) (is_closed is_
 
     -- what came may be taken
     may_take : (role : Role) (now : List Item) (n : ℕ) (so_far : Past H) → (0 < credit role now n) ⊎ (closed role now n ≡ true)
+        → HasSent step is_closed is_finished was_done role now n so_far
         → (closed role now n ≡ false → 0 < credit role now n → GaveAll step is_closed is_finished was_done role now n so_far)
-        → (closed role now n ≡ true) ⊎ ((0 < credit role now n) × GaveAll step is_closed is_finished was_done role now n so_far)
-    may_take role now n so_far (inr shut) gave = inl shut
-    may_take role now n so_far (inl some) gave = by_closed (closed role now n) refl where
+        → ((closed role now n ≡ true) × HasSent step is_closed is_finished was_done role now n so_far) ⊎ ((0 < credit role now n) × GaveAll step is_closed is_finished was_done role now n so_far)
+    may_take role now n so_far (inr shut) sent gave = inl (shut, sent)
+    may_take role now n so_far (inl some) sent gave = by_closed (closed role now n) refl where
       by_closed : (b : Bool) → closed role now n ≡ b
-          → (closed role now n ≡ true) ⊎ ((0 < credit role now n) × GaveAll step is_closed is_finished was_done role now n so_far)
-      by_closed true is = inl is
+          → ((closed role now n ≡ true) × HasSent step is_closed is_finished was_done role now n so_far) ⊎ ((0 < credit role now n) × GaveAll step is_closed is_finished was_done role now n so_far)
+      by_closed true is = inl (is, sent)
       by_closed false is = inr (some, gave is some)
 
     pub was_closed : (role : Role) (past : List Item) (fed sent : List ℕ) (n : ℕ) (so_far : Past H) (handler : Option H) (before session : State) (x : Streaming H)
@@ -357,8 +358,8 @@ module _ {H : Type 0} (step : H → HandlerCall → H → Type 0) (is_closed is_
               (
                 refl,
                 ap (λ (t : List Item). untaken role t n) a.goes.now_is,
-                subst (λ (t : List Item). (closed role t n ≡ true) ⊎ ((0 < credit role t n) × GaveAll step is_closed is_finished was_done role t n so_far)) a.goes.now_is
-                    (may_take role a.goes.now n so_far (some_left role a.goes.now n not_none live) (λ unclosed some.
+                subst (λ (t : List Item). ((closed role t n ≡ true) × HasSent step is_closed is_finished was_done role t n so_far) ⊎ ((0 < credit role t n) × GaveAll step is_closed is_finished was_done role t n so_far)) a.goes.now_is
+                    (may_take role a.goes.now n so_far (some_left role a.goes.now n not_none live) (record { stream = x; left = a.goes.left; stands = a.goes.stream_stands }) (λ unclosed some.
                     gave_all role a.goes.now n so_far a.goes.left handler x a.handed_out out_before (a.asked_still live unclosed) a.goes.stream_stands (a.none_waits live unclosed some) (a.asked live unclosed))),
               ),
               a.goes.due,

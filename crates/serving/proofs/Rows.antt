@@ -25,9 +25,16 @@ no_credit : (0 < credit Client all_written 1) ⊎ (closed Client all_written 1 �
 no_credit (inl some) = let none : credit Client all_written 1 ≡ 0 = refl in omega (arith, some, none)
 no_credit (inr shut) = let unclosed : closed Client all_written 1 ≡ false = refl in absurd (let e : true ≡ false = sym shut ∙ unclosed in cc e)
 
-by_credit : {A B C : Type 0} → A ⊎ (B × C) → B ⊎ A
-by_credit (inl shut) = inr shut
+by_credit : {A B C D : Type 0} → (A × D) ⊎ (B × C) → B ⊎ A
+by_credit (inl shut) = inr shut.0
 by_credit (inr some) = inl some.0
+
+stands_there : {A B C D : Type 0} → (B → ⊥) → (A × D) ⊎ (B × C) → D
+stands_there none (inl shut) = shut.1
+stands_there none (inr some) = absurd (none some.0)
+
+no_credit_closed : 0 < credit Client (Did (Close 1) ∷ all_written) 1 → ⊥
+no_credit_closed some = let none : credit Client (Did (Close 1) ∷ all_written) 1 ≡ 0 = refl in omega (arith, some, none)
 
 pub due_rows : (so_far : Past Bool) → DueRows so_far
 due_rows so_far = record {
@@ -35,7 +42,7 @@ due_rows so_far = record {
   part_taken = λ d. absurd (cc d.1);
   taken_of_another = λ d. absurd (cc d.0);
   without_credit = λ d. no_credit (by_credit d.2);
-  closed_without_credit = (refl, refl, inl refl);
+  closed_without_credit = (λ d. stands_there no_credit_closed d.2, λ sent. (refl, refl, inl (refl, sent)));
   closed_another = λ d. absurd (cc d.0);
   opened = λ d. d;
   reset = λ d. d;
@@ -257,8 +264,8 @@ take_rows = record {
   gives_nothing : GaveAll any_step itself itself false Server two_bytes 1 unsent → ⊥
   gives_nothing all = gives_more all.stream.stage all.stream.waiting all.left all.stands all.none_waits
 
-  by_gave : {B C : Type 0} → (C → ⊥) → (false ≡ true) ⊎ (B × C) → ⊥
-  by_gave not_given (inl shut) = absurd (cc shut)
+  by_gave : {A B C : Type 0} → (C → ⊥) → ((false ≡ true) × A) ⊎ (B × C) → ⊥
+  by_gave not_given (inl shut) = absurd (cc shut.0)
   by_gave not_given (inr gave) = not_given gave.1
 
 pub hand_rows : (so_far : Past Bool) → HandRows so_far

@@ -1,6 +1,6 @@
 -- Worked rows of serving a stream (hashicorp yamux, and this project's profile): of the stream 1 of an end, whose
 -- handler is closed, and finished, where it is `true`.
-use Rattle.std.specs.Prelude.{◌≡◌, ℕ, Bool, true, false, List, [], ◌∷◌, Option, Some, None}
+use Rattle.std.specs.Prelude.{◌≡◌, ◌↔◌, ℕ, Bool, true, false, List, [], ◌∷◌, Option, Some, None}
 use Rattle.ms_select.specs.Rows.{header_bytes, y_bytes}
 use Rattle.handlers.specs.Calls.{HandlerCall, Take, Asked, ToGive}
 use Rattle.yamux_session.specs.declared.event.Role.{Role}
@@ -16,7 +16,7 @@ use Rattle.streams.specs.declared.stop.Stop.TheVariants.{Broken, OutOfMemory}
 use Rattle.streams.specs.Streams.{Past}
 use Rattle.streams.specs.State.{Streaming}
 use Rattle.streams.specs.Rows.{came, served_past}
-use Rattle.serving.specs.Served.{IsDue, IsSettled, HandsOut, GivesUp, MayGrow}
+use Rattle.serving.specs.Served.{IsDue, HasSent, IsSettled, HandsOut, GivesUp, MayGrow}
 
 abbrev pub itself : Bool → Bool
 itself b = b
@@ -33,7 +33,9 @@ pub record DueRows (so_far : Past Bool) : Type 0 where
   pub part_taken : ¬ Due so_far Server two_bytes (Taken 1 1)
   pub taken_of_another : ¬ Due so_far Server two_bytes (Taken 3 0)
   pub without_credit : ¬ Due so_far Client all_written (Taken 1 0)
+  -- where this direction is closed no credit is needed, but the stream stands by what came
   pub closed_without_credit : Due so_far Client (Did (Close 1) ∷ all_written) (Taken 1 0)
+      ↔ HasSent any_step itself itself false Client (Did (Close 1) ∷ all_written) 1 so_far
   pub closed_another : ¬ Due so_far Server two_bytes (Close 3)
   pub opened : ¬ Due so_far Server two_bytes (Start 1)
   pub reset : ¬ Due so_far Server two_bytes (Reset 1)

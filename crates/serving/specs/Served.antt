@@ -61,13 +61,14 @@ module _ {H : Type 0} (step : H → HandlerCall → H → Type 0) (is_closed is_
     pub left : Option ℕ
     pub stands : Stands step stream (with_sent role past n so_far left)
 
-  -- Why an act is due that serves the stream: all that came is taken, where this direction is closed, or credit is left
-  -- by a stream that gave what it has; this direction is closed where the stream gives no more; and what it gives is
-  -- written.
+  -- Why an act is due that serves the stream: all that came is taken, once the stream stands by it, where this
+  -- direction is closed, or credit is left by a stream that gave what it has; this direction is closed where the stream
+  -- gives no more; and what it gives is written.
   abbrev pub IsDue : Role → List Item → ℕ → Past H → Act → Type 0
   IsDue role past n so_far (Write m pieces) = (m ≡ n) × HasSent role (Did (Write m pieces) ∷ past) n so_far
   IsDue role past n so_far (Taken m count) = (m ≡ n) × (count ≡ untaken role past n)
-      × ((closed role past n ≡ true) ⊎ ((0 < credit role past n) × GaveAll role past n so_far))
+      × (((closed role past n ≡ true) × HasSent role past n so_far)
+      ⊎ ((0 < credit role past n) × GaveAll role past n so_far))
   IsDue role past n so_far (Close m) = (m ≡ n) × HasGiven role past n so_far
   IsDue role past n so_far (Start m) = ⊥
   IsDue role past n so_far (Reset m) = ⊥

@@ -57,7 +57,7 @@ returns-clause-routes g c = λ log fed sent view rest r some_data no_data.
     let now = delivered_to H.steps H.fails H.is_closed H.is_finished makes.makes_inbound makes.makes_outbound (makes.is_eager board.protocols) (makes.listed board.protocols) board.peer board.role
     c.acts_tell.ensures.seen c.acts_tell.ensures.windows fed sent c.args.session.now c.deliver.new.session old _ board.past.items n (with_bytes c.args.bytes.now view) rest c.deliver.new.stream
     moving.over_by_end (no_data_behind n (with_bytes c.args.bytes.now view) rest around.opens_none no_data) (elsewhere old _ n (Some c.deliver.new.stream) updates.0) (here old _ n (Some c.deliver.new.stream) updates.0)
-    makes.leads_inbound makes.leads_outbound board.protocols c.deliver.new.protocols log c.args.bytes.now c.in-Some.stream.now view.came around refl going moving.held moving.unfinished c.in_ok-delivered.delivered delivers in
+    makes.leads_inbound makes.leads_outbound board.protocols c.deliver.new.protocols log c.args.bytes.now c.in-Some.stream.now view.came around refl going moving.held moving.unfinished some_data c.in_ok-delivered.delivered delivers in
     let table = tree.get nat_cmp (c.get_mut.follows.lender c.deliver.new.stream) in
     on_ok c.settle.result
     (λ routed. routed_behind H.steps H.fails H.is_closed H.is_finished makes.makes_inbound makes.makes_outbound (makes.is_eager board.protocols) (makes.listed board.protocols) board.peer board.role log
