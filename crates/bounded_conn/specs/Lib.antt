@@ -1,1 +1,4 @@
+-- cited by public clauses
 pub mod Bounds
+-- cited by laws
+pub mod KeptRows

@@ -34,13 +34,13 @@ pub const MOST_WAITING: usize = 4_194_304;
 pub struct BoundedConn<L: Link, P: Protocols> {
     /// None, where it was dropped.
     conn: Option<Conn<L, P>>,
-    ghost bounded: { waiting_of (λ conn. length conn.unsent) conn ≤ 4194304 },
+    ghost bounded: { waiting_of (λ conn. length conn.unsent.items) conn ≤ 4194304 },
 }
 
 impl<L: Link, P: Protocols> BoundedConn<L, P> {
     /// The connection, unless too much of its output waits.
     pub fn new(conn: Conn<L, P>) -> BoundedConn<L, P>
-        ensures { Leaves (λ conn. length conn.unsent) conn result.conn }
+        ensures { Leaves (λ conn. length conn.unsent.items) conn result.conn }
     {
         let is_within = conn.waiting() <= MOST_WAITING;
         BoundedConn {
@@ -57,7 +57,7 @@ impl<L: Link, P: Protocols> BoundedConn<L, P> {
 
     /// How many bytes of its output wait.
     pub fn waiting(&self) -> usize
-        ensures waiting { result ≡ waiting_of (λ conn. length conn.unsent) self.now.conn }
+        ensures waiting { result ≡ waiting_of (λ conn. length conn.unsent.items) self.now.conn }
         ensures bounded { result ≤ 4194304 }
     {
         match &self.conn {
@@ -68,7 +68,7 @@ impl<L: Link, P: Protocols> BoundedConn<L, P> {
 
     /// Opens a stream for the protocol of this index, as [`Conn::ask`] does; Failed, where it was or is dropped.
     pub fn ask(&mut self, index: usize) -> Result<u32, ConnRefused>
-        ensures asks { Bounds (λ conn. length conn.unsent) (λ before answer after.
+        ensures asks { Bounds (λ conn. length conn.unsent.items) (λ before answer after.
             OnErr answer (Carries L.Link P.Protocols P.H.Handler before [] after)
             × ((start : P) (role : ConnRole) (own : Key) (first : L) (asked : List (ℕ × ℕ))
             (gave : List (ConnEvent P.H))
@@ -107,12 +107,12 @@ impl<L: Link, P: Protocols> BoundedConn<L, P> {
 
     /// Shuts it, as [`Conn::shut`] does.
     pub fn shut(&mut self)
-        ensures waiting { waiting_of (λ conn. length conn.unsent) self.new.conn
-            ≡ waiting_of (λ conn. length conn.unsent) self.old.conn }
+        ensures waiting { waiting_of (λ conn. length conn.unsent.items) self.new.conn
+            ≡ waiting_of (λ conn. length conn.unsent.items) self.old.conn }
         ensures dropped { is_none self.new.conn ≡ is_none self.old.conn }
         ensures shuts { IfSome self.old.conn (λ before. IfSome self.new.conn (λ after.
             (after.stage ≡ shut_stage before.stage) × (after.link ≡ before.link) × (after.core ≡ before.core)
-            × (after.unsent ≡ before.unsent) × (after.held ≡ before.held))) }
+            × (after.unsent.items ≡ before.unsent.items) × (after.held ≡ before.held))) }
     {
         if let Some(conn) = &mut self.conn {
             conn.shut();
@@ -122,9 +122,9 @@ impl<L: Link, P: Protocols> BoundedConn<L, P> {
     /// Its next event, as [`Conn`] gives it; None, where it was or is dropped.
     pub fn poll_next(&mut self, cx: &mut Context<'_>) -> Poll<Option<ConnEvent<P::H>>>
         ensures kept { Keeps cx.old cx.new }
-        ensures polls { Bounds (λ conn. length conn.unsent) (λ before answer after.
+        ensures polls { Bounds (λ conn. length conn.unsent.items) (λ before answer after.
             Carries L.Link P.Protocols P.H.Handler before (given_by answer) after
-            × Polls L.calls (length before.unsent) (is_live after.stage) before.link cx.old after.link cx.new)
+            × Polls L.calls (length before.unsent.items) (is_live after.stage) before.link cx.old after.link cx.new)
             (Ready None) self.old.conn result self.new.conn }
         ensures calm { self.old.conn ≡ None → cx.new ≡ cx.old }
         // Where it stands, the connection's own clauses hold of it.
@@ -167,12 +167,12 @@ impl<L: Link, P: Protocols> BoundedConn<L, P> {
         ensures unshut { IfStands (λ before after. before.stage ≢ Stage.Shutting → L.is_shut after.link
             → L.is_shut before.link) self.old.conn self.new.conn }
         ensures shutting { IfStands (λ before after. before.stage ≡ Stage.Shutting
-            → (rest : List ℕ) × Drains L.Link before.link before.unsent after.link rest)
+            → (rest : List ℕ) × Drains L.Link before.link before.unsent.items after.link rest)
             self.old.conn self.new.conn }
         ensures none_held { IfStands (λ before after. OnPending result
             ((after.held.items ≡ []) × (after.stage ≡ before.stage))) self.old.conn self.new.conn }
         ensures registered { IfStands (λ before after. OnPending result (Covers cx.new (WaitsAt
-            (L.reads_at after.link) (L.writes_at after.link) (L.shuts_at after.link) after.stage after.unsent)))
+            (L.reads_at after.link) (L.writes_at after.link) (L.shuts_at after.link) after.stage after.unsent.items)))
             self.old.conn self.new.conn }
         ensures dropped { self.new.conn ≡ None → result ≡ Ready None }
         ensures stays { self.old.conn ≡ None → self.new.conn ≡ None }

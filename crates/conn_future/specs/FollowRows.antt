@@ -123,8 +123,7 @@ module _ {P H : Type 0} (protocols : ProtocolsGhosts P H) (handler : HandlerGhos
         ⊎ ((before : List (ConnEvent H)) × (held ≡ []) × (gave ≡ before ++ event.Shut ∷ [])
         × (now.is_shut ≡ true) × joins first asked before false now core [] [])))
 
-  -- What it keeps from one poll to the next: this and nothing else, so no bytes that were heard, and no way to ask for
-  -- a poll later.
+  -- what it keeps from one poll to the next: these fields, and nothing else
   pub record KeptRows : Type 0 where
     pub keeps : (conn : Conn Line P H lines protocols handler) → conn ≡ record {
       link = conn.link;

@@ -108,7 +108,8 @@ module _ {L P H : Type 0} (link : LinkGhosts L) (protocols : ProtocolsGhosts P H
   -- and given these events.
   abbrev pub Follows : (first : L) → List (ℕ × ℕ) → (gave : List (ConnEvent H))
       → Conn L P H link protocols handler → Type 0
-  Follows first asked gave conn = Stays first asked gave conn.link conn.core conn.unsent conn.held.items conn.stage
+  Follows first asked gave conn =
+      Stays first asked gave conn.link conn.core conn.unsent.items conn.held.items conn.stage
 
 -- Wherever the first one stood, the second one stands with these events given behind the others.
 abbrev pub Carries : {L P H : Type 0} (link : LinkGhosts L) (protocols : ProtocolsGhosts P H)
@@ -149,4 +150,4 @@ UpOverLink {L} {P} {H} link protocols handler =
     → (given : List ℕ) × (took : List ℕ) × (log : List (Entry H)) × link.moves first given took conn.link
     × IsSplit handler.steps handler.fails handler.is_closed handler.is_finished protocols.makes_inbound
     protocols.makes_outbound protocols.listed protocols.is_eager protocols.leads_inbound protocols.leads_outbound
-    start role own given ((gave ++ conn.held.items) ++ conn.core.owed.items) (took ++ conn.unsent) log
+    start role own given ((gave ++ conn.held.items) ++ conn.core.owed.items) (took ++ conn.unsent.items) log

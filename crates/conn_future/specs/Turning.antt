@@ -129,5 +129,5 @@ module _ {L P H : Type 0} (link : LinkGhosts L) (protocols : ProtocolsGhosts P H
   -- What the link goes through behind shut. Where another turn follows, the rest is what is left then.
   abbrev pub DrainsBy : (old : Conn L P H link protocols handler) → Turn H → (new : Conn L P H link protocols handler)
       → Type 0
-  DrainsBy old result new = (rest : List ℕ) × Drains link old.link old.unsent new.link rest
-      × OnAgain result (rest ≡ new.unsent)
+  DrainsBy old result new = (rest : List ℕ) × Drains link old.link old.unsent.items new.link rest
+      × OnAgain result (rest ≡ new.unsent.items)

@@ -18,7 +18,7 @@ ghost use Rattle.conn_future.specs.Follows.{Carries, Follows, given_by};
 use crate::conn::Conn;
 use crate::stage::Stage;
 use crate::turns::{Turn, Waits, buffer};
-use crate::unsent::Unsent;
+use bytes::BytesMut;
 use conn_core::ConnCore;
 use conn_link::Link;
 use conn_log::{ConnEvent, ConnFault, ConnRefused};
@@ -44,7 +44,7 @@ impl<L: Link, P: Protocols> Conn<L, P> {
         ensures memory { OnErr result (result ≡ Err ConnRefused.OutOfMemory) }
     {
         let mut core = core;
-        let unsent = Unsent::new(core.take_output());
+        let unsent = BytesMut::from_vec(core.take_output());
         match buffer(alloc) {
             Ok(buffer) => Ok(Conn {
                 link,
@@ -69,7 +69,7 @@ impl<L: Link, P: Protocols> Conn<L, P> {
     /// How many bytes of the output the link hasn't taken yet. Where it makes no link call more, none: what was left
     /// was dropped.
     pub fn waiting(&self) -> usize
-        ensures waiting { result ≡ length self.now.unsent }
+        ensures waiting { result ≡ length self.now.unsent.items }
         ensures dropped { is_live self.now.stage ≡ false → result ≡ 0 }
     {
         self.unsent.len()
@@ -123,7 +123,7 @@ impl<L: Link, P: Protocols> Conn<L, P> {
         ensures stage { self.new.stage ≡ shut_stage self.old.stage }
         ensures link { self.new.link ≡ self.old.link }
         ensures core { self.new.core ≡ self.old.core }
-        ensures unsent { self.new.unsent ≡ self.old.unsent }
+        ensures unsent { self.new.unsent.items ≡ self.old.unsent.items }
         ensures held { self.new.held ≡ self.old.held }
     {
         if let Stage::Going = self.stage {
@@ -136,7 +136,7 @@ impl<L: Link, P: Protocols> Stream for Conn<L, P> {
     type Item = ConnEvent<P::H>;
 
     ghost needs = { λ conn source. WaitsAt (L.reads_at conn.link) (L.writes_at conn.link) (L.shuts_at conn.link)
-        conn.stage conn.unsent source };
+        conn.stage conn.unsent.items source };
 
     /// The next event, in the order of the core; None, where no more comes. It makes at most 32 calls of the link, and
     /// then asks for another poll.
@@ -179,14 +179,14 @@ impl<L: Link, P: Protocols> Stream for Conn<L, P> {
         // The link is told to shut only behind shut, once it took all output.
         ensures unshut { self.old.stage ≢ Stage.Shutting → L.is_shut self.new.link → L.is_shut self.old.link }
         ensures shutting { self.old.stage ≡ Stage.Shutting
-            → (rest : List ℕ) × Drains L.Link self.old.link self.old.unsent self.new.link rest }
+            → (rest : List ℕ) × Drains L.Link self.old.link self.old.unsent.items self.new.link rest }
         ensures none_held { OnPending result ((self.new.held.items ≡ []) × (self.new.stage ≡ self.old.stage)) }
         ensures registered { OnPending result (Covers cx.new (WaitsAt (L.reads_at self.new.link)
-            (L.writes_at self.new.link) (L.shuts_at self.new.link) self.new.stage self.new.unsent)) }
+            (L.writes_at self.new.link) (L.shuts_at self.new.link) self.new.stage self.new.unsent.items)) }
         // It makes at most 32 calls of the link, none that could move nothing and none behind one of its kind that was
         // pending; what waits is written before a read; behind shutting that was answered it ends; and it asks for
         // another poll only where a call does, or behind 32.
-        ensures polls { Polls L.calls (length self.old.unsent) (is_live self.new.stage) self.old.link cx.old
+        ensures polls { Polls L.calls (length self.old.unsent.items) (is_live self.new.stage) self.old.link cx.old
             self.new.link cx.new }
         ensures kept { Keeps cx.old cx.new }
     {

@@ -4,7 +4,7 @@ ghost use Rattle.std.specs.Prelude.{◌≡◌, ◌-◌, ◌<◌, ◌^◌, true, 
 ghost use Rattle.conn_future.specs.Stages.{is_live};
 
 use crate::stage::Stage;
-use crate::unsent::Unsent;
+use bytes::BytesMut;
 use conn_core::ConnCore;
 use conn_link::Link;
 use conn_log::ConnEvent;
@@ -18,7 +18,7 @@ pub struct Conn<L: Link, P: Protocols> {
     pub(crate) link: L,
     pub(crate) core: ConnCore<P>,
     /// The output of the core that the link hasn't taken yet.
-    pub(crate) unsent: Unsent,
+    pub(crate) unsent: BytesMut,
     /// The events of the core that were not given yet, in order.
     pub(crate) held: VecDeque<ConnEvent<P::H>>,
     pub(crate) stage: Stage,
@@ -30,5 +30,5 @@ pub struct Conn<L: Link, P: Protocols> {
     // A read always has room, so that none but the end moves nothing.
     ghost has_room: { 0 < length buffer.items },
     // Where it makes no call more, the output that was left is dropped.
-    ghost none_left: { is_live stage ≡ false → unsent ≡ [] },
+    ghost none_left: { is_live stage ≡ false → unsent.items ≡ [] },
 }

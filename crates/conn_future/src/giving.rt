@@ -12,7 +12,7 @@ ghost use Rattle.conn_future.specs.Follows.{Carries, Follows, given_by};
 
 use crate::conn::Conn;
 use crate::stage::Stage;
-use crate::unsent::Unsent;
+use bytes::BytesMut;
 use conn_link::Link;
 use conn_log::{ConnEvent, ConnFault};
 use handlers::{Handler, Protocols};
@@ -56,12 +56,12 @@ impl<L: Link, P: Protocols> Conn<L, P> {
     pub(crate) fn stop(&mut self, stage: Stage)
         requires { is_live stage ≡ false }
         ensures stage { self.new.stage ≡ stage }
-        ensures unsent { self.new.unsent ≡ [] }
+        ensures unsent { self.new.unsent.items ≡ [] }
         ensures link { self.new.link ≡ self.old.link }
         ensures core { self.new.core ≡ self.old.core }
         ensures held { self.new.held ≡ self.old.held }
     {
-        self.unsent = Unsent::none(self.alloc);
+        self.unsent = BytesMut::new(self.alloc);
         self.stage = stage;
     }
 }

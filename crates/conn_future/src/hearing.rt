@@ -13,13 +13,24 @@ ghost use Rattle.conn_future.specs.Turning.{OnGoing, OnWait, faults_of, Leads, E
 use crate::conn::Conn;
 use crate::stage::Stage;
 use crate::turns::{Turn, buffer};
-use bytes::Bytes;
+use bytes::{Bytes, BytesMut};
 use conn_link::Link;
 use conn_log::ConnEvent;
 use handlers::{Handler, Protocols};
 use std::alloc::AllocError;
 use std::collections::VecDeque;
 use std::mem;
+
+/// Puts more behind what waits. It asks for memory only where some bytes wait.
+fn put_behind(unsent: &mut BytesMut, more: Vec<u8>) -> Result<(), AllocError>
+    ensures { OnOk result (unsent.new.items ≡ unsent.old.items ++ more.items) }
+{
+    if unsent.is_empty() {
+        *unsent = BytesMut::from_vec(more);
+        return Ok(());
+    }
+    unsent.extend_from_slice(&more)
+}
 
 impl<L: Link, P: Protocols> Conn<L, P> {
     // Moves what the core has written behind what is left.
@@ -28,20 +39,21 @@ impl<L: Link, P: Protocols> Conn<L, P> {
         ensures stands { (start : P) (role : ConnRole) (own : Key)
             (input taken : List ℕ) (ended : Bool) (asked : List (ℕ × ℕ)) (told : List (ConnEvent P.H))
             → Stands P.H.steps P.H.fails P.H.is_closed P.H.is_finished P.makes_inbound P.makes_outbound P.listed
-            P.is_eager P.leads_inbound P.leads_outbound start role own input ended asked told (taken ++ self.old.unsent)
-            self.old.core
+            P.is_eager P.leads_inbound P.leads_outbound start role own input ended asked told
+            (taken ++ self.old.unsent.items) self.old.core
             → OnOk result (Stands P.H.steps P.H.fails P.H.is_closed P.H.is_finished P.makes_inbound P.makes_outbound
             P.listed P.is_eager P.leads_inbound P.leads_outbound start role own input ended asked told
-            (taken ++ self.new.unsent) self.new.core) }
+            (taken ++ self.new.unsent.items) self.new.core) }
         // What couldn't be put behind was taken from the core all the same.
         ensures lost { (start : P) (role : ConnRole) (own : Key)
             (input taken : List ℕ) (ended : Bool) (asked : List (ℕ × ℕ)) (told : List (ConnEvent P.H))
             → Stands P.H.steps P.H.fails P.H.is_closed P.H.is_finished P.makes_inbound P.makes_outbound P.listed
-            P.is_eager P.leads_inbound P.leads_outbound start role own input ended asked told (taken ++ self.old.unsent)
-            self.old.core
+            P.is_eager P.leads_inbound P.leads_outbound start role own input ended asked told
+            (taken ++ self.old.unsent.items) self.old.core
             → OnErr result (Stands P.H.steps P.H.fails P.H.is_closed P.H.is_finished P.makes_inbound P.makes_outbound
             P.listed P.is_eager P.leads_inbound P.leads_outbound start role own input ended asked told
-            (taken ++ (self.old.unsent ++ waiting_in self.old.core.phase self.old.core.output.items)) self.new.core) }
+            (taken ++ (self.old.unsent.items ++ waiting_in self.old.core.phase self.old.core.output.items))
+            self.new.core) }
         ensures none_waits { waiting_in self.new.core.phase self.new.core.output.items ≡ [] }
         ensures over { is_over self.new.core.phase ≡ is_over self.old.core.phase }
         ensures link { self.new.link ≡ self.old.link }
@@ -49,7 +61,7 @@ impl<L: Link, P: Protocols> Conn<L, P> {
         ensures stage { self.new.stage ≡ self.old.stage }
     {
         let more = self.core.take_output();
-        self.unsent.append(more)
+        put_behind(&mut self.unsent, more)
     }
 
     // Memory was refused: it tells so behind the events that it holds.
@@ -75,7 +87,7 @@ impl<L: Link, P: Protocols> Conn<L, P> {
         ensures follows { (start : P) (role : ConnRole) (own : Key) (first : L)
             (asked : List (ℕ × ℕ)) (gave : List (ConnEvent P.H))
             (ended : Bool) → Joins L.Link P.Protocols P.H.Handler start role own first asked gave ended
-            self.old.link self.old.core self.old.unsent events.items
+            self.old.link self.old.core self.old.unsent.items events.items
             → (ended ≡ true → is_over self.old.core.phase ≡ true) → has_ended gave ≡ false
             → Leads L.Link P.Protocols P.H.Handler start role own first asked gave
             result self.new }
@@ -107,7 +119,7 @@ impl<L: Link, P: Protocols> Conn<L, P> {
         ensures follows { (start : P) (role : ConnRole) (own : Key) (first : L)
             (asked : List (ℕ × ℕ)) (gave : List (ConnEvent P.H)) (before : L)
             → GoesOn L.Link P.Protocols P.H.Handler start role own first asked gave before self.old.core
-            self.old.unsent []
+            self.old.unsent.items []
             → L.moves before (take count self.old.buffer.items) [] self.old.link
             → (L.has_ended self.old.link → L.has_ended before)
             → Leads L.Link P.Protocols P.H.Handler start role own first asked gave
@@ -140,7 +152,7 @@ impl<L: Link, P: Protocols> Conn<L, P> {
         ensures follows { (start : P) (role : ConnRole) (own : Key) (first : L)
             (asked : List (ℕ × ℕ)) (gave : List (ConnEvent P.H)) (before : L)
             → GoesOn L.Link P.Protocols P.H.Handler start role own first asked gave before self.old.core
-            self.old.unsent [] → L.moves before [] [] self.old.link → L.has_ended self.old.link
+            self.old.unsent.items [] → L.moves before [] [] self.old.link → L.has_ended self.old.link
             → Leads L.Link P.Protocols P.H.Handler start role own first asked gave
             result self.new }
         ensures goes_on { OnGoing result ((self.new.stage ≡ Stage.Going) × (self.new.held.items ≡ [])) }

@@ -9,7 +9,6 @@ mod hearing;
 pub mod laws;
 mod stage;
 mod turns;
-mod unsent;
 
 pub use conn::Conn;
 pub use stage::Stage;

@@ -10,7 +10,7 @@ ghost use Rattle.conn_future.specs.Turning.{Turns, EndsFor, ClosesBy, DrainsBy};
 
 use crate::conn::Conn;
 use crate::stage::Stage;
-use crate::unsent::Unsent;
+use bytes::BytesMut;
 use conn_link::Link;
 use conn_log::ConnEvent;
 use futures::task::{Context, Poll};
@@ -53,7 +53,7 @@ impl<L: Link, P: Protocols> Conn<L, P> {
         requires live { is_live self.old.stage ≡ true }
         requires none_held { self.old.held.items ≡ [] }
         requires can_wait { waits.old.writing ≡ false }
-        requires some { self.old.unsent ≢ [] }
+        requires some { self.old.unsent.items ≢ [] }
         ensures follows { Turns L.Link P.Protocols P.H.Handler self.old result self.new }
         ensures goes_on { OnGoing result ((self.new.stage ≡ self.old.stage) × (self.new.held.items ≡ [])) }
         ensures failures { L.failed self.new.link ≡ L.failed self.old.link + faults_of result }
@@ -69,8 +69,9 @@ impl<L: Link, P: Protocols> Conn<L, P> {
         ensures moved { (given : List ℕ) × (took : List ℕ) × L.moves self.old.link given took self.new.link }
         ensures came { is_live self.new.stage ≡ false → result ≡ Turn.Failed }
         ensures called { (waited : ℕ) (first : L) (before : Context) (count : ℕ)
-            → Makes L.calls waits.old waited (length self.old.unsent) first before self.old.link cx.old count
-            → Makes L.calls waits.new waited (length self.new.unsent) first before self.new.link cx.new (count + 1) }
+            → Makes L.calls waits.old waited (length self.old.unsent.items) first before self.old.link cx.old count
+            → Makes L.calls waits.new waited (length self.new.unsent.items) first before self.new.link cx.new
+            (count + 1) }
         ensures kept { Keeps cx.old cx.new }
     {
         match self.link.poll_write(cx, self.unsent.as_slice()) {
@@ -79,7 +80,7 @@ impl<L: Link, P: Protocols> Conn<L, P> {
                 Turn::Again
             }
             Poll::Ready(Err(_fault)) => {
-                self.unsent = Unsent::none(self.alloc);
+                self.unsent = BytesMut::new(self.alloc);
                 self.stage = Stage::Over;
                 Turn::Failed
             }
@@ -95,7 +96,7 @@ impl<L: Link, P: Protocols> Conn<L, P> {
         requires going { self.old.stage ≡ Stage.Going }
         requires none_held { self.old.held.items ≡ [] }
         requires can_wait { waits.old.reading ≡ false }
-        requires written { waits.old.writing ≡ false → self.old.unsent ≡ [] }
+        requires written { waits.old.writing ≡ false → self.old.unsent.items ≡ [] }
         ensures follows { Turns L.Link P.Protocols P.H.Handler self.old result self.new }
         ensures goes_on { OnGoing result ((self.new.stage ≡ self.old.stage) × (self.new.held.items ≡ [])) }
         ensures failures { L.failed self.new.link ≡ L.failed self.old.link + faults_of result }
@@ -109,15 +110,16 @@ impl<L: Link, P: Protocols> Conn<L, P> {
         ensures came { is_live self.new.stage ≡ false
             → (result ≡ Turn.Failed) ⊎ Came L.Link self.old.link self.new.link }
         ensures called { (waited : ℕ) (first : L) (before : Context) (count : ℕ)
-            → Makes L.calls waits.old waited (length self.old.unsent) first before self.old.link cx.old count
-            → Makes L.calls waits.new waited (length self.new.unsent) first before self.new.link cx.new (count + 1) }
+            → Makes L.calls waits.old waited (length self.old.unsent.items) first before self.old.link cx.old count
+            → Makes L.calls waits.new waited (length self.new.unsent.items) first before self.new.link cx.new
+            (count + 1) }
         ensures kept { Keeps cx.old cx.new }
     {
         match self.link.poll_read(cx, self.buffer.as_mut_slice()) {
             Poll::Ready(Ok(0)) => self.end(),
             Poll::Ready(Ok(count)) => self.hear(count),
             Poll::Ready(Err(_fault)) => {
-                self.unsent = Unsent::none(self.alloc);
+                self.unsent = BytesMut::new(self.alloc);
                 self.stage = Stage::Over;
                 Turn::Failed
             }
@@ -132,7 +134,7 @@ impl<L: Link, P: Protocols> Conn<L, P> {
     fn close(&mut self, cx: &mut Context<'_>) -> Turn<P::H>
         requires shutting { self.old.stage ≡ Stage.Shutting }
         requires none_held { self.old.held.items ≡ [] }
-        requires none_left { self.old.unsent ≡ [] }
+        requires none_left { self.old.unsent.items ≡ [] }
         ensures follows { Turns L.Link P.Protocols P.H.Handler self.old result self.new }
         ensures goes_on { OnGoing result ((self.new.stage ≡ self.old.stage) × (self.new.held.items ≡ [])) }
         ensures failures { L.failed self.new.link ≡ L.failed self.old.link + faults_of result }
@@ -140,22 +142,22 @@ impl<L: Link, P: Protocols> Conn<L, P> {
             → DrainsBy L.Link P.Protocols P.H.Handler self.old result self.new }
         ensures no_turn { OnAgain result ⊥ }
         ensures covers { OnWait result (Covers cx.new (WaitsAt (L.reads_at self.new.link) (L.writes_at self.new.link)
-            (L.shuts_at self.new.link) self.new.stage self.new.unsent)) }
+            (L.shuts_at self.new.link) self.new.stage self.new.unsent.items)) }
         ensures stage { is_live self.new.stage ≡ true → self.new.stage ≡ self.old.stage }
         ensures closes { self.old.stage ≡ Stage.Shutting → ClosesBy L.Link P.Protocols P.H.Handler result self.new }
         ensures called { (waited : ℕ) (first : L) (before : Context) (count : ℕ) (waits : Waits)
-            → Makes L.calls waits waited (length self.old.unsent) first before self.old.link cx.old count
+            → Makes L.calls waits waited (length self.old.unsent.items) first before self.old.link cx.old count
             → MadeTo L.calls waited (is_live self.new.stage) first before self.new.link cx.new (count + 1) }
         ensures kept { Keeps cx.old cx.new }
     {
         match self.link.poll_shut(cx) {
             Poll::Ready(Ok(())) => {
-                self.unsent = Unsent::none(self.alloc);
+                self.unsent = BytesMut::new(self.alloc);
                 self.stage = Stage::Over;
                 Turn::Give(Some(ConnEvent::Shut))
             }
             Poll::Ready(Err(_fault)) => {
-                self.unsent = Unsent::none(self.alloc);
+                self.unsent = BytesMut::new(self.alloc);
                 self.stage = Stage::Over;
                 Turn::Failed
             }
@@ -177,7 +179,7 @@ impl<L: Link, P: Protocols> Conn<L, P> {
             → OnAgain result (HasWaited waits.new cx.new (L.reads_at self.new.link) (L.writes_at self.new.link)) }
         ensures covers { HasWaited waits.old cx.old (L.reads_at self.old.link) (L.writes_at self.old.link)
             → OnWait result (Covers cx.new (WaitsAt (L.reads_at self.new.link) (L.writes_at self.new.link)
-            (L.shuts_at self.new.link) self.new.stage self.new.unsent)) }
+            (L.shuts_at self.new.link) self.new.stage self.new.unsent.items)) }
         ensures stage { is_live self.new.stage ≡ true → self.new.stage ≡ self.old.stage }
         ensures closes { self.old.stage ≡ Stage.Shutting → ClosesBy L.Link P.Protocols P.H.Handler result self.new }
         ensures why { self.old.stage ≡ Stage.Going → EndsFor L.Link P.Protocols P.H.Handler result self.new }
@@ -186,11 +188,11 @@ impl<L: Link, P: Protocols> Conn<L, P> {
         ensures came { self.old.stage ≡ Stage.Going → is_live self.new.stage ≡ false
             → (result ≡ Turn.Failed) ⊎ Came L.Link self.old.link self.new.link }
         ensures called { (waited : ℕ) (first : L) (before : Context) (count : ℕ)
-            → Makes L.calls waits.old waited (length self.old.unsent) first before self.old.link cx.old count
-            → OnAgain result (Makes L.calls waits.new waited (length self.new.unsent) first before self.new.link cx.new
-            (count + 1)) }
+            → Makes L.calls waits.old waited (length self.old.unsent.items) first before self.old.link cx.old count
+            → OnAgain result (Makes L.calls waits.new waited (length self.new.unsent.items) first before self.new.link
+            cx.new (count + 1)) }
         ensures calls { (waited : ℕ) (first : L) (before : Context) (count : ℕ)
-            → Makes L.calls waits.old waited (length self.old.unsent) first before self.old.link cx.old count
+            → Makes L.calls waits.old waited (length self.old.unsent.items) first before self.old.link cx.old count
             → MadeTo L.calls waited (is_live self.new.stage) first before self.new.link cx.new (count + 1) }
         ensures kept { Keeps cx.old cx.new }
     {

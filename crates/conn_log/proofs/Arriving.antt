@@ -1,5 +1,5 @@
 -- What arrives changes: the list grows by it, and of the streams only the one that is named moves.
-use Rattle.std.proofs.Common.{◌≡◌, ℕ, suc, ◌==◌, ◌||◌, ◌&&◌, not, Bool, true, false, cond, List, [], ◌∷◌, ◌++◌, map, refl, ap, ◌∙◌}
+use Rattle.std.proofs.Common.{◌≡◌, ℕ, suc, ◌==◌, ◌||◌, ◌&&◌, not, Bool, true, false, cond, List, [], ◌∷◌, ◌++◌, map, refl, sym, ap, ◌∙◌}
 use Rattle.std.specs.Prelude.{is_some}
 use Rattle.std.specs.List.{AllByRecursion}
 use Rattle.yamux_frames.specs.Frames.{Arrival}
@@ -16,7 +16,7 @@ use Rattle.yamux_session.specs.Seen.{Seen, hears, all_heard, just_opened, IsQuie
 use Rattle.yamux_session.specs.Endings.{opened_in, told_opened}
 use Rattle.conn_log.specs.Entries.{Entry, items, since, made_in, over_in, is_kept, left_behind, asked}
 use Rattle.conn_log.specs.Entries.Entry.{Of}
-use Rattle.conn_log.specs.Routes.{IsStill, IsNoOpening}
+use Rattle.conn_log.specs.Routes.{IsNoOpening, IsNoCredit, EndsLast}
 
 -- entries for what arrived
 abbrev pub arrived : {H : Type 0} → List Arrival → List (Entry H)
@@ -176,24 +176,66 @@ unopened n (Told.Credit k ∷ told) none = unopened n told none.1
 unopened n (Told.GoAway code ∷ told) none = unopened n told none.1
 unopened n (Told.Fault fault ∷ told) none = unopened n told none.1
 
-pub still_quiet : (n : ℕ) (told : List Told) → AllByRecursion IsStill told → AllByRecursion (IsQuiet n) told
-still_quiet n [] all = tt
-still_quiet n (Told.Accepted k ∷ told) all = (tt, still_quiet n told all.1)
-still_quiet n (Told.GoAway code ∷ told) all = (tt, still_quiet n told all.1)
-still_quiet n (Told.Opened k ∷ told) all = absurd all.0
-still_quiet n (Told.Payload k b ∷ told) all = absurd all.0
-still_quiet n (Told.Ended k ∷ told) all = absurd all.0
-still_quiet n (Told.Reset k ∷ told) all = absurd all.0
-still_quiet n (Told.Credit k ∷ told) all = absurd all.0
-still_quiet n (Told.Fault fault ∷ told) all = (tt, still_quiet n told all.1)
+-- behind its end nothing is told that brings it data or credit
+pub quiet_behind : (n : ℕ) (rest : List Told) → AllByRecursion (IsNoOpening n) rest → EndsLast true rest → AllByRecursion IsNoCredit rest → AllByRecursion (IsQuiet n) rest
+quiet_behind n [] none last without = tt
+quiet_behind n (Told.Opened m ∷ rest) none last without = (none.0, quiet_behind n rest none.1 last without.1)
+quiet_behind n (Told.Payload m b ∷ rest) none last without = absurd (cc last.0)
+quiet_behind n (Told.Ended m ∷ rest) none last without = absurd (cc last.0)
+quiet_behind n (Told.Reset m ∷ rest) none last without = (tt, quiet_behind n rest none.1 last without.1)
+quiet_behind n (Told.Accepted m ∷ rest) none last without = (tt, quiet_behind n rest none.1 last without.1)
+quiet_behind n (Told.Credit m ∷ rest) none last without = absurd without.0
+quiet_behind n (Told.GoAway code ∷ rest) none last without = (tt, quiet_behind n rest none.1 last without.1)
+quiet_behind n (Told.Fault fault ∷ rest) none last without = (tt, quiet_behind n rest none.1 last without.1)
 
-pub still_heard : (n : ℕ) (s : Seen) (told : List Told) → AllByRecursion IsStill told → all_heard n s told ≡ s
-still_heard n s [] all = refl
-still_heard n s (Told.Accepted k ∷ told) all = still_heard n s told all.1
-still_heard n s (Told.GoAway code ∷ told) all = still_heard n s told all.1
-still_heard n s (Told.Opened k ∷ told) all = absurd all.0
-still_heard n s (Told.Payload k b ∷ told) all = absurd all.0
-still_heard n s (Told.Ended k ∷ told) all = absurd all.0
-still_heard n s (Told.Reset k ∷ told) all = absurd all.0
-still_heard n s (Told.Credit k ∷ told) all = absurd all.0
-still_heard n s (Told.Fault fault ∷ told) all = still_heard n s told all.1
+-- what doesn't open it closes nothing, and brings it no life
+module _ (n : ℕ) where
+  closed_stays : (s : Seen) (t : Told) → IsNoOpening n t → (hears n s t).closed ≡ s.closed
+  closed_stays s (Told.Opened m) none = ap (λ b. (cond b just_opened s).closed) none
+  closed_stays s (Told.Payload m b) none = by_test (m == n) where
+    by_test : (it : Bool) → (cond it (record s { came = s.came ++ b ∷ [] }) s).closed ≡ s.closed
+    by_test true = refl
+    by_test false = refl
+  closed_stays s (Told.Ended m) none = by_test (m == n) where
+    by_test : (it : Bool) → (cond it (record s { ended = true; live = s.live && not s.closed }) s).closed ≡ s.closed
+    by_test true = refl
+    by_test false = refl
+  closed_stays s (Told.Reset m) none = by_test (m == n) where
+    by_test : (it : Bool) → (cond it (record s { live = false }) s).closed ≡ s.closed
+    by_test true = refl
+    by_test false = refl
+  closed_stays s (Told.Accepted m) none = refl
+  closed_stays s (Told.Credit m) none = refl
+  closed_stays s (Told.GoAway code) none = refl
+  closed_stays s (Told.Fault fault) none = refl
+
+  was_alive : (s : Seen) (t : Told) → IsNoOpening n t → (hears n s t).live ≡ true → s.live ≡ true
+  was_alive s (Told.Opened m) none live = sym (ap (λ b. (cond b just_opened s).live) none) ∙ live
+  was_alive s (Told.Payload m b) none live = by_test (m == n) live where
+    by_test : (it : Bool) → (cond it (record s { came = s.came ++ b ∷ [] }) s).live ≡ true → s.live ≡ true
+    by_test true e = e
+    by_test false e = e
+  was_alive s (Told.Ended m) none live = by_test (m == n) live where
+    both : (b c : Bool) → b && c ≡ true → b ≡ true
+    both true c e = refl
+    both false c e = e
+
+    by_test : (it : Bool) → (cond it (record s { ended = true; live = s.live && not s.closed }) s).live ≡ true → s.live ≡ true
+    by_test true e = both s.live (not s.closed) e
+    by_test false e = e
+  was_alive s (Told.Reset m) none live = by_test (m == n) live where
+    by_test : (it : Bool) → (cond it (record s { live = false }) s).live ≡ true → s.live ≡ true
+    by_test true e = absurd (cc e)
+    by_test false e = e
+  was_alive s (Told.Accepted m) none live = live
+  was_alive s (Told.Credit m) none live = live
+  was_alive s (Told.GoAway code) none live = live
+  was_alive s (Told.Fault fault) none live = live
+
+  pub all_closed_stays : (s : Seen) (told : List Told) → AllByRecursion (IsNoOpening n) told → (all_heard n s told).closed ≡ s.closed
+  all_closed_stays s [] none = refl
+  all_closed_stays s (t ∷ told) none = all_closed_stays (hears n s t) told none.1 ∙ closed_stays s t none.0
+
+  pub was_live_before : (s : Seen) (told : List Told) → AllByRecursion (IsNoOpening n) told → (all_heard n s told).live ≡ true → s.live ≡ true
+  was_live_before s [] none live = live
+  was_live_before s (t ∷ told) none live = was_alive s t none.0 (was_live_before (hears n s t) told none.1 live)

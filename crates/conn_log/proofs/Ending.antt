@@ -5,7 +5,7 @@ use Rattle.handlers.specs.Calls.{HandlerCall, Asked, ToEnd}
 use Rattle.handlers.specs.declared.handler.HandlerFault.{HandlerFault}
 use Rattle.talks.specs.Talks.{IsOpen}
 use Rattle.yamux_session.specs.declared.event.Role.{Role}
-use Rattle.yamux_session.specs.Openings.{finished}
+use Rattle.yamux_session.specs.Openings.{finished, is_live}
 use Rattle.yamux_session.specs.Data.{inbound}
 use Rattle.yamux_session.specs.Events.{Told, events}
 use Rattle.yamux_session.specs.Seen.{Seen, seen, hears, all_heard, AgreesOn, ActsDo, ActsMove}
@@ -14,7 +14,8 @@ use Rattle.streams.specs.declared.stop.Cause.TheVariants as causes
 use Rattle.streams.specs.declared.stage.Stage.{Stage}
 use Rattle.streams.specs.declared.stage.Stage.TheVariants as stages
 use Rattle.streams.specs.Streams.{Past}
-use Rattle.streams.specs.State.{Streaming, Stands, StandsAt, is_talking, has_finished, was_handed_out, kind_of}
+use Rattle.streams.specs.State.{Streaming, Stands, StandsAt, is_talking, is_open as asks_open, has_finished, was_handed_out, kind_of}
+use Rattle.serving.specs.Served.{IsSettled}
 use Rattle.streams.proofs.Hearing.{open_before}
 use Rattle.routing.specs.declared.delivered.Outcome.{Outcome}
 use Rattle.routing.specs.declared.delivered.Outcome.TheVariants as outcomes
@@ -86,6 +87,7 @@ module _ {P H : Type 0} (step : H → HandlerCall → H → Type 0) (fails : H �
       (past : List (Earlier H)) (n : ℕ) (view : Seen) (rest : List Told) (old new : Streaming H)
       (a : Around step fails is_closed is_finished inbound_makes outbound_makes eager names peer role log fed sent before streams past n (ended_view view) rest)
       (h : IsHeld step is_closed is_finished names role log n view.came view.ended old) (going : view.ended ≡ false) (unfinished : has_finished is_finished old.stage ≡ false)
+      (settled : is_live role (items log) n ≡ true → IsSettled step is_closed is_finished role (items log) n h.so_far.left old)
       (elsewhere : (m : ℕ) → (n == m) ≡ false → now m ≡ streams m) (here : now n ≡ Some new) where
     -- all has come
     all_came : inbound role (items log) n ≡ h.so_far.got
@@ -175,7 +177,12 @@ module _ {P H : Type 0} (step : H → HandlerCall → H → Type 0) (fails : H �
             held = ap Rattle.streams.specs.State.handler_of serves;
             request = ToEnd;
             asked_for = (all_came, is_finished_then);
-            in_turn = (serves, h.ended_is ∙ going, sym (ap (has_finished is_finished) serves) ∙ unfinished);
+            in_turn = (
+              serves,
+              h.ended_is ∙ going,
+              sym (ap (has_finished is_finished) serves) ∙ unfinished,
+              λ live open_still unclosed. (settled live).asked open_still (ap (asks_open is_closed) serves ∙ ap not unclosed),
+            );
             fails_by = fails_by;
             talking = h.talking;
             agreed_on = h.agreed_on;

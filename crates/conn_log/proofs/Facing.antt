@@ -31,11 +31,11 @@ use Rattle.conn_log.proofs.Views.{same}
 use Rattle.conn_log.proofs.Opening.{sent_stays}
 use Rattle.conn_log.proofs.Leaving.{earlier_other, are_left, numbers_are}
 use Rattle.conn_log.proofs.Rested.{end_agrees}
-use Rattle.conn_log.proofs.Arriving.{arrived, items_arrived, asked_arrived, since_arrived, left_arrived, IsNamed, named, opens_none, not_heard, not_opened, quiet, unopened, still_quiet, still_heard}
+use Rattle.conn_log.proofs.Arriving.{arrived, items_arrived, asked_arrived, since_arrived, left_arrived, IsNamed, named, opens_none, not_heard, not_opened, quiet, unopened, all_closed_stays, was_live_before}
 use Rattle.std.proofs.Math.Bool.{or_comm}
 use Rattle.conn_log.proofs.Ends.{ends_unopened, ends_opened, live_ends}
-use Rattle.conn_log.proofs.Heads.{stream_of, all_named, all_about, turn_arrived, in_turn_arrived, aside_arrived}
-use Rattle.conn_log.proofs.Resets.{either_true, reset_after, reset_unopened, reset_other, reset_told, AreAlive, alive_told, none_reset, ends_last, told_by, told_is_by, FirstOpens, first_opens, due_arrived}
+use Rattle.conn_log.proofs.Heads.{stream_of, credit_first, all_named, all_about, turn_arrived, in_turn_arrived, aside_arrived}
+use Rattle.conn_log.proofs.Resets.{either_true, reset_after, reset_unopened, reset_other, reset_told, AreAlive, alive_told, none_reset, CreditFirst, ends_last, told_by, told_is_by, FirstOpens, first_opens, due_arrived}
 
 -- what holds of every session
 pub record SessionLaws : Type 0 where
@@ -77,6 +77,10 @@ module _ {P H : Type 0} (step : H → HandlerCall → H → Type 0) (fails : H �
 
   about : AllByRecursion (IsNamed n) (tellings told)
   about = subst (λ (t : List Told). AllByRecursion (IsNamed n) t) (told_is_by role (items log) came (tellings told) tells) (all_named role (items log) came frame)
+
+  -- of one frame credit is told before the end
+  credit_before : CreditFirst (tellings told)
+  credit_before = subst CreditFirst (told_is_by role (items log) came (tellings told) tells) (credit_first role (items log) came frame)
 
   all_are_about : AllByRecursion (IsAbout n) told
   unfolding about
@@ -206,12 +210,12 @@ module _ {P H : Type 0} (step : H → HandlerCall → H → Type 0) (fails : H �
         };
         unfinished = r.unfinished;
         over_by_end = r.over_by_end;
-        settled = λ still live.
-            let as_before = still_heard n (seen role (items log) n) (tellings told) still in
-            let windows_are = ap (λ (t : List Item). windows role t n) items_are ∙ laws.credit_is_told role (items log) came (tellings told) n tells (still_quiet n (tellings told) still) in
-            settled_same step is_closed is_finished role (items log) (items then) n r.held.so_far.left it (a.closed ∙ ap (λ (x : Seen). x.closed) as_before)
+        settled = λ brings_none live.
+            let view = seen role (items log) n in
+            let windows_are = ap (λ (t : List Item). windows role t n) items_are ∙ laws.credit_is_told role (items log) came (tellings told) n tells brings_none in
+            settled_same step is_closed is_finished role (items log) (items then) n r.held.so_far.left it (a.closed ∙ all_closed_stays n view (tellings told) none)
             (ap (λ (w : Windows). w.credit) windows_are) (ap (λ (w : Windows). w.untaken) windows_are)
-            (r.settled (sym (a.live ∙ ap (λ (x : Seen). x.live) as_before) ∙ live));
+            (r.settled (was_live_before n view (tellings told) none (sym a.live ∙ live)));
       }
 
   -- What is to be routed, and of which stream.
@@ -239,7 +243,7 @@ module _ {P H : Type 0} (step : H → HandlerCall → H → Type 0) (fails : H �
             around = around past view (tellings told) was
                 (ap (λ (t : List Item). was_reset role t n) items_are ∙ reset_told role (items log) came (tellings told) n tells ∙ reset_unopened n was (tellings told) none)
                 (λ is. ap (over_in n) (since_same n off) ∙ rests.resets_told n is)
-                (agrees n) none (ends_last n view.ended view (tellings told) about none (laws.ends_are_last role (items log) came (tellings told) n tells) alive)
+                (agrees n) none (ends_last n view.ended view (tellings told) about none (laws.ends_are_last role (items log) came (tellings told) n tells) alive credit_before)
                 (λ reset. ends_now none (was_live none alive reset))
                 (λ m. left_by m none (eqb_tells n m))
                 (rests.past_is ∙ sym (aside_now false (laws.openings_are_told role (items log) came (tellings told) n tells ∙ off))) turn_is;
@@ -300,7 +304,7 @@ module _ {P H : Type 0} (step : H → HandlerCall → H → Type 0) (fails : H �
                 (λ is. absurd (cc is))
                 (subst (λ (b : Bool). AgreesOn (seen role (items then) n) (all_heard n (cond b just_opened view) (tellings rest))) (same n)
                 (subst (λ (t : List Told). AgreesOn (seen role (items then) n) (all_heard n view t)) told_is (agrees n)))
-                none (ends_last n false (hears n view (Told.Opened n)) (tellings rest) (named n rest rest_about) none once alive.1)
+                none (ends_last n false (hears n view (Told.Opened n)) (tellings rest) (named n rest rest_about) none once alive.1 (subst CreditFirst told_is credit_before))
                 (λ reset. sym (ap (λ (t : List Item). end_was_told role t n) items_are ∙ ends_opened laws.openings_are_told role (items log) came n tells.no_fault first_told opened
                 ∙ ap (told_end n) (told_is_by role (items log) came (Told.Opened n ∷ tellings rest) tells_it))) (λ m. left_by m opened tells_it (eqb_tells n m))
                 (numbers_by opened tells_it) turn_is;

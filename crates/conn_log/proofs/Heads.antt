@@ -25,7 +25,8 @@ use Rattle.conn_log.specs.Entries.{Entry, items, is_kept, put_aside}
 use Rattle.conn_log.specs.Turns.{turn, AreInTurn}
 use Rattle.conn_log.specs.Rests.{IsRested, AreRested}
 use Rattle.conn_log.proofs.Arriving.{arrived, items_arrived, IsNamed, all_join}
-use Rattle.conn_log.proofs.Resets.{told_by}
+use Rattle.conn_log.specs.Routes.{IsNoCredit}
+use Rattle.conn_log.proofs.Resets.{told_by, CreditFirst}
 
 -- the stream that the last header names, behind these arrivals
 abbrev pub stream_of : List Item → List Arrival → ℕ
@@ -106,6 +107,75 @@ all_named role past (Tail ∷ y ∷ more) one =
     all_join (IsNamed (stream_of past (y ∷ more))) (told_by role past (y ∷ more)) (events_at role (map Came (y ∷ more) ++ past) (Came Tail))
     (all_named role past (y ∷ more) one) (at_named role (map Came (y ∷ more) ++ past) Tail)
 all_named role past (Garbled bytes ∷ y ∷ more) one = absurd one
+
+-- ---- credit is told by a head, and the end behind it
+
+module _ (n code : ℕ) where
+  first_then : (accepts gives : Bool) → CreditFirst (when accepts (Told.Accepted n) ++ when gives (Told.Credit n))
+  first_then true true = tt
+  first_then true false = tt
+  first_then false true = tt
+  first_then false false = tt
+
+  first_by_head : (goes opened accepts gives : Bool)
+      → CreditFirst (((when goes (Told.GoAway code) ++ when opened (Told.Opened n)) ++ when accepts (Told.Accepted n)) ++ when gives (Told.Credit n))
+  first_by_head true true accepts gives = first_then accepts gives
+  first_by_head true false accepts gives = first_then accepts gives
+  first_by_head false true accepts gives = first_then accepts gives
+  first_by_head false false accepts gives = first_then accepts gives
+
+  end_alone : (resets ends : Bool) → AllByRecursion IsNoCredit (cond resets (Told.Reset n ∷ []) (when ends (Told.Ended n)))
+      × CreditFirst (cond resets (Told.Reset n ∷ []) (when ends (Told.Ended n)))
+  end_alone true ends = ((tt, tt), tt)
+  end_alone false true = ((tt, tt), (tt, tt))
+  end_alone false false = (tt, tt)
+
+byte_alone : (b : ℕ) (n : Option ℕ) → AllByRecursion IsNoCredit (byte_told n b) × CreditFirst (byte_told n b)
+byte_alone b None = (tt, tt)
+byte_alone b (Some n) = ((tt, tt), tt)
+
+tail_alone : (role : Role) (past : List Item) (read : Option Header) → AllByRecursion IsNoCredit (tail_events role past read) × CreditFirst (tail_events role past read)
+tail_alone role past None = (tt, tt)
+tail_alone role past (Some h) = by_life (is_live role past h.stream) where
+  by_life : (lives : Bool) → AllByRecursion IsNoCredit (cond lives (tail_told h (finished role past h.stream)) [])
+      × CreditFirst (cond lives (tail_told h (finished role past h.stream)) [])
+  by_life true = end_alone h.stream 0 (rst h) (fin h && not (finished role past h.stream))
+  by_life false = (tt, tt)
+
+head_alone : (role : Role) (past : List Item) (h : Header) (fault : Option Fault) → CreditFirst (events_unless fault (head_events role past h))
+head_alone role past h (Some fault) = tt
+head_alone role past h None =
+    let n = h.stream in
+    first_by_head n h.length (is_go_away h.kind) (opens role past (Came (Head h)) n) (head_belongs role past h n && ack h && is_own role n && not (accepted role past n))
+    (head_belongs role past h n && is_update h.kind && nat_lt 0 h.length)
+
+first_join : (told more : List Told) → CreditFirst told → AllByRecursion IsNoCredit more → CreditFirst more → CreditFirst (told ++ more)
+first_join [] more first none later = later
+first_join (Told.Ended m ∷ told) more first none later = (all_join IsNoCredit told more first.0 none, first_join told more first.1 none later)
+first_join (Told.Opened m ∷ told) more first none later = first_join told more first none later
+first_join (Told.Payload m b ∷ told) more first none later = first_join told more first none later
+first_join (Told.Reset m ∷ told) more first none later = first_join told more first none later
+first_join (Told.Accepted m ∷ told) more first none later = first_join told more first none later
+first_join (Told.Credit m ∷ told) more first none later = first_join told more first none later
+first_join (Told.GoAway code ∷ told) more first none later = first_join told more first none later
+first_join (Told.Fault fault ∷ told) more first none later = first_join told more first none later
+
+pub credit_first : (role : Role) (past : List Item) (came : List Arrival) → IsOneFrame came → CreditFirst (told_by role past came)
+credit_first role past [] one = tt
+credit_first role past (Head h ∷ []) one = head_alone role past h (fault_at role past (Came (Head h)))
+credit_first role past (Byte b ∷ []) one = (byte_alone b (taker role past (reading role past))).1
+credit_first role past (Tail ∷ []) one = (tail_alone role past (reading role past)).1
+credit_first role past (Garbled bytes ∷ []) one = tt
+credit_first role past (Head h ∷ y ∷ more) one = absurd one
+credit_first role past (Byte b ∷ y ∷ more) one =
+    let now = map Came (y ∷ more) ++ past in
+    let alone = byte_alone b (taker role now (reading role now)) in
+    first_join (told_by role past (y ∷ more)) (events_at role now (Came (Byte b))) (credit_first role past (y ∷ more) one) alone.0 alone.1
+credit_first role past (Tail ∷ y ∷ more) one =
+    let now = map Came (y ∷ more) ++ past in
+    let alone = tail_alone role now (reading role now) in
+    first_join (told_by role past (y ∷ more)) (events_at role now (Came Tail)) (credit_first role past (y ∷ more) one) alone.0 alone.1
+credit_first role past (Garbled bytes ∷ y ∷ more) one = absurd one
 
 -- ---- and by each event
 

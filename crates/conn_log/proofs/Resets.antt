@@ -22,7 +22,7 @@ use Rattle.yamux_session.specs.Naming.{IsNoOpening as OpensNone}
 use Rattle.yamux_session.specs.Endings.{EndsOnce, opened_in, told_opened, OpeningsAreTold}
 use Rattle.conn_log.specs.Entries.{Entry, items, since, over_in, is_over}
 use Rattle.conn_log.specs.Due.{AllDue, told_reset, was_reset}
-use Rattle.conn_log.specs.Routes.{IsNoOpening, EndsLast}
+use Rattle.conn_log.specs.Routes.{IsNoOpening, IsNoCredit, EndsLast}
 use Rattle.conn_log.proofs.Views.{same, its_own}
 use Rattle.conn_log.proofs.Arriving.{arrived, items_arrived, since_arrived, IsNamed, opens_none, unopened}
 use Rattle.conn_log.proofs.Comes.{or_on}
@@ -311,20 +311,36 @@ module _ (n : ℕ) where
   none_reset s (Told.GoAway code ∷ told) dead named none alive = none_reset s told dead named.1 none.1 alive.1
   none_reset s (Told.Fault fault ∷ told) dead named none alive = none_reset s told dead named.1 none.1 alive.1
 
+-- credit is told before the end
+abbrev pub CreditFirst : List Told → Type 0
+CreditFirst [] = Unit {0}
+CreditFirst (Told.Ended m ∷ told) = AllByRecursion IsNoCredit told × CreditFirst told
+CreditFirst (Told.Opened m ∷ told) = CreditFirst told
+CreditFirst (Told.Payload m b ∷ told) = CreditFirst told
+CreditFirst (Told.Reset m ∷ told) = CreditFirst told
+CreditFirst (Told.Accepted m ∷ told) = CreditFirst told
+CreditFirst (Told.Credit m ∷ told) = CreditFirst told
+CreditFirst (Told.GoAway code ∷ told) = CreditFirst told
+CreditFirst (Told.Fault fault ∷ told) = CreditFirst told
+
 -- the end is the last that is told of it, or a reset is
 pub ends_last : (n : ℕ) (ended : Bool) (s : Seen) (told : List Told) → AllByRecursion (IsNamed n) told → AllByRecursion (IsNoOpening n) told → EndsOnce n ended told → AreAlive n s told
-    → EndsLast ended told
-ends_last n ended s [] all none once alive = tt
-ends_last n ended s (Told.Opened m ∷ told) all none once alive = absurd (not_both (its_own m n all.0) none.0)
-ends_last n ended s (Told.Payload m b ∷ told) all none once alive = (once.0 all.0, ends_last n ended (hears n s (Told.Payload m b)) told all.1 none.1 once.1 alive.1)
-ends_last n ended s (Told.Ended m ∷ told) all none once alive =
-    (once.0 all.0, ends_last n true (hears n s (Told.Ended m)) told all.1 none.1 (subst (λ (b : Bool). EndsOnce n (cond b true ended) told) (its_own m n all.0) once.1) alive.1)
-ends_last n ended s (Told.Reset m ∷ told) all none once alive =
+    → CreditFirst told → EndsLast ended told
+ends_last n ended s [] all none once alive first = tt
+ends_last n ended s (Told.Opened m ∷ told) all none once alive first = absurd (not_both (its_own m n all.0) none.0)
+ends_last n ended s (Told.Payload m b ∷ told) all none once alive first =
+    (once.0 all.0, ends_last n ended (hears n s (Told.Payload m b)) told all.1 none.1 once.1 alive.1 first)
+ends_last n ended s (Told.Ended m ∷ told) all none once alive first = (
+  once.0 all.0,
+  ends_last n true (hears n s (Told.Ended m)) told all.1 none.1 (subst (λ (b : Bool). EndsOnce n (cond b true ended) told) (its_own m n all.0) once.1) alive.1 first.1,
+  first.0,
+)
+ends_last n ended s (Told.Reset m ∷ told) all none once alive first =
     none_last n (hears n s (Told.Reset m)) told (ap (λ b. (cond b (record s { live = false }) s).live) (its_own m n all.0)) all.1 none.1 alive.1
-ends_last n ended s (Told.Accepted m ∷ told) all none once alive = ends_last n ended s told all.1 none.1 once alive.1
-ends_last n ended s (Told.Credit m ∷ told) all none once alive = ends_last n ended s told all.1 none.1 once alive.1
-ends_last n ended s (Told.GoAway code ∷ told) all none once alive = ends_last n ended s told all.1 none.1 once alive.1
-ends_last n ended s (Told.Fault fault ∷ told) all none once alive = ends_last n ended s told all.1 none.1 once alive.1
+ends_last n ended s (Told.Accepted m ∷ told) all none once alive first = ends_last n ended s told all.1 none.1 once alive.1 first
+ends_last n ended s (Told.Credit m ∷ told) all none once alive first = ends_last n ended s told all.1 none.1 once alive.1 first
+ends_last n ended s (Told.GoAway code ∷ told) all none once alive first = ends_last n ended s told all.1 none.1 once alive.1 first
+ends_last n ended s (Told.Fault fault ∷ told) all none once alive first = ends_last n ended s told all.1 none.1 once alive.1 first
 
 -- ---- a number is opened anew
 

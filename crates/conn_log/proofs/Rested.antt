@@ -7,7 +7,7 @@ use Rattle.handlers.specs.Calls.{HandlerCall, Asked}
 use Rattle.yamux_session.specs.declared.event.Role.{Role}
 use Rattle.yamux_session.specs.Openings.{is_live, finished}
 use Rattle.yamux_session.specs.Events.{Told}
-use Rattle.yamux_session.specs.Seen.{Seen, seen, hears, all_heard, AgreesOn}
+use Rattle.yamux_session.specs.Seen.{Seen, seen, hears, all_heard, AgreesOn, IsQuiet}
 use Rattle.yamux_session.specs.State.{State}
 use Rattle.streams.specs.State.{Streaming}
 use Rattle.conn_log.specs.declared.earlier.Earlier.{Earlier}
@@ -67,6 +67,16 @@ still_ends ended (Told.Ended m) rest is last = absurd is
 still_ends ended (Told.Reset m) rest is last = absurd is
 still_ends ended (Told.Credit m) rest is last = absurd is
 
+still_quiet : (n : ℕ) (t : Told) → IsStill t → IsQuiet n t
+still_quiet n (Told.Accepted m) is = tt
+still_quiet n (Told.GoAway code) is = tt
+still_quiet n (Told.Fault fault) is = tt
+still_quiet n (Told.Opened m) is = absurd is
+still_quiet n (Told.Payload m b) is = absurd is
+still_quiet n (Told.Ended m) is = absurd is
+still_quiet n (Told.Reset m) is = absurd is
+still_quiet n (Told.Credit m) is = absurd is
+
 module _ {P H : Type 0} (step : H → HandlerCall → H → Type 0) (fails : H → Asked → ℕ → Type 0)
     (is_closed is_finished : H → Bool) (inbound_makes outbound_makes : P → ℕ → List ℕ → H → Type 0)
     (eager : ℕ → Bool) (names : List (List ℕ)) (peer : List ℕ) (role : Role) where
@@ -101,7 +111,7 @@ module _ {P H : Type 0} (step : H → HandlerCall → H → Type 0) (fails : H �
     goes_on : (s : Option (Streaming H)) → IfSome s (λ it. IsMoving step fails is_closed is_finished inbound_makes outbound_makes eager names peer role log n view (t ∷ rest) it)
         → IfSome s (λ it. IsMoving step fails is_closed is_finished inbound_makes outbound_makes eager names peer role log n view rest it)
     goes_on None own = tt
-    goes_on (Some it) own = record { held = own.held; unfinished = own.unfinished; over_by_end = own.over_by_end; settled = λ still live. own.settled (is, still) live }
+    goes_on (Some it) own = record { held = own.held; unfinished = own.unfinished; over_by_end = own.over_by_end; settled = λ quiet live. own.settled (still_quiet n t is, quiet) live }
 
   -- ---- event by event
 

@@ -114,14 +114,21 @@ module _ {P H : Type 0} (step : H → HandlerCall → H → Type 0) (fails : H �
   IsAskedFor log n so_far waiting (ToGive room) =
       (inbound role (items log) n ≡ so_far.got) × (room ≡ credit role (items log) n - length waiting)
 
+  -- While this direction of a live stream is open its handler was asked last, with all the credit, unless it is closed.
+  abbrev pub WasAsked : List (Entry H) → ℕ → Past H → H → Type 0
+  WasAsked log n so_far handler = is_live role (items log) n ≡ true → closed role (items log) n ≡ false
+      → is_closed handler ≡ false → so_far.left ≡ Some (credit role (items log) n)
+
   -- It may be asked for that in its turn: what came, and its end, is told to a handler that serves the stream, wasn't
   -- told of the end before, and isn't finished: one that is finished was handed out, unless its talk has just agreed.
-  -- It is handed some bytes, unless the talk took all of them. One that isn't closed is asked to give.
-  abbrev pub IsInTurn : List (Entry H) → ℕ → Stage H → (ended : Bool) → H → Asked → Type 0
-  IsInTurn log n stage ended handler (ToTake bytes) = (stage ≡ Serving handler) × (ended ≡ false)
+  -- It is handed some bytes, unless the talk took all of them. The end is told to one that gave what it has by all that
+  -- came before. One that isn't closed is asked to give.
+  abbrev pub IsInTurn : List (Entry H) → ℕ → Stage H → Past H → H → Asked → Type 0
+  IsInTurn log n stage so_far handler (ToTake bytes) = (stage ≡ Serving handler) × (so_far.ended ≡ false)
       × (((is_finished handler ≡ false) × (bytes ≢ [])) ⊎ HasJustAgreed n log)
-  IsInTurn log n stage ended handler ToEnd = (stage ≡ Serving handler) × (ended ≡ false) × (is_finished handler ≡ false)
-  IsInTurn log n stage ended handler (ToGive room) = is_closed handler ≡ false
+  IsInTurn log n stage so_far handler ToEnd = (stage ≡ Serving handler) × (so_far.ended ≡ false)
+      × (is_finished handler ≡ false) × WasAsked log n so_far handler
+  IsInTurn log n stage so_far handler (ToGive room) = is_closed handler ≡ false
 
   -- Its handler was asked for this, and failed with this number. By then Agreed was told of it, where its talk is over,
   -- and only there.
@@ -131,7 +138,7 @@ module _ {P H : Type 0} (step : H → HandlerCall → H → Type 0) (fails : H �
     pub held : handler_of there.stream.stage ≡ Some handler
     pub request : Asked
     pub asked_for : IsAskedFor log n there.so_far there.stream.waiting request
-    pub in_turn : IsInTurn log n there.stream.stage there.so_far.ended handler request
+    pub in_turn : IsInTurn log n there.stream.stage there.so_far handler request
     pub fails_by : fails handler request number
     pub talking : is_talking there.stream.stage ≡ true → agreed role log n ≡ None
     pub agreed_on : is_talking there.stream.stage ≡ false → agreed role log n ≢ None
@@ -155,8 +162,7 @@ module _ {P H : Type 0} (step : H → HandlerCall → H → Type 0) (fails : H �
 
   -- ---- each entry where it stands
 
-  -- The handler was handed all data that came on its stream, and is finished. While this direction is open it was asked
-  -- last, with all the credit, unless it is closed.
+  -- The handler was handed all data that came on its stream, was asked last, and is finished.
   pub record IsDone (log : List (Entry H)) (n : ℕ) (handler : H) : Type 0 where
     pub so_far : Past H
     pub waiting : List ℕ
@@ -164,8 +170,7 @@ module _ {P H : Type 0} (step : H → HandlerCall → H → Type 0) (fails : H �
     pub all_came : inbound role (items log) n ≡ so_far.got
     pub served : IsServed step so_far handler waiting
     pub finished : is_finished handler ≡ true
-    pub asked : is_live role (items log) n ≡ true → closed role (items log) n ≡ false → is_closed handler ≡ false
-        → so_far.left ≡ Some (credit role (items log) n)
+    pub asked : WasAsked log n so_far handler
 
   -- The stream gave what it has by all data that came: nothing waits, and its handler was asked last with all the
   -- credit, unless it is closed, or was handed out and that was told.

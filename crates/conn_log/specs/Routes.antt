@@ -12,7 +12,7 @@ use Rattle.yamux_session.specs.Openings.{is_live}
 use Rattle.yamux_session.specs.declared.event.Event.{Event}
 use Rattle.yamux_session.specs.declared.event.Event.TheVariants as heard
 use Rattle.yamux_session.specs.Events.{Told, events}
-use Rattle.yamux_session.specs.Seen.{Seen, seen, all_heard, just_opened, AgreesOn}
+use Rattle.yamux_session.specs.Seen.{Seen, seen, all_heard, just_opened, AgreesOn, IsQuiet}
 use Rattle.yamux_session.specs.State.{State, Stands as SessionStands}
 use Rattle.streams.specs.State.{Streaming, has_finished, was_handed_out}
 use Rattle.serving.specs.Served.{IsSettled}
@@ -46,11 +46,16 @@ abbrev pub IsNoData : Told → Type 0
 IsNoData (Told.Payload m b) = ⊥
 IsNoData other = Unit {0}
 
--- the end is told once, and neither data nor the end behind it or behind a reset
+-- it tells no credit
+abbrev pub IsNoCredit : Told → Type 0
+IsNoCredit (Told.Credit m) = ⊥
+IsNoCredit other = Unit {0}
+
+-- the end is told once, and behind it, or behind a reset, neither data nor the end; nor is credit behind the end
 abbrev pub EndsLast : Bool → List Told → Type 0
 EndsLast ended [] = Unit {0}
 EndsLast ended (Told.Payload m b ∷ rest) = (ended ≡ false) × EndsLast ended rest
-EndsLast ended (Told.Ended m ∷ rest) = (ended ≡ false) × EndsLast true rest
+EndsLast ended (Told.Ended m ∷ rest) = (ended ≡ false) × EndsLast true rest × AllByRecursion IsNoCredit rest
 EndsLast ended (Told.Reset m ∷ rest) = EndsLast true rest
 EndsLast ended (other ∷ rest) = EndsLast ended rest
 
@@ -93,7 +98,8 @@ module _ {P H : Type 0} (step : H → HandlerCall → H → Type 0) (fails : H �
       pub held : IsHeld step is_closed is_finished names role log n view.came view.ended stream
       pub unfinished : has_finished is_finished stream.stage ≡ false
       pub over_by_end : view.live ≡ false → view.ended ≡ true
-      pub settled : AllByRecursion IsStill rest → is_live role (items log) n ≡ true
+      -- it was served by all that came but the rest, where that brings neither data nor credit
+      pub settled : AllByRecursion (IsQuiet n) rest → is_live role (items log) n ≡ true
           → IsSettled step is_closed is_finished role (items log) n held.so_far.left stream
 
   -- All streams but the one that is named are at rest, and of that one so much was seen.

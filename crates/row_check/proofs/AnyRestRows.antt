@@ -76,9 +76,9 @@ module _ {P H : Type 0} (step : H → HandlerCall → H → Type 0) (fails : H �
     fails_by = λ log n number there handler request held asked turn by talking agreed_on.
         record { there = there; handler = handler; held = held; request = request; asked_for = asked; in_turn = turn; fails_by = by; talking = talking; agreed_on = agreed_on };
     fails_by_is = λ log n number f. (f.there, f.handler, f.request, f.held, f.asked_for, f.in_turn, f.fails_by, f.talking, f.agreed_on);
-    takes_in_turn = λ log n stage ended handler bytes. (λ h. h, λ h. h);
-    ends_in_turn = λ log n stage ended handler. (λ h. h, λ h. h);
-    gives_in_turn = λ log n stage ended handler room. (λ h. h, λ h. h);
+    takes_in_turn = λ log n stage so_far handler bytes. (λ h. h, λ h. h);
+    ends_in_turn = λ log n stage so_far handler. (λ h. h, λ h. h);
+    gives_in_turn = λ log n stage so_far handler room. (λ h. h, λ h. h);
     heard = λ log n stream held unfinished. record { stream = stream; held = held; unfinished = unfinished };
     heard_is = λ log n h. (h.stream, h.held, h.unfinished);
     broken_in_talk = λ log n fault. (

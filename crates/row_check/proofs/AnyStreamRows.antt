@@ -1,12 +1,12 @@
 -- The rows of streams, and of how they are served and routed to.
-use Rattle.std.proofs.Common.{◌≡◌, ◌⊎◌, inl, inr, ◌↔◌, ℕ, ◌+◌, Bool, true, false, List, [], ◌∷◌, ◌++◌, map, length, Option, Some, IfSome, refl, sym, ap, ◌∙◌, subst}
+use Rattle.std.proofs.Common.{◌≡◌, ◌⊎◌, inl, inr, ◌↔◌, ℕ, ◌+◌, Bool, true, false, List, [], ◌∷◌, ◌++◌, map, length, Option, Some, None, is_some, IfSome, refl, sym, ap, ◌∙◌, subst}
 use Rattle.handlers.specs.Calls.{HandlerCall, Give, Asked}
 use Rattle.talks.specs.Talks.{Side, Asks, Answers}
 use Rattle.yamux_session.specs.declared.event.Role.{Role}
 use Rattle.yamux_session.specs.History.{Item}
 use Rattle.yamux_session.specs.History.Item.{Did}
 use Rattle.streams.specs.Handled.{AskedLast}
-use Rattle.streams.specs.State.{is_talking}
+use Rattle.streams.specs.State.{is_talking, handler_of, holds}
 use Rattle.streams.specs.Streams.{IsAsking}
 use Rattle.row_check.specs.AnyStreamRows.{AnyStageRows, AnyHearingRows, AnyStandingRows, AnyServingRows, AnyDirectionRows, AnyRoutingRows}
 
@@ -14,6 +14,10 @@ use Rattle.row_check.specs.AnyStreamRows.{AnyStageRows, AnyHearingRows, AnyStand
 or_on : {A B C D : Type 0} → (A → C) → (B → D) → A ⊎ B → C ⊎ D
 or_on f g (inl a) = inl (f a)
 or_on f g (inr b) = inr (g b)
+
+by_held : {H : Type 0} (held : Option H) → holds (λ handler. true) held ≡ is_some held
+by_held None = refl
+by_held (Some handler) = refl
 
 pub any_stages : {H : Type 0} → AnyStageRows H
 any_stages = record {
@@ -26,6 +30,7 @@ any_stages = record {
   serving = λ test handler. (refl, refl, refl);
   done = λ test. (refl, refl, refl);
   over = λ test. (refl, refl, refl);
+  holds_is = λ stage. by_held (handler_of stage);
   is_fresh = λ side made. refl;
   goes_on = λ old new. (λ h. h, λ h. h);
   serves_then = λ old new handler index used e. rw e (λ h. h, λ h. h);

@@ -122,7 +122,7 @@ module _ {P H : Type 0} (step : H → HandlerCall → H → Type 0) (fails : H �
   abbrev pub handler_fails : List (Entry H) → ℕ → ℕ → Type 0
   handler_fails = HandlerFails step fails is_closed is_finished inbound_makes outbound_makes eager names peer role
 
-  abbrev pub in_turn : List (Entry H) → ℕ → Stage H → Bool → H → Asked → Type 0
+  abbrev pub in_turn : List (Entry H) → ℕ → Stage H → Past H → H → Asked → Type 0
   in_turn = IsInTurn step fails is_closed is_finished inbound_makes outbound_makes eager names peer role
 
   abbrev pub has_heard : List (Entry H) → ℕ → Type 0
@@ -181,23 +181,25 @@ module _ {P H : Type 0} (step : H → HandlerCall → H → Type 0) (fails : H �
     pub fails_by : (log : List (Entry H)) (n number : ℕ) (there : is_there log n) (handler : H) (request : Asked)
         → handler_of there.stream.stage ≡ Some handler
         → asked_with log n there.so_far there.stream.waiting request
-        → in_turn log n there.stream.stage there.so_far.ended handler request → fails handler request number
+        → in_turn log n there.stream.stage there.so_far handler request → fails handler request number
         → (is_talking there.stream.stage ≡ true → agreed role log n ≡ None)
         → (is_talking there.stream.stage ≡ false → agreed role log n ≢ None) → handler_fails log n number
     pub fails_by_is : (log : List (Entry H)) (n number : ℕ) → handler_fails log n number → (there : is_there log n)
         × (handler : H) × (request : Asked) × (handler_of there.stream.stage ≡ Some handler)
         × asked_with log n there.so_far there.stream.waiting request
-        × in_turn log n there.stream.stage there.so_far.ended handler request × fails handler request number
+        × in_turn log n there.stream.stage there.so_far handler request × fails handler request number
         × (is_talking there.stream.stage ≡ true → agreed role log n ≡ None)
         × (is_talking there.stream.stage ≡ false → agreed role log n ≢ None)
-    pub takes_in_turn : (log : List (Entry H)) (n : ℕ) (stage : Stage H) (ended : Bool) (handler : H) (bytes : List ℕ)
-        → in_turn log n stage ended handler (ToTake bytes) ↔ ((stage ≡ stages.Serving handler) × (ended ≡ false)
+    pub takes_in_turn : (log : List (Entry H)) (n : ℕ) (stage : Stage H) (so_far : Past H) (handler : H)
+        (bytes : List ℕ) → in_turn log n stage so_far handler (ToTake bytes)
+        ↔ ((stage ≡ stages.Serving handler) × (so_far.ended ≡ false)
         × (((is_finished handler ≡ false) × (bytes ≢ [])) ⊎ HasJustAgreed n log))
-    pub ends_in_turn : (log : List (Entry H)) (n : ℕ) (stage : Stage H) (ended : Bool) (handler : H)
-        → in_turn log n stage ended handler ToEnd
-        ↔ ((stage ≡ stages.Serving handler) × (ended ≡ false) × (is_finished handler ≡ false))
-    pub gives_in_turn : (log : List (Entry H)) (n : ℕ) (stage : Stage H) (ended : Bool) (handler : H) (room : ℕ)
-        → in_turn log n stage ended handler (ToGive room) ↔ (is_closed handler ≡ false)
+    pub ends_in_turn : (log : List (Entry H)) (n : ℕ) (stage : Stage H) (so_far : Past H) (handler : H)
+        → in_turn log n stage so_far handler ToEnd ↔ ((stage ≡ stages.Serving handler) × (so_far.ended ≡ false)
+        × (is_finished handler ≡ false) × (is_live role (items log) n ≡ true → closed role (items log) n ≡ false
+        → is_closed handler ≡ false → so_far.left ≡ Some (credit role (items log) n)))
+    pub gives_in_turn : (log : List (Entry H)) (n : ℕ) (stage : Stage H) (so_far : Past H) (handler : H) (room : ℕ)
+        → in_turn log n stage so_far handler (ToGive room) ↔ (is_closed handler ≡ false)
     pub heard : (log : List (Entry H)) (n : ℕ) (stream : Streaming H)
         → held_by step is_closed is_finished names role log n (inbound role (items log) n)
         (end_was_told role (items log) n) stream → has_finished is_finished stream.stage ≡ false → has_heard log n

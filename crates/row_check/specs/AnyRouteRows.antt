@@ -13,7 +13,7 @@ use Rattle.yamux_session.specs.History.Item.{Came, Did}
 use Rattle.yamux_session.specs.History.Act.{Reset}
 use Rattle.yamux_session.specs.Openings.{is_live}
 use Rattle.yamux_session.specs.Events.{Told, events}
-use Rattle.yamux_session.specs.Seen.{Seen, seen, all_heard, just_opened, AgreesOn}
+use Rattle.yamux_session.specs.Seen.{Seen, seen, all_heard, just_opened, AgreesOn, IsQuiet}
 use Rattle.yamux_session.specs.Output.{output}
 use Rattle.yamux_session.specs.State.{State, Stands as SessionStands, FirstFaults, EndsWith}
 use Rattle.yamux_frames.specs.Frames.{Arrival}
@@ -31,7 +31,8 @@ use Rattle.conn_log.specs.Turns.{turn, AreInTurn}
 use Rattle.conn_log.specs.Due.{AllDue, told_reset, was_reset, told_end, end_was_told}
 use Rattle.conn_log.specs.Held.{IsHeld, IsAtRest, AreLeft, earlier_of}
 use Rattle.conn_log.specs.Rests.{AreAtRest, AreRested}
-use Rattle.conn_log.specs.Routes.{IsStill, IsNoOpening, IsNoData, EndsLast, set_aside, KeepsTurn, Resets, IsFor}
+use Rattle.conn_log.specs.Routes.{IsStill, IsNoOpening, IsNoData, IsNoCredit, EndsLast, set_aside, KeepsTurn, Resets}
+use Rattle.conn_log.specs.Routes.{IsFor}
 use Rattle.conn_log.specs.Routes.{IsMoving, Around, Routes, Comes, Routed, Opening, Awaits, IsUnderWay}
 use Rattle.conn_log.specs.Making.{MakesOn}
 use Rattle.board.specs.declared.board.Board.{Board}
@@ -54,11 +55,15 @@ pub record AnyRouteToldRows (H : Type 0) : Type 0 where
   pub no_data : (n : ℕ) (fault : Fault) → IsNoData (Told.Opened n) × IsNoData (Told.Accepted n)
       × IsNoData (Told.Ended n) × IsNoData (Told.Reset n) × IsNoData (Told.Credit n) × IsNoData (Told.GoAway n)
       × IsNoData (Told.Fault fault)
+  pub credit_told : (n : ℕ) → ¬ IsNoCredit (Told.Credit n)
+  pub no_credit : (n b : ℕ) (fault : Fault) → IsNoCredit (Told.Opened n) × IsNoCredit (Told.Accepted n)
+      × IsNoCredit (Told.Payload n b) × IsNoCredit (Told.Ended n) × IsNoCredit (Told.Reset n)
+      × IsNoCredit (Told.GoAway n) × IsNoCredit (Told.Fault fault)
   pub nothing_more : (ended : Bool) → EndsLast ended []
   pub a_byte : (ended : Bool) (m b : ℕ) (rest : List Told) → EndsLast ended (Told.Payload m b ∷ rest)
       ↔ ((ended ≡ false) × EndsLast ended rest)
   pub its_end : (ended : Bool) (m : ℕ) (rest : List Told) → EndsLast ended (Told.Ended m ∷ rest)
-      ↔ ((ended ≡ false) × EndsLast true rest)
+      ↔ ((ended ≡ false) × EndsLast true rest × AllByRecursion IsNoCredit rest)
   pub a_reset : (ended : Bool) (m : ℕ) (rest : List Told) → EndsLast ended (Told.Reset m ∷ rest) ↔ EndsLast true rest
   pub passed : (ended : Bool) (m : ℕ) (rest : List Told)
       → (EndsLast ended (Told.Opened m ∷ rest) ↔ EndsLast ended rest)
@@ -135,14 +140,14 @@ module _ {P H : Type 0} (step : H → HandlerCall → H → Type 0) (fails : H �
     pub moves : (log : List (Entry H)) (n : ℕ) (view : Seen) (rest : List Told) (stream : Streaming H)
         (held : IsHeld step is_closed is_finished names role log n view.came view.ended stream)
         → has_finished is_finished stream.stage ≡ false → (view.live ≡ false → view.ended ≡ true)
-        → (AllByRecursion IsStill rest → is_live role (items log) n ≡ true
+        → (AllByRecursion (IsQuiet n) rest → is_live role (items log) n ≡ true
         → IsSettled step is_closed is_finished role (items log) n held.so_far.left stream)
         → is_moving log n view rest stream
     pub moves_is : (log : List (Entry H)) (n : ℕ) (view : Seen) (rest : List Told) (stream : Streaming H)
         → is_moving log n view rest stream
         → (held : IsHeld step is_closed is_finished names role log n view.came view.ended stream)
         × (has_finished is_finished stream.stage ≡ false) × (view.live ≡ false → view.ended ≡ true)
-        × (AllByRecursion IsStill rest → is_live role (items log) n ≡ true
+        × (AllByRecursion (IsQuiet n) rest → is_live role (items log) n ≡ true
         → IsSettled step is_closed is_finished role (items log) n held.so_far.left stream)
     pub others : (log : List (Entry H)) (fed sent : List ℕ) (session : State) (streams : ℕ → Option (Streaming H))
         (past : List (Earlier H)) (n : ℕ) (view : Seen) (rest : List Told)

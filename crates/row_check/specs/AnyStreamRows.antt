@@ -3,7 +3,7 @@
 -- hashicorp yamux, "Flow Control" and "Flag Field"; that a stream is told its data in pieces is this project's profile.
 use Rattle.std.specs.Prelude.{◌≡◌, ◌≢◌, ◌⊎◌, ◌↔◌, ℕ, ◌+◌, ◌-◌, ◌<◌, ◌≤◌, Bool, true, false, not, List, [], ◌∷◌, ◌++◌}
 use Rattle.std.specs.Prelude.{map}
-use Rattle.std.specs.Prelude.{length, take, drop, slice_get, Option, Some, None, IfSome, Result, Ok, Err}
+use Rattle.std.specs.Prelude.{length, take, drop, slice_get, Option, Some, None, IfSome, is_some, Result, Ok, Err}
 use Rattle.handlers.specs.Calls.{HandlerCall, Give, Asked, ToTake, ToGive, ToEnd, WasHanded, given}
 use Rattle.handlers.specs.declared.handler.HandlerFault.{HandlerFault}
 use Rattle.ms_select.specs.declared.answer.Answer.{Answer}
@@ -32,7 +32,8 @@ use Rattle.streams.specs.declared.stop.Stop.TheVariants as stops
 use Rattle.streams.specs.Stops.{FailsBy}
 use Rattle.streams.specs.Handled.{AskedLast, Handled}
 use Rattle.streams.specs.Streams.{Past, fresh, IsGoing, HasAgreed, IsEarly, IsServed}
-use Rattle.streams.specs.State.{Streaming, Stands, is_talking, awaits_handler, handler_of, is_open, has_closed}
+use Rattle.streams.specs.State.{Streaming, Stands, is_talking, awaits_handler, handler_of, holds_handler, is_open}
+use Rattle.streams.specs.State.{has_closed}
 use Rattle.streams.specs.State.{has_finished, was_handed_out, kind_of, InTalk, Awaiting, Served}
 use Rattle.streams.specs.Hearing.{used_of, Hears, HasHeard, Moves, HasNoRoom, HasRunOut, RunsOut}
 use Rattle.streams.specs.Laws.{OneSplit}
@@ -73,6 +74,7 @@ pub record AnyStageRows (H : Type 0) : Type 0 where
       × (has_finished test stages.Done ≡ false)
   pub over : (test : H → Bool) → (is_open test stages.Over ≡ false) × (has_closed test stages.Over ≡ true)
       × (has_finished test stages.Over ≡ false)
+  pub holds_is : (stage : Stage H) → holds_handler stage ≡ is_some (handler_of stage)
   pub is_fresh : (side : Side) (made : Option H)
       → fresh side made ≡ record { side = side; got = []; ended = false; sent = []; made = made; left = None }
   -- where it is behind what it heard

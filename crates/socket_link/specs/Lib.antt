@@ -4,3 +4,4 @@ pub mod Steps
 pub mod Sockets
 -- cited by laws
 pub mod StepRows
+pub mod KeptRows

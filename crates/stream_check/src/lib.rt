@@ -2,6 +2,8 @@
 #![tactic(auto)]
 
 #[cfg(test)]
+mod asking_tests;
+#[cfg(test)]
 mod core_tests;
 #[cfg(test)]
 mod dispatch_tests;

@@ -52,6 +52,8 @@ stage_rows = record {
   talking_awaits_none = λ talk. refl;
   was_done = (refl, refl, refl, refl);
   talking_was_not_done = λ talk. refl;
+  talking_holds = λ talk. (refl, refl);
+  serving_holds = (refl, refl, refl, refl);
   kinds = (refl, refl, refl, refl);
   talking_kind = λ talk handler. refl;
 }

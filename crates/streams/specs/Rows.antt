@@ -20,7 +20,7 @@ use Rattle.streams.specs.Stops.{of_select, not_now, FailsBy}
 use Rattle.streams.specs.Handled.{AskedLast}
 use Rattle.streams.specs.Streams.{Past, IsEarly, IsServed, IsDone, fresh}
 use Rattle.streams.specs.State.{is_talking, awaits_handler, handler_of, is_open, has_closed, has_finished}
-use Rattle.streams.specs.State.{was_handed_out, kind_of, InTalk, Awaiting, Served, HandedOut, Ended}
+use Rattle.streams.specs.State.{holds_handler, was_handed_out, kind_of, InTalk, Awaiting, Served, HandedOut, Ended}
 use Rattle.streams.specs.Hearing.{Hears, HasNoRoom, HasRunOut}
 
 -- the stages of a stream whose handlers are numbers, and one of which is closed or finished where it is 0
@@ -77,6 +77,11 @@ pub record StageRows : Type 0 where
   pub was_done : (was_handed_out handed_out ≡ true) × (was_handed_out (serving 0) ≡ false)
       × (was_handed_out awaiting ≡ false) × (was_handed_out over ≡ false)
   pub talking_was_not_done : (talk : Talking) → was_handed_out (talking talk (Some 0)) ≡ false
+  -- a handler is held also while it talks, where there is one
+  pub talking_holds : (talk : Talking) → (holds_handler (talking talk (Some 0)) ≡ true)
+      × (holds_handler (talking talk None) ≡ false)
+  pub serving_holds : (holds_handler (serving 7) ≡ true) × (holds_handler awaiting ≡ false)
+      × (holds_handler handed_out ≡ false) × (holds_handler over ≡ false)
   -- each place is of its own kind, whatever is held there
   pub kinds : (kind_of (serving 7) ≡ Served) × (kind_of awaiting ≡ Awaiting) × (kind_of handed_out ≡ HandedOut)
       × (kind_of over ≡ Ended)

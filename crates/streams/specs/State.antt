@@ -57,6 +57,10 @@ abbrev pub holds : {H : Type 0} → (H → Bool) → Option H → Bool
 holds property None = false
 holds property (Some handler) = property handler
 
+-- a handler is held
+abbrev pub holds_handler : {H : Type 0} → Stage H → Bool
+holds_handler stage = holds (λ handler. true) (handler_of stage)
+
 -- a handler is held that isn't closed: it is asked for bytes
 abbrev pub is_open : {H : Type 0} → (H → Bool) → Stage H → Bool
 is_open closed stage = holds (λ handler. not (closed handler)) (handler_of stage)

@@ -3,7 +3,7 @@
 ghost use Rattle.std.specs.Prelude.{◌≡◌, Some, true, false, Ok, IfOk, IfErr, OnOk};
 ghost use Rattle.handlers.specs.Calls.{ToGive};
 ghost use Rattle.streams.specs.State.{is_talking, awaits_handler, handler_of, has_closed, has_finished, was_handed_out};
-ghost use Rattle.streams.specs.State.{kind_of};
+ghost use Rattle.streams.specs.State.{holds_handler, kind_of};
 ghost use Rattle.streams.specs.Giving.{Gives, StageGives};
 ghost use Rattle.streams.specs.InTalk.{stage_by};
 
@@ -86,6 +86,16 @@ impl<H: Handler> Stage<H> {
         ensures { result ≡ was_handed_out self.now }
     {
         matches!(self, Stage::Done)
+    }
+
+    pub(crate) fn holds_handler(&self) -> bool
+        ensures { result ≡ holds_handler self.now }
+    {
+        match self {
+            Stage::Talking(_, Some(_)) | Stage::Serving(_) => true,
+            Stage::Talking(_, None) | Stage::Agreed(_) => false,
+            Stage::Done | Stage::Over => false,
+        }
     }
 
     /// The handler that it holds.

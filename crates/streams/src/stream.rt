@@ -13,7 +13,8 @@ ghost use Rattle.talks.specs.State.{Stands as TalkStands};
 ghost use Rattle.streams.specs.Streams.{Past, IsEarly, fresh};
 ghost use Rattle.streams.specs.Stops.{FailsBy, not_now};
 ghost use Rattle.streams.specs.State.{Stands, is_talking, awaits_handler};
-ghost use Rattle.streams.specs.State.{handler_of, is_open, has_closed, has_finished, was_handed_out, kind_of};
+ghost use Rattle.streams.specs.State.{handler_of, holds_handler, is_open, has_closed, has_finished, was_handed_out};
+ghost use Rattle.streams.specs.State.{kind_of};
 ghost use Rattle.streams.specs.Giving.{StageGives};
 ghost use Rattle.streams.specs.Hearing.{HasHeard, Moves, RunsOut, used_of};
 
@@ -135,6 +136,13 @@ impl<H: Handler> Stream<H> {
         ensures { result ≡ has_finished H.is_finished self.now.stage }
     {
         self.stage.finished()
+    }
+
+    /// Whether it holds a handler: that of an eager protocol before its talk agrees, too.
+    pub fn holds_handler(&self) -> bool
+        ensures { result ≡ holds_handler self.now.stage }
+    {
+        self.stage.holds_handler()
     }
 
     /// Whether its handler was finished, and handed out. What still comes is dropped.

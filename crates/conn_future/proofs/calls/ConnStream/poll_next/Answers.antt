@@ -26,7 +26,7 @@ loop-call-init g c =
       failures = refl;
       follows = λ start role own first asked gave stays. stays;
       unshut = λ other shut. shut;
-      shutting = λ is. drains_none g.L.Link g.met.L.Link.moves_nothing c.args.self.now.link c.args.self.now.unsent;
+      shutting = λ is. drains_none g.L.Link g.met.L.Link.moves_nothing c.args.self.now.link c.args.self.now.unsent.items;
       moved = λ is. ([], [], g.met.L.Link.moves_nothing c.args.self.now.link);
       made = record {
         log = [];
@@ -55,8 +55,8 @@ loop-call-preserved g c = record {
   unshut = λ other shut. c.loop-call.invariant.unshut other (c.turn.ensures.unshut (λ is. other (sym c.loop-call.invariant.stage ∙ is)) shut);
   shutting = λ is.
       let by = c.in-Again.ensures.shutting (c.loop-call.invariant.stage ∙ is) in
-      drains_on g.L.Link g.met.L.Link.moves_on c.args.self.now.link c.loop-call.self.link c.turn.new.self.link c.args.self.now.unsent c.loop-call.self.unsent c.turn.new.self.unsent
-      (c.loop-call.invariant.shutting is) (subst (λ (rest : List ℕ). Drains g.L.Link c.loop-call.self.link c.loop-call.self.unsent c.turn.new.self.link rest) by.2 by.1);
+      drains_on g.L.Link g.met.L.Link.moves_on c.args.self.now.link c.loop-call.self.link c.turn.new.self.link c.args.self.now.unsent.items c.loop-call.self.unsent.items c.turn.new.self.unsent.items
+      (c.loop-call.invariant.shutting is) (subst (λ (rest : List ℕ). Drains g.L.Link c.loop-call.self.link c.loop-call.self.unsent.items c.turn.new.self.link rest) by.2 by.1);
   moved = λ is.
       let before = c.loop-call.invariant.moved is in
       let by = c.turn.ensures.moved (c.loop-call.invariant.stage ∙ is) in (
@@ -64,7 +64,7 @@ loop-call-preserved g c = record {
         before.1 ++ by.1,
         g.met.L.Link.moves_on c.args.self.now.link c.loop-call.self.link c.turn.new.self.link before.0 before.1 by.0 by.1 before.2 by.2,
       );
-  made = c.in-Again.ensures.called (length c.args.self.now.unsent) c.args.self.now.link c.args.cx.now c.loop-call._call c.loop-call.invariant.made;
+  made = c.in-Again.ensures.called (length c.args.self.now.unsent.items) c.args.self.now.link c.args.cx.now c.loop-call._call c.loop-call.invariant.made;
   waits = c.in-Again.ensures.waits c.loop-call.invariant.waits;
   kept = λ fact holds. c.turn.ensures.kept fact (c.loop-call.invariant.kept fact holds);
 }
@@ -82,21 +82,21 @@ pub returns-in-Give-clause-shutting : goal.returns-in-Give-clause-shutting
 returns-in-Give-clause-shutting g c is =
     let by = c.turn.ensures.shutting (c.loop-call.invariant.stage ∙ is) in (
       by.0,
-      drains_on g.L.Link g.met.L.Link.moves_on c.args.self.now.link c.loop-call.self.link c.turn.new.self.link c.args.self.now.unsent c.loop-call.self.unsent by.0 (c.loop-call.invariant.shutting is) by.1,
+      drains_on g.L.Link g.met.L.Link.moves_on c.args.self.now.link c.loop-call.self.link c.turn.new.self.link c.args.self.now.unsent.items c.loop-call.self.unsent.items by.0 (c.loop-call.invariant.shutting is) by.1,
     )
 
 pub returns-in-Failed-clause-shutting : goal.returns-in-Failed-clause-shutting
 returns-in-Failed-clause-shutting g c is =
     let by = c.turn.ensures.shutting (c.loop-call.invariant.stage ∙ is) in (
       by.0,
-      drains_on g.L.Link g.met.L.Link.moves_on c.args.self.now.link c.loop-call.self.link c.turn.new.self.link c.args.self.now.unsent c.loop-call.self.unsent by.0 (c.loop-call.invariant.shutting is) by.1,
+      drains_on g.L.Link g.met.L.Link.moves_on c.args.self.now.link c.loop-call.self.link c.turn.new.self.link c.args.self.now.unsent.items c.loop-call.self.unsent.items by.0 (c.loop-call.invariant.shutting is) by.1,
     )
 
 pub returns-in-Wait-clause-shutting : goal.returns-in-Wait-clause-shutting
 returns-in-Wait-clause-shutting g c is =
     let by = c.turn.ensures.shutting (c.loop-call.invariant.stage ∙ is) in (
       by.0,
-      drains_on g.L.Link g.met.L.Link.moves_on c.args.self.now.link c.loop-call.self.link c.turn.new.self.link c.args.self.now.unsent c.loop-call.self.unsent by.0 (c.loop-call.invariant.shutting is) by.1,
+      drains_on g.L.Link g.met.L.Link.moves_on c.args.self.now.link c.loop-call.self.link c.turn.new.self.link c.args.self.now.unsent.items c.loop-call.self.unsent.items by.0 (c.loop-call.invariant.shutting is) by.1,
     )
 
 pub returns-in-Give-clause-fault : goal.returns-in-Give-clause-fault
@@ -129,16 +129,16 @@ returns-then-not-is_empty-clause-ends g c start role own first asked gave stays 
 
 pub returns-then-not-is_empty-clause-shutting : goal.returns-then-not-is_empty-clause-shutting
 returns-then-not-is_empty-clause-shutting g c is = (
-  c.args.self.now.unsent,
-  subst (λ l. Drains g.L.Link c.args.self.now.link c.args.self.now.unsent l c.args.self.now.unsent) (sym c.give.ensures.link)
-      (drains_none g.L.Link g.met.L.Link.moves_nothing c.args.self.now.link c.args.self.now.unsent),
+  c.args.self.now.unsent.items,
+  subst (λ l. Drains g.L.Link c.args.self.now.link c.args.self.now.unsent.items l c.args.self.now.unsent.items) (sym c.give.ensures.link)
+      (drains_none g.L.Link g.met.L.Link.moves_nothing c.args.self.now.link c.args.self.now.unsent.items),
 )
 
 pub returns-then-not-is_empty-clause-unshut : goal.returns-then-not-is_empty-clause-unshut
 returns-then-not-is_empty-clause-unshut g c other shut = subst g.L.Link.is_shut c.give.ensures.link shut
 
 pub returns-clause-shutting : goal.returns-clause-shutting
-returns-clause-shutting g c is = (c.loop-call.self.unsent, c.loop-call.invariant.shutting is)
+returns-clause-shutting g c is = (c.loop-call.self.unsent.items, c.loop-call.invariant.shutting is)
 
 pub returns-in-Give-clause-came : goal.returns-in-Give-clause-came
 returns-in-Give-clause-came g c empty going over =
@@ -150,25 +150,25 @@ returns-in-Give-clause-came g c empty going over =
 
 pub returns-in-Give-clause-polls : goal.returns-in-Give-clause-polls
 returns-in-Give-clause-polls g c =
-    polls_to g.L.Link.calls (length c.args.self.now.unsent) _ c.args.self.now.link c.turn.new.self.link c.args.cx.now c.turn.new.cx (c.loop-call._call + 1) (omega arith)
-    (c.turn.ensures.calls (length c.args.self.now.unsent) c.args.self.now.link c.args.cx.now c.loop-call._call c.loop-call.invariant.made)
+    polls_to g.L.Link.calls (length c.args.self.now.unsent.items) _ c.args.self.now.link c.turn.new.self.link c.args.cx.now c.turn.new.cx (c.loop-call._call + 1) (omega arith)
+    (c.turn.ensures.calls (length c.args.self.now.unsent.items) c.args.self.now.link c.args.cx.now c.loop-call._call c.loop-call.invariant.made)
 
 pub returns-in-Failed-clause-polls : goal.returns-in-Failed-clause-polls
 returns-in-Failed-clause-polls g c =
-    polls_to g.L.Link.calls (length c.args.self.now.unsent) _ c.args.self.now.link c.turn.new.self.link c.args.cx.now c.turn.new.cx (c.loop-call._call + 1) (omega arith)
-    (c.turn.ensures.calls (length c.args.self.now.unsent) c.args.self.now.link c.args.cx.now c.loop-call._call c.loop-call.invariant.made)
+    polls_to g.L.Link.calls (length c.args.self.now.unsent.items) _ c.args.self.now.link c.turn.new.self.link c.args.cx.now c.turn.new.cx (c.loop-call._call + 1) (omega arith)
+    (c.turn.ensures.calls (length c.args.self.now.unsent.items) c.args.self.now.link c.args.cx.now c.loop-call._call c.loop-call.invariant.made)
 
 pub returns-in-Wait-clause-polls : goal.returns-in-Wait-clause-polls
 returns-in-Wait-clause-polls g c =
-    polls_to g.L.Link.calls (length c.args.self.now.unsent) _ c.args.self.now.link c.turn.new.self.link c.args.cx.now c.turn.new.cx (c.loop-call._call + 1) (omega arith)
-    (c.turn.ensures.calls (length c.args.self.now.unsent) c.args.self.now.link c.args.cx.now c.loop-call._call c.loop-call.invariant.made)
+    polls_to g.L.Link.calls (length c.args.self.now.unsent.items) _ c.args.self.now.link c.turn.new.self.link c.args.cx.now c.turn.new.cx (c.loop-call._call + 1) (omega arith)
+    (c.turn.ensures.calls (length c.args.self.now.unsent.items) c.args.self.now.link c.args.cx.now c.loop-call._call c.loop-call.invariant.made)
 
 pub returns-clause-polls : goal.returns-clause-polls
 returns-clause-polls g c =
-    polls_all g.L.Link.calls c.loop-call.waits (length c.args.self.now.unsent) (length c.loop-call.self.unsent) _ c.args.self.now.link c.loop-call.self.link c.args.cx.now c.loop-call.cx c.yield_now.new.self c.loop-call._call (omega arith)
+    polls_all g.L.Link.calls c.loop-call.waits (length c.args.self.now.unsent.items) (length c.loop-call.self.unsent.items) _ c.args.self.now.link c.loop-call.self.link c.args.cx.now c.loop-call.cx c.yield_now.new.self c.loop-call._call (omega arith)
     c.loop-call.invariant.made
 
 pub returns-then-not-is_empty-clause-polls : goal.returns-then-not-is_empty-clause-polls
 returns-then-not-is_empty-clause-polls g c =
-    subst (λ l. Polls g.L.Link.calls (length c.args.self.now.unsent) (is_live c.give.new.self.stage) c.args.self.now.link c.args.cx.now l c.args.cx.now) (sym c.give.ensures.link)
-    (polls_none g.L.Link.calls g.met.L.Link.calls_none (length c.args.self.now.unsent) _ c.args.self.now.link c.args.cx.now)
+    subst (λ l. Polls g.L.Link.calls (length c.args.self.now.unsent.items) (is_live c.give.new.self.stage) c.args.self.now.link c.args.cx.now l c.args.cx.now) (sym c.give.ensures.link)
+    (polls_none g.L.Link.calls g.met.L.Link.calls_none (length c.args.self.now.unsent.items) _ c.args.self.now.link c.args.cx.now)

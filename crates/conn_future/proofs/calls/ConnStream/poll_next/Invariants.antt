@@ -19,9 +19,9 @@ invariant-loop-call g l = record {
       → Follows g.L.Link g.P.Protocols g.P.H.Handler start role own first asked gave l.fn.self
       → Follows g.L.Link g.P.Protocols g.P.H.Handler start role own first asked gave l.self;
   unshut : l.fn.self.stage ≢ Shutting → g.L.Link.is_shut l.self.link → g.L.Link.is_shut l.fn.self.link;
-  shutting : l.fn.self.stage ≡ Shutting → Drains g.L.Link l.fn.self.link l.fn.self.unsent l.self.link l.self.unsent;
+  shutting : l.fn.self.stage ≡ Shutting → Drains g.L.Link l.fn.self.link l.fn.self.unsent.items l.self.link l.self.unsent.items;
   moved : l.fn.self.stage ≡ Going → (given : List ℕ) × (took : List ℕ) × g.L.Link.moves l.fn.self.link given took l.self.link;
-  made : Makes g.L.Link.calls l.waits (length l.fn.self.unsent) (length l.self.unsent) l.fn.self.link l.fn.cx l.self.link l.cx l._call;
+  made : Makes g.L.Link.calls l.waits (length l.fn.self.unsent.items) (length l.self.unsent.items) l.fn.self.link l.fn.cx l.self.link l.cx l._call;
   waits : HasWaited l.waits l.cx (g.L.Link.reads_at l.self.link) (g.L.Link.writes_at l.self.link);
   kept : Keeps l.fn.cx l.cx;
 }

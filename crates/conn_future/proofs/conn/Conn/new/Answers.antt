@@ -5,6 +5,6 @@ use Rattle.conn_future.proofs.conn.Conn.new.Goals as goal
 pub returns-in-Ok-clause-follows : goal.returns-in-Ok-clause-follows
 returns-in-Ok-clause-follows g c start role own stands =
     fresh_follows g.L.Link g.P.Protocols g.P.H.Handler start role own g.met.L.Link.moves_nothing c.args.link c.args.core c.take_output.new.self c.take_output.result.items
-    c.new-unsent.result c.new.result.items c.new-unsent.ensures c.new.ensures.items
+    c.from_vec-unsent.result.items c.new.result.items c.from_vec-unsent.ensures c.new.ensures.items
     (λ stood. c.take_output.ensures.stands role own start [] [] false [] [] stood)
     c.take_output.ensures.over c.take_output.ensures.none_waits stands

@@ -15,7 +15,7 @@ pub returns-in-Ready-Ok-eq0-clause-follows : goal.returns-in-Ready-Ok-eq0-clause
 returns-in-Ready-Ok-eq0-clause-follows g c start role own first asked gave stays =
     c.end.ensures.follows start role own first asked gave
     c.args.self.now.link
-    (goes_none g.L.Link g.P.Protocols g.P.H.Handler start role own first asked gave c.args.self.now.link c.args.self.now.core c.args.self.now.unsent c.args.self.now.held.items c.args.self.now.stage
+    (goes_none g.L.Link g.P.Protocols g.P.H.Handler start role own first asked gave c.args.self.now.link c.args.self.now.core c.args.self.now.unsent.items c.args.self.now.held.items c.args.self.now.stage
     c.requires.going c.requires.none_held stays)
     (subst (λ (l : List ℕ). g.L.Link.moves c.args.self.now.link l [] c.poll_read.new.self)
     (of_count c.poll_read.result _ _ 0 (cc (c.in-Ready-Ok-eq0.is, c.in-Ready-Ok-eq0.field-0-is)) refl) c.poll_read.ensures.moved)
@@ -23,7 +23,7 @@ returns-in-Ready-Ok-eq0-clause-follows g c start role own first asked gave stays
 
 pub returns-in-Ready-Err-clause-follows : goal.returns-in-Ready-Err-clause-follows
 returns-in-Ready-Err-clause-follows g c start role own first asked gave stays = record {
-  follows = stays_failed g.L.Link g.P.Protocols g.P.H.Handler start role own g.met.L.Link.moves_on g.met.L.Link.stays_ended first asked gave c.args.self.now.link c.poll_read.new.self c.args.self.now.core c.args.self.now.unsent []
+  follows = stays_failed g.L.Link g.P.Protocols g.P.H.Handler start role own g.met.L.Link.moves_on g.met.L.Link.stays_ended first asked gave c.args.self.now.link c.poll_read.new.self c.args.self.now.core c.args.self.now.unsent.items []
       c.args.self.now.held.items c.args.self.now.stage (ap is_live c.requires.going) c.requires.none_held stays
       (subst (λ (l : List ℕ). g.L.Link.moves c.args.self.now.link l [] c.poll_read.new.self)
       (of_fault c.poll_read.result _ c.in-Ready-Err._fault (cc (c.in-Ready-Err.is, c.in-Ready-Err.field-0-is))) c.poll_read.ensures.moved)
@@ -34,7 +34,7 @@ returns-in-Ready-Err-clause-follows g c start role own first asked gave stays = 
 
 pub returns-in-Pending-clause-follows : goal.returns-in-Pending-clause-follows
 returns-in-Pending-clause-follows g c start role own first asked gave stays = record {
-  follows = stays_pending g.L.Link g.P.Protocols g.P.H.Handler start role own g.met.L.Link.moves_on g.met.L.Link.stays_ended first asked gave c.args.self.now.link c.poll_read.new.self c.args.self.now.core c.args.self.now.unsent
+  follows = stays_pending g.L.Link g.P.Protocols g.P.H.Handler start role own g.met.L.Link.moves_on g.met.L.Link.stays_ended first asked gave c.args.self.now.link c.poll_read.new.self c.args.self.now.core c.args.self.now.unsent.items
       c.args.self.now.held.items c.args.self.now.stage (ap is_live c.requires.going) stays
       (subst (λ (l : List ℕ). g.L.Link.moves c.args.self.now.link l [] c.poll_read.new.self)
       (of_pending c.poll_read.result _ c.in-Pending.is) c.poll_read.ensures.moved)
@@ -46,7 +46,7 @@ returns-in-Pending-clause-follows g c start role own first asked gave stays = re
 pub returns-in-Ready-Ok-clause-follows : goal.returns-in-Ready-Ok-clause-follows
 returns-in-Ready-Ok-clause-follows g c start role own first asked gave stays =
     c.hear.ensures.follows start role own first asked gave c.args.self.now.link
-    (goes_none g.L.Link g.P.Protocols g.P.H.Handler start role own first asked gave c.args.self.now.link c.args.self.now.core c.args.self.now.unsent c.args.self.now.held.items c.args.self.now.stage
+    (goes_none g.L.Link g.P.Protocols g.P.H.Handler start role own first asked gave c.args.self.now.link c.args.self.now.core c.args.self.now.unsent.items c.args.self.now.held.items c.args.self.now.stage
     c.requires.going c.requires.none_held stays)
     (subst (λ (l : List ℕ). g.L.Link.moves c.args.self.now.link l [] c.poll_read.new.self)
     (of_count c.poll_read.result c.poll_read.new.buffer _ c.in-Ready-Ok.count (cc (c.in-Ready-Ok.is, c.in-Ready-Ok.field-0-is))
@@ -89,31 +89,31 @@ returns-in-Ready-Ok-clause-came g c over = inr record {
 
 pub returns-in-Ready-Ok-eq0-clause-called : goal.returns-in-Ready-Ok-eq0-clause-called
 returns-in-Ready-Ok-eq0-clause-called g c waited first before count it =
-    let none = none_left g.L.Link.calls c.args.waits.now waited (length c.args.self.now.unsent) first before c.args.self.now.link c.args.cx.now count it (λ is. ap length (c.requires.written is)) in
-    subst (λ l. Makes g.L.Link.calls c.args.waits.now waited (length c.end.new.self.unsent) first before l c.poll_read.new.cx (count + 1)) (sym c.end.ensures.link)
-    (answered_on g.L.Link.calls g.met.L.Link.calls_on c.args.waits.now waited (length c.args.self.now.unsent) (length c.end.new.self.unsent) first c.args.self.now.link c.poll_read.new.self before c.args.cx.now c.poll_read.new.cx count
+    let none = none_left g.L.Link.calls c.args.waits.now waited (length c.args.self.now.unsent.items) first before c.args.self.now.link c.args.cx.now count it (λ is. ap length (c.requires.written is)) in
+    subst (λ l. Makes g.L.Link.calls c.args.waits.now waited (length c.end.new.self.unsent.items) first before l c.poll_read.new.cx (count + 1)) (sym c.end.ensures.link)
+    (answered_on g.L.Link.calls g.met.L.Link.calls_on c.args.waits.now waited (length c.args.self.now.unsent.items) (length c.end.new.self.unsent.items) first c.args.self.now.link c.poll_read.new.self before c.args.cx.now c.poll_read.new.cx count
     (call_of Reads (length c.as_mut_slice.result.now) c.poll_read.result c.args.cx.now c.poll_read.new.cx) it (it.reading c.requires.can_wait) (inr (rw c.as_mut_slice.ensures.value c.args.self.now.has_room))
     (ap is_pending c.in-Ready-Ok-eq0.is) (λ shuts. cc shuts) refl c.poll_read.ensures.called (λ kind. none) (λ is. omega (arith, none)) (λ is. none))
 
 pub returns-in-Ready-Ok-clause-called : goal.returns-in-Ready-Ok-clause-called
 returns-in-Ready-Ok-clause-called g c waited first before count it =
-    let none = none_left g.L.Link.calls c.args.waits.now waited (length c.args.self.now.unsent) first before c.args.self.now.link c.args.cx.now count it (λ is. ap length (c.requires.written is)) in
-    subst (λ l. Makes g.L.Link.calls c.args.waits.now waited (length c.hear.new.self.unsent) first before l c.poll_read.new.cx (count + 1)) (sym c.hear.ensures.link)
-    (answered_on g.L.Link.calls g.met.L.Link.calls_on c.args.waits.now waited (length c.args.self.now.unsent) (length c.hear.new.self.unsent) first c.args.self.now.link c.poll_read.new.self before c.args.cx.now c.poll_read.new.cx count
+    let none = none_left g.L.Link.calls c.args.waits.now waited (length c.args.self.now.unsent.items) first before c.args.self.now.link c.args.cx.now count it (λ is. ap length (c.requires.written is)) in
+    subst (λ l. Makes g.L.Link.calls c.args.waits.now waited (length c.hear.new.self.unsent.items) first before l c.poll_read.new.cx (count + 1)) (sym c.hear.ensures.link)
+    (answered_on g.L.Link.calls g.met.L.Link.calls_on c.args.waits.now waited (length c.args.self.now.unsent.items) (length c.hear.new.self.unsent.items) first c.args.self.now.link c.poll_read.new.self before c.args.cx.now c.poll_read.new.cx count
     (call_of Reads (length c.as_mut_slice.result.now) c.poll_read.result c.args.cx.now c.poll_read.new.cx) it (it.reading c.requires.can_wait) (inr (rw c.as_mut_slice.ensures.value c.args.self.now.has_room))
     (ap is_pending c.in-Ready-Ok.is) (λ shuts. cc shuts) refl c.poll_read.ensures.called (λ kind. none) (λ is. omega (arith, none)) (λ is. none))
 
 pub returns-in-Ready-Err-clause-called : goal.returns-in-Ready-Err-clause-called
 returns-in-Ready-Err-clause-called g c waited first before count it =
-    let none = none_left g.L.Link.calls c.args.waits.now waited (length c.args.self.now.unsent) first before c.args.self.now.link c.args.cx.now count it (λ is. ap length (c.requires.written is)) in
-    answered_on g.L.Link.calls g.met.L.Link.calls_on c.args.waits.now waited (length c.args.self.now.unsent) (length c.none.result) first c.args.self.now.link c.poll_read.new.self before c.args.cx.now c.poll_read.new.cx count
+    let none = none_left g.L.Link.calls c.args.waits.now waited (length c.args.self.now.unsent.items) first before c.args.self.now.link c.args.cx.now count it (λ is. ap length (c.requires.written is)) in
+    answered_on g.L.Link.calls g.met.L.Link.calls_on c.args.waits.now waited (length c.args.self.now.unsent.items) (length c.new.result.items) first c.args.self.now.link c.poll_read.new.self before c.args.cx.now c.poll_read.new.cx count
     (call_of Reads (length c.as_mut_slice.result.now) c.poll_read.result c.args.cx.now c.poll_read.new.cx) it (it.reading c.requires.can_wait) (inr (rw c.as_mut_slice.ensures.value c.args.self.now.has_room))
     (ap is_pending c.in-Ready-Err.is) (λ shuts. cc shuts) refl c.poll_read.ensures.called (λ kind. none) (λ is. omega (arith, none)) (λ is. none)
 
 pub returns-in-Pending-clause-called : goal.returns-in-Pending-clause-called
 returns-in-Pending-clause-called g c waited first before count it =
-    let none = none_left g.L.Link.calls c.args.waits.now waited (length c.args.self.now.unsent) first before c.args.self.now.link c.args.cx.now count it (λ is. ap length (c.requires.written is)) in
-    made_on g.L.Link.calls g.met.L.Link.calls_on c.args.waits.now (record c.args.waits.now { reading = true }) waited (length c.args.self.now.unsent) (length c.args.self.now.unsent) first c.args.self.now.link c.poll_read.new.self before c.args.cx.now c.poll_read.new.cx count
+    let none = none_left g.L.Link.calls c.args.waits.now waited (length c.args.self.now.unsent.items) first before c.args.self.now.link c.args.cx.now count it (λ is. ap length (c.requires.written is)) in
+    made_on g.L.Link.calls g.met.L.Link.calls_on c.args.waits.now (record c.args.waits.now { reading = true }) waited (length c.args.self.now.unsent.items) (length c.args.self.now.unsent.items) first c.args.self.now.link c.poll_read.new.self before c.args.cx.now c.poll_read.new.cx count
     (call_of Reads (length c.as_mut_slice.result.now) c.poll_read.result c.args.cx.now c.poll_read.new.cx) it (it.reading c.requires.can_wait) (inr (rw c.as_mut_slice.ensures.value c.args.self.now.has_room)) refl c.poll_read.ensures.called
     (λ kind. none) (λ is. omega (arith, none)) (λ is. none)
     (λ is. absurd (cc is)) (λ is. (is, λ kind. absurd (cc kind))) (λ shuts. cc shuts)

@@ -9,7 +9,7 @@ use Rattle.conn_future.proofs.conn.Conn.starve.Goals as goal
 pub returns-clause-follows : goal.returns-clause-follows
 returns-clause-follows g c start role own first asked gave parts =
     let stays =
-    parts_stay g.L.Link g.P.Protocols g.P.H.Handler start role own first asked gave c.args.self.now.link c.stop.new.self.link c.args.self.now.core c.stop.new.self.core c.stop.new.self.unsent
+    parts_stay g.L.Link g.P.Protocols g.P.H.Handler start role own first asked gave c.args.self.now.link c.stop.new.self.link c.args.self.now.core c.stop.new.self.core c.stop.new.self.unsent.items
     c.args.self.now.held.items c.stop.new.self.held.items c.stop.new.self.stage c.stop.ensures.stage c.stop.ensures.link c.stop.ensures.core (ap (λ h. h.items) c.stop.ensures.held) parts in record {
       follows = c.give.ensures.follows start role own first asked gave stays;
       not_link = λ is. c.give.ensures.not_link start role own first asked gave stays (cc is);

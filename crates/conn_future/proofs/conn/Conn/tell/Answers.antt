@@ -11,13 +11,13 @@ returns-then-is_over-clause-follows g c start role own first asked gave ended jo
     let over = sym c.is_over.ensures ∙ c.if-is_over.true in
     let stays =
     told_stays g.L.Link g.P.Protocols g.P.H.Handler start role own first asked gave ended c.args.self.now.link c.stop.new.self.link c.args.self.now.core c.stop.new.self.core
-    c.args.self.now.unsent c.stop.new.self.unsent c.args.events.items c.stop.new.self.held.items c.stop.new.self.stage c.stop.ensures.stage c.stop.ensures.link c.stop.ensures.core
+    c.args.self.now.unsent.items c.stop.new.self.unsent.items c.args.events.items c.stop.new.self.held.items c.stop.new.self.stage c.stop.ensures.stage c.stop.ensures.link c.stop.ensures.core
     (ap (λ h. h.items) c.stop.ensures.held ∙ c.from.ensures.0) over joins in record {
       follows = c.give.ensures.follows start role own first asked gave stays;
       not_link = λ is. c.give.ensures.not_link start role own first asked gave stays (cc is);
       not_none = λ is.
           some_given c.stop.new.self.held.items c.give.result (λ x rest held. (c.give.ensures.held x rest held).0)
-          (λ none. tells_some g.L.Link g.P.Protocols g.P.H.Handler start role own first asked gave ended c.args.self.now.link c.args.self.now.core c.args.self.now.unsent c.args.events.items joins unended
+          (λ none. tells_some g.L.Link g.P.Protocols g.P.H.Handler start role own first asked gave ended c.args.self.now.link c.args.self.now.core c.args.self.now.unsent.items c.args.events.items joins unended
           over (sym (ap (λ h. h.items) c.stop.ensures.held ∙ c.from.ensures.0) ∙ none)) (cc is);
     }
 
@@ -25,10 +25,10 @@ pub returns-in_default-clause-follows : goal.returns-in_default-clause-follows
 returns-in_default-clause-follows g c start role own first asked gave ended joins ends unended =
     c.starve.ensures.follows start role own first asked gave
     (parts_of g.L.Link g.P.Protocols g.P.H.Handler start role own first asked [] gave ended c.args.self.now.link c.collect.new.self.link c.args.self.now.core c.collect.new.self.core
-    c.args.self.now.unsent (waiting_in c.args.self.now.core.phase c.args.self.now.core.output.items) c.args.events.items
+    c.args.self.now.unsent.items (waiting_in c.args.self.now.core.phase c.args.self.now.core.output.items) c.args.events.items
     c.collect.new.self.held.items c.collect.ensures.link (ap (λ h. h.items) c.collect.ensures.held ∙ c.from.ensures.0) (sym c.is_over.ensures ∙ c.if-is_over.false)
     (λ input taken stood _. unopened g.L.Link g.P.Protocols g.P.H.Handler start role own input ended asked (gave ++ c.args.events.items)
-    (taken ++ (c.args.self.now.unsent ++ waiting_in c.args.self.now.core.phase c.args.self.now.core.output.items)) c.collect.new.self.core
+    (taken ++ (c.args.self.now.unsent.items ++ waiting_in c.args.self.now.core.phase c.args.self.now.core.output.items)) c.collect.new.self.core
     (c.in_default.ensures.lost start role own input taken ended asked (gave ++ c.args.events.items) stood)) joins)
 
 pub returns-then-is_empty-clause-follows : goal.returns-then-is_empty-clause-follows
@@ -36,14 +36,14 @@ returns-then-is_empty-clause-follows g c start role own first asked gave ended j
     let goes_on : is_over c.args.self.now.core.phase ≡ false = sym c.is_over.ensures ∙ c.if-is_over.false in
     let going : ended ≡ false = not_true ended (λ is. absurd (cc (ends is, goes_on))) in
     let stays =
-    going_stays g.L.Link g.P.Protocols g.P.H.Handler start role own first asked gave c.collect.new.self.link c.collect.new.self.core c.collect.new.self.unsent c.collect.new.self.held.items
+    going_stays g.L.Link g.P.Protocols g.P.H.Handler start role own first asked gave c.collect.new.self.link c.collect.new.self.core c.collect.new.self.unsent.items c.collect.new.self.held.items
     c.collect.new.self.stage (c.collect.ensures.stage ∙ c.requires)
     (goes_collected g.L.Link g.P.Protocols g.P.H.Handler start role own first asked gave ended c.args.self.now.link c.collect.new.self.link c.args.self.now.core c.collect.new.self.core
-    c.args.self.now.unsent c.collect.new.self.unsent c.args.events.items c.collect.new.self.held.items
+    c.args.self.now.unsent.items c.collect.new.self.unsent.items c.args.events.items c.collect.new.self.held.items
     (λ input taken end told stood. c.in-Ok.ensures.stands start role own input taken end asked told stood)
     c.collect.ensures.link (ap (λ h. h.items) c.collect.ensures.held ∙ c.from.ensures.0) going
     (c.collect.ensures.over ∙ goes_on) c.collect.ensures.none_waits joins) in record {
-      follows = stays_none g.L.Link g.P.Protocols g.P.H.Handler start role own first asked gave c.collect.new.self.link c.collect.new.self.core c.collect.new.self.unsent c.collect.new.self.held.items
+      follows = stays_none g.L.Link g.P.Protocols g.P.H.Handler start role own first asked gave c.collect.new.self.link c.collect.new.self.core c.collect.new.self.unsent.items c.collect.new.self.held.items
           c.collect.new.self.held.items c.collect.new.self.stage refl stays;
       not_link = λ is. absurd (cc is);
       not_none = λ is. absurd (cc is);
@@ -54,10 +54,10 @@ returns-clause-follows g c start role own first asked gave ended joins ends unen
     let goes_on : is_over c.args.self.now.core.phase ≡ false = sym c.is_over.ensures ∙ c.if-is_over.false in
     let going : ended ≡ false = not_true ended (λ is. absurd (cc (ends is, goes_on))) in
     let stays =
-    going_stays g.L.Link g.P.Protocols g.P.H.Handler start role own first asked gave c.collect.new.self.link c.collect.new.self.core c.collect.new.self.unsent c.collect.new.self.held.items
+    going_stays g.L.Link g.P.Protocols g.P.H.Handler start role own first asked gave c.collect.new.self.link c.collect.new.self.core c.collect.new.self.unsent.items c.collect.new.self.held.items
     c.collect.new.self.stage (c.collect.ensures.stage ∙ c.requires)
     (goes_collected g.L.Link g.P.Protocols g.P.H.Handler start role own first asked gave ended c.args.self.now.link c.collect.new.self.link c.args.self.now.core c.collect.new.self.core
-    c.args.self.now.unsent c.collect.new.self.unsent c.args.events.items c.collect.new.self.held.items
+    c.args.self.now.unsent.items c.collect.new.self.unsent.items c.args.events.items c.collect.new.self.held.items
     (λ input taken end told stood. c.in-Ok.ensures.stands start role own input taken end asked told stood)
     c.collect.ensures.link (ap (λ h. h.items) c.collect.ensures.held ∙ c.from.ensures.0) going
     (c.collect.ensures.over ∙ goes_on) c.collect.ensures.none_waits joins) in record {

@@ -1,0 +1,186 @@
+//! The end of a stream's data is told to a handler that gave what it has by all that came before, also where one frame
+//! carries both: the credit for its last byte, or the data that it answers.
+
+ghost use Rattle.std.specs.Prelude.{◌≡◌, [], ◌∷◌, ⊤, ◌==◌, ◌&&◌, false, codes};
+
+use crate::stopping::{Why, why_broken};
+use conn_core::ConnCore;
+use conn_log::ConnEvent;
+use handlers::{Handler, HandlerFault, Protocols};
+use peer_ids::{PeerId, PublicKey};
+use std::alloc::{AllocError, Global};
+use std::test::*;
+use upgrade::ConnRole;
+
+/// A handler that gives as many bytes as it owes, and one more for each that it takes. Once it has given some and owes
+/// none its work is done. It fails at an end before that.
+#[derive(Drop)]
+struct Owing {
+    alloc: Global,
+    owed: usize,
+    gave: bool,
+}
+
+impl Handler for Owing {
+    ghost steps = { λ _ _ _. ⊤ };
+
+    ghost fails = { λ _ _ _. ⊤ };
+
+    ghost is_closed = { λ handler. handler.gave && (handler.owed == 0) };
+
+    ghost is_finished = { λ handler. handler.gave && (handler.owed == 0) };
+
+    fn take(&mut self, bytes: &[u8]) -> Result<(), HandlerFault> {
+        self.owed = self.owed.saturating_add(bytes.len());
+        Ok(())
+    }
+
+    fn end(&mut self) -> Result<(), HandlerFault> {
+        if self.finished() {
+            return Ok(());
+        }
+        Err(HandlerFault { number: 7 })
+    }
+
+    fn give(&mut self, room: usize) -> Result<Vec<u8>, HandlerFault> {
+        let count = room.min(self.owed);
+        let mut bytes = Vec::new(self.alloc);
+        if bytes.resize(count, 0).is_err() {
+            return Err(HandlerFault { number: 8 });
+        }
+        self.owed -= count;
+        self.gave = self.gave || count > 0;
+        Ok(bytes)
+    }
+
+    fn closed(&self) -> bool {
+        self.gave && self.owed == 0
+    }
+
+    fn finished(&self) -> bool {
+        self.gave && self.owed == 0
+    }
+}
+
+/// The protocol `/mute`, and no other. Its handlers owe so many bytes.
+#[derive(Drop)]
+struct Owings {
+    alloc: Global,
+    owed: usize,
+}
+
+impl Owings {
+    fn make(&self) -> Owing {
+        Owing {
+            alloc: self.alloc,
+            owed: self.owed,
+            gave: false,
+        }
+    }
+}
+
+static NAMES: [&str; 1] = ["/mute"];
+
+impl Protocols for Owings {
+    type H = Owing;
+
+    ghost listed = { λ _. codes "/mute" ∷ [] };
+
+    ghost is_eager = { λ _ _. false };
+
+    ghost makes_inbound = { λ _ _ _ _. ⊤ };
+
+    ghost makes_outbound = { λ _ _ _ _. ⊤ };
+
+    ghost leads_inbound = { λ old _ _ _ new. new ≡ old };
+
+    ghost leads_outbound = { λ old _ _ _ new. new ≡ old };
+
+    fn names(&self) -> &[&str] {
+        &NAMES
+    }
+
+    fn eager(&self, _index: usize) -> bool {
+        false
+    }
+
+    fn inbound(&mut self, _index: usize, _peer: PeerId) -> Result<Owing, AllocError> {
+        Ok(self.make())
+    }
+
+    fn outbound(&mut self, _index: usize, _peer: PeerId) -> Result<Owing, AllocError> {
+        Ok(self.make())
+    }
+}
+
+/// The key of this end, and all that the other end sends in the upgrade, with a Secp256k1 key of one byte.
+const KEY: &[u8] = b"\x08\x02\x12\x01\x05";
+
+const OTHER: &[u8] = b"\x13/multistream/1.0.0\n\x11/plaintext/2.0.0\n\
+    \x10\x0a\x07\0\x05\x08\x02\x12\x01\x06\x12\x05\x08\x02\x12\x01\x06\x13/multistream/1.0.0\n\x0d/yamux/1.0.0\n";
+
+/// The other end opens the stream 1 for `/mute`.
+const OPENS: &[u8] = b"\0\0\0\x01\0\0\0\x01\0\0\0\x1b\x13/multistream/1.0.0\n\x06/mute\n";
+
+/// The room of a handler: the window of a stream, but for the 27 bytes of this end's talk.
+const ROOM: usize = 262_117;
+
+/// A window update of one byte, and three bytes of data, each with the end of the stream's data.
+const CREDIT_AND_END: &[u8] = b"\0\x01\0\x04\0\0\0\x01\0\0\0\x01";
+
+const DATA_AND_END: &[u8] = b"\0\0\0\x04\0\0\0\x01\0\0\0\x03abc";
+
+/// The same without the end, and the end alone.
+const CREDIT: &[u8] = b"\0\x01\0\0\0\0\0\x01\0\0\0\x01";
+
+const END: &[u8] = b"\0\x01\0\x04\0\0\0\x01\0\0\0\0";
+
+/// What is told of the stream 1.
+#[derive(Clone, Copy, Debug, PartialEq, Eq)]
+enum Told {
+    Nothing,
+    Done,
+    Broken(Why),
+    Other,
+}
+
+fn only_told(events: &[ConnEvent<Owing>]) -> Told {
+    match events.first() {
+        None => Told::Nothing,
+        Some(ConnEvent::Done(1, _)) if events.len() == 1 => Told::Done,
+        Some(ConnEvent::Broken(1, cause)) if events.len() == 1 => Told::Broken(why_broken(*cause)),
+        Some(_) => Told::Other,
+    }
+}
+
+/// What a handler owes at first, the piece that comes once it has given what there was room for, and what is told.
+type Row = (usize, &'static [u8], Told);
+
+const ROWS: [Row; 6] = [
+    (ROOM + 1, CREDIT_AND_END, Told::Done),
+    (ROOM + 2, CREDIT_AND_END, Told::Broken(Why::Handler(7))),
+    (ROOM + 1, CREDIT, Told::Done),
+    (ROOM + 1, END, Told::Broken(Why::Handler(7))),
+    (0, DATA_AND_END, Told::Done),
+    (0, END, Told::Broken(Why::Handler(7))),
+];
+
+fn told_of(alloc: Global, owed: usize, piece: &[u8]) -> Option<Told> {
+    let key = PublicKey::read(alloc, KEY).ok()?;
+    let mut core = ConnCore::new(alloc, ConnRole::Listener, key, Owings { alloc, owed }).ok()?;
+    core.feed(OTHER).ok()?;
+    core.feed(OPENS).ok()?;
+    let events = core.feed(piece).ok()?;
+    Some(only_told(&events))
+}
+
+#[test]
+fn a_handler_gives_before_it_hears_the_end(rt: HostRuntime) -> Result<(), Fail> {
+    let alloc = rt.alloc();
+    for row in &ROWS {
+        let (owed, piece, told) = *row;
+        let found = told_of(alloc, owed, piece);
+        assert_eq!(rt; found, Some(told));
+    }
+    Ok(())
+}
