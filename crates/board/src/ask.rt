@@ -17,12 +17,14 @@ ghost use Rattle.dispatch.specs.Dispatch.{makes_once};
 ghost use Rattle.conn_log.specs.Entries.{Entry, items};
 ghost use Rattle.conn_log.specs.Rests.{AreAtRest};
 ghost use Rattle.conn_log.specs.Asked.{Asked, IsEarly, IsRefusedAs};
+ghost use Rattle.held_order.specs.Orders.{with_if};
 ghost use Rattle.board.specs.Boards.{Keeps, MakesOnBoard};
 
 use crate::board::{Board, insert};
 use conn_log::{ConnEvent, ConnRefused};
 use dispatch::Direction;
 use handlers::Protocols;
+use held_order::HeldOrder;
 use peer_ids::PeerId;
 use routing::deliver_credit;
 use std::alloc::{AllocError, Global};
@@ -86,6 +88,16 @@ fn asking<P: Protocols>(
     }
 }
 
+/// The newest handler is that of this stream, where one was made as the stream was asked for.
+fn make(order: &mut HeldOrder, number: u32, was_made: bool) -> Result<(), AllocError>
+    ensures { OnOk result (order.new ≡ with_if was_made number order.old) }
+{
+    if was_made {
+        return order.make(number);
+    }
+    Ok(())
+}
+
 impl<P: Protocols> Board<P> {
     /// Begins to serve the stream of this number, which was just opened for the protocol of this index.
     fn begin(
@@ -111,10 +123,12 @@ impl<P: Protocols> Board<P> {
     {
         acts_tell();
         let handler = early(&mut self.protocols, index, self.peer)?;
+        let is_held = handler.is_some();
+        make(&mut self.order, number, is_held)?;
         let mut stream = asking(alloc, &self.protocols, index, handler)?;
         let outcome = deliver_credit(session, number, &mut stream)?;
         insert(&mut self.streams, number, stream)?;
-        self.settle(session, number, outcome, owed)
+        self.settle(session, number, outcome, is_held, owed)
     }
 
     /// Opens a stream of this end's own for the protocol of this index, and tells its number. Where the protocol is

@@ -1,7 +1,7 @@
 //! The streams of a connection.
 
 ghost use Rattle.std.specs.Prelude.{◌≡◌, ◌≢◌, ℕ, ◌==◌, if◌then◌else◌, true, false, List, [], ◌∷◌, ◌++◌, map};
-ghost use Rattle.std.specs.Prelude.{Some, None, OnOk, IfSome, IsSome};
+ghost use Rattle.std.specs.Prelude.{Some, None, OnOk, IfOk, IfSome, IsSome, is_some, not, ◌&&◌, ◌||◌};
 ghost use Rattle.std.specs.List.{AllByRecursion};
 ghost use Rattle.std.specs.Ordering.{nat_cmp};
 ghost use Rattle.std.specs.BTreeMap as tree;
@@ -14,12 +14,14 @@ ghost use Rattle.conn_log.specs.Due.{direction_of, IsGivenUp, told_reset};
 ghost use Rattle.conn_log.specs.Held.{IsHeld};
 ghost use Rattle.conn_log.specs.Routes.{IsNoData, Around, Routes, Routed, Comes, Resets, set_aside};
 ghost use Rattle.conn_log.specs.Asked.{told_of};
+ghost use Rattle.held_order.specs.Orders.{with_if, without_if};
 ghost use Rattle.board.specs.Boards.{Keeps, MakesOnBoard};
 ghost use Rattle.board.specs.Resets.{told_of_reset};
 
 use conn_log::{ConnEvent, Earlier};
 use dispatch::Direction;
 use handlers::{Handler, Protocols};
+use held_order::HeldOrder;
 use peer_ids::PeerId;
 use routing::{Outcome, deliver, deliver_credit, deliver_end};
 use std::alloc::{AllocError, Global};
@@ -42,6 +44,8 @@ pub struct Board<P: Protocols> {
     pub streams: BTreeMap<u32, Stream<P::H>>,
     /// Streams of earlier openings, in the order in which their numbers were opened anew.
     pub past: Vec<Earlier<P::H>>,
+    /// The order in which the handlers that are held were made.
+    pub order: HeldOrder,
 }
 
 /// This end opened the streams that have its numbers.
@@ -63,6 +67,34 @@ fn reset(session: &mut Session, number: u32) -> Result<(), AllocError>
         Ok(()) => Ok(()),
         Err(ActRefused::NoStream) => Ok(()),
         Err(_) => Err(AllocError),
+    }
+}
+
+/// Where both ends agree by now, the handler of this stream was made then, unless it was held before. Answers whether
+/// one is held now.
+fn agree(
+    order: &mut HeldOrder,
+    number: u32,
+    was_held: bool,
+    agreed: Option<usize>,
+) -> Result<bool, AllocError>
+    ensures order { IfOk result (λ is_held. order.new
+        ≡ with_if (is_some agreed && not was_held) number order.old) }
+    ensures held { IfOk result (λ is_held. is_held ≡ (was_held || is_some agreed)) }
+{
+    if was_held || agreed.is_none() {
+        return Ok(was_held);
+    }
+    order.make(number)?;
+    Ok(true)
+}
+
+/// The newest handler of this stream is held no more, where one was made for it since its opening.
+fn let_go(order: &mut HeldOrder, number: u32, was_made: bool)
+    ensures { order.new ≡ without_if was_made number order.old }
+{
+    if was_made {
+        order.let_go(number);
     }
 }
 
@@ -148,12 +180,14 @@ impl<P: Protocols> Board<P> {
         reset(session, number)
     }
 
-    /// Tells what a stream came to, and gives it up where it goes on no more.
+    /// Tells what a stream came to, and gives it up where it goes on no more. A handler that was made for it since its
+    /// opening goes then.
     pub(crate) fn settle(
         &mut self,
         session: &mut Session,
         number: u32,
         outcome: Outcome<P::H>,
+        is_held: bool,
         told: &mut Vec<ConnEvent<P::H>>,
     ) -> Result<(), AllocError>
         ensures keeps { Keeps P.listed P.is_eager self.old self.new }
@@ -163,6 +197,7 @@ impl<P: Protocols> Board<P> {
             → Comes P.H.steps P.H.fails P.H.is_closed P.H.is_finished P.makes_inbound P.makes_outbound
             (P.is_eager self.old.protocols) (P.listed self.old.protocols) self.old.peer self.old.role log fed sent
             session.old (tree.get nat_cmp self.old.streams) self.old.past.items number view rest outcome
+            → (is_over self.old.role log number ≡ false → is_held ≡ is_some (made_of self.old.role log number))
             → OnOk result (Routed P.H.steps P.H.fails P.H.is_closed P.H.is_finished P.makes_inbound P.makes_outbound
             (P.is_eager self.old.protocols) (P.listed self.old.protocols) self.old.peer self.old.role
             (MakesOnBoard P.leads_inbound P.leads_outbound self.old self.new) log told.old.items told.new.items fed sent
@@ -170,12 +205,17 @@ impl<P: Protocols> Board<P> {
     {
         match outcome {
             Outcome::Going => Ok(()),
-            Outcome::Done(handler) => tell(told, ConnEvent::Done(number, handler)),
+            Outcome::Done(handler) => {
+                let_go(&mut self.order, number, is_held);
+                tell(told, ConnEvent::Done(number, handler))
+            }
             Outcome::Refused => {
+                let_go(&mut self.order, number, is_held);
                 self.give_up(session, number)?;
                 tell(told, ConnEvent::Refused(number))
             }
             Outcome::Broken(cause) => {
+                let_go(&mut self.order, number, is_held);
                 self.give_up(session, number)?;
                 tell(told, ConnEvent::Broken(number, cause))
             }
@@ -213,8 +253,9 @@ impl<P: Protocols> Board<P> {
         let Some(stream) = self.streams.get_mut(&number) else {
             return Ok(());
         };
+        let is_held = stream.holds_handler();
         let outcome = deliver_credit(session, number, stream)?;
-        self.settle(session, number, outcome, told)
+        self.settle(session, number, outcome, is_held, told)
     }
 
     /// Routes the other end's opening of a stream: the stream answers, with all names of the connection. That of an
@@ -296,8 +337,9 @@ impl<P: Protocols> Board<P> {
         let Some(stream) = self.streams.get_mut(&number) else {
             return Ok(());
         };
+        let is_held = stream.holds_handler();
         let outcome = deliver_end(session, number, stream)?;
-        self.settle(session, number, outcome, told)
+        self.settle(session, number, outcome, is_held, told)
     }
 
     /// Routes the other end's reset to its stream, which is given up, unless its handler was handed out before.
@@ -324,6 +366,7 @@ impl<P: Protocols> Board<P> {
         if stream.was_handed_out() {
             return Ok(());
         }
+        let_go(&mut self.order, number, stream.holds_handler());
         tell(told, ConnEvent::Broken(number, Cause::Reset))
     }
 
@@ -354,6 +397,7 @@ impl<P: Protocols> Board<P> {
         let Some(stream) = self.streams.get_mut(&number) else {
             return Ok(());
         };
+        let was_held = stream.holds_handler();
         let delivered = deliver(
             session,
             number,
@@ -363,7 +407,8 @@ impl<P: Protocols> Board<P> {
             stream,
             bytes,
         )?;
+        let is_held = agree(&mut self.order, number, was_held, delivered.agreed)?;
         tell_agreement(told, number, delivered.agreed)?;
-        self.settle(session, number, delivered.outcome, told)
+        self.settle(session, number, delivered.outcome, is_held, told)
     }
 }

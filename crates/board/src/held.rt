@@ -1,8 +1,9 @@
 //! The handlers that are held still.
 
-ghost use Rattle.std.specs.Prelude.{◌≡◌, ◌++◌, OnOk, IfOk};
+ghost use Rattle.std.specs.Prelude.{◌≡◌, ◌++◌, OnOk, IfOk, reverse};
 ghost use Rattle.std.specs.Ordering.{nat_cmp};
 ghost use Rattle.std.specs.BTreeMap as tree;
+ghost use Rattle.held_order.specs.Orders.{arranged};
 ghost use Rattle.board.specs.Handlers.{numbered, handlers_of, handlers_past};
 ghost use Rattle.streams.specs.State.{handler_of};
 
@@ -56,17 +57,21 @@ fn add_table<H: Handler>(
 }
 
 impl<P: Protocols> Board<P> {
-    /// The handlers that are held still, each with the number of its stream: first those of earlier openings, in the
-    /// order in which their numbers were opened anew, and then the others by their numbers.
+    /// The handlers that are held still, each with the number of its stream, in the order in which they were made.
     pub fn into_handlers(self, alloc: Global) -> Result<Vec<(u32, P::H)>, AllocError>
-        ensures held { IfOk result (λ held. held.items ≡ handlers_past self.past.items ++ handlers_of
-            self.streams.entries) }
+        ensures held { IfOk result (λ held. held.items ≡ arranged (reverse self.order)
+            (handlers_past self.past.items ++ handlers_of self.streams.entries)) }
         ensures ordered { tree.IsOrdered nat_cmp self.streams }
     {
-        let Self { streams, past, .. } = self;
+        let Self {
+            streams,
+            past,
+            order,
+            ..
+        } = self;
         let mut held = Vec::new(alloc);
         add_past(&mut held, past)?;
         add_table(&mut held, streams)?;
-        Ok(held)
+        order.arrange(alloc, held)
     }
 }

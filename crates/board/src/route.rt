@@ -69,6 +69,7 @@ impl<P: Protocols> Board<P> {
     fn let_go(&mut self, session: &Session, number: u32)
         ensures keeps { Keeps P.listed P.is_eager self.old self.new }
         ensures made { self.new.protocols ≡ self.old.protocols }
+        ensures order { self.new.order ≡ self.old.order }
         ensures rests { (log : List (Entry P.H)) (fed sent : List ℕ)
             → AreAtRest P.H.steps P.H.fails P.H.is_closed P.H.is_finished P.makes_inbound P.makes_outbound
             (P.is_eager self.old.protocols) (P.listed self.old.protocols) self.old.peer self.old.role log fed sent

@@ -12,12 +12,13 @@ use Rattle.streams.specs.State.{Streaming}
 use Rattle.conn_log.specs.declared.earlier.Earlier.{Earlier}
 use Rattle.conn_log.specs.declared.event.ConnEvent.{ConnEvent}
 use Rattle.conn_log.specs.declared.event.ConnEvent.TheVariants as event
-use Rattle.conn_log.specs.Making.{MakesOn}
 use Rattle.conn_log.specs.Entries.{items, said, asks}
 use Rattle.conn_log.specs.Entries.Entry.{Asks}
 use Rattle.conn_log.specs.Asked.{Asked}
 use Rattle.conn_log.proofs.Settling.{said_append, asks_append}
 use Rattle.conn_log.proofs.Early.{early_asked}
+use Rattle.held_order.specs.Orders.{newest_held}
+use Rattle.board.specs.Boards.{MakesInOrder}
 use Rattle.conn_core.specs.Connects.{IsUp, session_role}
 
 pub refused_none : {A E : Type 0} (Q : A → Type 0) (r : Result A E) (why : E) → r ≡ Err why → IfOk r Q
@@ -39,14 +40,15 @@ module _ {P H : Type 0} (step : H → HandlerCall → H → Type 0) (fails : H �
   pub up_asked : (input : List ℕ) (asked : List (ℕ × ℕ)) (number index : ℕ) (before old new : List (ConnEvent H)) (written : List ℕ) (session between after : State)
       (streams later : ℕ → Option (Streaming H)) (past last : List (Earlier H))
       (up : IsUp step fails is_closed is_finished inbound_makes outbound_makes listed is_eager inbound_leads outbound_leads start role own input asked (before ++ old) written session streams past)
-      (behind : P)
+      (behind : P) (order then : List ℕ)
       (a : Asked step fails is_closed is_finished inbound_makes outbound_makes (is_eager start) (listed start) (id_of up.key) (session_role role)
-      (MakesOn inbound_leads outbound_leads (id_of up.key) (session_role role) up.now behind) number index up.log old new up.rest
+      (MakesInOrder inbound_leads outbound_leads (id_of up.key) (session_role role) up.now behind order then) number index up.log old new up.rest
       (output (session_role role) (items up.log)) between later last)
+      → order ≡ newest_held (session_role role) up.log
       → SessionStands (session_role role) (items (a.later ++ Asks number index ∷ up.log)) up.rest (output (session_role role) (items up.log) ++ between.pending) after
       → (x : IsUp step fails is_closed is_finished inbound_makes outbound_makes listed is_eager inbound_leads outbound_leads start role own input (asked ++ (number, index) ∷ []) (before ++ new) (written ++ between.pending)
-      after later last) × (x.key ≡ up.key) × (x.now ≡ behind)
-  up_asked input asked number index before old new written session between after streams later past last up behind a there =
+      after later last) × (x.key ≡ up.key) × (x.now ≡ behind) × (then ≡ newest_held (session_role role) x.log)
+  up_asked input asked number index before old new written session between after streams later past last up behind order then a held there =
       let opened = Asks number index ∷ up.log in
       let now = a.later ++ opened in
       let sent = output (session_role role) (items up.log) in
@@ -74,10 +76,11 @@ module _ {P H : Type 0} (step : H → HandlerCall → H → Type 0) (fails : H �
           asks_are = asks_append a.later opened ∙ ap (λ t. (asks up.log ++ (number, index) ∷ []) ++ t) a.alone ∙ append-nil (asks up.log ++ (number, index) ∷ []) ∙ ap (λ t. t ++ (number, index) ∷ []) up.asks_are;
           early = early_asked (is_eager start) a.later up.log number index a.alone a.at_once up.early;
           now = behind;
-          makes = a.makes start up.makes;
+          makes = a.makes.0 start up.makes;
           told_is = ap (λ t. before ++ t) a.told_is ∙ sym (append_assoc before old (said a.later)) ∙ ap (λ t. t ++ said a.later) up.told_is ∙ ap (λ t. event.Upgraded up.key ∷ t) (sym (said_append a.later opened));
           written_is = ap (λ t. t ++ between.pending) up.written_is ∙ append_assoc up.greeting sent between.pending ∙ ap (λ t. up.greeting ++ t) all_sent;
         },
         refl,
         refl,
+        a.makes.1 held,
       )

@@ -26,11 +26,11 @@ module _ {P H : Type 0} (step : H → HandlerCall → H → Type 0) (fails : H �
     (inbound_leads outbound_leads : P → ℕ → List ℕ → H → P → Type 0) (start : P) (role : ConnRole) (own : Key) where
   just_up : (protocols : P) (mux : Mux P H) (key : Key) (first written : List ℕ) (peer : List ℕ) (side : Role)
       → protocols ≡ start → side ≡ session_role role → peer ≡ id_of key
-      → mux.board.protocols ≡ protocols → mux.board.role ≡ side → mux.board.peer ≡ peer
+      → mux.board.protocols ≡ protocols → mux.board.role ≡ side → mux.board.peer ≡ peer → mux.board.order ≡ []
       → AreAtRest step fails is_closed is_finished inbound_makes outbound_makes (is_eager protocols) (listed protocols) peer side [] [] [] mux.session (tree.get nat_cmp mux.board.streams) mux.board.past.items
       → Upgrades role own first (Ok (Some key)) written
       → IsUpWith step fails is_closed is_finished inbound_makes outbound_makes listed is_eager inbound_leads outbound_leads start role own first [] (event.Upgraded key ∷ []) written mux
-  just_up protocols mux key first written peer side started side_is peer_is protocols_are role_is board_peer fresh upgraded = (
+  just_up protocols mux key first written peer side started side_is peer_is protocols_are role_is board_peer none_held fresh upgraded = (
     ap listed (protocols_are ∙ started),
     ap is_eager (protocols_are ∙ started),
     role_is ∙ side_is,
@@ -55,6 +55,7 @@ module _ {P H : Type 0} (step : H → HandlerCall → H → Type 0) (fails : H �
       },
       board_peer ∙ peer_is,
       protocols_are ∙ started,
+      none_held,
     ),
   )
 
@@ -63,15 +64,15 @@ module _ {P H : Type 0} (step : H → HandlerCall → H → Type 0) (fails : H �
       → IsComing step fails is_closed is_finished inbound_makes outbound_makes listed is_eager inbound_leads outbound_leads start role own input [] taken x protocols → read ≡ piece → given ≡ pending
       → Upgrades x.role x.own (input ++ take used read) (Ok (Some key)) (taken ++ pending)
       → side ≡ session_role role → peer ≡ id_of key
-      → mux.board.protocols ≡ protocols → mux.board.role ≡ side → mux.board.peer ≡ peer
+      → mux.board.protocols ≡ protocols → mux.board.role ≡ side → mux.board.peer ≡ peer → mux.board.order ≡ []
       → AreAtRest step fails is_closed is_finished inbound_makes outbound_makes (is_eager protocols) (listed protocols) peer side [] [] [] mux.session (tree.get nat_cmp mux.board.streams) mux.board.past.items
       → IsUpWith step fails is_closed is_finished inbound_makes outbound_makes listed is_eager inbound_leads outbound_leads start role own (input ++ take used piece) [] (event.Upgraded key ∷ []) (taken ++ given) mux
-  comes_up x protocols mux key input taken piece read pending given used peer side coming read_is given_is upgrades side_is peer_is protocols_are role_is board_peer fresh =
+  comes_up x protocols mux key input taken piece read pending given used peer side coming read_is given_is upgrades side_is peer_is protocols_are role_is board_peer none_held fresh =
       let first = input ++ take used piece in
       let by_piece = subst (λ (t : List ℕ). Upgrades x.role x.own (input ++ take used t) (Ok (Some key)) (taken ++ pending)) read_is upgrades in
       let upgraded = subst (λ (r : ConnRole). Upgrades r own first (Ok (Some key)) (taken ++ pending)) coming.role_is
       (subst (λ (k : Key). Upgrades x.role k first (Ok (Some key)) (taken ++ pending)) coming.own_is by_piece) in
-      just_up protocols mux key first (taken ++ given) peer side coming.protocols_are side_is peer_is protocols_are role_is board_peer fresh
+      just_up protocols mux key first (taken ++ given) peer side coming.protocols_are side_is peer_is protocols_are role_is board_peer none_held fresh
       (subst (λ (t : List ℕ). Upgrades role own first (Ok (Some key)) (taken ++ t)) (sym given_is) upgraded)
 
   pub upgrade_failed : (why : UpgradeFault) (named : ConnFault) (input written : List ℕ) (told : List (ConnEvent H)) → told_of why ≡ Some named → Upgrades role own input (Err why) written

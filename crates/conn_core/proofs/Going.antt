@@ -22,7 +22,10 @@ use Rattle.conn_log.specs.Making.{AreMadeInTurn, MakesOn}
 use Rattle.conn_log.specs.Rests.{AreAtRest, AreRested, Grows}
 use Rattle.conn_log.proofs.Settling.{said_append, asks_append}
 use Rattle.conn_log.proofs.Early.{early_grows}
+use Rattle.held_order.specs.Orders.{newest_held}
+use Rattle.board.specs.Boards.{MakesInOrder, MakesOnBoard}
 use Rattle.mux.specs.Faults.{Faults}
+use Rattle.mux.proofs.Framing.{faults_made}
 use Rattle.mux.specs.declared.mux.Mux.{Mux}
 use Rattle.conn_core.specs.Connects.{IsUp, IsUpWith, IsFaulty, session_role}
 
@@ -40,14 +43,15 @@ module _ {P H : Type 0} (step : H → HandlerCall → H → Type 0) (fails : H �
   -- what was fed led the list on, and what the session wrote was moved
   pub up_on : (input piece : List ℕ) (asked : List (ℕ × ℕ)) (before old new : List (ConnEvent H)) (written : List ℕ) (session between after : State) (streams later : ℕ → Option (Streaming H)) (past last : List (Earlier H))
       (up : IsUp step fails is_closed is_finished inbound_makes outbound_makes listed is_eager inbound_leads outbound_leads start role own input asked (before ++ old) written session streams past)
-      (behind : P)
+      (behind : P) (order then : List ℕ)
       (g : Grows step fails is_closed is_finished inbound_makes outbound_makes (is_eager start) (listed start) (id_of up.key) (session_role role)
-      (MakesOn inbound_leads outbound_leads (id_of up.key) (session_role role) up.now behind) up.log old new (up.rest ++ piece)
+      (MakesInOrder inbound_leads outbound_leads (id_of up.key) (session_role role) up.now behind order then) up.log old new (up.rest ++ piece)
       (output (session_role role) (items up.log)) between later last)
+      → order ≡ newest_held (session_role role) up.log
       → SessionStands (session_role role) (items (g.newer ++ up.log)) (up.rest ++ piece) (output (session_role role) (items up.log) ++ between.pending) after
       → (x : IsUp step fails is_closed is_finished inbound_makes outbound_makes listed is_eager inbound_leads outbound_leads start role own (input ++ piece) asked (before ++ new) (written ++ between.pending) after later last)
-      × (x.key ≡ up.key) × (x.now ≡ behind)
-  up_on input piece asked before old new written session between after streams later past last up behind g there =
+      × (x.key ≡ up.key) × (x.now ≡ behind) × (then ≡ newest_held (session_role role) x.log)
+  up_on input piece asked before old new written session between after streams later past last up behind order then g held there =
       let now = g.newer ++ up.log in
       let sent = output (session_role role) (items up.log) in
       let all_sent : sent ++ between.pending ≡ output (session_role role) (items now) = g.at_rest.session_stands.output in (
@@ -74,12 +78,13 @@ module _ {P H : Type 0} (step : H → HandlerCall → H → Type 0) (fails : H �
           asks_are = asks_append g.newer up.log ∙ ap (λ t. asks up.log ++ t) g.unasked ∙ append-nil (asks up.log) ∙ up.asks_are;
           early = early_grows (is_eager start) g.newer up.log g.unasked up.early;
           now = behind;
-          makes = g.makes start up.makes;
+          makes = g.makes.0 start up.makes;
           told_is = ap (λ t. before ++ t) g.told_is ∙ sym (append_assoc before old (said g.newer)) ∙ ap (λ t. t ++ said g.newer) up.told_is ∙ ap (λ t. event.Upgraded up.key ∷ t) (sym (said_append g.newer up.log));
           written_is = ap (λ t. t ++ between.pending) up.written_is ∙ append_assoc up.greeting sent between.pending ∙ ap (λ t. up.greeting ++ t) all_sent;
         },
         refl,
         refl,
+        g.makes.1 held,
       )
 
   -- a fault was met by what was fed
@@ -137,7 +142,7 @@ module _ {P H : Type 0} (step : H → HandlerCall → H → Type 0) (fails : H �
       → IsUpWith step fails is_closed is_finished inbound_makes outbound_makes listed is_eager inbound_leads outbound_leads start role own input asked (before ++ old) (taken ++ waiting) mux
       → ((log : List (Entry H)) (fed sent : List ℕ) → AreAtRest step fails is_closed is_finished inbound_makes outbound_makes (is_eager mux.board.protocols) (listed mux.board.protocols) mux.board.peer mux.board.role log fed sent mux.session (tree.get nat_cmp mux.board.streams) mux.board.past.items
       → after.session.failed ≡ true
-      → Faults step fails is_closed is_finished inbound_makes outbound_makes (is_eager mux.board.protocols) (listed mux.board.protocols) mux.board.peer mux.board.role (MakesOn inbound_leads outbound_leads mux.board.peer mux.board.role mux.board.protocols after.board.protocols) log [] old new fed piece sent after.session.pending)
+      → Faults step fails is_closed is_finished inbound_makes outbound_makes (is_eager mux.board.protocols) (listed mux.board.protocols) mux.board.peer mux.board.role (MakesOnBoard inbound_leads outbound_leads mux.board after.board) log [] old new fed piece sent after.session.pending)
       → after.session.failed ≡ true → moved ≡ waiting ++ after.session.pending
       → IsFaulty step fails is_closed is_finished inbound_makes outbound_makes listed is_eager inbound_leads outbound_leads start role own (input ++ piece) asked (before ++ (new ++ event.Fault fault.Mux ∷ [])) (taken ++ moved)
   up_breaks input piece taken waiting moved asked before old new mux after upw faults_by failed moved_is =
@@ -148,10 +153,13 @@ module _ {P H : Type 0} (step : H → HandlerCall → H → Type 0) (fails : H �
       let faults = as_known (is_eager board.protocols) (is_eager start) (listed board.protocols) (listed start) board.peer (id_of up.key) board.role (session_role role) upw.1 upw.0 upw.3.1 upw.2
       (λ e n p r. AreAtRest step fails is_closed is_finished inbound_makes outbound_makes e n p r up.log up.rest sent mux.session streams board.past.items
       → after.session.failed ≡ true
-      → Faults step fails is_closed is_finished inbound_makes outbound_makes e n p r (MakesOn inbound_leads outbound_leads p r board.protocols after.board.protocols) up.log [] old new up.rest piece sent after.session.pending)
+      → Faults step fails is_closed is_finished inbound_makes outbound_makes e n p r (MakesInOrder inbound_leads outbound_leads p r board.protocols after.board.protocols board.order after.board.order) up.log [] old new up.rest piece sent after.session.pending)
       (faults_by up.log up.rest sent) up.at_rest failed in
+      let made = faults_made step fails is_closed is_finished inbound_makes outbound_makes (is_eager start) (listed start) (id_of up.key) (session_role role)
+      (MakesInOrder inbound_leads outbound_leads (id_of up.key) (session_role role) board.protocols after.board.protocols board.order after.board.order)
+      (MakesOn inbound_leads outbound_leads (id_of up.key) (session_role role) board.protocols after.board.protocols) up.log [] old new up.rest piece sent after.session.pending (λ longer both. both.0) faults in
       let from_now = subst (λ q. Faults step fails is_closed is_finished inbound_makes outbound_makes (is_eager start) (listed start) (id_of up.key) (session_role role)
-      (MakesOn inbound_leads outbound_leads (id_of up.key) (session_role role) q after.board.protocols) up.log [] old new up.rest piece sent after.session.pending) upw.3.2 faults in
+      (MakesOn inbound_leads outbound_leads (id_of up.key) (session_role role) q after.board.protocols) up.log [] old new up.rest piece sent after.session.pending) upw.3.2 made in
       let it = up_faults input piece asked before old new (new ++ event.Fault fault.Mux ∷ []) (taken ++ waiting) after.session.pending mux.session streams board.past.items up after.board.protocols from_now refl in
       let written : (taken ++ waiting) ++ after.session.pending ≡ taken ++ moved = append_assoc taken waiting after.session.pending ∙ ap (λ (t : List ℕ). taken ++ t) (sym moved_is) in
       subst (λ (t : List ℕ). IsFaulty step fails is_closed is_finished inbound_makes outbound_makes listed is_eager inbound_leads outbound_leads start role own (input ++ piece) asked (before ++ (new ++ event.Fault fault.Mux ∷ [])) t) written it

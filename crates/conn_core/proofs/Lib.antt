@@ -9,7 +9,6 @@ pub mod Agreeing
 pub mod WhileUp
 pub mod Counting
 pub mod Listed
-mod MadeOrder
 pub mod Waiting
 pub mod Wanting
 pub mod Rows

@@ -1,5 +1,5 @@
 -- Where an end is at a point of its run: it comes up, is up, or is over.
-use Rattle.std.proofs.Common.{◌≡◌, ℕ, ◌<◌, ◌≤◌, inl, inr, Bool, true, false, ◌||◌, List, [], ◌∷◌, ◌++◌, length, None, Ok, refl, ap, ◌∙◌, subst}
+use Rattle.std.proofs.Common.{◌≡◌, ℕ, ◌<◌, ◌≤◌, inl, inr, Bool, true, false, ◌||◌, List, [], ◌∷◌, ◌++◌, length, None, Ok, refl, ap, ◌∙◌, reverse, subst}
 use Rattle.std.specs.Ordering.{nat_cmp}
 use Rattle.std.specs.BTreeMap as tree
 use Rattle.handlers.specs.Calls.{HandlerCall, Asked}
@@ -18,6 +18,8 @@ use Rattle.conn_log.specs.declared.event.ConnRefused.{ConnRefused}
 use Rattle.conn_log.specs.Entries.{Entry, items, said}
 use Rattle.conn_log.specs.Entries.Entry.{Of, Says, Made, Asks}
 use Rattle.conn_log.specs.Due.{AllDue}
+use Rattle.held_order.specs.Orders.{arranged}
+use Rattle.board.specs.Handlers.{handlers_of, handlers_past}
 use Rattle.conn_core.specs.declared.connection.Phase.{Phase}
 use Rattle.conn_core.specs.declared.connection.Phase.TheVariants as phases
 use Rattle.conn_core.specs.Connects.{IsComing, Ends, Connects, MayOpen, IsRefused, session_role, is_over, is_spent, waiting_in, held_in, IsOrderedIn}
@@ -164,12 +166,11 @@ module _ {P H : Type 0} (step : H → HandlerCall → H → Type 0) (fails : H �
       (why_there input ended asked told taken phase owed waiting it) (held_in phase)
   unfolding why_there
   holds input ended asked told taken (phases.Upgrading x protocols) owed waiting it ordered = refl
-  holds input ended asked told taken (phases.Up mux) owed waiting it ordered = record {
-    table = mux.board.streams.entries;
-    ascend = ordered;
-    found = λ n. refl;
-    handlers_are = refl;
-  }
+  holds input ended asked told taken (phases.Up mux) owed waiting it ordered = (
+    handlers_past mux.board.past.items ++ handlers_of mux.board.streams.entries,
+    record { table = mux.board.streams.entries; ascend = ordered; found = λ n. refl; handlers_are = refl },
+    ap (λ (order : List ℕ). arranged (reverse order) (handlers_past mux.board.past.items ++ handlers_of mux.board.streams.entries)) it.1.3.3,
+  )
   holds input ended asked told taken phases.Over owed waiting it ordered = refl
   holds input ended asked told taken phases.Spent owed waiting it ordered = absurd it
 

@@ -1,5 +1,5 @@
 -- The worked rows of an end of a connection.
-use Rattle.std.proofs.Common.{◌≡◌, ◌⊎◌, inl, inr, ℕ, Bool, true, false, List, [], ◌∷◌, ◌++◌, drop, Option, Some, reverse, refl, sym, ap, ◌∙◌, subst}
+use Rattle.std.proofs.Common.{◌≡◌, ◌⊎◌, inl, inr, ℕ, Bool, true, false, List, [], ◌∷◌, ◌++◌, drop, Option, Some, refl, sym, ap, ◌∙◌, subst}
 use Rattle.std.specs.List.{AllByRecursion}
 use Rattle.handlers.specs.Calls.{HandlerCall, Asked}
 use Rattle.peer_ids.specs.Key.{Key}
@@ -18,8 +18,6 @@ use Rattle.conn_core.specs.declared.calls.ConnAct.{ConnAct}
 use Rattle.conn_core.specs.declared.calls.ConnAct.TheVariants.{Ask}
 use Rattle.conn_core.specs.declared.calls.ConnAnswer.{ConnAnswer}
 use Rattle.conn_core.specs.declared.calls.ConnAnswer.TheVariants as answers
-use Rattle.held_order.specs.Orders.{with_early, hears_all}
-use Rattle.conn_core.specs.Made.{none_held}
 use Rattle.conn_core.specs.Connects.{OwesOf, told_of}
 use Rattle.conn_core.specs.Connects.Ends.{Upgrade, Session, Early, Within, Shut}
 use Rattle.conn_core.specs.Runs.{Point, is_end, IsTurnedAway, StaysBehind}
@@ -27,7 +25,7 @@ use Rattle.conn_core.specs.Runs.Point.{At, Spent}
 use Rattle.conn_core.specs.ConnectRows.{NameRows, PhaseRows, EndRows, ends}
 use Rattle.board.specs.Handlers.{numbered}
 use Rattle.conn_core.specs.PromiseRows.{ServingRows, EarlyRows, HandedRows}
-use Rattle.conn_core.specs.RunRows.{LastRows, SumRows, MadeRows, RefusedRows, AnswerRows, going, over, answers_at, answers_all}
+use Rattle.conn_core.specs.RunRows.{LastRows, SumRows, RefusedRows, AnswerRows, going, over, answers_at, answers_all}
 
 -- ---- lists of events
 
@@ -150,17 +148,6 @@ stays_moved written (inr it) = cc it.0
 spent_stays : {H : Type 0} → StaysBehind {H = H} refusals.OutOfMemory going going → ⊥
 spent_stays (inl it) = it.0 refl
 spent_stays (inr (why, (written, it))) = cc it
-
-pub made_rows : {H : Type 0} (start : Bool) → MadeRows H start
-made_rows start = record {
-  early = refl;
-  not_eager = refl;
-  no_protocol = refl;
-  fed = λ bytes. refl;
-  ended = refl;
-  in_order = λ bytes more told. ap (λ (those : List (ConnEvent _)). reverse (hears_all (with_early 1 none_held) those).newest) told;
-  unasked = λ other. refl;
-}
 
 pub refused_rows : {H : Type 0} → RefusedRows H
 refused_rows {H} = record {

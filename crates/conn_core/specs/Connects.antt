@@ -2,7 +2,7 @@
 -- Source: libp2p connections, "Establishing connections" and "Opening new streams over a connection"; plaintext 2.0.0;
 -- hashicorp yamux; what a connection tells is this project's profile.
 use Rattle.std.specs.Prelude.{◌≡◌, ℕ, Bool, true, false, List, [], ◌∷◌, ◌++◌, Option, Some, None}
-use Rattle.std.specs.Prelude.{Ok, Err, length, ◌<◌, ◌≤◌, ◌⊎◌}
+use Rattle.std.specs.Prelude.{Ok, Err, length, reverse, ◌<◌, ◌≤◌, ◌⊎◌}
 use Rattle.std.specs.Ordering.{nat_cmp}
 use Rattle.std.specs.List.{AllByRecursion}
 use Rattle.std.specs.BTreeMap as tree
@@ -33,6 +33,7 @@ use Rattle.conn_log.specs.declared.event.ConnRefused.{ConnRefused}
 use Rattle.conn_log.specs.declared.event.ConnRefused.TheVariants as refusals
 use Rattle.conn_log.specs.Making.{AreMadeInTurn, MakesOn}
 use Rattle.conn_log.specs.Rests.{AreAtRest, AreRested}
+use Rattle.held_order.specs.Orders.{newest_held, arranged}
 use Rattle.board.specs.Handlers.{handlers_of, handlers_past}
 use Rattle.mux.specs.declared.mux.Mux.{Mux}
 use Rattle.mux.specs.Faults.{Faults}
@@ -136,13 +137,14 @@ module _ {P H : Type 0} (step : H → HandlerCall → H → Type 0) (fails : H �
         (past : List (Earlier H)) → ended ≡ true → (up : IsUp input asked before written session streams past)
         → ¬ EndsWithin up.rest → told ≡ before ++ event.Shut ∷ [] → Ends input ended asked told written
 
-  -- it is up, with this session and these streams
+  -- it is up, with this session and these streams, and knows in which order the handlers that are held were made
   abbrev pub IsUpWith : List ℕ → List (ℕ × ℕ) → List (ConnEvent H) → List ℕ → Mux P H → Type 0
   IsUpWith input asked told written mux =
       (listed mux.board.protocols ≡ listed start) × (is_eager mux.board.protocols ≡ is_eager start)
       × (mux.board.role ≡ session_role role)
       × ((up : IsUp input asked told written mux.session (tree.get nat_cmp mux.board.streams) mux.board.past.items)
-      × (mux.board.peer ≡ id_of up.key) × (mux.board.protocols ≡ up.now))
+      × (mux.board.peer ≡ id_of up.key) × (mux.board.protocols ≡ up.now)
+      × (mux.board.order ≡ newest_held (session_role role) up.log))
 
   -- Where it stands, in each phase; what is owed is told by the next call. Where memory was refused to it, it stands
   -- nowhere.
@@ -206,10 +208,11 @@ waiting_in (phases.Up mux) output = output
 waiting_in phases.Over output = output
 waiting_in phases.Spent output = output
 
--- the handlers that are held
+-- the handlers that are held, in the order in which they were made
 abbrev pub held_in : {P H : Type 0} → Phase P H → List (ℕ × H)
 held_in (phases.Upgrading x protocols) = []
-held_in (phases.Up mux) = handlers_past mux.board.past.items ++ handlers_of mux.board.streams.entries
+held_in (phases.Up mux) =
+    arranged (reverse mux.board.order) (handlers_past mux.board.past.items ++ handlers_of mux.board.streams.entries)
 held_in phases.Over = []
 held_in phases.Spent = []
 

@@ -1,7 +1,6 @@
 -- cited by public clauses and laws
 pub mod Connects
 pub mod Wanting
-pub mod Made
 pub mod Runs
 pub mod Promises
 pub mod ConnectRows

@@ -1,7 +1,7 @@
 -- Worked rows of a whole connection: which events are its last, what its calls are answered, and what they add up to.
 -- Source: libp2p connections, "Establishing connections" and "Opening new streams over a connection"; what a connection
 -- tells is this project's profile.
-use Rattle.std.specs.Prelude.{◌≡◌, ◌↔◌, ℕ, nat_lt, Bool, true, false, List, [], ◌∷◌, ◌++◌, Ok, Err}
+use Rattle.std.specs.Prelude.{◌≡◌, ◌↔◌, ℕ, Bool, true, false, List, [], ◌∷◌, ◌++◌, Ok, Err}
 use Rattle.std.specs.Global.{Vec}
 use Rattle.handlers.specs.Calls.{HandlerCall, Asked}
 use Rattle.peer_ids.specs.Key.{Key}
@@ -16,7 +16,6 @@ use Rattle.conn_core.specs.declared.calls.ConnAct.{ConnAct}
 use Rattle.conn_core.specs.declared.calls.ConnAct.TheVariants.{Feed, Ask, Ended}
 use Rattle.conn_core.specs.declared.calls.ConnAnswer.{ConnAnswer}
 use Rattle.conn_core.specs.declared.calls.ConnAnswer.TheVariants.{Events, Stream, Refused}
-use Rattle.conn_core.specs.Made.{asks_early, made_in}
 use Rattle.conn_core.specs.Runs.{Point, is_end, has_ended, events_or, stream_or, IsTurnedAway, StaysBehind}
 use Rattle.conn_core.specs.Runs.{AnswersAt, Answers, AnswersAll, Leaves}
 use Rattle.conn_core.specs.Runs.Point.{At, Spent}
@@ -51,27 +50,6 @@ pub record SumRows (H : Type 0) : Type 0 where
       ≡ one.items ++ (two.items ++ [])
   pub opened : (bytes : Vec ℕ) (told : Vec (ConnEvent H)) → opened_by (Ask 4 ∷ Feed bytes ∷ Ask 5 ∷ Ask 6 ∷ Ended ∷ [])
       (Stream 1 ∷ Events told ∷ Refused refusals.StreamsFull ∷ Stream 3 ∷ Events told ∷ []) ≡ (1, 4) ∷ (3, 6) ∷ []
-
--- Which handlers are held, in the order in which they were made: here of two protocols, of which the second is eager.
-abbrev pub two_names : Bool → List (List ℕ)
-two_names start = (65 ∷ []) ∷ (66 ∷ []) ∷ []
-
-abbrev pub second_is_eager : Bool → ℕ → Bool
-second_is_eager start index = nat_lt 0 index
-
-pub record MadeRows (H : Type 0) (start : Bool) : Type 0 where
-  pub early : asks_early two_names second_is_eager start (Ask 1) ≡ true
-  pub not_eager : asks_early two_names second_is_eager start (Ask 0) ≡ false
-  pub no_protocol : asks_early two_names second_is_eager start (Ask 2) ≡ false
-  pub fed : (bytes : Vec ℕ) → asks_early two_names second_is_eager start (Feed bytes) ≡ false
-  pub ended : asks_early two_names second_is_eager start Ended ≡ false
-  -- that of 1 is made as it is asked for, that of 3 where it agrees, behind that of 2, which the other end opened
-  pub in_order : (bytes : Vec ℕ) (more : Vec (ConnEvent H))
-      → more.items ≡ event.Agreed 2 0 ∷ event.Agreed 3 0 ∷ event.Agreed 1 1 ∷ []
-      → made_in two_names second_is_eager start (Ask 1 ∷ Ask 0 ∷ Ask 1 ∷ Feed bytes ∷ [])
-      (Stream 1 ∷ Stream 3 ∷ Refused refusals.StreamsFull ∷ Events more ∷ []) ≡ 1 ∷ 2 ∷ 3 ∷ []
-  pub unasked : (other : ConnAnswer H)
-      → made_in two_names second_is_eager start (Ask 1 ∷ []) (Stream 1 ∷ other ∷ []) ≡ 1 ∷ []
 
 -- points at which nothing was told, and at which Shut was
 abbrev pub going : {H : Type 0} → Point H

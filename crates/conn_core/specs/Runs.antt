@@ -1,7 +1,7 @@
 -- A whole connection: each call with its answer, from the first on, and what an end has at its last.
 -- Source: libp2p connections, "Establishing connections" and "Opening new streams over a connection"; what a connection
 -- tells is this project's profile.
-use Rattle.std.specs.Prelude.{◌≡◌, ◌≢◌, ℕ, ◌<◌, ◌≤◌, ◌⊎◌, Bool, true, false, ◌||◌, List, [], ◌∷◌, ◌++◌, length}
+use Rattle.std.specs.Prelude.{◌≡◌, ◌≢◌, ℕ, ◌<◌, ◌≤◌, ◌⊎◌, Bool, true, false, ◌||◌, List, [], ◌∷◌, ◌++◌, length, reverse}
 use Rattle.std.specs.Prelude.{Option, None, Result, Ok, Err}
 use Rattle.std.specs.Global.{Vec}
 use Rattle.std.specs.Ordering.{nat_cmp}
@@ -29,8 +29,7 @@ use Rattle.conn_core.specs.declared.calls.ConnAct.{ConnAct}
 use Rattle.conn_core.specs.declared.calls.ConnAct.TheVariants.{Feed, Ask, Ended}
 use Rattle.conn_core.specs.declared.calls.ConnAnswer.{ConnAnswer}
 use Rattle.conn_core.specs.declared.calls.ConnAnswer.TheVariants.{Events, Stream, Refused}
-use Rattle.held_order.specs.Orders.{arranged}
-use Rattle.conn_core.specs.Made.{made_in}
+use Rattle.held_order.specs.Orders.{newest_held, arranged}
 use Rattle.conn_core.specs.Wanting.{Wrote}
 use Rattle.conn_core.specs.Connects.{IsUp, Ends, Stands, session_role, is_spent, waiting_in}
 
@@ -188,13 +187,14 @@ module _ {P H : Type 0} (step : H → HandlerCall → H → Type 0) (fails : H �
 
   -- ---- a whole run
 
-  -- the handlers that are held there
+  -- the handlers that are held there, in the order in which they were made
   abbrev pub Holds : (input : List ℕ) (ended : Bool) (asked : List (ℕ × ℕ)) (told owed : List (ConnEvent H))
       (written : List ℕ) → Explains input ended asked told owed written → List (ℕ × H) → Type 0
   Holds input ended asked told owed written (Coming unended none_asked none_told none_owed upgrades) handlers =
       handlers ≡ []
   Holds input ended asked told owed written (Up session streams past unended up) handlers =
-      AreHeld streams past handlers
+      (held : List (ℕ × H)) × AreHeld streams past held
+      × (handlers ≡ arranged (reverse (newest_held (session_role role) up.log)) held)
   Holds input ended asked told owed written (Over none_owed ends) handlers = handlers ≡ []
 
   -- all that was written until the last call is this, and these handlers are held still
@@ -203,11 +203,10 @@ module _ {P H : Type 0} (step : H → HandlerCall → H → Type 0) (fails : H �
       × Holds input ended asked told owed output there handlers
   Leaves (Spent written) output handlers = (output ≡ written) × (handlers ≡ [])
 
-  -- what a run answers: the handlers that are held still come in the order in which they were made
+  -- what a run answers, and what it leaves
   abbrev pub Runs : List ConnAct → List (ConnAnswer H) → List ℕ → List (ℕ × H) → Type 0
-  Runs calls answers output handlers = (last : Point H) × (held : List (ℕ × H))
-      × AnswersAll (At [] false [] [] []) calls answers last × Leaves last output held
-      × (handlers ≡ arranged (made_in listed is_eager start calls answers) held)
+  Runs calls answers output handlers = (last : Point H) × AnswersAll (At [] false [] [] []) calls answers last
+      × Leaves last output handlers
 
   -- the end is at this point, and none of its output was taken
   abbrev pub IsAt : Point H → ConnCore P H → Type 0

@@ -6,7 +6,6 @@ ghost use Rattle.upgrade.specs.declared.role.ConnRole.{ConnRole};
 ghost use Rattle.conn_core.specs.Runs.{Point, IsAt, Answers, Runs, events_or, stream_or};
 
 use crate::connection::ConnCore;
-use crate::made::{early_asks, order_of};
 use conn_log::{ConnEvent, ConnRefused};
 use handlers::{Handler, Protocols};
 use peer_ids::PublicKey;
@@ -97,7 +96,7 @@ fn perform<P: Protocols>(core: &mut ConnCore<P>, act: &ConnAct) -> ConnAnswer<P:
 }
 
 /// Makes these calls of a new end, in order. [`AllocError`] is answered only where a growth of its own was refused: the
-/// end couldn't be made, or the list of answers or of handlers couldn't grow, or what keeps their order.
+/// end couldn't be made, or the list of answers or of handlers couldn't grow.
 pub fn run<P: Protocols>(
     alloc: Global,
     role: ConnRole,
@@ -109,7 +108,6 @@ pub fn run<P: Protocols>(
         P.makes_outbound P.listed P.is_eager P.leads_inbound P.leads_outbound protocols role key acts.now
         ran.answers.items ran.output.items ran.handlers.items) }
 {
-    let early = early_asks(alloc, &protocols, acts)?;
     let Ok(core) = ConnCore::new(alloc, role, key, protocols) else {
         return Err(AllocError);
     };
@@ -119,9 +117,7 @@ pub fn run<P: Protocols>(
         push(&mut answers, perform(&mut core, act))?;
     }
     let output = core.take_output();
-    let held = core.into_handlers()?;
-    let order = order_of(alloc, &early, &answers)?;
-    let handlers = order.arrange(alloc, held)?;
+    let handlers = core.into_handlers()?;
     Ok(ConnRan {
         answers,
         output,

@@ -8,8 +8,7 @@ use handlers::Protocols;
 use std::alloc::AllocError;
 
 impl<P: Protocols> ConnCore<P> {
-    /// The handlers that are held still, each with the number of its stream: first those of earlier openings, in the
-    /// order in which their numbers were opened anew, and then the others by their numbers.
+    /// The handlers that are held still, each with the number of its stream, in the order in which they were made.
     pub fn into_handlers(self) -> Result<Vec<(u32, P::H)>, AllocError>
         ensures held { IfOk result (λ held. held.items ≡ held_in self.phase) }
         ensures ordered { IsOrderedIn self.phase }

@@ -8,7 +8,7 @@ ghost use Rattle.conn_core.specs.Promises.{AreServing, AreEarly, LiveAreHeld, Up
 ghost use Rattle.conn_core.specs.Promises.{ListedAreHeld, EachIsAnswered, AllIsCounted};
 ghost use Rattle.conn_core.specs.ConnectRows.{NameRows, PhaseRows, EndRows};
 ghost use Rattle.conn_core.specs.PromiseRows.{ServingRows, EarlyRows, HandedRows};
-ghost use Rattle.conn_core.specs.RunRows.{LastRows, SumRows, MadeRows, RefusedRows, AnswerRows};
+ghost use Rattle.conn_core.specs.RunRows.{LastRows, SumRows, RefusedRows, AnswerRows};
 
 use handlers::{Handler, Protocols};
 
@@ -76,7 +76,6 @@ pub fn worked_rows<P: Protocols>()
     ensures handed { HandedRows P.H }
     ensures last { LastRows P.H }
     ensures sums { SumRows P.H }
-    ensures made { (start : Bool) → MadeRows P.H start }
     ensures refused { RefusedRows P.H }
     ensures answers { (start : P) (role : ConnRole) (own : Key)
         → AnswerRows P.H.steps P.H.fails P.H.is_closed P.H.is_finished P.makes_inbound P.makes_outbound P.listed

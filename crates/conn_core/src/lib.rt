@@ -5,7 +5,6 @@ mod calls;
 mod connection;
 mod held;
 pub mod laws;
-mod made;
 mod telling;
 
 pub use calls::{ConnAct, ConnAnswer, ConnRan, run};

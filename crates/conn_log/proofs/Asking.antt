@@ -261,11 +261,14 @@ module _ {P H : Type 0} (step : H → HandlerCall → H → Type 0) (fails : H �
     makes_first (Some it) made = λ first was. (protocols, was, (refl, subst (λ b. led_by inbound_leads outbound_leads (cond b Direction.Outbound Direction.Inbound) peer protocols behind index it) (sym own) made.1.1))
 
     -- and it was served
-    pub was_asked : (last : P) (told told_now : List (ConnEvent H)) (later : State) (then : ℕ → Option (Streaming H)) (aside : List (Earlier H))
-        → Routed step fails is_closed is_finished inbound_makes outbound_makes eager names peer role (MakesOn inbound_leads outbound_leads peer role behind last) (at_first n handler ++ Asks n index ∷ log) told told_now fed sent later then aside n []
+    pub was_asked : (making then_making : List (Entry H) → List (Entry H) → Type 0)
+        → ((longer : List (Entry H)) → MakesOn inbound_leads outbound_leads peer role protocols behind log (at_first n handler ++ Asks n index ∷ log)
+        → then_making (at_first n handler ++ Asks n index ∷ log) longer → making log longer)
+        → (told told_now : List (ConnEvent H)) (later : State) (then : ℕ → Option (Streaming H)) (aside : List (Earlier H))
+        → Routed step fails is_closed is_finished inbound_makes outbound_makes eager names peer role then_making (at_first n handler ++ Asks n index ∷ log) told told_now fed sent later then aside n []
         → (more : List (ConnEvent H)) → told_now ≡ told ++ more → AllByRecursion (IsBrokenOf n) more
-        → ask.Asked step fails is_closed is_finished inbound_makes outbound_makes eager names peer role (MakesOn inbound_leads outbound_leads peer role protocols last) n index log told told_now fed sent later then aside
-    was_asked last told told_now later then aside routed more is broken = record {
+        → ask.Asked step fails is_closed is_finished inbound_makes outbound_makes eager names peer role making n index log told told_now fed sent later then aside
+    was_asked making then_making joins told told_now later then aside routed more is broken = record {
       later = routed.newer ++ at_first n handler;
       number_is = there.answered.0.1;
       told_is = routed.told_is ∙ ap (λ t. told ++ t) (sym (said_append routed.newer (at_first n handler) ∙ ap (λ t. t ++ said routed.newer) (said_first n handler)));
@@ -273,8 +276,8 @@ module _ {P H : Type 0} (step : H → HandlerCall → H → Type 0) (fails : H �
       only_broken = subst (λ (t : List (ConnEvent H)). AllByRecursion (IsBrokenOf n) t)
           (append_cancel_left told more (said routed.newer) (sym is ∙ routed.told_is) ∙ sym (said_append routed.newer (at_first n handler) ∙ ap (λ t. t ++ said routed.newer) (said_first n handler))) broken;
       at_once = λ on. by_handler handler early on;
-      makes = subst (λ (t : List (Entry H)). MakesOn inbound_leads outbound_leads peer role protocols last log t) (sym (append_assoc routed.newer (at_first n handler) (Asks n index ∷ log)))
-          (λ first was. routed.makes first (makes_first handler early first was));
+      makes = subst (λ (t : List (Entry H)). making log t) (sym (append_assoc routed.newer (at_first n handler) (Asks n index ∷ log)))
+          (joins (routed.newer ++ (at_first n handler ++ Asks n index ∷ log)) (makes_first handler early) routed.makes);
       rested = λ was. rested_on step fails is_closed is_finished inbound_makes outbound_makes eager names peer role (routed.newer ++ at_first n handler) (Asks n index ∷ log)
           (same_turns routed.newer (at_first n handler) routed.same_turn (same_turn_first n handler))
           (record { fed = fed; sent = sent; session = before; streams = streams; past = past; at_rest = r }, was);

@@ -31,7 +31,7 @@ use Rattle.conn_log.specs.Making.{MakesNone, MakesOn}
 use Rattle.conn_log.specs.Held.{IsSide, IsHeld}
 use Rattle.conn_log.specs.Routes.{KeepsTurn, IsNoOpening, EndsLast, Around, Comes}
 use Rattle.conn_log.proofs.Turning.{same_turns}
-use Rattle.conn_log.proofs.Making.{makes_none}
+use Rattle.conn_log.proofs.Making.{makes_none, mades, none_mades, mades_append, made_by}
 use Rattle.conn_log.proofs.Same.{same_by_making}
 use Rattle.conn_log.proofs.Around.{grown, still}
 use Rattle.conn_log.proofs.Views.{same, came_front}
@@ -119,6 +119,7 @@ module _ {P H : Type 0} (step : H → HandlerCall → H → Type 0) (fails : H �
     pub untold : events role (items (newer ++ log)) ≡ events role (items log)
     pub same_turn : KeepsTurn newer
     pub makes : making log (newer ++ log)
+    pub mades_are : mades newer ≡ made_by n told (made_of role log n)
     pub seen_now : Seen
     pub comes : Comes step fails is_closed is_finished inbound_makes outbound_makes eager names peer role (newer ++ log) fed sent session streams past n seen_now rest outcome
 
@@ -140,6 +141,7 @@ module _ {P H : Type 0} (step : H → HandlerCall → H → Type 0) (fails : H �
       untold = refl;
       same_turn = tt;
       makes = keeps [] tt;
+      mades_are = refl;
       seen_now = view;
       comes = come (around_event step fails is_closed is_finished inbound_makes outbound_makes eager names peer role log fed sent after now past n view rest told of is_due (still step fails is_closed is_finished inbound_makes outbound_makes eager names peer role log fed sent before after streams now past n view rest same_session elsewhere a));
     }
@@ -178,7 +180,7 @@ module _ {P H : Type 0} (step : H → HandlerCall → H → Type 0) (fails : H �
         } in
         let it = went step fails is_closed is_finished inbound_makes outbound_makes eager names peer role acts_do acts_move log fed sent before after streams now past n view rest middle new a no_more held over
         elsewhere here outcome served.3 in
-        record { newer = it.newer; said_is = it.none_said; untold = it.untold; same_turn = it.same_turn; makes = keeps it.newer it.unmade; seen_now = it.seen_now; comes = it.comes }
+        record { newer = it.newer; said_is = it.none_said; untold = it.untold; same_turn = it.same_turn; makes = keeps it.newer it.unmade; mades_are = none_mades it.newer it.unmade; seen_now = it.seen_now; comes = it.comes }
     takes making log keeps bytes old got outcome turn a came going h (inr f) =
         let data_is : inbound role (items log) n ≡ h.so_far.got ++ bytes = a.heard.came ∙ no_more ∙ came ∙ ap (λ t. t ++ bytes) (sym h.got_is) in
         let handler = f.1.0 in
@@ -294,7 +296,7 @@ module _ {P H : Type 0} (step : H → HandlerCall → H → Type 0) (fails : H �
           } in
           let it = went step fails is_closed is_finished inbound_makes outbound_makes eager names peer role acts_do acts_move log fed sent before after streams now past n view rest middle new a no_more held over
           elsewhere here outcome came_to in
-          record { newer = it.newer; said_is = it.none_said; untold = it.untold; same_turn = it.same_turn; makes = keeps kept it.newer it.unmade; seen_now = it.seen_now; comes = it.comes }
+          record { newer = it.newer; said_is = it.none_said; untold = it.untold; same_turn = it.same_turn; makes = keeps kept it.newer it.unmade; mades_are = none_mades it.newer it.unmade; seen_now = it.seen_now; comes = it.comes }
 
       -- both ends agree by a front of these bytes, and the handler takes the rest
       agreed_on : (outcome : Outcome H) (index : ℕ) (front more : List ℕ) (middle : Streaming H) → is_talking old.stage ≡ true
@@ -365,6 +367,8 @@ module _ {P H : Type 0} (step : H → HandlerCall → H → Type 0) (fails : H �
               untold = ap (λ t. events role (items t)) (append_assoc it.newer (Says (event.Agreed n index) ∷ []) log) ∙ it.untold;
               same_turn = same_turns it.newer (Says (event.Agreed n index) ∷ []) it.same_turn tt;
               makes = subst (λ t. making log t) (sym (append_assoc it.newer (Says (event.Agreed n index) ∷ []) log)) it.makes;
+              mades_are = mades_append it.newer (Says (event.Agreed n index) ∷ []) ∙ append-nil (mades it.newer) ∙ it.mades_are
+                  ∙ ap (made_by n (event.Agreed n index ∷ [])) (sym is.0 ∙ h.made_is);
               seen_now = it.seen_now;
               comes = subst (λ t. Comes step fails is_closed is_finished inbound_makes outbound_makes eager names peer role t fed sent after now past n it.seen_now rest outcome)
                   (sym (append_assoc it.newer (Says (event.Agreed n index) ∷ []) log)) it.comes;
@@ -381,6 +385,8 @@ module _ {P H : Type 0} (step : H → HandlerCall → H → Type 0) (fails : H �
               same_turn = same_turns it.newer (Made n has.made ∷ Says (event.Agreed n index) ∷ []) it.same_turn tt;
               makes = subst (λ t. making log t) (sym (append_assoc it.newer (Made n has.made ∷ Says (event.Agreed n index) ∷ []) log))
                   (λ first was. it.makes first (protocols, was, (refl, made.1.1)));
+              mades_are = mades_append it.newer (Made n has.made ∷ Says (event.Agreed n index) ∷ []) ∙ ap (λ t. t ++ n ∷ []) it.mades_are
+                  ∙ sym (ap (made_by n (event.Agreed n index ∷ [])) (sym h.made_is ∙ made.0));
               seen_now = it.seen_now;
               comes = subst (λ t. Comes step fails is_closed is_finished inbound_makes outbound_makes eager names peer role t fed sent after now past n it.seen_now rest outcome)
                   (sym (append_assoc it.newer (Made n has.made ∷ Says (event.Agreed n index) ∷ []) log)) it.comes;

@@ -124,7 +124,7 @@ module _ {P H : Type 0} (step : H → HandlerCall → H → Type 0) (fails : H �
       own_to_reset = λ reset going. absurd (not_going log given_up going);
     }
 
-    pub is_given_up : (making : List (Entry H) → List (Entry H) → Type 0) → ((newer : List (Entry H)) → MakesNone newer → making log (newer ++ log))
+    pub is_given_up : (making : List (Entry H) → List (Entry H) → Type 0) → ((newer : List (Entry H)) → MakesNone newer → said newer ≡ [] → making log (newer ++ log))
         → (told told_now : List (ConnEvent H)) → told_now ≡ told → Resets role (items log) fed sent n before after
         → Routed step fails is_closed is_finished inbound_makes outbound_makes eager names peer role making log told told_now fed sent after now past n rest
     is_given_up making keeps told told_now same_told (inl there) = record {
@@ -133,7 +133,7 @@ module _ {P H : Type 0} (step : H → HandlerCall → H → Type 0) (fails : H �
       told_is = same_told ∙ sym (append-nil told);
       untold = append-nil (events role (items log));
       same_turn = tt;
-      makes = keeps (Of (Did (Reset n)) ∷ []) tt;
+      makes = keeps (Of (Did (Reset n)) ∷ []) tt refl;
       routes = was_reset there;
     }
     is_given_up making keeps told told_now same_told (inr over) = record {
@@ -142,6 +142,6 @@ module _ {P H : Type 0} (step : H → HandlerCall → H → Type 0) (fails : H �
       told_is = same_told ∙ sym (append-nil told);
       untold = refl;
       same_turn = tt;
-      makes = keeps [] tt;
+      makes = keeps [] tt refl;
       routes = was_gone over.0 over.1;
     }

@@ -10,7 +10,7 @@ use Rattle.held_order.specs.Laws.{of_number, numbers, times, LetsGo, Arranges}
 
 -- ---- the first of a number, by recursion
 
-abbrev later : Option ℕ → Option ℕ
+abbrev pub later : Option ℕ → Option ℕ
 later None = None
 later (Some at) = Some (suc at)
 
@@ -47,7 +47,7 @@ front_len p (x ∷ xs) = cond (p x) 0 (1 + front_len p xs)
 is_front : {X : Type 0} (p : X → Bool) (xs : List X) → front_len p xs ≡ position_or_len p xs
 is_front p xs = is_position_or_len (front_len p) p refl (λ _ _. refl) xs
 
-place : {X : Type 0} (p : X → Bool) (x : X) (xs : List X) → position p (x ∷ xs) ≡ cond (p x) (Some 0) (later (position p xs))
+pub place : {X : Type 0} (p : X → Bool) (x : X) (xs : List X) → position p (x ∷ xs) ≡ cond (p x) (Some 0) (later (position p xs))
 place p x xs = ap (λ k. cond (nat_lt k (suc (length xs))) (Some k) None) (sym (is_front p (x ∷ xs)))
     ∙ ap (λ k. cond (nat_lt (cond (p x) 0 k) (suc (length xs))) (Some (cond (p x) 0 k)) None) (one_more (front_len p xs))
     ∙ first_place (p x) (front_len p xs) (length xs)
@@ -58,7 +58,7 @@ only_at true at x xs = refl
 only_at false None x xs = refl
 only_at false (Some at) x xs = refl
 
-but_at : {X : Type 0} (b : Bool) (at : Option ℕ) (x : X) (xs : List X) → all_but (cond b (Some 0) (later at)) (x ∷ xs) ≡ cond b xs (x ∷ all_but at xs)
+pub but_at : {X : Type 0} (b : Bool) (at : Option ℕ) (x : X) (xs : List X) → all_but (cond b (Some 0) (later at)) (x ∷ xs) ≡ cond b xs (x ∷ all_but at xs)
 but_at true at x xs = refl
 but_at false None x xs = refl
 but_at false (Some at) x xs = refl

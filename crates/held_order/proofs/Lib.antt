@@ -1,2 +1,3 @@
 mod Arranging
-mod Hearing
+mod Newest
+pub mod Growing

@@ -1,20 +1,15 @@
--- In which order the handlers that a connection holds were made, as its answers tell it.
+-- In which order the handlers that a connection holds were made.
 -- Source: this project's profile.
-use Rattle.std.specs.Prelude.{ℕ, ◌==◌, Bool, true, false, List, [], ◌∷◌, ◌++◌, take, drop, Option, Some, None}
-use Rattle.std.specs.List.{position, remove, list_any}
+use Rattle.std.specs.Prelude.{ℕ, ◌==◌, Bool, if◌then◌else◌, List, [], ◌∷◌, ◌++◌, take, drop, Option, Some, None}
+use Rattle.std.specs.Prelude.{is_some}
+use Rattle.std.specs.List.{position, remove}
+use Rattle.yamux_session.specs.declared.event.Role.{Role}
 use Rattle.conn_log.specs.declared.event.ConnEvent.{ConnEvent}
 use Rattle.conn_log.specs.declared.event.ConnEvent.TheVariants as event
-
-pub record Held : Type 0 where
-  -- the streams that were opened for an eager protocol
-  pub early : List ℕ
-  -- the streams whose handlers are held, that of the newest handler first
-  pub newest : List ℕ
+use Rattle.conn_log.specs.Entries.{Entry, made_of}
+use Rattle.conn_log.specs.Entries.Entry.{Of, Says, Made, Asks}
 
 -- ---- what is held
-
-abbrev pub with_early : ℕ → Held → Held
-with_early n held = record { early = held.early ++ n ∷ []; newest = n ∷ held.newest }
 
 -- all but what stands at this place, if there is one
 abbrev pub all_but : {X : Type 0} → Option ℕ → List X → List X
@@ -25,24 +20,36 @@ all_but None xs = xs
 abbrev pub without : ℕ → List ℕ → List ℕ
 without n newest = all_but (position (λ m. m == n) newest) newest
 
--- the stream of this number agreed, whose handler is there, or is made now
-abbrev pub agrees : Bool → ℕ → Held → Held
-agrees true n held = held
-agrees false n held = record held { newest = n ∷ held.newest }
+-- the newest handler is that of this stream, where one was made for it
+abbrev pub with_if : Bool → ℕ → List ℕ → List ℕ
+with_if was_made n newest = if was_made then n ∷ newest else newest
 
--- A handler is made where its stream agrees, but for one that was made as its stream was asked for.
-abbrev pub hears : {H : Type 0} → Held → ConnEvent H → Held
-hears held (event.Agreed n index) = agrees (list_any (λ m. m == n) held.early) n held
-hears held (event.Refused n) = record held { newest = without n held.newest }
-hears held (event.Done n handler) = record held { newest = without n held.newest }
-hears held (event.Broken n cause) = record held { newest = without n held.newest }
-hears held (event.Upgraded key) = held
-hears held (event.Fault fault) = held
-hears held event.Shut = held
+-- the newest handler of this stream is held no more, where one was made for it
+abbrev pub without_if : Bool → ℕ → List ℕ → List ℕ
+without_if was_made n newest = if was_made then without n newest else newest
 
-abbrev pub hears_all : {H : Type 0} → Held → List (ConnEvent H) → Held
-hears_all held [] = held
-hears_all held (e ∷ told) = hears_all (hears held e) told
+-- The newest handler of this stream goes, if one was made for it since its opening: that of an earlier opening of its
+-- number is held still.
+abbrev pub lets_go : {H : Type 0} → Role → List (Entry H) → ℕ → List ℕ → List ℕ
+lets_go role log n newest = without_if (is_some (made_of role log n)) n newest
+
+-- by its Done, Refused and Broken the handler of a stream goes
+abbrev pub heard : {H : Type 0} → Role → List (Entry H) → ConnEvent H → List ℕ → List ℕ
+heard role log (event.Refused n) newest = lets_go role log n newest
+heard role log (event.Done n handler) newest = lets_go role log n newest
+heard role log (event.Broken n cause) newest = lets_go role log n newest
+heard role log (event.Upgraded key) newest = newest
+heard role log (event.Agreed n index) newest = newest
+heard role log (event.Fault fault) newest = newest
+heard role log event.Shut newest = newest
+
+-- the streams whose handlers are held where the list ends, that of the newest handler first
+abbrev pub newest_held : {H : Type 0} → Role → List (Entry H) → List ℕ
+newest_held role [] = []
+newest_held role (Of x ∷ log) = newest_held role log
+newest_held role (Says e ∷ log) = heard role log e (newest_held role log)
+newest_held role (Made n handler ∷ log) = n ∷ newest_held role log
+newest_held role (Asks n index ∷ log) = newest_held role log
 
 -- ---- putting what is held in order
 

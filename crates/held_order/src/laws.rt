@@ -17,8 +17,8 @@ pub fn all_in_order<H: Handler>()
     ensures { Arranges H }
 {}
 
-/// The definitions say of worked events and handlers what they are to say.
+/// The definitions say of worked lists and handlers what they are to say.
 pub fn worked_rows<H: Handler>()
-    ensures orders { OrderRows H }
+    ensures orders { OrderRows }
     ensures arranged { ArrangedRows H }
 {}

@@ -1,4 +1,4 @@
-//! In which order the handlers that a connection holds were made, as its answers tell it.
+//! In which order the handlers that a connection holds were made.
 #![tactic(auto)]
 
 pub mod laws;

@@ -204,3 +204,29 @@ module _ {P H : Type 0} (step : H → HandlerCall → H → Type 0) (fails : H �
     );
     output_is = f.output_is;
   }
+
+  -- what was made so was made as this says, too
+  pub faults_made : (making other : List (Entry H) → List (Entry H) → Type 0) (log : List (Entry H)) (asked : List (ℕ × ℕ)) (before after : List (ConnEvent H)) (fed bytes sent pending : List ℕ)
+      → ((longer : List (Entry H)) → making log longer → other log longer)
+      → Faults step fails is_closed is_finished inbound_makes outbound_makes eager names peer role making log asked before after fed bytes sent pending
+      → Faults step fails is_closed is_finished inbound_makes outbound_makes eager names peer role other log asked before after fed bytes sent pending
+  faults_made making other log asked before after fed bytes sent pending so f = record {
+    newer = f.newer;
+    told_is = f.told_is;
+    asks_are = f.asks_are;
+    makes = so (f.newer ++ log) f.makes;
+    rested = f.rested;
+    front = f.front;
+    rest = f.rest;
+    bytes_are = f.bytes_are;
+    session = f.session;
+    streams = f.streams;
+    past = f.past;
+    at_rest = f.at_rest;
+    now = f.now;
+    came = f.came;
+    fault = f.fault;
+    alone = f.alone;
+    frames = f.frames;
+    output_is = f.output_is;
+  }

@@ -1,7 +1,7 @@
 //! The session of a connection that is up, with its streams.
 
 ghost use Rattle.std.specs.Prelude.{◌≡◌, ◌≢◌, ℕ, ◌<◌, ◌≤◌, ◌-◌, true, false, List, [], ◌++◌, length, take, drop};
-ghost use Rattle.std.specs.Prelude.{None, Ok, Err, OnOk, IfOk, IfErr};
+ghost use Rattle.std.specs.Prelude.{reverse, None, Ok, Err, OnOk, IfOk, IfErr};
 ghost use Rattle.std.specs.Ordering.{nat_cmp};
 ghost use Rattle.std.specs.BTreeMap as tree;
 ghost use Rattle.conn_log.specs.Entries.{Entry};
@@ -9,6 +9,7 @@ ghost use Rattle.yamux_session.specs.Acts.{start_refusal};
 ghost use Rattle.yamux_session.specs.State.{Whenever};
 ghost use Rattle.conn_log.specs.Rests.{AreAtRest, Grows};
 ghost use Rattle.conn_log.specs.Asked.{Asked, IsRefusedAs};
+ghost use Rattle.held_order.specs.Orders.{arranged};
 ghost use Rattle.board.specs.Boards.{Keeps, MakesOnBoard};
 ghost use Rattle.board.specs.Handlers.{handlers_of, handlers_past};
 ghost use Rattle.mux.specs.Faults.{Faults};
@@ -17,6 +18,7 @@ use board::Board;
 use bytes::Bytes;
 use conn_log::{ConnEvent, ConnRefused};
 use handlers::Protocols;
+use held_order::HeldOrder;
 use peer_ids::PeerId;
 use std::alloc::{AllocError, Global};
 use std::collections::BTreeMap;
@@ -39,6 +41,7 @@ impl<P: Protocols> Mux<P> {
         ensures role { result.board.role ≡ role }
         ensures peer { result.board.peer ≡ peer }
         ensures protocols { result.board.protocols ≡ protocols }
+        ensures order { result.board.order ≡ [] }
         ensures fresh { AreAtRest P.H.steps P.H.fails P.H.is_closed P.H.is_finished P.makes_inbound P.makes_outbound
             (P.is_eager protocols) (P.listed protocols) peer role [] [] [] result.session
             (tree.get nat_cmp result.board.streams) result.board.past.items }
@@ -51,6 +54,7 @@ impl<P: Protocols> Mux<P> {
                 protocols,
                 streams: BTreeMap::new(alloc),
                 past: Vec::new(alloc),
+                order: HeldOrder::new(alloc),
             },
             alloc,
         }
@@ -175,11 +179,10 @@ impl<P: Protocols> Mux<P> {
         self.board.ask(self.alloc, &mut self.session, index, owed)
     }
 
-    /// The handlers that are held still, each with the number of its stream: first those of earlier openings, in the
-    /// order in which their numbers were opened anew, and then the others by their numbers.
+    /// The handlers that are held still, each with the number of its stream, in the order in which they were made.
     pub fn into_handlers(self) -> Result<Vec<(u32, P::H)>, AllocError>
-        ensures held { IfOk result (λ held. held.items
-            ≡ handlers_past self.board.past.items ++ handlers_of self.board.streams.entries) }
+        ensures held { IfOk result (λ held. held.items ≡ arranged (reverse self.board.order)
+            (handlers_past self.board.past.items ++ handlers_of self.board.streams.entries)) }
         ensures ordered { tree.IsOrdered nat_cmp self.board.streams }
     {
         let Self { board, alloc, .. } = self;

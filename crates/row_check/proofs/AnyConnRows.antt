@@ -27,11 +27,9 @@ use Rattle.conn_core.specs.Promises.{fed_by, opened_by}
 use Rattle.conn_core.specs.declared.calls.ConnAnswer.{ConnAnswer}
 use Rattle.conn_core.specs.Connects.{told_of, session_role}
 use Rattle.conn_core.specs.Connects.Ends.{Upgrade, Session, Early, Within, Shut}
-use Rattle.conn_core.specs.Made.{answered_all}
 use Rattle.conn_core.specs.Runs.{Point, has_ended, IsSpent, IsTurnedAway, StaysBehind}
 use Rattle.conn_core.specs.Runs.Explains.{Coming, Up, Over}
 use Rattle.conn_core.specs.Wanting.{WroteOn, Wrote}
-use Rattle.held_order.specs.Orders.{Held}
 use Rattle.row_check.specs.AnyConnRows.{AnyConnAnswerRows, AnyKeptRows, AnyHolderRows, AnySumRows, AnyConnEndRows, AnyWholeRunRows, ends, explains, is_faulty, is_up, wrote, wrote_on}
 
 -- ---- calls
@@ -87,18 +85,10 @@ any_calls = record {
 
 -- ---- holders and sums
 
-none_more : (H : Type 0) (held : Held) (early : List Bool) → answered_all {H = H} held early [] ≡ held
-none_more H held [] = refl
-none_more H held (one ∷ early) = refl
-
-both_true : (a b : Bool) → a && b ≡ true → (a ≡ true) × (b ≡ true)
-both_true true b e = (refl, e)
-both_true false b e = absurd (cc e)
-
 pub any_kept : {P H : Type 0} → AnyKeptRows P H
 any_kept = record { core_keeps = λ core. refl; mux_keeps = λ mux. refl; board_keeps = λ board. refl }
 
-pub any_holders : {P H : Type 0} → AnyHolderRows P H
+pub any_holders : {H : Type 0} → AnyHolderRows H
 any_holders = record {
   none = (refl, refl);
   one = λ n stream handler streams e. rw e refl;
@@ -107,22 +97,6 @@ any_holders = record {
   past_without_one = λ it past e. rw e refl;
   are_held = λ past streams table ascend found. record { table = table; ascend = ascend; found = found; handlers_are = refl };
   are_held_is = λ streams past handlers h. (h.table, h.ascend, h.found, h.handlers_are);
-  at_first = (refl, refl);
-  told = λ held early told. refl;
-  opened_early = λ held n. refl;
-  opened = λ held n. refl;
-  refused = λ held early reason. refl;
-  each = λ held early more answer answers. refl;
-  none_more = none_more _;
-  eager_alone = λ listed is_eager start index. (
-    λ e. (
-      ltb-true index (length (listed start)) (both_true (nat_lt index (length (listed start))) (is_eager start index) e).0,
-      (both_true (nat_lt index (length (listed start))) (is_eager start index) e).1,
-    ),
-    λ h. rw (lt-ltb index (length (listed start)) h.0) h.1,
-  );
-  asks_none = λ listed is_eager start bytes. (refl, refl);
-  made = λ listed is_eager start calls answers. refl;
 }
 
 no_call : {H : Type 0} (answers : List (ConnAnswer H)) → (fed_by [] answers ≡ []) × (opened_by [] answers ≡ [])

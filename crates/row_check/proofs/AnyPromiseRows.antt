@@ -1,23 +1,12 @@
 -- The rows of the laws of a connection, and of the order of its handlers.
 use Rattle.std.proofs.Common.{◌≡◌, ◌≢◌, ℕ, suc, ◌==◌, ◌||◌, Bool, true, false, List, [], ◌∷◌, ◌++◌, Some, None, refl, ap, ◌∙◌, ne_eqb, eq-eqb, lt-ltb, arith, length, cond, nat_lt}
-use Rattle.std.specs.List.{list_any, position, position_or_len, AllByRecursion}
+use Rattle.std.specs.Prelude.{is_some}
+use Rattle.std.specs.List.{position, position_or_len}
 use Rattle.handlers.specs.Calls.{HandlerCall, Asked}
 use Rattle.peer_ids.specs.Key.{Key}
 use Rattle.upgrade.specs.declared.role.ConnRole.{ConnRole}
-use Rattle.held_order.specs.Orders.{arranged}
+use Rattle.held_order.specs.Orders.{without_if, arranged}
 use Rattle.row_check.specs.AnyPromiseRows.{AnyOrderRows, AnyPromiseRows}
-
--- whether a number stands in a list
-stands_there : (n : ℕ) (before behind : List ℕ) → list_any (λ m. m == n) (before ++ n ∷ behind) ≡ true
-stands_there n [] behind = rw (eq-eqb n n refl) refl
-stands_there n (m ∷ before) behind = either (m == n) (stands_there n before behind) where
-  either : (b : Bool) → list_any (λ k. k == n) (before ++ n ∷ behind) ≡ true → b || list_any (λ k. k == n) (before ++ n ∷ behind) ≡ true
-  either true e = refl
-  either false e = e
-
-stands_nowhere : (n : ℕ) (xs : List ℕ) → AllByRecursion (λ m. m ≢ n) xs → list_any (λ m. m == n) xs ≡ false
-stands_nowhere n [] all = refl
-stands_nowhere n (m ∷ xs) all = rw (ne_eqb m n all.0) (stands_nowhere n xs all.1)
 
 none_held : (H : Type 0) (order : List ℕ) → arranged {H = H} order [] ≡ []
 none_held H [] = refl
@@ -30,12 +19,16 @@ at_head {H} n handler held =
 
 pub any_orders : {H : Type 0} → AnyOrderRows H
 any_orders = record {
-  opened_early = λ held n. refl;
-  agreed_early = λ held n index before behind e. rw e rw (stands_there n before behind) refl;
-  agreed = λ held n index all. rw (stands_nowhere n held.early all) refl;
-  goes = λ held n handler cause. (refl, refl, refl);
-  nothing_heard = λ held. refl;
-  heard = λ held e told. refl;
+  none_yet = λ role. refl;
+  made = λ role log n handler. refl;
+  passed = λ role log x n index. (refl, refl);
+  hears = λ role log e. refl;
+  agreed = λ role log n index newest. refl;
+  goes = λ role log n handler cause newest. (refl, refl, refl);
+  its_own_goes = λ role log n handler newest is. ap (λ o. without_if (is_some o) n newest) is;
+  an_earlier_stays = λ role log n newest is. ap (λ o. without_if (is_some o) n newest) is;
+  with_one = λ n newest. (refl, refl);
+  without_one = λ n newest. (refl, refl);
   no_order = λ held. refl;
   first_of_all = λ n handler order held. rw (at_head n handler held) refl;
   passed_over = λ n order held e. rw e refl;

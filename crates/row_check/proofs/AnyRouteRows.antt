@@ -49,7 +49,11 @@ any_boards = record {
 }
 
 pub any_board_making : {P H : Type 0} (inbound_leads outbound_leads : P → ℕ → List ℕ → H → P → Type 0) → AnyBoardMakingRows inbound_leads outbound_leads
-any_board_making inbound_leads outbound_leads = record { makes_on = λ old new log longer. (λ h. h, λ h. h) }
+any_board_making inbound_leads outbound_leads = record {
+  makes_on = λ old new log longer. (λ h. h, λ h. h);
+  makes_in_order = λ peer role before behind order later log longer. (λ h. h, λ h. h);
+  keeps_order = λ role order later log longer. (λ h. h, λ h. h);
+}
 
 -- what is said of a value that is there
 some_is : {A : Type 0} (found : Option A) (fact : A → Type 0) → IfSome found fact → (x : A) → found ≡ Some x → fact x

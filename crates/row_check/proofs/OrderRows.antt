@@ -3,7 +3,8 @@ use Rattle.row_check.specs.OrderRows.{UnmovedRows}
 
 pub unmoved_rows : {H : Type 0} → UnmovedRows H
 unmoved_rows = record {
-  upgraded = λ held key. refl;
-  fault = λ held fault. refl;
-  shut = λ held. refl;
+  upgraded = λ role log key newest. refl;
+  fault = λ role log fault newest. refl;
+  shut = λ role log newest. refl;
+  agreed = λ role log n index. refl;
 }

@@ -38,7 +38,7 @@ use Rattle.conn_log.specs.Entries.{Entry, items, said, asks}
 use Rattle.conn_log.specs.Asked.{AreMadeEarly, IsRefusedAs, IsBrokenOf}
 use Rattle.conn_log.specs.Making.{AreMadeInTurn, MakesOn}
 use Rattle.conn_log.specs.Rests.{AreAtRest, AreRested}
-use Rattle.held_order.specs.Orders.{Held, with_early, hears_all, arranged}
+use Rattle.held_order.specs.Orders.{newest_held, arranged}
 use Rattle.board.specs.declared.board.Board.{Board}
 use Rattle.board.specs.Handlers.{handlers_of, handlers_past}
 use Rattle.mux.specs.declared.mux.Mux.{Mux}
@@ -53,7 +53,6 @@ use Rattle.conn_core.specs.declared.calls.ConnAnswer.TheVariants.{Events, Stream
 use Rattle.conn_core.specs.Connects.{session_role, told_of, IsComing, IsUp, IsFaulty, Ends, IsUpWith, Connects, Stands}
 use Rattle.conn_core.specs.Connects.{is_spent, MayOpen, IsRefused, OwesOf, waiting_in, held_in, IsOrderedIn}
 use Rattle.conn_core.specs.Wanting.{WroteOn, Wrote}
-use Rattle.conn_core.specs.Made.{none_held, answered, answered_all, asks_early, made_in}
 use Rattle.conn_core.specs.Runs.{Point, is_end, has_ended, events_or, stream_or, IsTurnedAway, StaysBehind, AreHeld}
 use Rattle.conn_core.specs.Runs.{Explains, IsExplained, MayBeAsked, IsNotOpened, AnswersAt, Answers, AnswersAll, Holds}
 use Rattle.conn_core.specs.Runs.{KeepsWritten, Leaves, Runs, IsAt}
@@ -101,8 +100,8 @@ pub record AnyConnAnswerRows (P H : Type 0) : Type 0 where
       × (waiting_in {P = P} {H = H} phases.Spent written ≡ written)
   pub waits_coming : (x : Upgrading) (protocols : P) (written : List ℕ)
       → waiting_in {H = H} (phases.Upgrading x protocols) written ≡ x.pending
-  pub holds : (mux : Mux P H) → held_in (phases.Up mux)
-      ≡ handlers_past mux.board.past.items ++ handlers_of mux.board.streams.entries
+  pub holds : (mux : Mux P H) → held_in (phases.Up mux) ≡ arranged (reverse mux.board.order)
+      (handlers_past mux.board.past.items ++ handlers_of mux.board.streams.entries)
   pub ordered : (mux : Mux P H) → IsOrderedIn (phases.Up mux) ↔ tree.IsOrdered nat_cmp mux.board.streams
   pub ordered_else : (x : Upgrading) (protocols : P)
       → IsOrderedIn {H = H} (phases.Upgrading x protocols) × IsOrderedIn {P = P} {H = H} phases.Over
@@ -124,10 +123,11 @@ pub record AnyKeptRows (P H : Type 0) : Type 0 where
     protocols = board.protocols;
     streams = board.streams;
     past = board.past;
+    order = board.order;
   }
 
--- Which handlers are held, by their streams; and the order in which they were made, by answers
-pub record AnyHolderRows (P H : Type 0) : Type 0 where
+-- Which handlers are held, by their streams
+pub record AnyHolderRows (H : Type 0) : Type 0 where
   pub none : (handlers_of {H = H} [] ≡ []) × (handlers_past {H = H} [] ≡ [])
   pub one : (n : ℕ) (stream : Streaming H) (handler : H) (streams : List (ℕ × Streaming H))
       → handler_of stream.stage ≡ Some handler
@@ -145,25 +145,6 @@ pub record AnyHolderRows (P H : Type 0) : Type 0 where
       → AreHeld streams past handlers → (table : List (ℕ × Streaming H)) × IsStrictlySortedBy nat_cmp (keys_of table)
       × ((n : ℕ) → streams n ≡ lookup (tree.is_at (nat_cmp n)) table)
       × (handlers ≡ handlers_past past ++ handlers_of table)
-  -- by each answer
-  pub at_first : (none_held.early ≡ []) × (none_held.newest ≡ [])
-  pub told : (held : Held) (early : Bool) (told : Vec (ConnEvent H))
-      → answered held early (Events told) ≡ hears_all held told.items
-  pub opened_early : (held : Held) (n : ℕ) → answered {H = H} held true (Stream n) ≡ with_early n held
-  pub opened : (held : Held) (n : ℕ) → answered {H = H} held false (Stream n) ≡ held
-  pub refused : (held : Held) (early : Bool) (why : ConnRefused) → answered {H = H} held early (Refused why) ≡ held
-  pub each : (held : Held) (early : Bool) (more : List Bool) (answer : ConnAnswer H) (answers : List (ConnAnswer H))
-      → answered_all held (early ∷ more) (answer ∷ answers) ≡ answered_all (answered held early answer) more answers
-  pub none_more : (held : Held) (early : List Bool) → answered_all {H = H} held early [] ≡ held
-  pub eager_alone : (listed : P → List (List ℕ)) (is_eager : P → ℕ → Bool) (start : P) (index : ℕ)
-      → asks_early listed is_eager start (Ask index) ≡ true
-      ↔ ((index < length (listed start)) × (is_eager start index ≡ true))
-  pub asks_none : (listed : P → List (List ℕ)) (is_eager : P → ℕ → Bool) (start : P) (bytes : Vec ℕ)
-      → (asks_early listed is_eager start (Feed bytes) ≡ false) × (asks_early listed is_eager start Ended ≡ false)
-  -- and of all calls, each with its answer, that of the oldest handler comes first
-  pub made : (listed : P → List (List ℕ)) (is_eager : P → ℕ → Bool) (start : P) (calls : List ConnAct)
-      (answers : List (ConnAnswer H)) → made_in listed is_eager start calls answers
-      ≡ reverse (answered_all none_held (map (asks_early listed is_eager start) calls) answers).newest
 
 -- What a run has fed, told and opened: at any call and answer
 pub record AnySumRows (H : Type 0) : Type 0 where
@@ -321,7 +302,8 @@ module _ {P H : Type 0} (step : H → HandlerCall → H → Type 0) (fails : H �
         → is_up_with input asked told written mux ↔ ((listed mux.board.protocols ≡ listed start)
         × (is_eager mux.board.protocols ≡ is_eager start) × (mux.board.role ≡ session_role role)
         × ((up : is_up input asked told written mux.session (tree.get nat_cmp mux.board.streams) mux.board.past.items)
-        × (mux.board.peer ≡ id_of up.key) × (mux.board.protocols ≡ up.now)))
+        × (mux.board.peer ≡ id_of up.key) × (mux.board.protocols ≡ up.now)
+        × (mux.board.order ≡ newest_held (session_role role) up.log)))
     pub connects_coming : (input taken waiting : List ℕ) (ended : Bool) (asked : List (ℕ × ℕ))
         (told owed : List (ConnEvent H)) (x : Upgrading) (protocols : P)
         → connects input ended asked told taken (phases.Upgrading x protocols) owed waiting
@@ -481,7 +463,8 @@ module _ {P H : Type 0} (step : H → HandlerCall → H → Type 0) (fails : H �
         (session : State) (streams : ℕ → Option (Streaming H)) (past : List (Earlier H)) (e : ended ≡ false)
         (u : is_up input asked (told ++ owed) written session streams past) (handlers : List (ℕ × H))
         → holds input ended asked told owed written (Up session streams past e u) handlers
-        ↔ AreHeld streams past handlers
+        ↔ ((held : List (ℕ × H)) × AreHeld streams past held
+        × (handlers ≡ arranged (reverse (newest_held (session_role role) u.log)) held))
     pub over_opens_none : (input written : List ℕ) (ended : Bool) (asked : List (ℕ × ℕ))
         (told owed : List (ConnEvent H)) (o : owed ≡ []) (x : ends input ended asked told written)
         (index : ℕ) (why : ConnRefused)
@@ -570,8 +553,7 @@ module _ {P H : Type 0} (step : H → HandlerCall → H → Type 0) (fails : H �
     pub runs : (acts : List ConnAct) (answers : List (ConnAnswer H)) (written : List ℕ) (handlers : List (ℕ × H))
         → Runs step fails is_closed is_finished inbound_makes outbound_makes listed is_eager inbound_leads
         outbound_leads start role own acts answers written handlers
-        ↔ ((last : Point H) × (held : List (ℕ × H)) × answers_all (At [] false [] [] []) acts answers last
-        × leaves last written held × (handlers ≡ arranged (made_in listed is_eager start acts answers) held))
+        ↔ ((last : Point H) × answers_all (At [] false [] [] []) acts answers last × leaves last written handlers)
     pub at_point : (input : List ℕ) (ended : Bool) (asked : List (ℕ × ℕ)) (told owed : List (ConnEvent H))
         (core : ConnCore P H) → is_at (At input ended asked told owed) core
         ↔ ((core.owed.items ≡ owed) × stands input ended asked told [] core)

@@ -13,7 +13,7 @@ use Rattle.upgrade.specs.declared.role.ConnRole.{ConnRole}
 use Rattle.upgrade.specs.Upgrades.{Upgrades}
 use Rattle.yamux_frames.specs.Frames.{Reads}
 use Rattle.yamux_session.specs.declared.event.Role.{Role}
-use Rattle.yamux_session.specs.History.{arrivals, is_own}
+use Rattle.yamux_session.specs.History.{Item, arrivals, is_own}
 use Rattle.yamux_session.specs.Openings.{is_live, closed, finished}
 use Rattle.yamux_session.specs.Windows.{credit}
 use Rattle.yamux_session.specs.Data.{inbound, written as written_on}
@@ -30,7 +30,8 @@ use Rattle.conn_log.specs.declared.event.ConnEvent.{ConnEvent}
 use Rattle.conn_log.specs.declared.event.ConnEvent.TheVariants as event
 use Rattle.conn_log.specs.Entries.{Entry, items, said, agreed, is_over, was_done, made_of}
 use Rattle.conn_log.specs.Held.{IsSide}
-use Rattle.held_order.specs.Orders.{Held, with_early, hears, hears_all, without, arranged}
+use Rattle.conn_log.specs.Entries.Entry.{Of, Says, Made, Asks}
+use Rattle.held_order.specs.Orders.{without, with_if, without_if, lets_go, heard, newest_held, arranged}
 use Rattle.held_order.specs.Laws.{LetsGo, Arranges, times, numbers, of_number}
 use Rattle.conn_core.specs.declared.calls.ConnAct.{ConnAct}
 use Rattle.conn_core.specs.declared.calls.ConnAnswer.{ConnAnswer}
@@ -42,21 +43,30 @@ use Rattle.conn_core.specs.Promises.{AreEarly}
 use Rattle.conn_core.specs.Promises.{LiveAreHeld, UpIsSplit, EachIsAnswered, AllIsCounted}
 use Rattle.row_check.specs.AnyConnRows.{is_up, answers_all}
 
--- In which order handlers were made, by what is told of any stream
+-- In which order handlers were made, by any entry of the list
 pub record AnyOrderRows (H : Type 0) : Type 0 where
-  pub opened_early : (held : Held) (n : ℕ)
-      → with_early n held ≡ record { early = held.early ++ n ∷ []; newest = n ∷ held.newest }
-  pub agreed_early : (held : Held) (n index : ℕ) (before behind : List ℕ) → held.early ≡ before ++ n ∷ behind
-      → hears {H = H} held (event.Agreed n index) ≡ held
-  pub agreed : (held : Held) (n index : ℕ) → AllByRecursion (λ m. m ≢ n) held.early
-      → hears {H = H} held (event.Agreed n index) ≡ record { early = held.early; newest = n ∷ held.newest }
-  pub goes : (held : Held) (n : ℕ) (handler : H) (cause : Cause)
-      → (hears {H = H} held (event.Refused n) ≡ record { early = held.early; newest = without n held.newest })
-      × (hears held (event.Done n handler) ≡ record { early = held.early; newest = without n held.newest })
-      × (hears {H = H} held (event.Broken n cause) ≡ record { early = held.early; newest = without n held.newest })
-  pub nothing_heard : (held : Held) → hears_all {H = H} held [] ≡ held
-  pub heard : (held : Held) (e : ConnEvent H) (told : List (ConnEvent H))
-      → hears_all held (e ∷ told) ≡ hears_all (hears held e) told
+  pub none_yet : (role : Role) → newest_held {H = H} role [] ≡ []
+  pub made : (role : Role) (log : List (Entry H)) (n : ℕ) (handler : H)
+      → newest_held role (Made n handler ∷ log) ≡ n ∷ newest_held role log
+  pub passed : (role : Role) (log : List (Entry H)) (x : Item) (n index : ℕ)
+      → (newest_held role (Of x ∷ log) ≡ newest_held role log)
+      × (newest_held role (Asks n index ∷ log) ≡ newest_held role log)
+  pub hears : (role : Role) (log : List (Entry H)) (e : ConnEvent H)
+      → newest_held role (Says e ∷ log) ≡ heard role log e (newest_held role log)
+  pub agreed : (role : Role) (log : List (Entry H)) (n index : ℕ) (newest : List ℕ)
+      → heard role log (event.Agreed n index) newest ≡ newest
+  pub goes : (role : Role) (log : List (Entry H)) (n : ℕ) (handler : H) (cause : Cause) (newest : List ℕ)
+      → (heard role log (event.Refused n) newest ≡ lets_go role log n newest)
+      × (heard role log (event.Done n handler) newest ≡ lets_go role log n newest)
+      × (heard role log (event.Broken n cause) newest ≡ lets_go role log n newest)
+  -- a handler goes where one was made since the opening of its stream, and only there
+  pub its_own_goes : (role : Role) (log : List (Entry H)) (n : ℕ) (handler : H) (newest : List ℕ)
+      → made_of role log n ≡ Some handler → lets_go role log n newest ≡ without n newest
+  pub an_earlier_stays : (role : Role) (log : List (Entry H)) (n : ℕ) (newest : List ℕ)
+      → made_of role log n ≡ None → lets_go role log n newest ≡ newest
+  pub with_one : (n : ℕ) (newest : List ℕ) → (with_if true n newest ≡ n ∷ newest) × (with_if false n newest ≡ newest)
+  pub without_one : (n : ℕ) (newest : List ℕ)
+      → (without_if true n newest ≡ without n newest) × (without_if false n newest ≡ newest)
   pub no_order : (held : List (ℕ × H)) → arranged [] held ≡ held
   pub first_of_all : (n : ℕ) (handler : H) (order : List ℕ) (held : List (ℕ × H))
       → arranged (n ∷ order) ((n, handler) ∷ held) ≡ (n, handler) ∷ arranged order held

@@ -36,7 +36,8 @@ use Rattle.conn_log.specs.Routes.{IsFor}
 use Rattle.conn_log.specs.Routes.{IsMoving, Around, Routes, Comes, Routed, Opening, Awaits, IsUnderWay}
 use Rattle.conn_log.specs.Making.{MakesOn}
 use Rattle.board.specs.declared.board.Board.{Board}
-use Rattle.board.specs.Boards.{Keeps, MakesOnBoard}
+use Rattle.held_order.specs.Orders.{newest_held}
+use Rattle.board.specs.Boards.{Keeps, KeepsOrder, MakesInOrder, MakesOnBoard}
 use Rattle.board.specs.Resets.{told_of_reset}
 use Rattle.board.specs.Goings.{IsLastOf, IsHeldAlive}
 use Rattle.mux.specs.Faults.{Faults}
@@ -111,7 +112,16 @@ module _ {P H : Type 0} (inbound_leads outbound_leads : P → ℕ → List ℕ �
   pub record AnyBoardMakingRows : Type 0 where
     pub makes_on : (old new : Board P H) (log longer : List (Entry H))
         → MakesOnBoard inbound_leads outbound_leads old new log longer
-        ↔ MakesOn inbound_leads outbound_leads old.peer old.role old.protocols new.protocols log longer
+        ↔ MakesInOrder inbound_leads outbound_leads old.peer old.role old.protocols new.protocols old.order new.order
+        log longer
+    pub makes_in_order : (peer : List ℕ) (role : Role) (before behind : P) (order later : List ℕ)
+        (log longer : List (Entry H))
+        → MakesInOrder inbound_leads outbound_leads peer role before behind order later log longer
+        ↔ (MakesOn inbound_leads outbound_leads peer role before behind log longer
+        × KeepsOrder role order later log longer)
+    pub keeps_order : (role : Role) (order later : List ℕ) (log longer : List (Entry H))
+        → KeepsOrder role order later log longer
+        ↔ (order ≡ newest_held role log → later ≡ newest_held role longer)
 
 module _ {P H : Type 0} (step : H → HandlerCall → H → Type 0) (fails : H → Asked → ℕ → Type 0)
     (is_closed is_finished : H → Bool) (inbound_makes outbound_makes : P → ℕ → List ℕ → H → Type 0)

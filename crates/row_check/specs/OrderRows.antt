@@ -1,12 +1,19 @@
--- Worked rows of the order in which handlers were made: what is no agreement and no end of a stream changes nothing.
+-- Worked rows of the order in which handlers were made: what is no end of a stream lets none go.
 -- Source: this project's profile.
-use Rattle.std.specs.Prelude.{◌≡◌}
+use Rattle.std.specs.Prelude.{◌≡◌, ℕ, List, ◌∷◌}
 use Rattle.peer_ids.specs.Key.{Key}
+use Rattle.yamux_session.specs.declared.event.Role.{Role}
 use Rattle.conn_log.specs.declared.event.ConnEvent.TheVariants as event
 use Rattle.conn_log.specs.declared.event.ConnFault.{ConnFault}
-use Rattle.held_order.specs.Orders.{Held, hears}
+use Rattle.conn_log.specs.Entries.{Entry}
+use Rattle.conn_log.specs.Entries.Entry.{Says}
+use Rattle.held_order.specs.Orders.{heard, newest_held}
 
 pub record UnmovedRows (H : Type 0) : Type 0 where
-  pub upgraded : (held : Held) (key : Key) → hears {H = H} held (event.Upgraded key) ≡ held
-  pub fault : (held : Held) (fault : ConnFault) → hears {H = H} held (event.Fault fault) ≡ held
-  pub shut : (held : Held) → hears {H = H} held event.Shut ≡ held
+  pub upgraded : (role : Role) (log : List (Entry H)) (key : Key) (newest : List ℕ)
+      → heard role log (event.Upgraded key) newest ≡ newest
+  pub fault : (role : Role) (log : List (Entry H)) (fault : ConnFault) (newest : List ℕ)
+      → heard role log (event.Fault fault) newest ≡ newest
+  pub shut : (role : Role) (log : List (Entry H)) (newest : List ℕ) → heard role log event.Shut newest ≡ newest
+  pub agreed : (role : Role) (log : List (Entry H)) (n index : ℕ)
+      → newest_held role (Says (event.Agreed n index) ∷ log) ≡ newest_held role log

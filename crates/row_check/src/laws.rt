@@ -308,7 +308,7 @@ pub fn any_rest_rows<P: Protocols>()
 pub fn any_conn_rows<P: Protocols>()
     ensures calls { AnyConnAnswerRows P P.H }
     ensures kept { AnyKeptRows P P.H }
-    ensures holders { AnyHolderRows P P.H }
+    ensures holders { AnyHolderRows P.H }
     ensures sums { AnySumRows P.H }
     ensures ends { (start : P) (role : ConnRole) (own : Key)
         → AnyConnEndRows P.H.steps P.H.fails P.H.is_closed P.H.is_finished P.makes_inbound P.makes_outbound P.listed

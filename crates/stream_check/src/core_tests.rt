@@ -164,21 +164,41 @@ const OPENS_1: &[u8] = b"\0\0\0\x05\0\0\0\x01\0\0\0\x1b\x13/multistream/1.0.0\n\
 
 const OPENS_3: &[u8] = b"\0\0\0\x05\0\0\0\x03\0\0\0\x1b\x13/multistream/1.0.0\n\x06/mute\n";
 
-/// The streams 3 and 1, each of which both ends end while its handler is not finished, and then both anew.
-fn openings(alloc: Global) -> Result<Vec<ConnAct>, AllocError> {
+/// It opens the stream 3 for `/mute`, and doesn't end it.
+const OPENS_3_ALONE: &[u8] = b"\0\0\0\x01\0\0\0\x03\0\0\0\x1b\x13/multistream/1.0.0\n\x06/mute\n";
+
+/// It opens the stream 3, and begins its talk.
+const BEGINS_3: &[u8] = b"\0\0\0\x01\0\0\0\x03\0\0\0\x14\x13/multistream/1.0.0\n";
+
+/// It opens the stream 3, and spoils its talk.
+const SPOILS_3: &[u8] = b"\0\0\0\x01\0\0\0\x03\0\0\0\x14\x13/multistream/2.0.0\n";
+
+/// RST of the stream 3.
+const RESETS_3: &[u8] = b"\0\x01\0\x08\0\0\0\x03\0\0\0\0";
+
+/// What comes to a listener, and the streams whose handlers it holds then, in the order in which they were made. Both
+/// ends end the streams 3 and 1 while their handlers are not finished; then one or both are opened anew.
+const HELD: [(&[&[u8]], &[u32]); 5] = [
+    (&[OTHER, OPENS_3, OPENS_1, OPENS_3, OPENS_1], &[3, 1, 3, 1]),
+    (&[OTHER, OPENS_3, OPENS_1, OPENS_3_ALONE], &[3, 1, 3]),
+    // Where it is broken, or reset, within its talk, no handler was made for it, and that of its number stays.
+    (&[OTHER, OPENS_3, OPENS_1, SPOILS_3], &[3, 1]),
+    (&[OTHER, OPENS_3, OPENS_1, BEGINS_3, RESETS_3], &[3, 1]),
+    // Behind its talk its own goes.
+    (&[OTHER, OPENS_3, OPENS_1, OPENS_3_ALONE, RESETS_3], &[3, 1]),
+];
+
+fn feeds(alloc: Global, pieces: &[&[u8]]) -> Result<Vec<ConnAct>, AllocError> {
     let mut acts = Vec::new(alloc);
-    for piece in [OTHER, OPENS_3, OPENS_1, OPENS_3, OPENS_1] {
-        acts.push(ConnAct::Feed(Vec::from_slice(alloc, piece)?))?;
+    for piece in pieces {
+        acts.push(ConnAct::Feed(Vec::from_slice(alloc, *piece)?))?;
     }
     Ok(acts)
 }
 
-/// In the order in which they were made.
-const HELD: [u32; 4] = [3, 1, 3, 1];
-
-fn is_held(alloc: Global) -> Option<bool> {
+fn is_held(alloc: Global, pieces: &[&[u8]], held: &[u32]) -> Option<bool> {
     let key = PublicKey::read(alloc, KEY).ok()?;
-    let acts = openings(alloc).ok()?;
+    let acts = feeds(alloc, pieces).ok()?;
     let protocols = Mutes {
         alloc,
         is_known: true,
@@ -186,13 +206,17 @@ fn is_held(alloc: Global) -> Option<bool> {
     };
     let ran = run(alloc, ConnRole::Listener, key, protocols, &acts).ok()?;
     let numbers = ran.handlers.iter().map(|(number, _)| *number);
-    Some(numbers.eq(HELD.iter().copied()))
+    Some(numbers.eq(held.iter().copied()))
 }
 
 #[test]
 fn handlers_come_in_the_order_in_which_they_were_made(rt: HostRuntime) -> Result<(), Fail> {
-    let held = is_held(rt.alloc()) == Some(true);
-    assert!(rt; held, "the handlers");
+    let mut at = 0;
+    for (pieces, held) in HELD {
+        let is_so = is_held(rt.alloc(), pieces, held) == Some(true);
+        assert!(rt; is_so, "the handlers of {at}");
+        at += 1;
+    }
     Ok(())
 }
 

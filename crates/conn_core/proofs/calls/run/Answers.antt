@@ -1,11 +1,9 @@
-use Rattle.std.proofs.Common.{arith, map, ◌≡◌, ◌+◌, false, List, [], ◌∷◌, ◌++◌, take, refl, sym, ap, ◌∙◌, subst}
+use Rattle.std.proofs.Common.{arith, ◌≡◌, ◌+◌, false, List, [], ◌∷◌, ◌++◌, take, refl, sym, ap, ◌∙◌, subst}
 use Rattle.std.proofs.lemmas.List.{take_more, take_all}
 use Rattle.conn_core.specs.declared.calls.ConnAct.{ConnAct}
 use Rattle.conn_core.specs.declared.calls.ConnAnswer.{ConnAnswer}
 use Rattle.conn_core.specs.Runs.{AnswersAll}
 use Rattle.conn_core.specs.Runs.Point.{At}
-use Rattle.conn_core.specs.Made.{asks_early}
-use Rattle.conn_core.proofs.MadeOrder.{in_made_order}
 use Rattle.conn_core.proofs.Steps.{then_one, leaves}
 use Rattle.conn_core.proofs.calls.run.Goals as goal
 
@@ -62,13 +60,9 @@ returns g c =
     record {
       ran = (
         led.0,
-        c.in_ok-held.held.items,
         subst (λ (calls : List ConnAct). AnswersAll H.steps H.fails H.is_closed H.is_finished makes.makes_inbound makes.makes_outbound makes.listed makes.is_eager makes.leads_inbound makes.leads_outbound start role key (At [] false [] [] []) calls c.loop-act.answers.items led.0) all led.1,
-        leaves H.steps H.fails H.is_closed H.is_finished makes.makes_inbound makes.makes_outbound makes.listed makes.is_eager makes.leads_inbound makes.leads_outbound start role key led.0 c.loop-act.core took.new.self took.result.items c.in_ok-held.held.items
+        leaves H.steps H.fails H.is_closed H.is_finished makes.makes_inbound makes.makes_outbound makes.listed makes.is_eager makes.leads_inbound makes.leads_outbound start role key led.0 c.loop-act.core took.new.self took.result.items c.in_ok-handlers.handlers.items
             (λ input ended asked told stands. took.ensures.stands role key start input [] ended asked told stands)
-            took.ensures.taken took.ensures.none_waits took.ensures.owed took.ensures.spent c.in_ok-held.ensures.held c.into_handlers.ensures.ordered led.2,
-        in_made_order c.in_ok-handlers.handlers.items c.in_ok-held.held.items (map (asks_early makes.listed makes.is_eager start) acts) c.in_ok-early.early.items
-            c.loop-act.answers.items c.in_ok-order.order c.deref.result.now c.deref-2.result.now c.in_ok-handlers.ensures.arranged c.in_ok-order.ensures
-            c.deref.ensures.value c.deref-2.ensures.value c.in_ok-early.ensures,
+            took.ensures.taken took.ensures.none_waits took.ensures.owed took.ensures.spent c.in_ok-handlers.ensures.held c.into_handlers.ensures.ordered led.2,
       );
     }

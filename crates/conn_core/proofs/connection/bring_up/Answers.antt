@@ -25,7 +25,7 @@ returns-in-Ok-Up-clause-goes g c = λ own start input taken coming none_waits no
     let up = comes_up H.steps H.fails H.is_closed H.is_finished makes.makes_inbound makes.makes_outbound makes.listed makes.is_eager makes.leads_inbound makes.leads_outbound start role own
     c.args.upgrade c.args.protocols c.new-mux.result c.in-Ok-Up.proven input taken c.args.piece.now c.deref.result.now c.feed.new.self.pending c.last_output.result.items c.in-Ok-Up.used c.peer.result c.session_role.result
     coming c.deref.ensures c.last_output.ensures.output by_feed c.session_role.ensures c.peer.ensures
-    c.new-mux.ensures.protocols c.new-mux.ensures.role c.new-mux.ensures.peer c.new-mux.ensures.fresh in
+    c.new-mux.ensures.protocols c.new-mux.ensures.role c.new-mux.ensures.peer c.new-mux.ensures.order c.new-mux.ensures.fresh in
     c.come_up.ensures.goes role own start input taken up none_told
 
 pub returns-in-Ok-clause-goes : goal.returns-in-Ok-clause-goes
@@ -64,7 +64,7 @@ returns-in-Ok-Up-clause-wrote g c = λ own start input taken coming none_waits n
     let up = comes_up H.steps H.fails H.is_closed H.is_finished makes.makes_inbound makes.makes_outbound makes.listed makes.is_eager makes.leads_inbound makes.leads_outbound start role own
     c.args.upgrade c.args.protocols c.new-mux.result c.in-Ok-Up.proven input taken c.args.piece.now c.deref.result.now c.feed.new.self.pending c.last_output.result.items c.in-Ok-Up.used c.peer.result c.session_role.result
     coming c.deref.ensures c.last_output.ensures.output by_feed c.session_role.ensures c.peer.ensures
-    c.new-mux.ensures.protocols c.new-mux.ensures.role c.new-mux.ensures.peer c.new-mux.ensures.fresh in
+    c.new-mux.ensures.protocols c.new-mux.ensures.role c.new-mux.ensures.peer c.new-mux.ensures.order c.new-mux.ensures.fresh in
     on_err c.come_up.result Later (c.come_up.ensures.wrote role own start input taken up none_told)
 
 pub returns-clause-wrote : goal.returns-clause-wrote

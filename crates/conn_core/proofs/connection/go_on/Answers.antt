@@ -9,8 +9,9 @@ use Rattle.conn_log.specs.declared.event.ConnEvent.{ConnEvent}
 use Rattle.conn_log.specs.declared.event.ConnEvent.TheVariants as event
 use Rattle.conn_log.specs.declared.event.ConnFault.TheVariants as fault
 use Rattle.conn_log.specs.Entries.{items}
-use Rattle.conn_log.specs.Making.{MakesOn}
 use Rattle.conn_log.specs.Rests.{AreAtRest, Grows}
+use Rattle.held_order.specs.Orders.{newest_held}
+use Rattle.board.specs.Boards.{MakesInOrder}
 use Rattle.conn_core.specs.Connects.{IsUp, IsFaulty, session_role}
 use Rattle.conn_core.specs.Connects.Ends.{Session}
 use Rattle.conn_core.specs.Wanting.{WroteOn}
@@ -78,23 +79,23 @@ returns-clause-goes g c = λ role own start input taken asked before upw.
     let grows = as_known (makes.is_eager board.protocols) (makes.is_eager start) (makes.listed board.protocols) (makes.listed start) board.peer (id_of up.key) board.role (session_role role) upw.1 upw.0 upw.3.1 upw.2
     (λ e n p r. AreAtRest H.steps H.fails H.is_closed H.is_finished makes.makes_inbound makes.makes_outbound e n p r up.log up.rest sent mux.session streams board.past.items
     → after.session.failed ≡ false
-    → Grows H.steps H.fails H.is_closed H.is_finished makes.makes_inbound makes.makes_outbound e n p r (MakesOn makes.leads_inbound makes.leads_outbound p r board.protocols after.board.protocols) up.log c.args.told.now.items c.feed.new.told.items (up.rest ++ piece) sent after.session
+    → Grows H.steps H.fails H.is_closed H.is_finished makes.makes_inbound makes.makes_outbound e n p r (MakesInOrder makes.leads_inbound makes.leads_outbound p r board.protocols after.board.protocols board.order after.board.order) up.log c.args.told.now.items c.feed.new.told.items (up.rest ++ piece) sent after.session
     later after.board.past.items)
     (c.in-Ok.ensures.goes up.log up.rest sent) up.at_rest still in
     let grown = subst (λ q. Grows H.steps H.fails H.is_closed H.is_finished makes.makes_inbound makes.makes_outbound (makes.is_eager start) (makes.listed start) (id_of up.key) (session_role role)
-    (MakesOn makes.leads_inbound makes.leads_outbound (id_of up.key) (session_role role) q after.board.protocols) up.log c.args.told.now.items c.feed.new.told.items (up.rest ++ piece) sent after.session
+    (MakesInOrder makes.leads_inbound makes.leads_outbound (id_of up.key) (session_role role) q after.board.protocols board.order after.board.order) up.log c.args.told.now.items c.feed.new.told.items (up.rest ++ piece) sent after.session
     later after.board.past.items) upw.3.2 grows in
     let there = c.in_ok-collect.ensures.stands (session_role role) (items (grown.newer ++ up.log)) (up.rest ++ piece) sent grown.at_rest.session_stands in
     let it = up_on H.steps H.fails H.is_closed H.is_finished makes.makes_inbound makes.makes_outbound makes.listed makes.is_eager makes.leads_inbound makes.leads_outbound start role own
     input piece asked before c.args.told.now.items c.feed.new.told.items (taken ++ c.args.output.now.items) mux.session after.session c.collect.new.session streams later board.past.items after.board.past.items
-    up after.board.protocols grown there in
+    up after.board.protocols board.order after.board.order grown upw.3.3 there in
     let written : (taken ++ c.args.output.now.items) ++ after.session.pending ≡ taken ++ c.collect.new.output.items =
     append_assoc taken c.args.output.now.items after.session.pending ∙ ap (λ (t : List ℕ). taken ++ t) (sym c.in_ok-collect.ensures.moved) in
     let told : before ++ c.feed.new.told.items ≡ (before ++ c.feed.new.told.items) ++ [] = sym (append-nil (before ++ c.feed.new.told.items)) in
     let keeps = c.in-Ok.ensures.keeps in
     let all = subst (λ (t : List ℕ). (x : IsUp H.steps H.fails H.is_closed H.is_finished makes.makes_inbound makes.makes_outbound makes.listed makes.is_eager makes.leads_inbound makes.leads_outbound start role own
-    (input ++ piece) asked ((before ++ c.feed.new.told.items) ++ []) t c.collect.new.session later after.board.past.items) × (after.board.peer ≡ id_of x.key) × (after.board.protocols ≡ x.now)) written
+    (input ++ piece) asked ((before ++ c.feed.new.told.items) ++ []) t c.collect.new.session later after.board.past.items) × (after.board.peer ≡ id_of x.key) × (after.board.protocols ≡ x.now) × (after.board.order ≡ newest_held (session_role role) x.log)) written
     (subst (λ (t : List (ConnEvent _)). (x : IsUp H.steps H.fails H.is_closed H.is_finished makes.makes_inbound makes.makes_outbound makes.listed makes.is_eager makes.leads_inbound makes.leads_outbound start role own
-    (input ++ piece) asked t ((taken ++ c.args.output.now.items) ++ after.session.pending) c.collect.new.session later after.board.past.items) × (after.board.peer ≡ id_of x.key) × (after.board.protocols ≡ x.now)) told
-    (it.0, keeps.peer_is ∙ upw.3.1 ∙ sym (ap id_of it.1), sym it.2)) in
+    (input ++ piece) asked t ((taken ++ c.args.output.now.items) ++ after.session.pending) c.collect.new.session later after.board.past.items) × (after.board.peer ≡ id_of x.key) × (after.board.protocols ≡ x.now) × (after.board.order ≡ newest_held (session_role role) x.log)) told
+    (it.0, keeps.peer_is ∙ upw.3.1 ∙ sym (ap id_of it.1), sym it.2, it.3)) in
     (refl, (keeps.names_are ∙ upw.0, keeps.eager_are ∙ upw.1, keeps.role_is ∙ upw.2, all))

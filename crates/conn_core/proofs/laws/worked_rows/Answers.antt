@@ -1,4 +1,4 @@
-use Rattle.conn_core.proofs.Rows.{name_rows, phase_rows, end_rows, serving_rows, early_rows, handed_rows, last_rows, sum_rows, made_rows, refused_rows, answer_rows}
+use Rattle.conn_core.proofs.Rows.{name_rows, phase_rows, end_rows, serving_rows, early_rows, handed_rows, last_rows, sum_rows, refused_rows, answer_rows}
 use Rattle.conn_core.proofs.laws.worked_rows.Goals as goal
 
 pub returns-clause-names : goal.returns-clause-names
@@ -27,9 +27,6 @@ returns-clause-last g c = last_rows
 
 pub returns-clause-sums : goal.returns-clause-sums
 returns-clause-sums g c = sum_rows
-
-pub returns-clause-made : goal.returns-clause-made
-returns-clause-made g c = λ start. made_rows start
 
 pub returns-clause-refused : goal.returns-clause-refused
 returns-clause-refused g c = refused_rows

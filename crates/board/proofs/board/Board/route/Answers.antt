@@ -2,10 +2,10 @@ use Rattle.std.proofs.Common.{◌≡◌, ◌++◌, ℕ, sym, subst}
 use Rattle.std.specs.Ordering.{nat_cmp}
 use Rattle.std.specs.BTreeMap as tree
 use Rattle.yamux_session.specs.Openings.{is_live}
-use Rattle.conn_log.specs.Making.{MakesOn}
 use Rattle.conn_log.specs.Rests.{AreAtRest}
 use Rattle.board.specs.Goings.{IsHeldAlive}
 use Rattle.board.proofs.Stepping.{kept_on}
+use Rattle.board.specs.Boards.{MakesInOrder}
 use Rattle.board.proofs.board.Board.route.Goals as goal
 
 pub returns-in-Some-clause-routes : goal.returns-in-Some-clause-routes
@@ -25,7 +25,8 @@ returns-in-Some-clause-routes g c = λ log fed sent n all awaits no_data.
       newer = grows.newer;
       told_is = grows.told_is;
       unasked = grows.unasked;
-      makes = subst (λ p. MakesOn makes.leads_inbound makes.leads_outbound board.peer board.role board.protocols p log (grows.newer ++ log)) (sym c.let_go.ensures.made) grows.makes;
+      makes = subst (λ p. MakesInOrder makes.leads_inbound makes.leads_outbound board.peer board.role board.protocols p board.order c.let_go.new.self.order log (grows.newer ++ log)) (sym c.let_go.ensures.made)
+          (subst (λ o. MakesInOrder makes.leads_inbound makes.leads_outbound board.peer board.role board.protocols middle.protocols board.order o log (grows.newer ++ log)) (sym c.let_go.ensures.order) grows.makes);
       rested = grows.rested;
       at_rest = rests grows.at_rest;
     }

@@ -6,11 +6,11 @@ use Rattle.yamux_session.specs.declared.event.Event.{Event}
 use Rattle.std.specs.Ordering.{nat_cmp}
 use Rattle.std.specs.BTreeMap as tree
 use Rattle.yamux_session.specs.Arrives.{telling, tellings}
-use Rattle.conn_log.specs.Making.{MakesOn}
 use Rattle.conn_log.specs.Routes.{IsFor, IsNoData, Awaits, Routed, IsUnderWay}
 use Rattle.conn_log.proofs.Rested.{begun, went_on, all_routed}
-use Rattle.board.specs.Boards.{MakesOnBoard}
+use Rattle.board.specs.Boards.{MakesInOrder, MakesOnBoard}
 use Rattle.board.proofs.Stepping.{keeps_all, keeps_on, kept_on, all_head, told_later}
+use Rattle.board.proofs.Holding.{in_order, in_order_then}
 use Rattle.board.proofs.board.Board.route_all.Goals as goal
 
 pub loop-event-init : goal.loop-event-init
@@ -23,7 +23,7 @@ loop-event-init g c =
       under_way = λ log fed sent n all awaits no_data. begun H.steps H.fails H.is_closed H.is_finished makes.makes_inbound makes.makes_outbound (makes.is_eager board.protocols)
           (makes.listed board.protocols) board.peer board.role log c.args.told.now.items c.args.told.now.items c.args.told.now.items fed sent c.args.session.now c.args.session.now
           (tree.get nat_cmp board.streams) (tree.get nat_cmp board.streams) board.past.items board.past.items n (tellings c.args.events.now) []
-          (MakesOnBoard makes.leads_inbound makes.leads_outbound board board) (λ first was. was) refl awaits;
+          (MakesOnBoard makes.leads_inbound makes.leads_outbound board board) (in_order makes.leads_inbound makes.leads_outbound board.peer board.role board.protocols board.order log) refl awaits;
     }
 
 pub returns-in_err-route_event-clause-keeps : goal.returns-in_err-route_event-clause-keeps
@@ -54,7 +54,7 @@ loop-event-preserved g c =
           c.loop-event.session (tree.get nat_cmp c.loop-event.self.streams) c.loop-event.self.past.items n (telling event ++ tellings (drop (i + 1) events))
           → AllByRecursion IsNoData (tellings (drop (i + 1) events))
           → Routed H.steps H.fails H.is_closed H.is_finished makes.makes_inbound makes.makes_outbound eager names peer role
-          (MakesOn makes.leads_inbound makes.leads_outbound peer role c.loop-event.self.protocols c.route_event.new.self.protocols) so_far c.loop-event.told.items c.route_event.new.told.items fed sent
+          (MakesInOrder makes.leads_inbound makes.leads_outbound peer role c.loop-event.self.protocols c.route_event.new.self.protocols c.loop-event.self.order c.route_event.new.self.order) so_far c.loop-event.told.items c.route_event.new.told.items fed sent
           c.route_event.new.session (tree.get nat_cmp c.route_event.new.self.streams) c.route_event.new.self.past.items n (tellings (drop (i + 1) events)))
           (c.in_ok-route_event.ensures.routes so_far fed sent n (tellings (drop (i + 1) events))) in
           went_on H.steps H.fails H.is_closed H.is_finished makes.makes_inbound makes.makes_outbound (makes.is_eager board.protocols)
@@ -63,8 +63,8 @@ loop-event-preserved g c =
           (tellings (drop i events)) (tellings (drop (i + 1) events))
           (MakesOnBoard makes.leads_inbound makes.leads_outbound board c.route_event.new.self)
           (MakesOnBoard makes.leads_inbound makes.leads_outbound board c.loop-event.self)
-          (MakesOn makes.leads_inbound makes.leads_outbound board.peer board.role c.loop-event.self.protocols c.route_event.new.self.protocols)
-          (λ longer last made one first was. one first (made first was)) u (routes for_it waits (told_later IsNoData i events no_data));
+          (MakesInOrder makes.leads_inbound makes.leads_outbound board.peer board.role c.loop-event.self.protocols c.route_event.new.self.protocols c.loop-event.self.order c.route_event.new.self.order)
+          (λ longer last made one. in_order_then makes.leads_inbound makes.leads_outbound board.peer board.role board.protocols c.loop-event.self.protocols c.route_event.new.self.protocols board.order c.loop-event.self.order c.route_event.new.self.order log longer last made one) u (routes for_it waits (told_later IsNoData i events no_data));
     }
 
 pub returns-clause-keeps : goal.returns-clause-keeps

@@ -5,9 +5,10 @@ use Rattle.std.specs.BTreeMap as tree
 use Rattle.yamux_session.specs.declared.event.Event.{Event}
 use Rattle.yamux_session.specs.Arrives.{telling}
 use Rattle.yamux_session.specs.Events.{Told}
-use Rattle.conn_log.specs.Making.{MakesOn}
 use Rattle.conn_log.specs.Routes.{IsFor, Awaits, Routes, Routed}
 use Rattle.board.proofs.Stepping.{data_came_to, routed_over}
+use Rattle.board.specs.Boards.{MakesOnBoard}
+use Rattle.board.proofs.Holding.{in_order}
 use Rattle.board.proofs.board.Board.route_event.Goals as goal
 
 pub returns-in-Payload-clause-routes : goal.returns-in-Payload-clause-routes
@@ -28,7 +29,7 @@ returns-in-Payload-clause-routes g c = λ log fed sent n rest is_for awaits no_d
     let given : bytes ≡ c.as_slice.result.now = sym c.as_slice.ensures in
     subst (λ (k : ℕ). OnOk c.data.result (Routed H.steps H.fails H.is_closed H.is_finished makes.makes_inbound makes.makes_outbound (makes.is_eager board.protocols) (makes.listed board.protocols)
     board.peer board.role
-    (MakesOn makes.leads_inbound makes.leads_outbound board.peer board.role board.protocols c.data.new.self.protocols) log c.args.told.now.items c.data.new.told.items fed sent c.data.new.session (tree.get nat_cmp c.data.new.self.streams) c.data.new.self.past.items k rest)) known.0
+    (MakesOnBoard makes.leads_inbound makes.leads_outbound board c.data.new.self) log c.args.told.now.items c.data.new.told.items fed sent c.data.new.session (tree.get nat_cmp c.data.new.self.streams) c.data.new.self.past.items k rest)) known.0
     (c.data.ensures.routes log fed sent came.0 rest
     (subst (λ (b : List ℕ). Routes H.steps H.fails H.is_closed H.is_finished makes.makes_inbound makes.makes_outbound (makes.is_eager board.protocols) (makes.listed board.protocols)
     board.peer board.role log fed sent c.args.session.now streams board.past.items number came.0 (map (Told.Payload number) b ++ rest)) given came.1)
@@ -43,7 +44,7 @@ returns-in-Accepted-clause-routes g c = λ log fed sent n rest is_for awaits no_
     board.peer board.role log fed sent c.args.session.now (tree.get nat_cmp board.streams) board.past.items n (telling e ++ rest)) c.in-Accepted.is awaits in
     routed_over H.steps H.fails H.is_closed H.is_finished makes.makes_inbound makes.makes_outbound (makes.is_eager board.protocols) (makes.listed board.protocols) board.peer board.role
     log fed sent c.args.session.now (tree.get nat_cmp board.streams) board.past.items n
-    (MakesOn makes.leads_inbound makes.leads_outbound board.peer board.role board.protocols board.protocols) (λ first was. was) c.args.told.now.items (Told.Accepted _) rest tt (λ left e. absurd (cc e)) waits
+    (MakesOnBoard makes.leads_inbound makes.leads_outbound board board) (in_order makes.leads_inbound makes.leads_outbound board.peer board.role board.protocols board.order log) c.args.told.now.items (Told.Accepted _) rest tt (λ left e. absurd (cc e)) waits
 
 pub returns-in-GoAway-clause-routes : goal.returns-in-GoAway-clause-routes
 returns-in-GoAway-clause-routes g c = λ log fed sent n rest is_for awaits no_data.
@@ -54,7 +55,7 @@ returns-in-GoAway-clause-routes g c = λ log fed sent n rest is_for awaits no_da
     board.peer board.role log fed sent c.args.session.now (tree.get nat_cmp board.streams) board.past.items n (telling e ++ rest)) c.in-GoAway.is awaits in
     routed_over H.steps H.fails H.is_closed H.is_finished makes.makes_inbound makes.makes_outbound (makes.is_eager board.protocols) (makes.listed board.protocols) board.peer board.role
     log fed sent c.args.session.now (tree.get nat_cmp board.streams) board.past.items n
-    (MakesOn makes.leads_inbound makes.leads_outbound board.peer board.role board.protocols board.protocols) (λ first was. was) c.args.told.now.items (Told.GoAway _) rest tt (λ left e. absurd (cc e)) waits
+    (MakesOnBoard makes.leads_inbound makes.leads_outbound board board) (in_order makes.leads_inbound makes.leads_outbound board.peer board.role board.protocols board.order log) c.args.told.now.items (Told.GoAway _) rest tt (λ left e. absurd (cc e)) waits
 
 pub returns-in-Fault-clause-routes : goal.returns-in-Fault-clause-routes
 returns-in-Fault-clause-routes g c = λ log fed sent n rest is_for awaits no_data.
@@ -65,4 +66,4 @@ returns-in-Fault-clause-routes g c = λ log fed sent n rest is_for awaits no_dat
     board.peer board.role log fed sent c.args.session.now (tree.get nat_cmp board.streams) board.past.items n (telling e ++ rest)) c.in-Fault.is awaits in
     routed_over H.steps H.fails H.is_closed H.is_finished makes.makes_inbound makes.makes_outbound (makes.is_eager board.protocols) (makes.listed board.protocols) board.peer board.role
     log fed sent c.args.session.now (tree.get nat_cmp board.streams) board.past.items n
-    (MakesOn makes.leads_inbound makes.leads_outbound board.peer board.role board.protocols board.protocols) (λ first was. was) c.args.told.now.items (Told.Fault _) rest tt (λ left e. absurd (cc e)) waits
+    (MakesOnBoard makes.leads_inbound makes.leads_outbound board board) (in_order makes.leads_inbound makes.leads_outbound board.peer board.role board.protocols board.order log) c.args.told.now.items (Told.Fault _) rest tt (λ left e. absurd (cc e)) waits

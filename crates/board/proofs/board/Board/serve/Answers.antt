@@ -5,14 +5,14 @@ use Rattle.std.specs.BTreeMap as tree
 use Rattle.streams.specs.State.{Streaming}
 use Rattle.conn_log.specs.Entries.{items}
 use Rattle.conn_log.specs.Held.{IsHeld}
-use Rattle.conn_log.specs.Making.{MakesOn}
 use Rattle.conn_log.specs.Routes.{IsMoving, Routed}
 use Rattle.conn_log.proofs.Comes.{went}
 use Rattle.conn_log.proofs.Views.{no_data_behind}
-use Rattle.conn_log.proofs.Making.{makes_none}
 use Rattle.conn_log.proofs.Settling.{routed_on}
 use Rattle.board.proofs.Tables.{elsewhere, here}
 use Rattle.board.proofs.Telling.{on_ok, told_none}
+use Rattle.board.specs.Boards.{MakesOnBoard}
+use Rattle.board.proofs.Holding.{held_still, holds_since, in_order, in_order_then, by_acts}
 use Rattle.board.proofs.board.Board.serve.Goals as goal
 
 pub returns-in_default-clause-serves : goal.returns-in_default-clause-serves
@@ -22,12 +22,12 @@ returns-in_default-clause-serves g c = λ log fed sent view rest a no_data held 
     let board = c.args.self.now in
     let none : tree.get nat_cmp board.streams c.args.number ≡ None = sym c.in_default.ensures.value in
     subst (λ (f : ℕ → Option (Streaming _)). Routed H.steps H.fails H.is_closed H.is_finished makes.makes_inbound makes.makes_outbound (makes.is_eager board.protocols) (makes.listed board.protocols)
-    board.peer board.role (MakesOn makes.leads_inbound makes.leads_outbound board.peer board.role board.protocols board.protocols)
+    board.peer board.role (MakesOnBoard makes.leads_inbound makes.leads_outbound board board)
     log c.args.told.now.items c.args.told.now.items fed sent c.args.session.now f board.past.items c.args.number rest)
     (ap (tree.get nat_cmp) (sym c.get_mut.follows.holds-at-none))
     (told_none H.steps H.fails H.is_closed H.is_finished makes.makes_inbound makes.makes_outbound (makes.is_eager board.protocols) (makes.listed board.protocols) board.peer board.role log
     c.args.told.now.items c.args.told.now.items fed sent c.args.session.now (tree.get nat_cmp board.streams) board.past.items c.args.number rest
-    (MakesOn makes.leads_inbound makes.leads_outbound board.peer board.role board.protocols board.protocols) (λ first was. was) view refl (record {
+    (MakesOnBoard makes.leads_inbound makes.leads_outbound board board) (in_order makes.leads_inbound makes.leads_outbound board.peer board.role board.protocols board.order log) view refl (record {
       around = a;
       own = subst (λ (t : Option (Streaming _)). IfSome t (λ it. IsMoving H.steps H.fails H.is_closed H.is_finished makes.makes_inbound makes.makes_outbound (makes.is_eager board.protocols)
           (makes.listed board.protocols) board.peer board.role log c.args.number view rest it)) (sym none) tt;
@@ -56,8 +56,12 @@ returns-clause-serves g c = λ log fed sent view rest a no_data is_held own kept
     on_ok c.settle.result
     (λ routed. routed_on H.steps H.fails H.is_closed H.is_finished makes.makes_inbound makes.makes_outbound (makes.is_eager board.protocols) (makes.listed board.protocols) board.peer board.role log
     now.newer c.args.told.now.items c.settle.new.told.items fed sent c.settle.new.session (tree.get nat_cmp c.settle.new.self.streams) c.settle.new.self.past.items n rest
-    (MakesOn makes.leads_inbound makes.leads_outbound board.peer board.role board.protocols c.settle.new.self.protocols)
-    (MakesOn makes.leads_inbound makes.leads_outbound board.peer board.role board.protocols c.settle.new.self.protocols)
-    (λ longer made first was. made first (makes_none makes.leads_inbound makes.leads_outbound board.peer board.role board.protocols board.protocols refl log now.newer now.unmade first was))
+    (MakesOnBoard makes.leads_inbound makes.leads_outbound board c.settle.new.self)
+    (MakesOnBoard makes.leads_inbound makes.leads_outbound board c.settle.new.self)
+    (λ longer made. in_order_then makes.leads_inbound makes.leads_outbound board.peer board.role board.protocols board.protocols c.settle.new.self.protocols board.order board.order c.settle.new.self.order log (now.newer ++ log) longer
+    (by_acts makes.leads_inbound makes.leads_outbound board.peer board.role board.protocols board.order log now.newer now.unmade now.none_said) made)
     now.none_said now.untold now.same_turn routed)
-    (c.settle.ensures.settles (now.newer ++ log) fed sent now.seen_now rest now.comes)
+    (c.settle.ensures.settles (now.newer ++ log) fed sent now.seen_now rest now.comes
+    (held_still H.steps H.fails H.is_closed H.is_finished makes.makes_inbound makes.makes_outbound (makes.is_eager board.protocols) (makes.listed board.protocols) board.peer board.role log n
+    now.newer fed sent c.deliver_credit.new.session _ board.past.items now.seen_now rest c.in_ok-outcome.outcome now.comes now.same_turn now.unmade c.holds_handler-is_held.result
+    (holds_since H.steps H.is_closed H.is_finished (makes.listed board.protocols) board.role log n _ _ c.in-Some.stream.now c.holds_handler-is_held.result c.holds_handler-is_held.ensures held)))

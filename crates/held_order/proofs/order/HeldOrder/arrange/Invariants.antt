@@ -5,7 +5,7 @@ use Rattle.held_order.proofs.order.HeldOrder.arrange.Given as goal
 -- What is arranged, and what is left to arrange, is all.
 abbrev pub invariant-loop-number : goal.invariant-loop-number
 invariant-loop-number g l = record {
-  all : arranged (reverse l.fn.self.newest) l.fn.held.items ≡ l.all.items ++ arranged (reverse l.newest.items) l.rest.items;
+  all : arranged (reverse l.fn.self) l.fn.held.items ≡ l.all.items ++ arranged (reverse l.newest.items) l.rest.items;
 }
 
 abbrev pub decreases-loop-number : goal.decreases-loop-number

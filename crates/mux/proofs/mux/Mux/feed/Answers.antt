@@ -5,8 +5,8 @@ use Rattle.std.specs.Ordering.{nat_cmp}
 use Rattle.std.specs.BTreeMap as tree
 use Rattle.yamux_session.proofs.Pieces.{take_on}
 use Rattle.conn_log.specs.Rests.{AreAtRest, Grows}
-use Rattle.conn_log.specs.Making.{MakesOn}
-use Rattle.board.specs.Boards.{MakesOnBoard}
+use Rattle.board.specs.Boards.{MakesInOrder, MakesOnBoard}
+use Rattle.board.proofs.Holding.{in_order, in_order_then}
 use Rattle.board.proofs.Stepping.{keeps_all, keeps_on, kept_on}
 use Rattle.mux.specs.Faults.{Faults}
 use Rattle.mux.proofs.Framing.{grows_on, grows_none, faults_behind, faults_before}
@@ -22,7 +22,7 @@ loop-at-init g c =
       within = omega arith;
       keeps = keeps_all makes.listed makes.is_eager board;
       goes = λ log fed sent rests still. grows_none H.steps H.fails H.is_closed H.is_finished makes.makes_inbound makes.makes_outbound (makes.is_eager board.protocols) (makes.listed board.protocols) board.peer
-          board.role (MakesOnBoard makes.leads_inbound makes.leads_outbound board board) log (λ first was. was) c.args.told.now.items fed sent c.args.self.now.session (tree.get nat_cmp board.streams) board.past.items rests;
+          board.role (MakesOnBoard makes.leads_inbound makes.leads_outbound board board) log (in_order makes.leads_inbound makes.leads_outbound board.peer board.role board.protocols board.order log) c.args.told.now.items fed sent c.args.self.now.session (tree.get nat_cmp board.streams) board.past.items rests;
       faults = λ log fed sent rests failed. absurd (let both : true ≡ false = sym failed ∙ rests.session_stands.going in cc both);
       failed = λ was. (refl, refl);
     }
@@ -49,7 +49,7 @@ loop-at-preserved g c =
           (λ eager names peer role. AreAtRest H.steps H.fails H.is_closed H.is_finished makes.makes_inbound makes.makes_outbound eager names peer role (before.newer ++ log) (fed ++ take at piece) sent
           c.loop-at.self.session (tree.get nat_cmp c.loop-at.self.board.streams) c.loop-at.self.board.past.items → c.feed_frame.new.self.session.failed ≡ false
           → Grows H.steps H.fails H.is_closed H.is_finished makes.makes_inbound makes.makes_outbound eager names peer role
-          (MakesOn makes.leads_inbound makes.leads_outbound peer role c.loop-at.self.board.protocols c.feed_frame.new.self.board.protocols) (before.newer ++ log) c.loop-at.told.items c.feed_frame.new.told.items
+          (MakesInOrder makes.leads_inbound makes.leads_outbound peer role c.loop-at.self.board.protocols c.feed_frame.new.self.board.protocols c.loop-at.self.board.order c.feed_frame.new.self.board.order) (before.newer ++ log) c.loop-at.told.items c.feed_frame.new.told.items
           ((fed ++ take at piece) ++ more) sent c.feed_frame.new.self.session (tree.get nat_cmp c.feed_frame.new.self.board.streams) c.feed_frame.new.self.board.past.items)
           (c.in_ok-at.ensures.goes (before.newer ++ log) (fed ++ take at piece) sent) in
           subst (λ (t : List ℕ). Grows H.steps H.fails H.is_closed H.is_finished makes.makes_inbound makes.makes_outbound (makes.is_eager board.protocols) (makes.listed board.protocols) board.peer
@@ -59,14 +59,14 @@ loop-at-preserved g c =
           log c.args.told.now.items c.loop-at.told.items c.feed_frame.new.told.items ((fed ++ take at piece) ++ more) (fed ++ take at piece) sent c.loop-at.self.session c.feed_frame.new.self.session
           (tree.get nat_cmp c.loop-at.self.board.streams) (tree.get nat_cmp c.feed_frame.new.self.board.streams) c.loop-at.self.board.past.items c.feed_frame.new.self.board.past.items
           (MakesOnBoard makes.leads_inbound makes.leads_outbound board c.feed_frame.new.self.board) (MakesOnBoard makes.leads_inbound makes.leads_outbound board c.loop-at.self.board)
-          (MakesOn makes.leads_inbound makes.leads_outbound board.peer board.role c.loop-at.self.board.protocols c.feed_frame.new.self.board.protocols) (λ longer last made one first was. one first (made first was)) before (frame before.at_rest still));
+          (MakesInOrder makes.leads_inbound makes.leads_outbound board.peer board.role c.loop-at.self.board.protocols c.feed_frame.new.self.board.protocols c.loop-at.self.board.order c.feed_frame.new.self.board.order) (λ longer last made one. in_order_then makes.leads_inbound makes.leads_outbound board.peer board.role board.protocols c.loop-at.self.board.protocols c.feed_frame.new.self.board.protocols board.order c.loop-at.self.board.order c.feed_frame.new.self.board.order log longer last made one) before (frame before.at_rest still));
       faults = λ log fed sent rests failed.
           let before = inv.goes log fed sent rests going in
           let frame = kept_on makes.listed makes.is_eager board c.loop-at.self.board inv.keeps
           (λ eager names peer role. AreAtRest H.steps H.fails H.is_closed H.is_finished makes.makes_inbound makes.makes_outbound eager names peer role (before.newer ++ log) (fed ++ take at piece) sent
           c.loop-at.self.session (tree.get nat_cmp c.loop-at.self.board.streams) c.loop-at.self.board.past.items → c.feed_frame.new.self.session.failed ≡ true
           → Faults H.steps H.fails H.is_closed H.is_finished makes.makes_inbound makes.makes_outbound eager names peer role
-          (MakesOn makes.leads_inbound makes.leads_outbound peer role c.loop-at.self.board.protocols c.feed_frame.new.self.board.protocols) (before.newer ++ log) [] c.loop-at.told.items c.feed_frame.new.told.items
+          (MakesInOrder makes.leads_inbound makes.leads_outbound peer role c.loop-at.self.board.protocols c.feed_frame.new.self.board.protocols c.loop-at.self.board.order c.feed_frame.new.self.board.order) (before.newer ++ log) [] c.loop-at.told.items c.feed_frame.new.told.items
           (fed ++ take at piece) more sent c.feed_frame.new.self.session.pending)
           (c.in_ok-at.ensures.faults (before.newer ++ log) (fed ++ take at piece) sent) in
           subst (λ (t : List ℕ). Faults H.steps H.fails H.is_closed H.is_finished makes.makes_inbound makes.makes_outbound (makes.is_eager board.protocols) (makes.listed board.protocols) board.peer
@@ -75,7 +75,7 @@ loop-at-preserved g c =
           log c.args.told.now.items c.loop-at.told.items c.feed_frame.new.told.items fed (take at piece) more sent c.feed_frame.new.self.session.pending c.loop-at.self.session
           (tree.get nat_cmp c.loop-at.self.board.streams) c.loop-at.self.board.past.items
           (MakesOnBoard makes.leads_inbound makes.leads_outbound board c.feed_frame.new.self.board) (MakesOnBoard makes.leads_inbound makes.leads_outbound board c.loop-at.self.board)
-          (MakesOn makes.leads_inbound makes.leads_outbound board.peer board.role c.loop-at.self.board.protocols c.feed_frame.new.self.board.protocols) (λ longer last made one first was. one first (made first was)) before (frame before.at_rest failed));
+          (MakesInOrder makes.leads_inbound makes.leads_outbound board.peer board.role c.loop-at.self.board.protocols c.feed_frame.new.self.board.protocols c.loop-at.self.board.order c.feed_frame.new.self.board.order) (λ longer last made one. in_order_then makes.leads_inbound makes.leads_outbound board.peer board.role board.protocols c.loop-at.self.board.protocols c.feed_frame.new.self.board.protocols board.order c.loop-at.self.board.order c.feed_frame.new.self.board.order log longer last made one) before (frame before.at_rest failed));
     }
 
 pub returns-clause-faults : goal.returns-clause-faults

@@ -1,4 +1,4 @@
-use Rattle.std.proofs.Common.{◌≡◌, ℕ, true, false, List, ◌++◌, take, drop, refl, sym, ap, ◌∙◌, subst}
+use Rattle.std.proofs.Common.{◌≡◌, ℕ, true, false, List, ◌++◌, take, drop, sym, ap, ◌∙◌, subst}
 use Rattle.std.specs.List.{AllByRecursion}
 use Rattle.std.specs.Ordering.{nat_cmp}
 use Rattle.std.specs.BTreeMap as tree
@@ -8,10 +8,9 @@ use Rattle.conn_log.specs.Entries.{Entry, items}
 use Rattle.conn_log.specs.Routes.{IsFor, IsNoData, Awaits}
 use Rattle.conn_log.specs.Rests.{AreAtRest, Grows}
 use Rattle.conn_log.proofs.Facing.{SessionLaws}
-use Rattle.conn_log.specs.Making.{MakesOn}
 use Rattle.conn_log.proofs.Arriving.{arrived}
-use Rattle.conn_log.proofs.Making.{makes_none, arrived_none}
 use Rattle.board.specs.Boards.{MakesOnBoard}
+use Rattle.board.proofs.Holding.{in_order, in_order_then, by_arrivals}
 use Rattle.mux.proofs.Framing.{framed, faulted, grows_behind, no_data_told}
 use Rattle.mux.proofs.mux.Mux.feed_frame.Goals as goal
 
@@ -25,7 +24,7 @@ returns-then-has_failed-clause-faults g c = λ log fed sent rests failed.
     faulted H.steps H.fails H.is_closed H.is_finished makes.makes_inbound makes.makes_outbound (makes.is_eager board.protocols) (makes.listed board.protocols) board.peer board.role
     log fed bytes sent c.args.self.now.session c.feed_frame.new.self (tree.get nat_cmp board.streams) board.past.items rests led.0
     (added c.clear.new.self.items c.feed_frame.new.told.items) led.1
-    (MakesOn makes.leads_inbound makes.leads_outbound board.peer board.role board.protocols board.protocols) (λ first was. was) c.args.told.now.items failed (c.in-Ok.ensures.fault_alone rests.session_stands.going failed)
+    (MakesOnBoard makes.leads_inbound makes.leads_outbound board board) (in_order makes.leads_inbound makes.leads_outbound board.peer board.role board.protocols board.order log) c.args.told.now.items failed (c.in-Ok.ensures.fault_alone rests.session_stands.going failed)
 
 -- what the frame told was routed
 went : (g : Rattle.mux.proofs.mux.Mux.feed_frame.Given.Over) (c : goal.In_ok-route g) (log : List (Entry g.row.P-H.Denot)) (fed sent : List ℕ)
@@ -62,9 +61,10 @@ went g c log fed sent rests =
     let then = arrived it.came ++ log in
     grows_behind H.steps H.fails H.is_closed H.is_finished makes.makes_inbound makes.makes_outbound (makes.is_eager board.protocols) (makes.listed board.protocols) board.peer board.role
     log it.came c.args.told.now.items c.route.new.told.items (fed ++ bytes) sent c.route.new.session (tree.get nat_cmp c.route.new.self.streams) c.route.new.self.past.items
-    (MakesOn makes.leads_inbound makes.leads_outbound board.peer board.role board.protocols c.route.new.self.protocols)
-    (MakesOn makes.leads_inbound makes.leads_outbound board.peer board.role board.protocols c.route.new.self.protocols)
-    (λ longer made first was. made first (makes_none makes.leads_inbound makes.leads_outbound board.peer board.role board.protocols board.protocols refl log (arrived it.came) (arrived_none _ it.came) first was))
+    (MakesOnBoard makes.leads_inbound makes.leads_outbound board c.route.new.self)
+    (MakesOnBoard makes.leads_inbound makes.leads_outbound board c.route.new.self)
+    (λ longer made. in_order_then makes.leads_inbound makes.leads_outbound board.peer board.role board.protocols board.protocols c.route.new.self.protocols board.order board.order c.route.new.self.order log (arrived it.came ++ log) longer
+    (by_arrivals makes.leads_inbound makes.leads_outbound board.peer board.role board.protocols board.order log it.came) made)
     it.rested
     (c.in_ok-route.ensures.routes then (fed ++ bytes) sent it.stream
     (subst (λ (t : List Event). AllByRecursion (IsFor it.stream) t) told_is it.all_for)
