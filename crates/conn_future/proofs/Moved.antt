@@ -67,6 +67,10 @@ came_on link on first mid last given took moved came = record {
   ];
 }
 
+-- a read has room
+pub some_room : (room buffer : List ℕ) → room ≡ buffer → length buffer ≡ 8192 → 0 < length room
+some_room room buffer is long = let all : length room ≡ 8192 = ap length is ∙ long in omega (arith, all)
+
 -- ---- behind shut
 
 module _ {L : Type 0} (link : LinkGhosts L) where

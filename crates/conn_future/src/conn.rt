@@ -27,8 +27,8 @@ pub struct Conn<L: Link, P: Protocols> {
     pub(crate) alloc: Global,
     // A call of the link that fails is counted.
     ghost can_fail: { is_live stage ≡ true → L.failed link < 2 ^ 64 - 1 },
-    // A read always has room, so that none but the end moves nothing.
-    ghost has_room: { 0 < length buffer.items },
+    // A read always has this much room, so that none but the end moves nothing; and no more is kept of what came.
+    ghost has_room: { length buffer.items ≡ 8192 },
     // Where it makes no call more, the output that was left is dropped.
     ghost none_left: { is_live stage ≡ false → unsent.items ≡ [] },
 }

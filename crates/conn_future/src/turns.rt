@@ -42,7 +42,7 @@ const READ_SIZE: usize = 8192;
 
 /// A buffer for a read.
 pub(crate) fn buffer(alloc: Global) -> Result<Vec<u8>, AllocError>
-    ensures { IfOk result (λ buffer. 0 < length buffer.items) }
+    ensures { IfOk result (λ buffer. length buffer.items ≡ 8192) }
 {
     vec![in alloc; 0; READ_SIZE]
 }

@@ -235,3 +235,22 @@ fn too_much_waits(rt: HostRuntime) -> Result<(), Fail> {
     assert!(rt; held, "4 MiB");
     Ok(())
 }
+
+/// An ask while much output waits still takes memory, and is answered.
+fn asks_while_much_waits(alloc: Global, task: &MockTask) -> Option<bool> {
+    let writes = steps(alloc, PipeStep::Pending, PipeStep::Pending, 100)?;
+    let pipe = Pipe::new(alloc, input(alloc, PING, 60_000)?, Vec::new(alloc), writes);
+    let mut conn = connect(alloc, ConnRole::Listener, pipe)?;
+    let gave = [poll_once(task, &mut conn), poll_once(task, &mut conn)];
+    let is_much = conn.waiting() > 200_000;
+    let asked = conn.ask(PROTOCOL);
+    Some(gave == [Gave::Upgraded, Gave::Nothing] && is_much && asked == Ok(2))
+}
+
+#[test]
+fn an_ask_while_much_waits(rt: HostRuntime) -> Result<(), Fail> {
+    let task = MockTask::new(&rt)?;
+    let held = asks_while_much_waits(rt.alloc(), &task) == Some(true);
+    assert!(rt; held, "an ask");
+    Ok(())
+}

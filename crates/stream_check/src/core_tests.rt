@@ -211,11 +211,9 @@ fn is_held(alloc: Global, pieces: &[&[u8]], held: &[u32]) -> Option<bool> {
 
 #[test]
 fn handlers_come_in_the_order_in_which_they_were_made(rt: HostRuntime) -> Result<(), Fail> {
-    let mut at = 0;
-    for (pieces, held) in HELD {
-        let is_so = is_held(rt.alloc(), pieces, held) == Some(true);
-        assert!(rt; is_so, "the handlers of {at}");
-        at += 1;
+    for (row, (pieces, held)) in HELD.iter().enumerate() {
+        let is_so = is_held(rt.alloc(), *pieces, *held) == Some(true);
+        assert!(rt; is_so, "row {row}");
     }
     Ok(())
 }

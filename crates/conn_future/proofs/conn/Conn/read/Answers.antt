@@ -6,7 +6,7 @@ use Rattle.conn_link.specs.Calling.Kind.{Reads}
 use Rattle.conn_future.specs.Turning.{Makes}
 use Rattle.conn_future.proofs.Making.{none_left, made_on, answered_on}
 use Rattle.conn_future.specs.Stages.{is_live}
-use Rattle.conn_future.proofs.Moved.{of_count, of_fault, of_pending, found_none, fault_ends_not, pending_ends_not, some_end_not, none_ends, some_moved}
+use Rattle.conn_future.proofs.Moved.{of_count, of_fault, of_pending, found_none, fault_ends_not, pending_ends_not, some_end_not, none_ends, some_moved, some_room}
 use Rattle.conn_future.proofs.Lists.{written_back}
 use Rattle.conn_future.proofs.Standing.{goes_none, stays_failed, stays_pending}
 use Rattle.conn_future.proofs.conn.Conn.read.Goals as goal
@@ -19,7 +19,7 @@ returns-in-Ready-Ok-eq0-clause-follows g c start role own first asked gave stays
     c.requires.going c.requires.none_held stays)
     (subst (λ (l : List ℕ). g.L.Link.moves c.args.self.now.link l [] c.poll_read.new.self)
     (of_count c.poll_read.result _ _ 0 (cc (c.in-Ready-Ok-eq0.is, c.in-Ready-Ok-eq0.field-0-is)) refl) c.poll_read.ensures.moved)
-    (c.poll_read.ensures.end (none_ends (length c.as_mut_slice.result.now) c.poll_read.result (cc (c.in-Ready-Ok-eq0.is, c.in-Ready-Ok-eq0.field-0-is)) (rw c.as_mut_slice.ensures.value c.args.self.now.has_room)))
+    (c.poll_read.ensures.end (none_ends (length c.as_mut_slice.result.now) c.poll_read.result (cc (c.in-Ready-Ok-eq0.is, c.in-Ready-Ok-eq0.field-0-is)) (some_room c.as_mut_slice.result.now c.args.self.now.buffer.items c.as_mut_slice.ensures.value c.args.self.now.has_room)))
 
 pub returns-in-Ready-Err-clause-follows : goal.returns-in-Ready-Err-clause-follows
 returns-in-Ready-Err-clause-follows g c start role own first asked gave stays = record {
@@ -73,7 +73,7 @@ returns-in-Ready-Ok-eq0-clause-came g c over = inr record {
   took = [];
   moved = subst (λ l. g.L.Link.moves c.args.self.now.link (bytes_moved c.poll_read.result c.poll_read.new.buffer) [] l) (sym c.end.ensures.link) c.poll_read.ensures.moved;
   some = inr (subst g.L.Link.has_ended (sym c.end.ensures.link)
-      (c.poll_read.ensures.end (none_ends (length c.as_mut_slice.result.now) c.poll_read.result (cc (c.in-Ready-Ok-eq0.is, c.in-Ready-Ok-eq0.field-0-is)) (rw c.as_mut_slice.ensures.value c.args.self.now.has_room))));
+      (c.poll_read.ensures.end (none_ends (length c.as_mut_slice.result.now) c.poll_read.result (cc (c.in-Ready-Ok-eq0.is, c.in-Ready-Ok-eq0.field-0-is)) (some_room c.as_mut_slice.result.now c.args.self.now.buffer.items c.as_mut_slice.ensures.value c.args.self.now.has_room))));
 }
 
 pub returns-in-Ready-Ok-clause-came : goal.returns-in-Ready-Ok-clause-came
@@ -84,7 +84,7 @@ returns-in-Ready-Ok-clause-came g c over = inr record {
       (subst (λ (l : List ℕ). g.L.Link.moves c.args.self.now.link l [] c.poll_read.new.self)
       (of_count c.poll_read.result c.poll_read.new.buffer _ c.in-Ready-Ok.count (cc (c.in-Ready-Ok.is, c.in-Ready-Ok.field-0-is)) refl) c.poll_read.ensures.moved);
   some = inl (some_moved c.in-Ready-Ok.count c.poll_read.new.buffer c.in-Ready-Ok.count-test.1
-      (subst (λ (n : ℕ). 0 < n) (sym c.poll_read.auto.buffer) (rw c.as_mut_slice.ensures.value c.args.self.now.has_room)));
+      (subst (λ (n : ℕ). 0 < n) (sym c.poll_read.auto.buffer) (some_room c.as_mut_slice.result.now c.args.self.now.buffer.items c.as_mut_slice.ensures.value c.args.self.now.has_room)));
 }
 
 pub returns-in-Ready-Ok-eq0-clause-called : goal.returns-in-Ready-Ok-eq0-clause-called
@@ -92,7 +92,7 @@ returns-in-Ready-Ok-eq0-clause-called g c waited first before count it =
     let none = none_left g.L.Link.calls c.args.waits.now waited (length c.args.self.now.unsent.items) first before c.args.self.now.link c.args.cx.now count it (λ is. ap length (c.requires.written is)) in
     subst (λ l. Makes g.L.Link.calls c.args.waits.now waited (length c.end.new.self.unsent.items) first before l c.poll_read.new.cx (count + 1)) (sym c.end.ensures.link)
     (answered_on g.L.Link.calls g.met.L.Link.calls_on c.args.waits.now waited (length c.args.self.now.unsent.items) (length c.end.new.self.unsent.items) first c.args.self.now.link c.poll_read.new.self before c.args.cx.now c.poll_read.new.cx count
-    (call_of Reads (length c.as_mut_slice.result.now) c.poll_read.result c.args.cx.now c.poll_read.new.cx) it (it.reading c.requires.can_wait) (inr (rw c.as_mut_slice.ensures.value c.args.self.now.has_room))
+    (call_of Reads (length c.as_mut_slice.result.now) c.poll_read.result c.args.cx.now c.poll_read.new.cx) it (it.reading c.requires.can_wait) (inr (some_room c.as_mut_slice.result.now c.args.self.now.buffer.items c.as_mut_slice.ensures.value c.args.self.now.has_room))
     (ap is_pending c.in-Ready-Ok-eq0.is) (λ shuts. cc shuts) refl c.poll_read.ensures.called (λ kind. none) (λ is. omega (arith, none)) (λ is. none))
 
 pub returns-in-Ready-Ok-clause-called : goal.returns-in-Ready-Ok-clause-called
@@ -100,20 +100,20 @@ returns-in-Ready-Ok-clause-called g c waited first before count it =
     let none = none_left g.L.Link.calls c.args.waits.now waited (length c.args.self.now.unsent.items) first before c.args.self.now.link c.args.cx.now count it (λ is. ap length (c.requires.written is)) in
     subst (λ l. Makes g.L.Link.calls c.args.waits.now waited (length c.hear.new.self.unsent.items) first before l c.poll_read.new.cx (count + 1)) (sym c.hear.ensures.link)
     (answered_on g.L.Link.calls g.met.L.Link.calls_on c.args.waits.now waited (length c.args.self.now.unsent.items) (length c.hear.new.self.unsent.items) first c.args.self.now.link c.poll_read.new.self before c.args.cx.now c.poll_read.new.cx count
-    (call_of Reads (length c.as_mut_slice.result.now) c.poll_read.result c.args.cx.now c.poll_read.new.cx) it (it.reading c.requires.can_wait) (inr (rw c.as_mut_slice.ensures.value c.args.self.now.has_room))
+    (call_of Reads (length c.as_mut_slice.result.now) c.poll_read.result c.args.cx.now c.poll_read.new.cx) it (it.reading c.requires.can_wait) (inr (some_room c.as_mut_slice.result.now c.args.self.now.buffer.items c.as_mut_slice.ensures.value c.args.self.now.has_room))
     (ap is_pending c.in-Ready-Ok.is) (λ shuts. cc shuts) refl c.poll_read.ensures.called (λ kind. none) (λ is. omega (arith, none)) (λ is. none))
 
 pub returns-in-Ready-Err-clause-called : goal.returns-in-Ready-Err-clause-called
 returns-in-Ready-Err-clause-called g c waited first before count it =
     let none = none_left g.L.Link.calls c.args.waits.now waited (length c.args.self.now.unsent.items) first before c.args.self.now.link c.args.cx.now count it (λ is. ap length (c.requires.written is)) in
     answered_on g.L.Link.calls g.met.L.Link.calls_on c.args.waits.now waited (length c.args.self.now.unsent.items) (length c.new.result.items) first c.args.self.now.link c.poll_read.new.self before c.args.cx.now c.poll_read.new.cx count
-    (call_of Reads (length c.as_mut_slice.result.now) c.poll_read.result c.args.cx.now c.poll_read.new.cx) it (it.reading c.requires.can_wait) (inr (rw c.as_mut_slice.ensures.value c.args.self.now.has_room))
+    (call_of Reads (length c.as_mut_slice.result.now) c.poll_read.result c.args.cx.now c.poll_read.new.cx) it (it.reading c.requires.can_wait) (inr (some_room c.as_mut_slice.result.now c.args.self.now.buffer.items c.as_mut_slice.ensures.value c.args.self.now.has_room))
     (ap is_pending c.in-Ready-Err.is) (λ shuts. cc shuts) refl c.poll_read.ensures.called (λ kind. none) (λ is. omega (arith, none)) (λ is. none)
 
 pub returns-in-Pending-clause-called : goal.returns-in-Pending-clause-called
 returns-in-Pending-clause-called g c waited first before count it =
     let none = none_left g.L.Link.calls c.args.waits.now waited (length c.args.self.now.unsent.items) first before c.args.self.now.link c.args.cx.now count it (λ is. ap length (c.requires.written is)) in
     made_on g.L.Link.calls g.met.L.Link.calls_on c.args.waits.now (record c.args.waits.now { reading = true }) waited (length c.args.self.now.unsent.items) (length c.args.self.now.unsent.items) first c.args.self.now.link c.poll_read.new.self before c.args.cx.now c.poll_read.new.cx count
-    (call_of Reads (length c.as_mut_slice.result.now) c.poll_read.result c.args.cx.now c.poll_read.new.cx) it (it.reading c.requires.can_wait) (inr (rw c.as_mut_slice.ensures.value c.args.self.now.has_room)) refl c.poll_read.ensures.called
+    (call_of Reads (length c.as_mut_slice.result.now) c.poll_read.result c.args.cx.now c.poll_read.new.cx) it (it.reading c.requires.can_wait) (inr (some_room c.as_mut_slice.result.now c.args.self.now.buffer.items c.as_mut_slice.ensures.value c.args.self.now.has_room)) refl c.poll_read.ensures.called
     (λ kind. none) (λ is. omega (arith, none)) (λ is. none)
     (λ is. absurd (cc is)) (λ is. (is, λ kind. absurd (cc kind))) (λ shuts. cc shuts)
