@@ -13,12 +13,14 @@ use std::test::*;
 use upgrade::ConnRole;
 
 /// A handler that gives as many bytes as it owes, and one more for each that it takes. Once it has given some and owes
-/// none its work is done. It fails at an end before that.
+/// none its work is done. At an end before that it fails, or loses what it owes.
 #[derive(Drop)]
 struct Owing {
     alloc: Global,
     owed: usize,
     gave: bool,
+    fails: bool,
+    lost: usize,
 }
 
 impl Handler for Owing {
@@ -36,10 +38,13 @@ impl Handler for Owing {
     }
 
     fn end(&mut self) -> Result<(), HandlerFault> {
-        if self.finished() {
-            return Ok(());
+        if self.fails && !self.finished() {
+            return Err(HandlerFault { number: 7 });
         }
-        Err(HandlerFault { number: 7 })
+        self.lost = self.owed;
+        self.owed = 0;
+        self.gave = true;
+        Ok(())
     }
 
     fn give(&mut self, room: usize) -> Result<Vec<u8>, HandlerFault> {
@@ -67,6 +72,7 @@ impl Handler for Owing {
 struct Owings {
     alloc: Global,
     owed: usize,
+    fails: bool,
 }
 
 impl Owings {
@@ -75,6 +81,8 @@ impl Owings {
             alloc: self.alloc,
             owed: self.owed,
             gave: false,
+            fails: self.fails,
+            lost: 0,
         }
     }
 }
@@ -119,55 +127,73 @@ const KEY: &[u8] = b"\x08\x02\x12\x01\x05";
 const OTHER: &[u8] = b"\x13/multistream/1.0.0\n\x11/plaintext/2.0.0\n\
     \x10\x0a\x07\0\x05\x08\x02\x12\x01\x06\x12\x05\x08\x02\x12\x01\x06\x13/multistream/1.0.0\n\x0d/yamux/1.0.0\n";
 
-/// The other end opens the stream 1 for `/mute`.
-const OPENS: &[u8] = b"\0\0\0\x01\0\0\0\x01\0\0\0\x1b\x13/multistream/1.0.0\n\x06/mute\n";
+/// The other end opens the streams 1 and 3 for `/mute`.
+const OPENS: &[u8] = b"\0\0\0\x01\0\0\0\x01\0\0\0\x1b\x13/multistream/1.0.0\n\x06/mute\n\
+    \0\0\0\x01\0\0\0\x03\0\0\0\x1b\x13/multistream/1.0.0\n\x06/mute\n";
 
 /// The room of a handler: the window of a stream, but for the 27 bytes of this end's talk.
 const ROOM: usize = 262_117;
 
 /// A window update of one byte, and three bytes of data, each with the end of the stream's data.
-const CREDIT_AND_END: &[u8] = b"\0\x01\0\x04\0\0\0\x01\0\0\0\x01";
+const CREDIT_AND_END_1: &[u8] = b"\0\x01\0\x04\0\0\0\x01\0\0\0\x01";
 
-const DATA_AND_END: &[u8] = b"\0\0\0\x04\0\0\0\x01\0\0\0\x03abc";
+const CREDIT_AND_END_3: &[u8] = b"\0\x01\0\x04\0\0\0\x03\0\0\0\x01";
+
+const DATA_AND_END_1: &[u8] = b"\0\0\0\x04\0\0\0\x01\0\0\0\x03abc";
+
+const DATA_AND_END_3: &[u8] = b"\0\0\0\x04\0\0\0\x03\0\0\0\x03abc";
 
 /// The same without the end, and the end alone.
-const CREDIT: &[u8] = b"\0\x01\0\0\0\0\0\x01\0\0\0\x01";
+const CREDIT_1: &[u8] = b"\0\x01\0\0\0\0\0\x01\0\0\0\x01";
 
-const END: &[u8] = b"\0\x01\0\x04\0\0\0\x01\0\0\0\0";
+const END_1: &[u8] = b"\0\x01\0\x04\0\0\0\x01\0\0\0\0";
 
-/// What is told of the stream 1.
+const END_3: &[u8] = b"\0\x01\0\x04\0\0\0\x03\0\0\0\0";
+
+/// What is told of a stream: Done with how much its handler lost.
 #[derive(Clone, Copy, Debug, PartialEq, Eq)]
 enum Told {
     Nothing,
-    Done,
-    Broken(Why),
+    Done(u32, usize),
+    Broken(u32, Why),
     Other,
 }
 
 fn only_told(events: &[ConnEvent<Owing>]) -> Told {
     match events.first() {
         None => Told::Nothing,
-        Some(ConnEvent::Done(1, _)) if events.len() == 1 => Told::Done,
-        Some(ConnEvent::Broken(1, cause)) if events.len() == 1 => Told::Broken(why_broken(*cause)),
+        Some(_) if events.len() > 1 => Told::Other,
+        Some(ConnEvent::Done(number, handler)) => Told::Done(*number, handler.lost),
+        Some(ConnEvent::Broken(number, cause)) => Told::Broken(*number, why_broken(*cause)),
         Some(_) => Told::Other,
     }
 }
 
-/// What a handler owes at first, the piece that comes once it has given what there was room for, and what is told.
-type Row = (usize, &'static [u8], Told);
+/// What a handler owes at first, whether it fails at an early end, the piece that comes once it has given what there was
+/// room for, and what is told.
+type Row = (usize, bool, &'static [u8], Told);
 
-const ROWS: [Row; 6] = [
-    (ROOM + 1, CREDIT_AND_END, Told::Done),
-    (ROOM + 2, CREDIT_AND_END, Told::Broken(Why::Handler(7))),
-    (ROOM + 1, CREDIT, Told::Done),
-    (ROOM + 1, END, Told::Broken(Why::Handler(7))),
-    (0, DATA_AND_END, Told::Done),
-    (0, END, Told::Broken(Why::Handler(7))),
+const FAILED: Why = Why::Handler(7);
+
+const ROWS: [Row; 12] = [
+    (ROOM + 1, true, CREDIT_AND_END_1, Told::Done(1, 0)),
+    (ROOM + 2, true, CREDIT_AND_END_1, Told::Broken(1, FAILED)),
+    (ROOM + 1, true, CREDIT_AND_END_3, Told::Done(3, 0)),
+    (ROOM + 1, false, CREDIT_AND_END_3, Told::Done(3, 0)),
+    (ROOM + 2, false, CREDIT_AND_END_3, Told::Done(3, 1)),
+    (ROOM + 1, true, CREDIT_1, Told::Done(1, 0)),
+    (ROOM + 1, true, END_1, Told::Broken(1, FAILED)),
+    (ROOM + 1, false, END_3, Told::Done(3, 1)),
+    (0, true, DATA_AND_END_1, Told::Done(1, 0)),
+    (0, true, DATA_AND_END_3, Told::Done(3, 0)),
+    (0, false, DATA_AND_END_3, Told::Done(3, 0)),
+    (0, true, END_1, Told::Broken(1, FAILED)),
 ];
 
-fn told_of(alloc: Global, owed: usize, piece: &[u8]) -> Option<Told> {
+fn told_of(alloc: Global, owed: usize, fails: bool, piece: &[u8]) -> Option<Told> {
     let key = PublicKey::read(alloc, KEY).ok()?;
-    let mut core = ConnCore::new(alloc, ConnRole::Listener, key, Owings { alloc, owed }).ok()?;
+    let protocols = Owings { alloc, owed, fails };
+    let mut core = ConnCore::new(alloc, ConnRole::Listener, key, protocols).ok()?;
     core.feed(OTHER).ok()?;
     core.feed(OPENS).ok()?;
     let events = core.feed(piece).ok()?;
@@ -178,8 +204,8 @@ fn told_of(alloc: Global, owed: usize, piece: &[u8]) -> Option<Told> {
 fn a_handler_gives_before_it_hears_the_end(rt: HostRuntime) -> Result<(), Fail> {
     let alloc = rt.alloc();
     for row in &ROWS {
-        let (owed, piece, told) = *row;
-        let found = told_of(alloc, owed, piece);
+        let (owed, fails, piece, told) = *row;
+        let found = told_of(alloc, owed, fails, piece);
         assert_eq!(rt; found, Some(told));
     }
     Ok(())
