@@ -190,14 +190,23 @@ const ROWS: [Row; 12] = [
     (0, true, END_1, Told::Broken(1, FAILED)),
 ];
 
-fn told_of(alloc: Global, owed: usize, fails: bool, piece: &[u8]) -> Option<Told> {
+/// A listener that is up, with two handlers, each of which gave what there was room for.
+fn begin(alloc: Global, protocols: Owings) -> Option<ConnCore<Owings>> {
     let key = PublicKey::read(alloc, KEY).ok()?;
-    let protocols = Owings { alloc, owed, fails };
     let mut core = ConnCore::new(alloc, ConnRole::Listener, key, protocols).ok()?;
     core.feed(OTHER).ok()?;
     core.feed(OPENS).ok()?;
+    Some(core)
+}
+
+fn meets(core: &mut ConnCore<Owings>, piece: &[u8]) -> Option<Told> {
     let events = core.feed(piece).ok()?;
     Some(only_told(&events))
+}
+
+fn told_of(alloc: Global, owed: usize, fails: bool, piece: &[u8]) -> Option<Told> {
+    let mut core = begin(alloc, Owings { alloc, owed, fails })?;
+    meets(&mut core, piece)
 }
 
 #[test]
