@@ -254,3 +254,26 @@ fn an_ask_while_much_waits(rt: HostRuntime) -> Result<(), Fail> {
     assert!(rt; held, "an ask");
     Ok(())
 }
+
+/// 2,000 reads of a byte each, and then the end.
+fn reads_on(alloc: Global, task: &MockTask) -> Option<bool> {
+    let first = PipeStep::Upto(UPGRADE.len().max(1));
+    let reads = steps(alloc, first, PipeStep::Upto(1), 2_100)?;
+    let pipe = Pipe::new(alloc, input(alloc, CREDIT, 167)?, reads, Vec::new(alloc));
+    let mut conn = connect(alloc, ConnRole::Dialer, pipe)?;
+    let is_up = poll_once(task, &mut conn) == Gave::Upgraded;
+    for _poll in 0..100 {
+        match poll_once(task, &mut conn) {
+            Gave::Nothing => {}
+            gave => return Some(is_up && gave == Gave::Shut),
+        }
+    }
+    None
+}
+
+#[test]
+fn many_reads(rt: HostRuntime) -> Result<(), Fail> {
+    let task = MockTask::new(&rt)?;
+    assert_eq!(rt; reads_on(rt.alloc(), &task), Some(true));
+    Ok(())
+}
