@@ -18,7 +18,7 @@ use Rattle.routing.specs.declared.delivered.Outcome.{Outcome}
 use Rattle.routing.specs.declared.delivered.Outcome.TheVariants as outcomes
 use Rattle.conn_log.specs.declared.earlier.Earlier.{Earlier}
 use Rattle.conn_log.specs.Entries.{Entry, said, agreement, since, is_last, is_over, made_in, made_of}
-use Rattle.conn_log.specs.Entries.Entry.{Of, Says, Made, Asks}
+use Rattle.conn_log.specs.Entries.Entry.{Of, Says, Made, Asks, Calls}
 use Rattle.conn_log.specs.Due.{AllDue}
 use Rattle.conn_log.specs.Held.{IsHeld}
 use Rattle.conn_log.specs.Making.{MakesNone}
@@ -109,6 +109,7 @@ module _ {P H : Type 0} (step : H → HandlerCall → H → Type 0) (fails : H �
   still_going (Says e ∷ newer) keeps due going = still_going newer keeps due.1 (second (is_last n e) (is_over role (newer ++ log) n) going)
   still_going (Made m handler ∷ newer) keeps due going = still_going newer keeps due.1 going
   still_going (Asks m index ∷ newer) keeps due going = absurd keeps
+  still_going (Calls m call ∷ newer) keeps due going = still_going newer keeps due.1 going
 
   made_now : (newer : List (Entry H)) → KeepsTurn newer → AllDue step fails is_closed is_finished inbound_makes outbound_makes eager names peer role (newer ++ log)
       → is_some (made_of role (newer ++ log) n) ≡ has n (mades newer) || is_some (made_of role log n)
@@ -124,6 +125,7 @@ module _ {P H : Type 0} (step : H → HandlerCall → H → Type 0) (fails : H �
   made_now (Made m handler ∷ newer) keeps due =
       made_here (m == n) handler (made_of role (newer ++ log) n) (has n (mades newer)) (is_some (made_of role log n)) (made_now newer keeps due.1)
   made_now (Asks m index ∷ newer) keeps due = absurd keeps
+  made_now (Calls m call ∷ newer) keeps due = made_now newer keeps due.1
 
   due_of : (now : List (Entry H)) (fed sent : List ℕ) (session : State) (streams : ℕ → Option (Streaming H)) (past : List (Earlier H)) (view : Seen) (rest : List Told) (outcome : Outcome H)
       → Comes step fails is_closed is_finished inbound_makes outbound_makes eager names peer role now fed sent session streams past n view rest outcome

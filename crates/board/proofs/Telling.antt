@@ -1,6 +1,7 @@
 -- What was routed, where something was told of it.
-use Rattle.std.proofs.Common.{◌≡◌, ℕ, Bool, true, false, not, ◌&&◌, List, [], ◌∷◌, ◌++◌, map, Option, Some, None, Result, Ok, Err, refl, sym, ap, ◌∙◌, subst}
+use Rattle.std.proofs.Common.{◌≡◌, ◌⊎◌, inl, inr, ℕ, Bool, true, false, not, ◌&&◌, List, [], ◌∷◌, ◌++◌, map, Option, Some, None, Result, Ok, Err, refl, sym, ap, ◌∙◌, subst}
 use Rattle.std.specs.Prelude.{OnOk, IfSome, IsSome}
+use Rattle.std.specs.List.{AllByRecursion}
 use Rattle.std.proofs.lemmas.List.{append_assoc, append-nil}
 use Rattle.handlers.specs.Calls.{HandlerCall, Asked}
 use Rattle.yamux_session.specs.declared.event.Role.{Role}
@@ -12,8 +13,7 @@ use Rattle.conn_log.specs.declared.earlier.Earlier.{Earlier}
 use Rattle.conn_log.specs.declared.event.ConnEvent.{ConnEvent}
 use Rattle.conn_log.specs.Entries.{Entry, items, is_over}
 use Rattle.conn_log.specs.Entries.Entry.{Says}
-use Rattle.conn_log.specs.Held.{IsHeld}
-use Rattle.conn_log.specs.Routes.{IsMoving, Around, Routes, Routed}
+use Rattle.conn_log.specs.Routes.{IsNoCredit, IsMoving, MayBeServed, Around, Routes, Routed}
 use Rattle.conn_log.proofs.Settling.{said_append}
 use Rattle.conn_log.proofs.Turning.{same_turns}
 use Rattle.conn_log.proofs.Ending.{ended_view, end_came}
@@ -64,22 +64,26 @@ module _ {P H : Type 0} (step : H → HandlerCall → H → Type 0) (fails : H �
     others_kept = r.around.others_kept;
     resets_told = r.around.resets_told;
     reset_came = r.around.reset_came;
+    end_told = r.around.end_told;
     end_came = r.around.end_came;
     heard = r.around.heard;
     opens_none = r.around.opens_none.1;
-    ends_last = r.around.ends_last;
+    ends_last = r.around.ends_last.0;
     earlier = r.around.earlier;
     past_is = r.around.past_is;
     in_turn = r.around.in_turn;
     turn_is = r.around.turn_is;
   }
 
-  -- the stream that is named is held so
-  pub held_of : (view : Seen) (left : List Told) (r : Option (Streaming H))
-      → IfSome r (λ it. IsMoving step fails is_closed is_finished inbound_makes outbound_makes eager names peer role log n view left it)
-      → IfSome r (λ it. IsHeld step is_closed is_finished names role log n view.came view.ended it × (view.live ≡ false → view.ended ≡ true))
-  held_of view left None moving = tt
-  held_of view left (Some it) moving = (moving.held, moving.over_by_end)
+  -- by the credit that was told the stream that is named may be served
+  pub may_serve : (view : Seen) (r : Option (Streaming H)) → AllByRecursion IsNoCredit rest
+      → IfSome r (λ it. IsMoving step fails is_closed is_finished inbound_makes outbound_makes eager names peer role log n view (Told.Credit n ∷ rest) it)
+      → IfSome r (MayBeServed step fails is_closed is_finished inbound_makes outbound_makes eager names peer role log n view rest)
+  may_serve view None none moving = tt
+  may_serve view (Some it) none moving = record { held = moving.held; over_by_end = moving.over_by_end; last = inl none; anew = λ open_still. by_credit moving.anew } where
+    by_credit : {Q : Type 0} → AllByRecursion IsNoCredit (Told.Credit n ∷ rest) ⊎ Q → Q
+    by_credit (inl none) = absurd none.0
+    by_credit (inr anew) = anew
 
   -- the end of a stream that isn't held
   pub end_dropped : (making : List (Entry H) → List (Entry H) → Type 0) → making log log → (view : Seen) → after ≡ before → streams n ≡ None

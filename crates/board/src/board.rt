@@ -11,8 +11,7 @@ ghost use Rattle.yamux_session.specs.Seen.{Seen, just_opened};
 ghost use Rattle.yamux_session.specs.State.{State, Stands as SessionStands};
 ghost use Rattle.conn_log.specs.Entries.{Entry, items, agreement, since, made_of, is_over};
 ghost use Rattle.conn_log.specs.Due.{direction_of, IsGivenUp, told_reset};
-ghost use Rattle.conn_log.specs.Held.{IsHeld};
-ghost use Rattle.conn_log.specs.Routes.{IsNoData, Around, Routes, Routed, Comes, Resets, set_aside};
+ghost use Rattle.conn_log.specs.Routes.{IsNoData, MayBeServed, Around, Routes, Routed, Comes, Resets, set_aside};
 ghost use Rattle.conn_log.specs.Asked.{told_of};
 ghost use Rattle.held_order.specs.Orders.{with_if, without_if};
 ghost use Rattle.board.specs.Boards.{Keeps, MakesOnBoard};
@@ -236,9 +235,9 @@ impl<P: Protocols> Board<P> {
             (P.is_eager self.old.protocols) (P.listed self.old.protocols) self.old.peer self.old.role log fed sent
             session.old (tree.get nat_cmp self.old.streams) self.old.past.items number view rest
             → AllByRecursion IsNoData rest
-            → IfSome (tree.get nat_cmp self.old.streams number) (λ it. IsHeld P.H.steps P.H.is_closed P.H.is_finished
-            (P.listed self.old.protocols) self.old.role log number view.came view.ended it
-            × (view.live ≡ false → view.ended ≡ true))
+            → IfSome (tree.get nat_cmp self.old.streams number) (MayBeServed P.H.steps P.H.fails P.H.is_closed
+            P.H.is_finished P.makes_inbound P.makes_outbound (P.is_eager self.old.protocols)
+            (P.listed self.old.protocols) self.old.peer self.old.role log number view rest)
             → (view.live ≡ true → IsSome (tree.get nat_cmp self.old.streams number))
             → (made_of self.old.role log number ≢ None → is_over self.old.role log number ≡ false
             → IsSome (tree.get nat_cmp self.old.streams number))

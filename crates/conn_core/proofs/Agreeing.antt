@@ -12,7 +12,7 @@ use Rattle.yamux_session.specs.Openings.{opens}
 use Rattle.yamux_session.specs.Data.{inbound, byte_at}
 use Rattle.conn_log.specs.declared.event.ConnEvent.TheVariants as event
 use Rattle.conn_log.specs.Entries.{Entry, items, since, agreed, agreed_in, asked}
-use Rattle.conn_log.specs.Entries.Entry.{Of, Says, Made, Asks}
+use Rattle.conn_log.specs.Entries.Entry.{Of, Says, Made, Asks, Calls}
 use Rattle.conn_log.specs.Due.{AllDue, ComesTo}
 use Rattle.conn_log.specs.Held.{IsSide}
 
@@ -65,6 +65,7 @@ module _ {P H : Type 0} (step : H → HandlerCall → H → Type 0) (fails : H �
       let still = unless n index (m == n) (since role log n) is in
       grown log (Asks m i ∷ log) n index [] (ap (λ (b : Bool). (if b || false then [] else inbound role (items log) n) ++ []) still.0) (ap (λ (b : Bool). if b then Some i else asked log n) still.0)
       (agrees_as_told log n index due.1 still.1)
+  agrees_as_told (Calls m call ∷ log) n index due is = kept log (Calls m call) n index refl refl (agrees_as_told log n index due.1 is)
   agrees_as_told (Says (event.Agreed m i) ∷ log) n index due is =
       kept log (Says (event.Agreed m i)) n index refl refl (by_number log m i n index due.0.2 (λ before. agrees_as_told log n index due.1 before) (chosen index i (m == n) (agreed role log n) is))
     where

@@ -16,7 +16,7 @@ use Rattle.conn_log.specs.declared.event.ConnEvent.TheVariants as event
 use Rattle.conn_log.specs.declared.event.ConnFault.TheVariants as fault
 use Rattle.conn_log.specs.declared.event.ConnRefused.{ConnRefused}
 use Rattle.conn_log.specs.Entries.{Entry, items, said}
-use Rattle.conn_log.specs.Entries.Entry.{Of, Says, Made, Asks}
+use Rattle.conn_log.specs.Entries.Entry.{Of, Says, Made, Asks, Calls}
 use Rattle.conn_log.specs.Due.{AllDue}
 use Rattle.held_order.specs.Orders.{arranged}
 use Rattle.board.specs.Handlers.{handlers_of, handlers_past}
@@ -58,6 +58,7 @@ module _ {P H : Type 0} (step : H → HandlerCall → H → Type 0) (fails : H �
   said_goes_on (Of x ∷ log) due = said_goes_on log due.1
   said_goes_on (Made n handler ∷ log) due = said_goes_on log due.1
   said_goes_on (Asks n index ∷ log) due = said_goes_on log due.1
+  said_goes_on (Calls n call ∷ log) due = said_goes_on log due.1
   said_goes_on (Says (event.Agreed n index) ∷ log) due = append_goes_on (said log) (event.Agreed n index) refl (said_goes_on log due.1)
   said_goes_on (Says (event.Refused n) ∷ log) due = append_goes_on (said log) (event.Refused n) refl (said_goes_on log due.1)
   said_goes_on (Says (event.Done n handler) ∷ log) due = append_goes_on (said log) (event.Done n handler) refl (said_goes_on log due.1)

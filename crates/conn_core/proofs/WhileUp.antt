@@ -1,5 +1,5 @@
 -- What holds of an end that is up, of its streams and handlers.
-use Rattle.std.proofs.Common.{◌≡◌, ◌≢◌, ℕ, Bool, true, not, List, ◌++◌, Option, Some, None, IfSome, IsSome, refl, sym, ap, ◌∙◌, subst}
+use Rattle.std.proofs.Common.{◌≡◌, ◌≢◌, ℕ, Bool, true, false, not, List, [], ◌++◌, Option, Some, None, IfSome, IsSome, refl, sym, ap, ◌∙◌, subst}
 use Rattle.std.proofs.lemmas.List.{append-nil}
 use Rattle.handlers.specs.Calls.{HandlerCall, Asked}
 use Rattle.peer_ids.specs.Key.{Key}
@@ -16,7 +16,7 @@ use Rattle.streams.specs.declared.stage.Stage.TheVariants.{Talking, Serving}
 use Rattle.streams.specs.Streams.{IsServed, IsTalking, IsGoing, IsAsking}
 use Rattle.streams.specs.Handled.{Handled}
 use Rattle.streams.specs.State.{Streaming, StandsAt, is_open, has_finished, is_talking}
-use Rattle.conn_log.specs.Entries.{Entry, items, agreed}
+use Rattle.conn_log.specs.Entries.{Entry, items, agreed, calls_of}
 use Rattle.conn_log.specs.Held.{IsSide, IsAtRest}
 use Rattle.conn_core.proofs.Agreeing.{told_agreement}
 use Rattle.conn_core.specs.Connects.{session_role}
@@ -45,7 +45,8 @@ module _ {H : Type 0} (step : H → HandlerCall → H → Type 0) (is_closed is_
         agrees = s.agreed.agrees;
         agreed_is = told (held.agreed_on (ap is_talking stage_is)) so_far.side s.index s.agreed.first s.rest s.agreed.output held.side_is (sym held.got_is ∙ s.agreed.got_is) s.agreed.agrees;
         made_is = sym held.made_is ∙ s.made_is;
-        handled = subst (λ (b : Bool). Handled step s.made s.rest b s.gave so_far.left handler) held.ended_is s.handled;
+        handled = subst (λ (b : Bool). Handled step s.made (calls_of role log n) s.rest b s.gave so_far.left handler) held.ended_is
+            (subst (λ (calls : List HandlerCall). Handled step s.made calls s.rest so_far.ended s.gave so_far.left handler) held.calls_is s.handled);
         sent_is = ap (λ t. t ++ stream.waiting) (sym held.sent_is) ∙ s.agreed.sent_is;
         unfinished = sym (ap (has_finished is_finished) stage_is) ∙ rest.unfinished;
         asked_last = λ live open_still unclosed. (rest.settled live).asked open_still (ap (is_open is_closed) stage_is ∙ ap not unclosed);
@@ -79,7 +80,7 @@ module _ {H : Type 0} (step : H → HandlerCall → H → Type 0) (is_closed is_
         side_is = held.side_is;
         undecided = subst (λ (got : List ℕ). IsOpen so_far.side got s.output) held.got_is (open_talk talk so_far.side so_far.got s.output s.going);
         made_is = sym held.made_is ∙ made.1;
-        handled = made.2;
+        handled = subst (λ (calls : List HandlerCall). Handled step made.0 calls [] false s.gave so_far.left handler) held.calls_is made.2;
         sent_is = ap (λ t. t ++ stream.waiting) (sym held.sent_is) ∙ s.sent_is;
         asked_last = λ live open_still unclosed. (rest.settled live).asked open_still (ap (is_open is_closed) stage_is ∙ ap not unclosed);
         all_sent = λ live open_still some. (rest.settled live).none_waits open_still some;

@@ -26,7 +26,7 @@ use Rattle.streams.specs.State.{Streaming, handler_of, was_handed_out}
 use Rattle.conn_log.specs.declared.earlier.Earlier.{Earlier}
 use Rattle.conn_log.specs.declared.event.ConnEvent.{ConnEvent}
 use Rattle.conn_log.specs.declared.event.ConnEvent.TheVariants as event
-use Rattle.conn_log.specs.Entries.{Entry, items, said, agreed, is_over, was_done, made_of}
+use Rattle.conn_log.specs.Entries.{Entry, items, said, agreed, is_over, was_done, made_of, calls_of}
 use Rattle.conn_log.specs.Held.{IsSide}
 use Rattle.conn_core.specs.declared.calls.ConnAct.{ConnAct}
 use Rattle.conn_core.specs.declared.calls.ConnAct.TheVariants.{Feed, Ask}
@@ -41,9 +41,9 @@ use Rattle.conn_core.specs.Runs.Point.{At}
 module _ {H : Type 0} (step : H → HandlerCall → H → Type 0) (is_closed is_finished : H → Bool)
     (names : List (List ℕ)) (role : Role) where
   -- Of the data of its stream the first part is the talk's, by which both ends agree on the protocol of this index,
-  -- and Agreed was told with it. The handler was handed exactly what follows, and the end where the other end has
-  -- ended its direction. What was sent is what the talk wrote and behind it what the handler gave, but for what
-  -- waits.
+  -- and Agreed was told with it. By the calls of the list the handler was handed exactly what follows, and the end
+  -- where the other end has ended its direction. What was sent is what the talk wrote and behind it what the handler
+  -- gave, but for what waits.
   pub record IsServing (log : List (Entry H)) (n : ℕ) (stream : Streaming H) (handler : H) : Type 0 where
     pub side : Side
     pub index : ℕ
@@ -58,7 +58,7 @@ module _ {H : Type 0} (step : H → HandlerCall → H → Type 0) (is_closed is_
     pub agrees : Agrees side first index output
     pub agreed_is : agreed role log n ≡ Some index
     pub made_is : made_of role log n ≡ Some made
-    pub handled : Handled step made rest (finished role (items log) n) gave left handler
+    pub handled : Handled step made (calls_of role log n) rest (finished role (items log) n) gave left handler
     pub sent_is : written role (items log) n ++ stream.waiting ≡ output ++ gave
     pub unfinished : is_finished handler ≡ false
     -- while the stream is live, and this direction open: a handler that isn't closed was asked for bytes last, and left
@@ -80,7 +80,7 @@ module _ {H : Type 0} (step : H → HandlerCall → H → Type 0) (is_closed is_
     pub side_is : IsSide role names log n side
     pub undecided : IsOpen side (inbound role (items log) n) output
     pub made_is : made_of role log n ≡ Some made
-    pub handled : Handled step made [] false gave left handler
+    pub handled : Handled step made (calls_of role log n) [] false gave left handler
     pub sent_is : written role (items log) n ++ stream.waiting ≡ output ++ gave
     pub asked_last : is_live role (items log) n ≡ true → closed role (items log) n ≡ false → is_closed handler ≡ false
         → left ≡ Some (credit role (items log) n)

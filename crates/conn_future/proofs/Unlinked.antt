@@ -16,7 +16,7 @@ use Rattle.conn_log.specs.declared.event.ConnEvent.TheVariants as event
 use Rattle.conn_log.specs.declared.event.ConnFault.{ConnFault}
 use Rattle.conn_log.specs.declared.event.ConnFault.TheVariants as fault
 use Rattle.conn_log.specs.Entries.{Entry, said}
-use Rattle.conn_log.specs.Entries.Entry.{Of, Says, Made, Asks}
+use Rattle.conn_log.specs.Entries.Entry.{Of, Says, Made, Asks, Calls}
 use Rattle.conn_log.specs.Due.{AllDue}
 use Rattle.conn_core.specs.declared.connection.ConnCore.{ConnCore}
 use Rattle.conn_core.specs.declared.connection.Phase.{Phase}
@@ -141,6 +141,7 @@ module _ {P H : Type 0} (step : H → HandlerCall → H → Type 0) (fails : H �
   said_goes_on (Of x ∷ log) due = said_goes_on log due.1
   said_goes_on (Made n handler ∷ log) due = said_goes_on log due.1
   said_goes_on (Asks n index ∷ log) due = said_goes_on log due.1
+  said_goes_on (Calls n call ∷ log) due = said_goes_on log due.1
   said_goes_on (Says (event.Agreed n index) ∷ log) due = one_goes_on (said log) (event.Agreed n index) refl (said_goes_on log due.1)
   said_goes_on (Says (event.Refused n) ∷ log) due = one_goes_on (said log) (event.Refused n) refl (said_goes_on log due.1)
   said_goes_on (Says (event.Done n handler) ∷ log) due = one_goes_on (said log) (event.Done n handler) refl (said_goes_on log due.1)
@@ -155,6 +156,7 @@ module _ {P H : Type 0} (step : H → HandlerCall → H → Type 0) (fails : H �
   said_upgrades_not (Of x ∷ log) due = said_upgrades_not log due.1
   said_upgrades_not (Made n handler ∷ log) due = said_upgrades_not log due.1
   said_upgrades_not (Asks n index ∷ log) due = said_upgrades_not log due.1
+  said_upgrades_not (Calls n call ∷ log) due = said_upgrades_not log due.1
   said_upgrades_not (Says (event.Agreed n index) ∷ log) due = one_more (said log) (event.Agreed n index) refl (said_upgrades_not log due.1)
   said_upgrades_not (Says (event.Refused n) ∷ log) due = one_more (said log) (event.Refused n) refl (said_upgrades_not log due.1)
   said_upgrades_not (Says (event.Done n handler) ∷ log) due = one_more (said log) (event.Done n handler) refl (said_upgrades_not log due.1)

@@ -46,6 +46,7 @@ module _ {P H : Type 0} (step : H → HandlerCall → H → Type 0) (fails : H �
         (let s = others m apart in a.others_kept m apart (λ none. made (s.made_is ∙ none)) (sym s.over_is ∙ going));
     resets_told = λ m was. by_over m (a.resets_told m (sym (resets m) ∙ was));
     reset_came = λ told. resets n ∙ a.reset_came told;
+    end_told = λ told. ends ∙ a.end_told told;
     end_came = λ told. ap (λ b. b || told_end n rest) ended ∙ a.end_came told ∙ sym ends;
     heard = heard;
     opens_none = a.opens_none;

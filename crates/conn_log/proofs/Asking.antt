@@ -29,8 +29,8 @@ use Rattle.routing.specs.declared.delivered.Outcome.TheVariants as outcomes
 use Rattle.routing.specs.Routing.{Came as CameTo}
 use Rattle.conn_log.specs.declared.earlier.Earlier.{Earlier}
 use Rattle.conn_log.specs.declared.event.ConnEvent.{ConnEvent}
-use Rattle.conn_log.specs.Entries.{Entry, items, said, since, agreed_in, over_in, done_in, is_over, made_in, left_behind, put_aside, asked}
-use Rattle.conn_log.specs.Entries.Entry.{Of, Says, Made, Asks}
+use Rattle.conn_log.specs.Entries.{Entry, items, said, since, agreed_in, over_in, done_in, is_over, made_in, calls_in, left_behind, put_aside, asked}
+use Rattle.conn_log.specs.Entries.Entry.{Of, Says, Made, Asks, Calls}
 use Rattle.conn_log.specs.Turns.{turn, AreInTurn}
 use Rattle.conn_log.specs.Due.{AllDue, direction_of, was_reset}
 use Rattle.conn_log.specs.Making.{AreMadeInTurn, MakesOn}
@@ -86,6 +86,7 @@ same_by_asking acts_do acts_move role log n index m e = record {
   over_is = ap (λ b. over_in m (cond b [] (since role log m))) e;
   done_is = ap (λ b. done_in m (cond b [] (since role log m))) e;
   made_is = ap (λ b. made_in m (cond b [] (since role log m))) e;
+  calls_is = ap (λ b. calls_in m (cond b [] (since role log m))) e;
   asked_is = ap (λ b. cond b (Some index) (asked log m)) e;
 }
 
@@ -114,6 +115,12 @@ asked_below role (Asks m other ∷ log) n index a e = by_test (λ f. asked_below
   by_test : (asked log n ≡ Some index → n < next_own role (items log)) → (((m == n) ≡ true) × (m ≡ n)) ⊎ (((m == n) ≡ false) × (m ≢ n)) → n < m + 2
   by_test below (inl it) = let is = it.1 in omega arith
   by_test below (inr it) = let lt = below (sym (ap (λ b. cond b (Some other) (asked log n)) it.0) ∙ e) in let is = a.0.1 in omega arith
+asked_below role (Calls m call ∷ log) n index a e = asked_below role log n index a e
+
+-- who talks on a stream of this end has asked for it
+pub unasked : {H : Type 0} (role : Role) (names : List (List ℕ)) (log : List (Entry H)) (n : ℕ) (side : Side) → is_own role n ≡ true → asked log n ≡ None → IsSide role names log n side → ⊥
+unasked role names log n (AsksFor name index) own none s = let e : Some index ≡ None = sym s.1 ∙ none in cc e
+unasked role names log n (Answers known) own none s = let e : true ≡ false = sym own ∙ s.0 in cc e
 
 module _ {P H : Type 0} (step : H → HandlerCall → H → Type 0) (fails : H → Asked → ℕ → Type 0)
     (is_closed is_finished : H → Bool) (inbound_makes outbound_makes : P → ℕ → List ℕ → H → Type 0)
@@ -193,6 +200,7 @@ module _ {P H : Type 0} (step : H → HandlerCall → H → Type 0) (fails : H �
           (let s = same_by_first acts_do acts_move role log n index m handler apart in r.made_held m (λ none. made (s.made_is ∙ none)) (sym s.over_is ∙ going));
       resets_told = λ m was. inl (over_at m (eqb_tells n m) (sym (ap (λ (t : List Item). was_reset role t m) (items_first handler)) ∙ was));
       reset_came = λ told. absurd (cc told);
+      end_told = λ told. absurd (cc told);
       end_came = λ told. absurd (cc told);
       heard = subst (λ (t : List Item). AgreesOn (seen role t n) just_opened) (sym (items_first handler)) (subst (λ (x : Seen). AgreesOn x just_opened) (sym seen_is)
           (record { live = refl; closed = refl; came = refl; sent = refl; ended = λ on. on; live_ended = λ on. refl }));
@@ -235,6 +243,10 @@ module _ {P H : Type 0} (step : H → HandlerCall → H → Type 0) (fails : H �
     made_at_first None = refl
     made_at_first (Some handler) = ap (λ b. cond b (Some handler) None) (same n)
 
+    calls_at_first : (handler : Option H) → calls_in n (at_first n handler) ≡ []
+    calls_at_first None = refl
+    calls_at_first (Some handler) = refl
+
     -- the new stream asks, and nothing has come yet
     pub held_asked : (stream : Streaming H) (name : List ℕ) → slice_get names index ≡ Some name → Stands step stream (fresh (AsksFor name index) handler) → is_talking stream.stage ≡ true
         → IsHeld step is_closed is_finished names role (at_first n handler ++ Asks n index ∷ log) n [] false stream
@@ -245,6 +257,7 @@ module _ {P H : Type 0} (step : H → HandlerCall → H → Type 0) (fails : H �
       ended_is = refl;
       sent_is = sym (ap (λ (t : List Item). written role t n) (items_first handler) ∙ ap (λ (x : Seen). x.sent) seen_is);
       made_is = sym (ap (made_in n) (since_first handler) ∙ made_at_first handler);
+      calls_is = sym (ap (calls_in n) (since_first handler) ∙ calls_at_first handler);
       stands = stands;
       talking = λ it. ap (agreed_in n) (since_first handler) ∙ agreed_first handler;
       agreed_on = λ off. absurd (let e : true ≡ false = sym talks ∙ off in cc e);

@@ -2,8 +2,7 @@
 use Rattle.std.proofs.Common.{◌≡◌, ◌≢◌, ◌⊎◌, inl, inr, ℕ, ◌==◌, ◌||◌, Bool, true, false, cond, List, [], ◌∷◌, ◌++◌, map, Option, Some, None, refl, sym, ap, ◌∙◌, subst}
 use Rattle.std.specs.List.{AllByRecursion}
 use Rattle.std.proofs.lemmas.List.{append-nil, append_assoc}
-use Rattle.handlers.specs.Calls.{HandlerCall, Asked, ToTake}
-use Rattle.handlers.specs.declared.handler.HandlerFault.{HandlerFault}
+use Rattle.handlers.specs.Calls.{HandlerCall, Take, Asked, ToTake}
 use Rattle.talks.specs.Talks.{Side, Asks, Answers}
 use Rattle.yamux_session.specs.declared.event.Role.{Role}
 use Rattle.yamux_session.specs.Data.{inbound}
@@ -11,10 +10,10 @@ use Rattle.yamux_session.specs.Events.{Told, events}
 use Rattle.yamux_session.specs.Seen.{Seen, seen, all_heard, AgreesOn, ActsDo, ActsMove}
 use Rattle.yamux_session.specs.State.{State}
 use Rattle.streams.specs.declared.stop.Cause.TheVariants as causes
-use Rattle.streams.specs.Streams.{Past}
+use Rattle.streams.specs.Streams.{Past, with_call}
 use Rattle.streams.specs.declared.stage.Stage.{Stage}
 use Rattle.streams.specs.declared.stage.Stage.TheVariants as stages
-use Rattle.streams.specs.State.{Streaming, Stands, is_talking, has_finished, was_handed_out, kind_of}
+use Rattle.streams.specs.State.{Streaming, Stands, is_talking, is_open, handler_of, has_finished, was_handed_out, answering, kind_of}
 use Rattle.dispatch.specs.declared.direction.Direction.TheVariants.{Inbound, Outbound}
 use Rattle.dispatch.specs.Dispatch.{IsKnown, IsMade, makes_once}
 use Rattle.routing.specs.declared.delivered.Outcome.{Outcome}
@@ -24,12 +23,12 @@ use Rattle.routing.specs.Routing.{Came, Takes, HasAgreed, Stops, InTalk, Deliver
 use Rattle.conn_log.specs.declared.earlier.Earlier.{Earlier}
 use Rattle.conn_log.specs.declared.event.ConnEvent.{ConnEvent}
 use Rattle.conn_log.specs.declared.event.ConnEvent.TheVariants as event
-use Rattle.conn_log.specs.Entries.{Entry, items, said, agreed, is_over, was_done, made_of, agreement}
-use Rattle.conn_log.specs.Entries.Entry.{Says, Made}
-use Rattle.conn_log.specs.Due.{direction_of, HasJustAgreed, IsDue, told_reset, was_reset, told_end}
+use Rattle.conn_log.specs.Entries.{Entry, items, said, agreed, is_over, was_done, made_of, calls_of, agreement}
+use Rattle.conn_log.specs.Entries.Entry.{Says, Made, Calls}
+use Rattle.conn_log.specs.Due.{direction_of, HasJustAgreed, IsAskedAnew, MayBeAsked, IsDue, told_reset, was_reset, told_end}
 use Rattle.conn_log.specs.Making.{MakesNone, MakesOn}
 use Rattle.conn_log.specs.Held.{IsSide, IsHeld}
-use Rattle.conn_log.specs.Routes.{KeepsTurn, IsNoOpening, EndsLast, Around, Comes}
+use Rattle.conn_log.specs.Routes.{KeepsTurn, IsNoOpening, IsNoCredit, EndsLast, Around, Comes}
 use Rattle.conn_log.proofs.Turning.{same_turns}
 use Rattle.conn_log.proofs.Making.{makes_none, mades, none_mades, mades_append, made_by}
 use Rattle.conn_log.proofs.Same.{same_by_making}
@@ -37,7 +36,7 @@ use Rattle.conn_log.proofs.Around.{grown, still}
 use Rattle.conn_log.proofs.Views.{same, came_front}
 use Rattle.serving.proofs.StageKinds.{same_talking, same_awaiting, same_handed, served_talking, served_handed, served_awaits, talking_kind, talking_awaits}
 use Rattle.conn_log.proofs.Settling.{said_append}
-use Rattle.conn_log.proofs.Comes.{went, around_event}
+use Rattle.conn_log.proofs.Comes.{Went as Served, went, went_behind, around_event, around_call, IsListed, listed, listed_behind, answered_by, answered_anew, only_talking}
 
 -- what is seen of a stream of which these bytes came
 abbrev pub with_bytes : List ℕ → Seen → Seen
@@ -58,6 +57,15 @@ none_opened n (b ∷ bytes) rest none = none_opened n bytes rest none.1
 still_last : (ended : Bool) (n : ℕ) (bytes : List ℕ) (rest : List Told) → EndsLast ended (map (Told.Payload n) bytes ++ rest) → EndsLast ended rest
 still_last ended n [] rest last = last
 still_last ended n (b ∷ bytes) rest last = still_last ended n bytes rest last.1
+
+none_more : (n : ℕ) (bytes : List ℕ) (rest : List Told) → AllByRecursion IsNoCredit (map (Told.Payload n) bytes ++ rest) → AllByRecursion IsNoCredit rest
+none_more n [] rest none = none
+none_more n (b ∷ bytes) rest none = none_more n bytes rest none.1
+
+-- no credit is told behind data
+pub no_credit_behind : (ended : Bool) (n : ℕ) (bytes : List ℕ) (rest : List Told) → bytes ≢ [] → EndsLast ended (map (Told.Payload n) bytes ++ rest) → AllByRecursion IsNoCredit rest
+no_credit_behind ended n [] rest some last = absurd (some refl)
+no_credit_behind ended n (b ∷ bytes) rest some last = none_more n bytes rest last.2
 
 pub bytes_reset : (m n : ℕ) (bytes : List ℕ) (rest : List Told) → told_reset m (map (Told.Payload n) bytes ++ rest) ≡ told_reset m rest
 bytes_reset m n [] rest = refl
@@ -92,6 +100,7 @@ module _ {P H : Type 0} (step : H → HandlerCall → H → Type 0) (fails : H �
     others_kept = a.others_kept;
     resets_told = λ m. subst (λ b. was_reset role (items log) m ≡ true → (is_over role log m ≡ true) ⊎ (b ≡ true)) (bytes_reset m n bytes rest) (a.resets_told m);
     reset_came = subst (λ b. b ≡ true → was_reset role (items log) n ≡ true) (bytes_reset n n bytes rest) a.reset_came;
+    end_told = λ told. a.end_told (bytes_end n n bytes rest ∙ told);
     end_came = λ reset. ap (λ b. view.ended || b) (sym (bytes_end n n bytes rest)) ∙ a.end_came (bytes_reset n n bytes rest ∙ reset);
     heard = subst (λ (x : Seen). AgreesOn (seen role (items log) n) x) (heard_bytes n view bytes rest) a.heard;
     opens_none = none_opened n bytes rest a.opens_none;
@@ -125,7 +134,7 @@ module _ {P H : Type 0} (step : H → HandlerCall → H → Type 0) (fails : H �
 
   module _ (acts_do : ActsDo) (acts_move : ActsMove) (fed sent : List ℕ) (before after : State) (streams now : ℕ → Option (Streaming H))
       (past : List (Earlier H)) (n : ℕ) (view : Seen) (rest : List Told) (new : Streaming H) (over : view.live ≡ false → view.ended ≡ true)
-      (no_more : (all_heard n view rest).came ≡ view.came)
+      (no_more : (all_heard n view rest).came ≡ view.came) (no_credit : AllByRecursion IsNoCredit rest)
       (elsewhere : (m : ℕ) → (n == m) ≡ false → now m ≡ streams m) (here : now n ≡ Some new) where
     -- a stream that is given up, and why
     stopped : (making : List (Entry H) → List (Entry H) → Type 0) (log : List (Entry H)) → ((newer : List (Entry H)) → MakesNone newer → making log (newer ++ log))
@@ -151,6 +160,63 @@ module _ {P H : Type 0} (step : H → HandlerCall → H → Type 0) (fails : H �
     in_turn_by (inl (unfinished, some)) serves = inl (sym (ap (has_finished is_finished) serves) ∙ unfinished, some)
     in_turn_by (inr agreed) serves = inr agreed
 
+    -- the handler may be told data behind the talk
+    may_take : (log : List (Entry H)) (bytes : List ℕ) (old : Streaming H) (got : List ℕ) → ((has_finished is_finished old.stage ≡ false) × (bytes ≢ [])) ⊎ HasJustAgreed n log
+        → (a : Around step fails is_closed is_finished inbound_makes outbound_makes eager names peer role log fed sent before streams past n view rest)
+        → view.came ≡ got ++ bytes → view.ended ≡ false → (h : IsHeld step is_closed is_finished names role log n got view.ended old)
+        → (handler : H) → old.stage ≡ stages.Serving handler → MayBeAsked step fails is_closed is_finished inbound_makes outbound_makes eager names peer role log n (ToTake bytes)
+    may_take log bytes old got turn a came going h handler serves =
+        let data_is : inbound role (items log) n ≡ h.so_far.got ++ bytes = a.heard.came ∙ no_more ∙ came ∙ ap (λ t. t ++ bytes) (sym h.got_is) in
+        record {
+          there = record {
+            so_far = h.so_far;
+            stream = old;
+            come = record {
+              side_is = h.side_is;
+              rest = bytes;
+              got_is = data_is;
+              ended_by = λ is. absurd (let e : true ≡ false = sym is ∙ h.ended_is ∙ going in cc e);
+              sent_is = h.sent_is;
+              made_is = h.made_is;
+              calls_is = h.calls_is;
+            };
+            stands = h.stands;
+          };
+          handler = handler;
+          held = ap handler_of serves;
+          asked_for = data_is;
+          in_turn = (serves, h.ended_is ∙ going, in_turn_by turn serves);
+          talking = h.talking;
+          agreed_on = h.agreed_on;
+          going = h.over ∙ ap was_handed_out serves;
+        }
+
+    -- it stands by it then, and was served
+    took : (log : List (Entry H)) (bytes : List ℕ) (so_far : Past H) (old middle : Streaming H) (got : List ℕ) (outcome : Outcome H)
+        → (a : Around step fails is_closed is_finished inbound_makes outbound_makes eager names peer role log fed sent before streams past n view rest)
+        → view.came ≡ got ++ bytes → (l : IsListed step fails is_closed is_finished inbound_makes outbound_makes eager names peer role log n got view.ended so_far old)
+        → (is_open is_closed middle.stage ≡ true → (is_talking middle.stage ≡ true) ⊎ IsAskedAnew log) → Stands step middle (record so_far { got = so_far.got ++ bytes; left = None }) → kind_of middle.stage ≡ kind_of old.stage
+        → Came step fails is_closed is_finished role (items log) fed sent n (record so_far { got = so_far.got ++ bytes; left = None }) middle before outcome after new
+        → Served step fails is_closed is_finished inbound_makes outbound_makes eager names peer role log fed sent after now past n rest outcome
+    took log bytes so_far old middle got outcome a came l anew stands kind came_to =
+        let held : IsHeld step is_closed is_finished names role log n view.came view.ended middle = record {
+          so_far = record so_far { got = so_far.got ++ bytes; left = None };
+          side_is = l.side_is;
+          got_is = ap (λ t. t ++ bytes) l.got_is ∙ sym came;
+          ended_is = l.ended_is;
+          sent_is = l.sent_is;
+          made_is = l.made_is;
+          calls_is = l.calls_is;
+          stands = stands;
+          talking = λ is. l.talking (sym (same_talking middle.stage old.stage kind) ∙ is);
+          agreed_on = λ is. l.agreed_on (sym (same_talking middle.stage old.stage kind) ∙ is);
+          over = l.over ∙ sym (same_handed middle.stage old.stage kind);
+          done = l.done ∙ sym (same_handed middle.stage old.stage kind);
+          served = same_awaiting middle.stage old.stage kind ∙ l.served;
+        } in
+        went step fails is_closed is_finished inbound_makes outbound_makes eager names peer role acts_do acts_move log fed sent before after streams now past n view rest middle new a no_more
+        (record { held = held; over_by_end = over; last = inl no_credit; anew = anew }) elsewhere here outcome came_to
+
     -- the handler took data behind the talk
     pub takes : (making : List (Entry H) → List (Entry H) → Type 0) (log : List (Entry H)) → ((newer : List (Entry H)) → MakesNone newer → making log (newer ++ log))
         → (bytes : List ℕ) (old : Streaming H) (got : List ℕ) (outcome : Outcome H)
@@ -160,59 +226,47 @@ module _ {P H : Type 0} (step : H → HandlerCall → H → Type 0) (fails : H �
         → (h : IsHeld step is_closed is_finished names role log n got view.ended old)
         → Takes step fails is_closed is_finished role (items log) fed sent n h.so_far bytes old before outcome after new
         → Went making log [] fed sent after now past n rest outcome
-    takes making log keeps bytes old got outcome turn a came going h (inl served) =
-        let middle = served.0 in
-        let kind : kind_of middle.stage ≡ kind_of old.stage = served.2 in
-        let so_far : Past H = record h.so_far { got = h.so_far.got ++ bytes; left = None } in
-        let held : IsHeld step is_closed is_finished names role log n view.came view.ended middle = record {
-          so_far = so_far;
-          side_is = h.side_is;
-          got_is = ap (λ t. t ++ bytes) h.got_is ∙ sym came;
-          ended_is = h.ended_is;
-          sent_is = h.sent_is;
-          made_is = h.made_is;
-          stands = served.1;
-          talking = λ is. h.talking (sym (same_talking middle.stage old.stage kind) ∙ is);
-          agreed_on = λ is. h.agreed_on (sym (same_talking middle.stage old.stage kind) ∙ is);
-          over = h.over ∙ sym (same_handed middle.stage old.stage kind);
-          done = h.done ∙ sym (same_handed middle.stage old.stage kind);
-          served = same_awaiting middle.stage old.stage kind ∙ h.served;
-        } in
-        let it = went step fails is_closed is_finished inbound_makes outbound_makes eager names peer role acts_do acts_move log fed sent before after streams now past n view rest middle new a no_more held over
-        elsewhere here outcome served.3 in
-        record { newer = it.newer; said_is = it.none_said; untold = it.untold; same_turn = it.same_turn; makes = keeps it.newer it.unmade; mades_are = none_mades it.newer it.unmade; seen_now = it.seen_now; comes = it.comes }
+    unfolding may_take
+    takes making log keeps bytes old got outcome turn a came going h (inl served) = told_none (by_answer (answering old.stage (Take bytes)) refl) where
+      told_none : Served step fails is_closed is_finished inbound_makes outbound_makes eager names peer role log fed sent after now past n rest outcome → Went making log [] fed sent after now past n rest outcome
+      told_none it = record {
+        newer = it.newer;
+        said_is = it.none_said;
+        untold = it.untold;
+        same_turn = it.same_turn;
+        makes = keeps it.newer it.unmade;
+        mades_are = none_mades it.newer it.unmade;
+        seen_now = it.seen_now;
+        comes = it.comes;
+      }
+
+      stands : (answer : Option HandlerCall) → answering old.stage (Take bytes) ≡ answer → Stands step served.0 (with_call (record h.so_far { got = h.so_far.got ++ bytes; left = None }) answer)
+      stands answer is = subst (λ (c : Option HandlerCall). Stands step served.0 (with_call (record h.so_far { got = h.so_far.got ++ bytes; left = None }) c)) is served.1
+
+      came_to : (answer : Option HandlerCall) → answering old.stage (Take bytes) ≡ answer
+          → Came step fails is_closed is_finished role (items log) fed sent n (with_call (record h.so_far { got = h.so_far.got ++ bytes; left = None }) answer) served.0 before outcome after new
+      came_to answer is = subst (λ (c : Option HandlerCall). Came step fails is_closed is_finished role (items log) fed sent n (with_call (record h.so_far { got = h.so_far.got ++ bytes; left = None }) c) served.0 before outcome after new) is served.3
+
+      by_answer : (answer : Option HandlerCall) → answering old.stage (Take bytes) ≡ answer → Served step fails is_closed is_finished inbound_makes outbound_makes eager names peer role log fed sent after now past n rest outcome
+      by_answer None is = took log bytes h.so_far old served.0 got outcome a came (listed step fails is_closed is_finished inbound_makes outbound_makes eager names peer role log n got view.ended old h)
+          (only_talking is_closed old.stage served.0.stage (Take bytes) is served.2) (stands None is) served.2 (came_to None is)
+      by_answer (Some call) is =
+          let serves = answered_by old.stage (Take bytes) call is in
+          let may : IsDue step fails is_closed is_finished inbound_makes outbound_makes eager names peer role log (Calls n call) =
+          subst (λ (c : HandlerCall). IsDue step fails is_closed is_finished inbound_makes outbound_makes eager names peer role log (Calls n c)) (sym serves.0)
+          (may_take log bytes old got turn a came going h serves.1.0 serves.1.1) in
+          went_behind step fails is_closed is_finished inbound_makes outbound_makes eager names peer role log fed sent after now past n rest outcome call
+          (took (Calls n call ∷ log) bytes (with_call h.so_far (Some call)) old served.0 got outcome
+          (around_call step fails is_closed is_finished inbound_makes outbound_makes eager names peer role log fed sent before streams past n view rest call may a) came
+          (listed_behind step fails is_closed is_finished inbound_makes outbound_makes eager names peer role log n got view.ended h.so_far old call (listed step fails is_closed is_finished inbound_makes outbound_makes eager names peer role log n got view.ended old h))
+          (λ open_still. inr (answered_anew n call serves.0 tt log)) (stands (Some call) is) served.2 (came_to (Some call) is))
     takes making log keeps bytes old got outcome turn a came going h (inr f) =
-        let data_is : inbound role (items log) n ≡ h.so_far.got ++ bytes = a.heard.came ∙ no_more ∙ came ∙ ap (λ t. t ++ bytes) (sym h.got_is) in
-        let handler = f.1.0 in
-        let fault : HandlerFault = f.1.1 in
-        stopped making log keeps outcome (event.Broken n (causes.Handler fault)) f.0 a
+        stopped making log keeps outcome (event.Broken n (causes.Handler f.1.1)) f.0 a
         (λ around. subst (λ (o : Outcome H). Comes step fails is_closed is_finished inbound_makes outbound_makes eager names peer role log fed sent after now past n view rest o) (sym f.1.4)
         (around, λ e. absurd (cc e)))
         refl (
           h.over ∙ ap was_handed_out f.1.2,
-          record {
-            there = record {
-              so_far = h.so_far;
-              stream = old;
-              come = record {
-                side_is = h.side_is;
-                rest = bytes;
-                got_is = data_is;
-                ended_by = λ is. absurd (let e : true ≡ false = sym is ∙ h.ended_is ∙ going in cc e);
-                sent_is = h.sent_is;
-                made_is = h.made_is;
-              };
-              stands = h.stands;
-            };
-            handler = handler;
-            held = ap Rattle.streams.specs.State.handler_of f.1.2;
-            request = ToTake bytes;
-            asked_for = data_is;
-            in_turn = (f.1.2, h.ended_is ∙ going, in_turn_by turn f.1.2);
-            fails_by = f.1.3;
-            talking = h.talking;
-            agreed_on = h.agreed_on;
-          },
+          record { request = ToTake bytes; asked = may_take log bytes old got turn a came going h f.1.0 f.1.2; fails_by = f.1.3 },
         )
 
     -- ---- in the talk
@@ -287,6 +341,7 @@ module _ {P H : Type 0} (step : H → HandlerCall → H → Type 0) (fails : H �
             ended_is = h.ended_is;
             sent_is = h.sent_is;
             made_is = h.made_is;
+            calls_is = h.calls_is;
             stands = stands;
             talking = λ is. h.talking talks;
             agreed_on = λ is. absurd (let e : true ≡ false = sym still_talks ∙ is in cc e);
@@ -294,8 +349,8 @@ module _ {P H : Type 0} (step : H → HandlerCall → H → Type 0) (fails : H �
             done = not_done talks ∙ sym (talking_kind middle.stage still_talks);
             served = talking_awaits middle.stage still_talks;
           } in
-          let it = went step fails is_closed is_finished inbound_makes outbound_makes eager names peer role acts_do acts_move log fed sent before after streams now past n view rest middle new a no_more held over
-          elsewhere here outcome came_to in
+          let it = went step fails is_closed is_finished inbound_makes outbound_makes eager names peer role acts_do acts_move log fed sent before after streams now past n view rest middle new a no_more
+          (record { held = held; over_by_end = over; last = inl no_credit; anew = λ open_still. inl still_talks }) elsewhere here outcome came_to in
           record { newer = it.newer; said_is = it.none_said; untold = it.untold; same_turn = it.same_turn; makes = keeps kept it.newer it.unmade; mades_are = none_mades it.newer it.unmade; seen_now = it.seen_now; comes = it.comes }
 
       -- both ends agree by a front of these bytes, and the handler takes the rest
@@ -332,15 +387,16 @@ module _ {P H : Type 0} (step : H → HandlerCall → H → Type 0) (fails : H �
         agreed_now = ap (λ b. cond b (Some index) (agreed role log n)) (same n)
 
         held_at : (then : List (Entry H)) → IsSide role names then n h.so_far.side → agreed role then n ≡ Some index → is_over role then n ≡ is_over role log n → was_done role then n ≡ was_done role log n → Some has.made ≡ made_of role then n
-            → h.so_far.sent ≡ Rattle.yamux_session.specs.Data.written role (items then) n
+            → h.so_far.calls ≡ calls_of role then n → h.so_far.sent ≡ Rattle.yamux_session.specs.Data.written role (items then) n
             → IsHeld step is_closed is_finished names role then n (h.so_far.got ++ front) view.ended middle
-        held_at then side agrees_then over_then done_then made_then sent_then = record {
+        held_at then side agrees_then over_then done_then made_then calls_then sent_then = record {
           so_far = record h.so_far { got = h.so_far.got ++ front; made = Some has.made };
           side_is = side;
           got_is = refl;
           ended_is = h.ended_is;
           sent_is = sent_then;
           made_is = made_then;
+          calls_is = calls_then;
           stands = has.stands;
           talking = λ is. absurd (let e : true ≡ false = sym is ∙ served_talking middle.stage has.serving in cc e);
           agreed_on = λ is. some_index agrees_then;
@@ -360,7 +416,7 @@ module _ {P H : Type 0} (step : H → HandlerCall → H → Type 0) (fails : H �
         by_making : IsMade makes none_made h.so_far index has.made → Went making log (event.Agreed n index ∷ []) fed sent after now past n rest outcome
         by_making (inl is) =
             let it = takes making told_so (makes_none inbound_leads outbound_leads peer role protocols behind_them is.1 told_so) more middle (h.so_far.got ++ front) outcome (inr refl) told came_then going
-            (held_at told_so (side_at h.so_far.side h.side_is) agreed_now refl refl (sym is.0 ∙ h.made_is) h.sent_is) took in
+            (held_at told_so (side_at h.so_far.side h.side_is) agreed_now refl refl (sym is.0 ∙ h.made_is) h.calls_is h.sent_is) took in
             record {
               newer = it.newer ++ Says (event.Agreed n index) ∷ [];
               said_is = said_append it.newer (Says (event.Agreed n index) ∷ []) ∙ ap (λ t. (event.Agreed n index ∷ []) ++ t) it.said_is;
@@ -377,7 +433,7 @@ module _ {P H : Type 0} (step : H → HandlerCall → H → Type 0) (fails : H �
             let it = takes (MakesOn inbound_leads outbound_leads peer role behind_them behind_them) (Made n has.made ∷ told_so)
             (makes_none inbound_leads outbound_leads peer role behind_them behind_them refl (Made n has.made ∷ told_so)) more middle (h.so_far.got ++ front) outcome (inr (refl, refl))
             (around_making told_so fed sent before streams past n view rest has.made (refl, sym h.made_is ∙ made.0, (protocols, made.1.0)) told) came_then going
-            (held_at (Made n has.made ∷ told_so) (side_made h.so_far.side h.side_is) agreed_now refl refl (sym (ap (λ b. cond b (Some has.made) (made_of role told_so n)) (same n))) h.sent_is) took in
+            (held_at (Made n has.made ∷ told_so) (side_made h.so_far.side h.side_is) agreed_now refl refl (sym (ap (λ b. cond b (Some has.made) (made_of role told_so n)) (same n))) h.calls_is h.sent_is) took in
             record {
               newer = it.newer ++ Made n has.made ∷ Says (event.Agreed n index) ∷ [];
               said_is = said_append it.newer (Made n has.made ∷ Says (event.Agreed n index) ∷ []) ∙ ap (λ t. (event.Agreed n index ∷ []) ++ t) it.said_is;

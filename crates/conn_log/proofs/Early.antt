@@ -3,7 +3,7 @@ use Rattle.std.proofs.Common.{◌≡◌, ◌≢◌, ◌⊎◌, inl, inr, ℕ, �
 use Rattle.std.proofs.lemmas.List.{append_assoc}
 use Rattle.std.proofs.lemmas.Bool.Decides.{eqb_tells}
 use Rattle.conn_log.specs.Entries.{Entry, asks, asked, made_in}
-use Rattle.conn_log.specs.Entries.Entry.{Of, Says, Made, Asks}
+use Rattle.conn_log.specs.Entries.Entry.{Of, Says, Made, Asks, Calls}
 use Rattle.conn_log.specs.Asked.{AreMadeEarly}
 
 some_there : {A : Type 0} (xs : List A) (x : A) → xs ++ x ∷ [] ≡ [] → ⊥
@@ -16,6 +16,7 @@ asked_same (Of x ∷ newer) log n none = asked_same newer log n none
 asked_same (Says e ∷ newer) log n none = asked_same newer log n none
 asked_same (Made m handler ∷ newer) log n none = asked_same newer log n none
 asked_same (Asks m index ∷ newer) log n none = absurd (some_there (asks newer) (m, index) none)
+asked_same (Calls m call ∷ newer) log n none = asked_same newer log n none
 
 -- what was made stays made
 unmade : {H : Type 0} (newer log : List (Entry H)) (n : ℕ) → made_in n (newer ++ log) ≡ None → made_in n log ≡ None
@@ -27,6 +28,7 @@ unmade (Made m handler ∷ newer) log n none = by_number (m == n) (unmade newer 
   by_number true before e = absurd (cc e)
   by_number false before e = before e
 unmade (Asks m index ∷ newer) log n none = unmade newer log n none
+unmade (Calls m call ∷ newer) log n none = unmade newer log n none
 
 -- where no stream was asked for
 pub early_grows : {H : Type 0} (eager : ℕ → Bool) (newer log : List (Entry H)) → asks newer ≡ [] → AreMadeEarly eager log → AreMadeEarly eager (newer ++ log)

@@ -1,38 +1,38 @@
 -- Where the streams stand once the end of one of them was told.
-use Rattle.std.proofs.Common.{◌≡◌, inl, inr, ℕ, ◌==◌, Bool, true, false, not, ◌&&◌, ◌||◌, cond, List, [], ◌∷◌, ◌++◌, Option, Some, None, refl, sym, ap, ◌∙◌, subst}
+use Rattle.std.proofs.Common.{◌≡◌, inl, inr, ℕ, ◌==◌, Bool, true, false, not, ◌&&◌, ◌||◌, cond, List, [], ◌∷◌, Option, Some, None, refl, sym, ap, ◌∙◌, subst, ◌⊎◌}
+use Rattle.std.specs.List.{AllByRecursion}
 use Rattle.std.proofs.lemmas.List.{append-nil}
-use Rattle.handlers.specs.Calls.{HandlerCall, Asked, ToEnd}
+use Rattle.handlers.specs.Calls.{HandlerCall, End, Asked, ToEnd}
 use Rattle.handlers.specs.declared.handler.HandlerFault.{HandlerFault}
 use Rattle.talks.specs.Talks.{IsOpen}
 use Rattle.yamux_session.specs.declared.event.Role.{Role}
 use Rattle.yamux_session.specs.Openings.{finished, is_live}
 use Rattle.yamux_session.specs.Data.{inbound}
-use Rattle.yamux_session.specs.Events.{Told, events}
+use Rattle.yamux_session.specs.Events.{Told}
 use Rattle.yamux_session.specs.Seen.{Seen, seen, hears, all_heard, AgreesOn, ActsDo, ActsMove}
 use Rattle.yamux_session.specs.State.{State}
 use Rattle.streams.specs.declared.stop.Cause.TheVariants as causes
 use Rattle.streams.specs.declared.stage.Stage.{Stage}
 use Rattle.streams.specs.declared.stage.Stage.TheVariants as stages
-use Rattle.streams.specs.Streams.{Past}
-use Rattle.streams.specs.State.{Streaming, Stands, StandsAt, is_talking, is_open as asks_open, has_finished, was_handed_out, kind_of}
+use Rattle.streams.specs.Streams.{Past, with_call}
+use Rattle.streams.specs.State.{Streaming, Stands, StandsAt, is_talking, handler_of, is_open as asks_open, has_finished, was_handed_out, answering, kind_of}
 use Rattle.serving.specs.Served.{IsSettled}
 use Rattle.streams.proofs.Hearing.{open_before}
 use Rattle.routing.specs.declared.delivered.Outcome.{Outcome}
 use Rattle.routing.specs.declared.delivered.Outcome.TheVariants as outcomes
-use Rattle.routing.specs.Routing.{Ends}
+use Rattle.routing.specs.Routing.{Came, Hands, Ends}
 use Rattle.conn_log.specs.declared.earlier.Earlier.{Earlier}
 use Rattle.conn_log.specs.declared.event.ConnEvent.TheVariants as event
 use Rattle.conn_log.specs.Entries.{Entry, items}
-use Rattle.conn_log.specs.Entries.Entry.{Says}
-use Rattle.conn_log.specs.Due.{HasCome, IsDue}
-use Rattle.conn_log.specs.Making.{MakesNone}
+use Rattle.conn_log.specs.Entries.Entry.{Says, Calls}
+use Rattle.conn_log.specs.Due.{HasCome, IsAskedAnew, MayBeAsked, IsDue, told_end, end_was_told}
 use Rattle.conn_log.specs.Held.{IsHeld}
-use Rattle.conn_log.specs.Routes.{KeepsTurn, Around, Comes}
+use Rattle.conn_log.specs.Routes.{IsNoCredit, Around, Comes}
 use Rattle.conn_log.proofs.Around.{still}
 use Rattle.conn_log.proofs.Views.{same, none_behind}
 use Rattle.serving.proofs.StageKinds.{same_talking, same_awaiting, same_handed}
 use Rattle.conn_log.proofs.Served.{ended_stays}
-use Rattle.conn_log.proofs.Comes.{went, around_event, or_on}
+use Rattle.conn_log.proofs.Comes.{Went, went, went_behind, around_event, around_call, IsListed, listed, listed_behind, answered_by, answered_anew, only_talking, or_on}
 
 -- what is seen of a stream that has ended
 abbrev pub ended_view : Seen → Seen
@@ -61,6 +61,12 @@ module _ {P H : Type 0} (step : H → HandlerCall → H → Type 0) (fails : H �
     by_stage stages.Done s talks = absurd (cc talks)
     by_stage stages.Over s talks = absurd (cc talks)
 
+  -- the end that is to be routed was told
+  pub end_is_told : (log : List (Entry H)) (fed sent : List ℕ) (session : State) (streams : ℕ → Option (Streaming H)) (past : List (Earlier H)) (n : ℕ) (view : Seen) (rest : List Told)
+      → Around step fails is_closed is_finished inbound_makes outbound_makes eager names peer role log fed sent session streams past n view (Told.Ended n ∷ rest)
+      → end_was_told role (items log) n ≡ true
+  end_is_told log fed sent session streams past n view rest a = a.end_told (ap (λ b. b || told_end n rest) (same n))
+
   -- the end was told, and nothing was done yet
   pub end_came : (log : List (Entry H)) (fed sent : List ℕ) (session : State) (streams : ℕ → Option (Streaming H)) (past : List (Earlier H)) (n : ℕ) (view : Seen) (rest : List Told)
       → Around step fails is_closed is_finished inbound_makes outbound_makes eager names peer role log fed sent session streams past n view (Told.Ended n ∷ rest)
@@ -73,7 +79,8 @@ module _ {P H : Type 0} (step : H → HandlerCall → H → Type 0) (fails : H �
     others_kept = a.others_kept;
     resets_told = a.resets_told;
     reset_came = a.reset_came;
-    end_came = λ reset. sym (ap (λ b. view.ended || (b || Rattle.conn_log.specs.Due.told_end n rest)) (same n) ∙ or_on view.ended) ∙ a.end_came reset;
+    end_told = λ told. a.end_told (ap (λ b. b || told_end n rest) (same n));
+    end_came = λ reset. sym (ap (λ b. view.ended || (b || told_end n rest)) (same n) ∙ or_on view.ended) ∙ a.end_came reset;
     heard = subst (λ (x : Seen). AgreesOn (seen role (items log) n) (all_heard n x rest)) (heard_end n view) a.heard;
     opens_none = a.opens_none.1;
     ends_last = a.ends_last.1;
@@ -88,6 +95,7 @@ module _ {P H : Type 0} (step : H → HandlerCall → H → Type 0) (fails : H �
       (a : Around step fails is_closed is_finished inbound_makes outbound_makes eager names peer role log fed sent before streams past n (ended_view view) rest)
       (h : IsHeld step is_closed is_finished names role log n view.came view.ended old) (going : view.ended ≡ false) (unfinished : has_finished is_finished old.stage ≡ false)
       (settled : is_live role (items log) n ≡ true → IsSettled step is_closed is_finished role (items log) n h.so_far.left old)
+      (was_told : end_was_told role (items log) n ≡ true) (no_credit : AllByRecursion IsNoCredit rest)
       (elsewhere : (m : ℕ) → (n == m) ≡ false → now m ≡ streams m) (here : now n ≡ Some new) where
     -- all has come
     all_came : inbound role (items log) n ≡ h.so_far.got
@@ -104,42 +112,61 @@ module _ {P H : Type 0} (step : H → HandlerCall → H → Type 0) (fails : H �
       ended_by = λ is. (is_finished_then, refl);
       sent_is = h.sent_is;
       made_is = h.made_is;
+      calls_is = h.calls_is;
     }
 
-    told_end : (middle : Streaming H) → Stands step middle (record h.so_far { ended = true; left = None }) → kind_of middle.stage ≡ kind_of old.stage
-        → IsHeld step is_closed is_finished names role log n (ended_view view).came (ended_view view).ended middle
-    told_end middle stands kind = record {
-      so_far = record h.so_far { ended = true; left = None };
-      side_is = h.side_is;
-      got_is = h.got_is;
-      ended_is = refl;
-      sent_is = h.sent_is;
-      made_is = h.made_is;
-      stands = stands;
-      talking = λ is. h.talking (sym (same_talking middle.stage old.stage kind) ∙ is);
-      agreed_on = λ is. h.agreed_on (sym (same_talking middle.stage old.stage kind) ∙ is);
-      over = h.over ∙ sym (same_handed middle.stage old.stage kind);
-      done = h.done ∙ sym (same_handed middle.stage old.stage kind);
-      served = same_awaiting middle.stage old.stage kind ∙ h.served;
+    -- its handler may be told of the end
+    may_end : (handler : H) → old.stage ≡ stages.Serving handler → MayBeAsked step fails is_closed is_finished inbound_makes outbound_makes eager names peer role log n ToEnd
+    may_end handler serves = record {
+      there = record { so_far = h.so_far; stream = old; come = had_come; stands = h.stands };
+      handler = handler;
+      held = ap handler_of serves;
+      asked_for = (all_came, was_told);
+      in_turn = (
+        serves,
+        h.ended_is ∙ going,
+        sym (ap (has_finished is_finished) serves) ∙ unfinished,
+        λ live open_still unclosed. (settled live).asked open_still (ap (asks_open is_closed) serves ∙ ap not unclosed),
+      );
+      talking = h.talking;
+      agreed_on = h.agreed_on;
+      going = h.over ∙ ap was_handed_out serves;
     }
 
-    -- what the end came to
-    pub record Ended (outcome : Outcome H) : Type 0 where
-      pub newer : List (Entry H)
-      pub none_said : Rattle.conn_log.specs.Entries.said newer ≡ []
-      pub untold : events role (items (newer ++ log)) ≡ events role (items log)
-      pub same_turn : KeepsTurn newer
-      pub unmade : MakesNone newer
-      pub seen_now : Seen
-      pub comes : Comes step fails is_closed is_finished inbound_makes outbound_makes eager names peer role (newer ++ log) fed sent after now past n seen_now rest outcome
+    -- and the stream was served then
+    heard : (then : List (Entry H)) (outcome : Outcome H) (so_far : Past H) (middle : Streaming H)
+        → (around : Around step fails is_closed is_finished inbound_makes outbound_makes eager names peer role then fed sent before streams past n (ended_view view) rest)
+        → (l : IsListed step fails is_closed is_finished inbound_makes outbound_makes eager names peer role then n view.came view.ended so_far old)
+        → (asks_open is_closed middle.stage ≡ true → (is_talking middle.stage ≡ true) ⊎ IsAskedAnew then) → Stands step middle (record so_far { ended = true; left = None }) → kind_of middle.stage ≡ kind_of old.stage
+        → Came step fails is_closed is_finished role (items then) fed sent n (record so_far { ended = true; left = None }) middle before outcome after new
+        → Went step fails is_closed is_finished inbound_makes outbound_makes eager names peer role then fed sent after now past n rest outcome
+    heard then outcome so_far middle around l anew stands kind came_to =
+        let by_end : IsHeld step is_closed is_finished names role then n (ended_view view).came (ended_view view).ended middle = record {
+          so_far = record so_far { ended = true; left = None };
+          side_is = l.side_is;
+          got_is = l.got_is;
+          ended_is = refl;
+          sent_is = l.sent_is;
+          made_is = l.made_is;
+          calls_is = l.calls_is;
+          stands = stands;
+          talking = λ is. l.talking (sym (same_talking middle.stage old.stage kind) ∙ is);
+          agreed_on = λ is. l.agreed_on (sym (same_talking middle.stage old.stage kind) ∙ is);
+          over = l.over ∙ sym (same_handed middle.stage old.stage kind);
+          done = l.done ∙ sym (same_handed middle.stage old.stage kind);
+          served = same_awaiting middle.stage old.stage kind ∙ l.served;
+        } in
+        went step fails is_closed is_finished inbound_makes outbound_makes eager names peer role acts_do acts_move then fed sent before after streams now past n (ended_view view) rest middle new
+        around (none_behind n (ended_view view) rest around.opens_none around.ends_last)
+        (record { held = by_end; over_by_end = λ off. refl; last = inl no_credit; anew = anew }) elsewhere here outcome came_to
 
-    in_talk : (outcome : Outcome H) → is_talking old.stage ≡ true → outcome ≡ outcomes.Broken causes.Ended → after ≡ before → Ended outcome
+    in_talk : (outcome : Outcome H) → is_talking old.stage ≡ true → outcome ≡ outcomes.Broken causes.Ended → after ≡ before → Went step fails is_closed is_finished inbound_makes outbound_makes eager names peer role log fed sent after now past n rest outcome
     in_talk outcome talks is same_session =
         let open_so_far = is_open old h.so_far h.stands talks in
         let was_due : IsDue step fails is_closed is_finished inbound_makes outbound_makes eager names peer role log (Says (event.Broken n causes.Ended)) = (
           h.over ∙ talking_not_handed old.stage talks,
           (
-            is_finished_then,
+            was_told,
             h.talking talks,
             record {
               side = h.so_far.side;
@@ -167,26 +194,12 @@ module _ {P H : Type 0} (step : H → HandlerCall → H → Type 0) (fails : H �
         }
 
     failed : (outcome : Outcome H) (handler : H) (fault : HandlerFault) → old.stage ≡ stages.Serving handler → fails handler ToEnd fault.number → outcome ≡ outcomes.Broken (causes.Handler fault)
-        → after ≡ before → Ended outcome
+        → after ≡ before → Went step fails is_closed is_finished inbound_makes outbound_makes eager names peer role log fed sent after now past n rest outcome
+    unfolding may_end
     failed outcome handler fault serves fails_by is same_session =
         let was_due : IsDue step fails is_closed is_finished inbound_makes outbound_makes eager names peer role log (Says (event.Broken n (causes.Handler fault))) = (
           h.over ∙ ap was_handed_out serves,
-          record {
-            there = record { so_far = h.so_far; stream = old; come = had_come; stands = h.stands };
-            handler = handler;
-            held = ap Rattle.streams.specs.State.handler_of serves;
-            request = ToEnd;
-            asked_for = (all_came, is_finished_then);
-            in_turn = (
-              serves,
-              h.ended_is ∙ going,
-              sym (ap (has_finished is_finished) serves) ∙ unfinished,
-              λ live open_still unclosed. (settled live).asked open_still (ap (asks_open is_closed) serves ∙ ap not unclosed),
-            );
-            fails_by = fails_by;
-            talking = h.talking;
-            agreed_on = h.agreed_on;
-          },
+          record { request = ToEnd; asked = may_end handler serves; fails_by = fails_by },
         ) in
         record {
           newer = [];
@@ -202,17 +215,26 @@ module _ {P H : Type 0} (step : H → HandlerCall → H → Type 0) (fails : H �
           );
         }
 
-    pub has_ended : (outcome : Outcome H) → Ends step fails is_closed is_finished role (items log) fed sent n h.so_far old before outcome after new → Ended outcome
-    unfolding told_end
+    pub has_ended : (outcome : Outcome H) → Ends step fails is_closed is_finished role (items log) fed sent n h.so_far old before outcome after new
+        → Went step fails is_closed is_finished inbound_makes outbound_makes eager names peer role log fed sent after now past n rest outcome
     has_ended outcome ends = by_talk (is_talking old.stage) refl where
-      by_hands : Rattle.routing.specs.Routing.Hands step fails is_closed is_finished role (items log) fed sent n ToEnd (record h.so_far { ended = true; left = None }) old before outcome after new → Ended outcome
-      by_hands (inl served) =
-          let held = told_end served.0 served.1 served.2 in
-          let now_it = went step fails is_closed is_finished inbound_makes outbound_makes eager names peer role acts_do acts_move log fed sent before after streams now past n (ended_view view) rest served.0 new
-          a (none_behind n (ended_view view) rest a.opens_none a.ends_last) held (λ off. refl) elsewhere here outcome served.3 in
-          record { newer = now_it.newer; none_said = now_it.none_said; untold = now_it.untold; same_turn = now_it.same_turn; unmade = now_it.unmade; seen_now = now_it.seen_now; comes = now_it.comes }
-      by_hands (inr f) = failed outcome f.1.0 f.1.1 f.1.2 f.1.3 f.1.4 f.0
+      by_hands : (answer : Option HandlerCall) → answering old.stage End ≡ answer
+          → Hands step fails is_closed is_finished role (items log) fed sent n ToEnd (with_call (record h.so_far { ended = true; left = None }) answer) old before outcome after new
+          → Went step fails is_closed is_finished inbound_makes outbound_makes eager names peer role log fed sent after now past n rest outcome
+      by_hands None is (inl served) =
+          heard log outcome h.so_far served.0 a (listed step fails is_closed is_finished inbound_makes outbound_makes eager names peer role log n view.came view.ended old h)
+          (only_talking is_closed old.stage served.0.stage End is served.2) served.1 served.2 served.3
+      by_hands (Some call) is (inl served) =
+          let serves = answered_by old.stage End call is in
+          let may : IsDue step fails is_closed is_finished inbound_makes outbound_makes eager names peer role log (Calls n call) =
+          subst (λ (c : HandlerCall). IsDue step fails is_closed is_finished inbound_makes outbound_makes eager names peer role log (Calls n c)) (sym serves.0) (may_end serves.1.0 serves.1.1) in
+          went_behind step fails is_closed is_finished inbound_makes outbound_makes eager names peer role log fed sent after now past n rest outcome call
+          (heard (Calls n call ∷ log) outcome (with_call h.so_far (Some call)) served.0
+          (around_call step fails is_closed is_finished inbound_makes outbound_makes eager names peer role log fed sent before streams past n (ended_view view) rest call may a)
+          (listed_behind step fails is_closed is_finished inbound_makes outbound_makes eager names peer role log n view.came view.ended h.so_far old call
+          (listed step fails is_closed is_finished inbound_makes outbound_makes eager names peer role log n view.came view.ended old h)) (λ open_still. inr (answered_anew n call serves.0 tt log)) served.1 served.2 served.3)
+      by_hands answer is (inr f) = failed outcome f.1.0 f.1.1 f.1.2 f.1.3 f.1.4 f.0
 
-      by_talk : (b : Bool) → is_talking old.stage ≡ b → Ended outcome
+      by_talk : (b : Bool) → is_talking old.stage ≡ b → Went step fails is_closed is_finished inbound_makes outbound_makes eager names peer role log fed sent after now past n rest outcome
       by_talk true e = in_talk outcome e (ends.0 e).0 (ends.0 e).1
-      by_talk false e = by_hands (ends.1 e)
+      by_talk false e = by_hands (answering old.stage End) refl (ends.1 e)

@@ -26,7 +26,7 @@ none_ends n (Told.Payload m b ∷ told) last = absurd (let e = last.0 in cc e)
 none_ends n (Told.Ended m ∷ told) last = absurd (let e = last.0 in cc e)
 none_ends n (Told.Reset m ∷ told) last = none_ends n told last
 none_ends n (Told.Accepted m ∷ told) last = none_ends n told last
-none_ends n (Told.Credit m ∷ told) last = none_ends n told last
+none_ends n (Told.Credit m ∷ told) last = none_ends n told last.0
 none_ends n (Told.GoAway code ∷ told) last = none_ends n told last
 none_ends n (Told.Fault fault ∷ told) last = none_ends n told last
 

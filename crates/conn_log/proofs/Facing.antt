@@ -19,12 +19,12 @@ use Rattle.yamux_session.specs.Endings.{opened_in, told_opened, OpeningsAreTold,
 use Rattle.yamux_session.specs.State.{State, Stands as SessionStands, IsOneFrame}
 use Rattle.streams.specs.State.{Streaming}
 use Rattle.conn_log.specs.declared.earlier.Earlier.{Earlier}
-use Rattle.conn_log.specs.Entries.{Entry, items, since, agreed_in, over_in, done_in, made_in, is_over, made_of, is_kept, left_behind, put_aside}
+use Rattle.conn_log.specs.Entries.{Entry, items, since, agreed_in, over_in, done_in, made_in, calls_in, is_over, made_of, is_kept, left_behind, put_aside}
 use Rattle.conn_log.specs.Turns.{turn}
-use Rattle.conn_log.specs.Due.{AllDue, told_reset, was_reset, told_end, end_was_told}
+use Rattle.conn_log.specs.Due.{IsAskedAnew, AllDue, told_reset, was_reset, told_end, end_was_told}
 use Rattle.conn_log.specs.Held.{IsAtRest, AreLeft, earlier_of}
 use Rattle.conn_log.specs.Rests.{AreAtRest}
-use Rattle.conn_log.specs.Routes.{IsFor, IsNoOpening, IsMoving, Around, Routes, Awaits, set_aside}
+use Rattle.conn_log.specs.Routes.{IsNoCredit, EndsLast, IsFor, IsNoOpening, IsMoving, Around, Awaits, set_aside}
 use Rattle.conn_log.proofs.Same.{Same, side_same, settled_same, at_rest_same, left_same}
 use Rattle.conn_log.proofs.Around.{if_some}
 use Rattle.conn_log.proofs.Views.{same}
@@ -120,6 +120,7 @@ module _ {P H : Type 0} (step : H → HandlerCall → H → Type 0) (fails : H �
         over_is = ap (over_in m) (since_same m off);
         done_is = ap (done_in m) (since_same m off);
         made_is = ap (made_in m) (since_same m off);
+        calls_is = ap (calls_in m) (since_same m off);
         asked_is = asked_arrived came log m;
       }
 
@@ -150,10 +151,11 @@ module _ {P H : Type 0} (step : H → HandlerCall → H → Type 0) (fails : H �
 
   around : (aside : List (Earlier H)) (view : Seen) (rest : List Told) (before : Bool) → was_reset role (items then) n ≡ told_reset n rest || before
       → (before ≡ true → is_over role then n ≡ true) → AgreesOn (seen role (items then) n) (all_heard n view rest) → AllByRecursion (IsNoOpening n) rest
-      → Rattle.conn_log.specs.Routes.EndsLast view.ended rest → (told_reset n rest ≡ true → view.ended || told_end n rest ≡ end_was_told role (items then) n) → ((m : ℕ) → AreLeft step is_closed is_finished names role then m 0 (earlier_of m aside))
+      → EndsLast view.ended rest → (told_end n rest ≡ true → end_was_told role (items then) n ≡ true)
+      → (told_reset n rest ≡ true → view.ended || told_end n rest ≡ end_was_told role (items then) n) → ((m : ℕ) → AreLeft step is_closed is_finished names role then m 0 (earlier_of m aside))
       → map (λ (it : Earlier H). it.number) aside ≡ put_aside role then → turn then ≡ Some n
       → Around step fails is_closed is_finished inbound_makes outbound_makes eager names peer role then later sent now streams aside n view rest
-  around aside view rest before reset_is told_before heard none last end_is left aside_is turn_is = record {
+  around aside view rest before reset_is told_before heard none last end_by end_is left aside_is turn_is = record {
     session_stands = subst (λ (t : List Item). SessionStands role t later sent now) (sym items_are) there;
     due = due_arrived step fails is_closed is_finished inbound_makes outbound_makes eager names peer role laws.openings_are_told log rests.resets_told came tells.no_fault
         first_told rests.due;
@@ -164,6 +166,7 @@ module _ {P H : Type 0} (step : H → HandlerCall → H → Type 0) (fails : H �
         rests.made_held m (λ none_made. made (ap (made_in m) (since_same m off) ∙ none_made)) (sym (ap (over_in m) (since_same m off)) ∙ going);
     resets_told = λ m was. over_at m (eqb_tells n m) was;
     reset_came = λ reset. reset_is ∙ ap (λ b. b || before) reset;
+    end_told = end_by;
     end_came = end_is;
     heard = heard;
     opens_none = none;
@@ -187,6 +190,11 @@ module _ {P H : Type 0} (step : H → HandlerCall → H → Type 0) (fails : H �
 
   -- ---- of the one that is named
 
+  -- its frame is the newest entry, or nothing came
+  anew_by : {Q : Type 0} (c : List Arrival) → came ≡ c → AllByRecursion IsNoCredit (tellings told) ⊎ (Q ⊎ IsAskedAnew then)
+  anew_by [] is = inl (subst (λ (t : List Told). AllByRecursion IsNoCredit t) (sym (sym (told_is_by role (items log) came (tellings told) tells) ∙ ap (told_by role (items log)) is)) tt)
+  anew_by (x ∷ c) is = inr (inr (subst (λ (t : List Arrival). IsAskedAnew (arrived t ++ log)) (sym is) tt))
+
   -- it was opened before
   moving : (it : Streaming H) → AllByRecursion (IsNoOpening n) (tellings told) → IsAtRest step is_closed is_finished names role log n it
       → IsMoving step fails is_closed is_finished inbound_makes outbound_makes eager names peer role then n (seen role (items log) n) (tellings told) it
@@ -201,6 +209,7 @@ module _ {P H : Type 0} (step : H → HandlerCall → H → Type 0) (fails : H �
           ended_is = r.held.ended_is;
           sent_is = r.held.sent_is ∙ sym (a.sent ∙ sent_stays n (seen role (items log) n) (tellings told) none);
           made_is = r.held.made_is ∙ sym (ap (made_in n) (since_same n off));
+          calls_is = r.held.calls_is ∙ sym (ap (calls_in n) (since_same n off));
           stands = r.held.stands;
           talking = λ is. ap (agreed_in n) (since_same n off) ∙ r.held.talking is;
           agreed_on = λ is none_agreed. r.held.agreed_on is (sym (ap (agreed_in n) (since_same n off)) ∙ none_agreed);
@@ -210,6 +219,7 @@ module _ {P H : Type 0} (step : H → HandlerCall → H → Type 0) (fails : H �
         };
         unfinished = r.unfinished;
         over_by_end = r.over_by_end;
+        anew = anew_by came refl;
         settled = λ brings_none live.
             let view = seen role (items log) n in
             let windows_are = ap (λ (t : List Item). windows role t n) items_are ∙ laws.credit_is_told role (items log) came (tellings told) n tells brings_none in
@@ -244,6 +254,7 @@ module _ {P H : Type 0} (step : H → HandlerCall → H → Type 0) (fails : H �
                 (ap (λ (t : List Item). was_reset role t n) items_are ∙ reset_told role (items log) came (tellings told) n tells ∙ reset_unopened n was (tellings told) none)
                 (λ is. ap (over_in n) (since_same n off) ∙ rests.resets_told n is)
                 (agrees n) none (ends_last n view.ended view (tellings told) about none (laws.ends_are_last role (items log) came (tellings told) n tells) alive credit_before)
+                (λ ends. ends_then none ∙ ap (λ b. b || end_was_told role (items log) n) ends)
                 (λ reset. ends_now none (was_live none alive reset))
                 (λ m. left_by m none (eqb_tells n m))
                 (rests.past_is ∙ sym (aside_now false (laws.openings_are_told role (items log) came (tellings told) n tells ∙ off))) turn_is;
@@ -263,14 +274,18 @@ module _ {P H : Type 0} (step : H → HandlerCall → H → Type 0) (fails : H �
           by_live true live = refl
           by_live false dead = absurd (let e : true ≡ false = sym reset ∙ none_reset n (seen role (items log) n) (tellings told) dead about none alive in cc e)
 
+        ends_then : AllByRecursion (IsNoOpening n) (tellings told) → end_was_told role (items then) n ≡ told_end n (tellings told) || end_was_told role (items log) n
+        ends_then none =
+            ap (λ (t : List Item). end_was_told role t n) items_are
+            ∙ ends_unopened role (items log) came n (laws.openings_are_told role (items log) came (tellings told) n tells ∙ unopened n (tellings told) none)
+            ∙ ap (λ t. told_end n t || end_was_told role (items log) n) (told_is_by role (items log) came (tellings told) tells)
+
         ends_now : AllByRecursion (IsNoOpening n) (tellings told) → is_live role (items log) n ≡ true
             → finished role (items log) n || told_end n (tellings told) ≡ end_was_told role (items then) n
         ends_now none live =
             or_comm (finished role (items log) n) (told_end n (tellings told))
             ∙ ap (λ b. told_end n (tellings told) || b) (live_ends role (items log) n rests.session_stands.no_fault live)
-            ∙ sym (ap (λ (t : List Item). end_was_told role t n) items_are
-            ∙ ends_unopened role (items log) came n (laws.openings_are_told role (items log) came (tellings told) n tells ∙ unopened n (tellings told) none)
-            ∙ ap (λ t. told_end n t || end_was_told role (items log) n) (told_is_by role (items log) came (tellings told) tells))
+            ∙ sym (ends_then none)
 
         left_by : (m : ℕ) → AllByRecursion (IsNoOpening n) (tellings told) → (((n == m) ≡ true) × (n ≡ m)) ⊎ (((n == m) ≡ false) × (n ≢ m))
             → AreLeft step is_closed is_finished names role then m 0 (earlier_of m past)
@@ -305,14 +320,18 @@ module _ {P H : Type 0} (step : H → HandlerCall → H → Type 0) (fails : H �
                 (subst (λ (b : Bool). AgreesOn (seen role (items then) n) (all_heard n (cond b just_opened view) (tellings rest))) (same n)
                 (subst (λ (t : List Told). AgreesOn (seen role (items then) n) (all_heard n view t)) told_is (agrees n)))
                 none (ends_last n false (hears n view (Told.Opened n)) (tellings rest) (named n rest rest_about) none once alive.1 (subst CreditFirst told_is credit_before))
-                (λ reset. sym (ap (λ (t : List Item). end_was_told role t n) items_are ∙ ends_opened laws.openings_are_told role (items log) came n tells.no_fault first_told opened
-                ∙ ap (told_end n) (told_is_by role (items log) came (Told.Opened n ∷ tellings rest) tells_it))) (λ m. left_by m opened tells_it (eqb_tells n m))
+                (λ ends. ends_then opened tells_it ∙ ends) (λ reset. sym (ends_then opened tells_it)) (λ m. left_by m opened tells_it (eqb_tells n m))
                 (numbers_by opened tells_it) turn_is;
             fresh = since_arrived role came log n ∙ ap (λ b. cond b [] (since role log n)) opened;
             theirs = laws.opened_by_the_other role (items log) came n opened;
           },
         );
       } where
+        ends_then : opened_in role (items log) came n ≡ true → TellsFrom role (items log) came (Told.Opened n ∷ tellings rest) → end_was_told role (items then) n ≡ told_end n (tellings rest)
+        ends_then opened tells_it =
+            ap (λ (t : List Item). end_was_told role t n) items_are ∙ ends_opened laws.openings_are_told role (items log) came n tells.no_fault first_told opened
+            ∙ ap (told_end n) (told_is_by role (items log) came (Told.Opened n ∷ tellings rest) tells_it)
+
         numbers_by : opened_in role (items log) came n ≡ true → TellsFrom role (items log) came (Told.Opened n ∷ tellings rest)
             → map (λ (it : Earlier H). it.number) (past ++ set_aside n (streams n)) ≡ put_aside role then
         numbers_by opened tells_it =

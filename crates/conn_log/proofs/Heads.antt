@@ -112,9 +112,9 @@ all_named role past (Garbled bytes ∷ y ∷ more) one = absurd one
 
 module _ (n code : ℕ) where
   first_then : (accepts gives : Bool) → CreditFirst (when accepts (Told.Accepted n) ++ when gives (Told.Credit n))
-  first_then true true = tt
+  first_then true true = (tt, tt)
   first_then true false = tt
-  first_then false true = tt
+  first_then false true = (tt, tt)
   first_then false false = tt
 
   first_by_head : (goes opened accepts gives : Bool)
@@ -132,7 +132,7 @@ module _ (n code : ℕ) where
 
 byte_alone : (b : ℕ) (n : Option ℕ) → AllByRecursion IsNoCredit (byte_told n b) × CreditFirst (byte_told n b)
 byte_alone b None = (tt, tt)
-byte_alone b (Some n) = ((tt, tt), tt)
+byte_alone b (Some n) = ((tt, tt), (tt, tt))
 
 tail_alone : (role : Role) (past : List Item) (read : Option Header) → AllByRecursion IsNoCredit (tail_events role past read) × CreditFirst (tail_events role past read)
 tail_alone role past None = (tt, tt)
@@ -153,10 +153,10 @@ first_join : (told more : List Told) → CreditFirst told → AllByRecursion IsN
 first_join [] more first none later = later
 first_join (Told.Ended m ∷ told) more first none later = (all_join IsNoCredit told more first.0 none, first_join told more first.1 none later)
 first_join (Told.Opened m ∷ told) more first none later = first_join told more first none later
-first_join (Told.Payload m b ∷ told) more first none later = first_join told more first none later
+first_join (Told.Payload m b ∷ told) more first none later = (all_join IsNoCredit told more first.0 none, first_join told more first.1 none later)
 first_join (Told.Reset m ∷ told) more first none later = first_join told more first none later
 first_join (Told.Accepted m ∷ told) more first none later = first_join told more first none later
-first_join (Told.Credit m ∷ told) more first none later = first_join told more first none later
+first_join (Told.Credit m ∷ told) more first none later = (all_join IsNoCredit told more first.0 none, first_join told more first.1 none later)
 first_join (Told.GoAway code ∷ told) more first none later = first_join told more first none later
 first_join (Told.Fault fault ∷ told) more first none later = first_join told more first none later
 

@@ -7,7 +7,7 @@ use Rattle.conn_log.specs.declared.event.ConnRefused.TheVariants as refusals
 use Rattle.conn_log.specs.Entries.{asked, made_in}
 use Rattle.conn_log.specs.Entries.Entry.{Made, Asks}
 use Rattle.conn_log.specs.Asked.{IsRefusedAs}
-use Rattle.conn_log.specs.EntryRows.{ListRows, SinceRows, AgreedRows, OverRows, HandlerRows, LeftRows, AsideRows, AskedForRows}
+use Rattle.conn_log.specs.EntryRows.{ListRows, SinceRows, AgreedRows, OverRows, HandlerRows, CallRows, LeftRows, AsideRows, AskedForRows}
 use Rattle.conn_log.specs.DueRows.{DirectionRows, ResetRows, EndRows, JustAgreedRows, GivenUpRows, MayBeMadeRows}
 use Rattle.conn_log.specs.AskedRows.{RefusedAsRows, EarlyRows, ToldOfRows, MadeEarlyRows, BrokenOfRows, is_1}
 
@@ -33,6 +33,7 @@ since_rows = record {
   own_opened = refl;
   others_stay = refl;
   others_stay_of_own = refl;
+  answers_stay = refl;
 }
 
 pub agreed_rows : AgreedRows
@@ -81,6 +82,19 @@ handler_rows = record {
   not_made = refl;
   handed_out = refl;
   not_made_and_refused = refl;
+}
+
+pub call_rows : CallRows
+call_rows = record {
+  of_nothing = refl;
+  in_order = refl;
+  of_another = refl;
+  of_that_one = refl;
+  of_a_third = refl;
+  before_the_opening = refl;
+  before_asking = refl;
+  passed = λ key. refl;
+  passed_within = refl;
 }
 
 pub left_rows : LeftRows

@@ -41,6 +41,7 @@ making_rows = record {
   passed = λ now. (λ e. e, λ e. e);
   passed_item = λ x now. (λ e. e, λ e. e);
   passed_event = λ said now. (λ e. e, λ e. e);
+  passed_call = λ call now. (λ e. e, λ e. e);
   inbound = λ handler now. (inbound_is handler now, λ h. (5, refl, (refl, (refl, refl, h.0, h.1))));
   outbound = λ handler now. (outbound_is handler now, λ h. (5, refl, (refl, (refl, refl, h.0, h.1))));
   three_in_turn = λ first second third now. (
@@ -64,4 +65,5 @@ making_rows = record {
   makes_one = λ handler x h. h;
   makes_one_said = λ handler e h. h;
   makes_one_asked = λ handler h. h;
+  makes_one_called = λ handler call h. h;
 }

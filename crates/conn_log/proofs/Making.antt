@@ -4,7 +4,7 @@ use Rattle.yamux_session.specs.declared.event.Role.{Role}
 use Rattle.yamux_session.specs.History.{Act}
 use Rattle.conn_log.specs.declared.event.ConnEvent.{ConnEvent}
 use Rattle.conn_log.specs.Entries.{Entry}
-use Rattle.conn_log.specs.Entries.Entry.{Of, Says, Made, Asks}
+use Rattle.conn_log.specs.Entries.Entry.{Of, Says, Made, Asks, Calls}
 use Rattle.conn_log.specs.Making.{MakesNone, AreMadeInTurn, MakesOn}
 use Rattle.yamux_frames.specs.Frames.{Arrival}
 use Rattle.conn_log.proofs.Served.{did}
@@ -18,6 +18,14 @@ pub arrived_none : (H : Type 0) (came : List Arrival) → MakesNone {H = H} (arr
 arrived_none H [] = tt
 arrived_none H (x ∷ came) = arrived_none H came
 
+pub none_more : {H : Type 0} (newer log : List (Entry H)) → MakesNone newer → MakesNone log → MakesNone (newer ++ log)
+none_more [] log none more = more
+none_more (Of x ∷ newer) log none more = none_more newer log none more
+none_more (Says e ∷ newer) log none more = none_more newer log none more
+none_more (Made n handler ∷ newer) log none more = absurd none
+none_more (Asks n index ∷ newer) log none more = none_more newer log none more
+none_more (Calls n call ∷ newer) log none more = none_more newer log none more
+
 -- the streams whose handlers these entries make, that of the newest handler first
 abbrev pub mades : {H : Type 0} → List (Entry H) → List ℕ
 mades [] = []
@@ -25,6 +33,7 @@ mades (Of x ∷ log) = mades log
 mades (Says e ∷ log) = mades log
 mades (Made n handler ∷ log) = n ∷ mades log
 mades (Asks n index ∷ log) = mades log
+mades (Calls n call ∷ log) = mades log
 
 pub none_mades : {H : Type 0} (newer : List (Entry H)) → MakesNone newer → mades newer ≡ []
 none_mades [] none = refl
@@ -32,6 +41,7 @@ none_mades (Of x ∷ newer) none = none_mades newer none
 none_mades (Says e ∷ newer) none = none_mades newer none
 none_mades (Made n handler ∷ newer) none = absurd none
 none_mades (Asks n index ∷ newer) none = none_mades newer none
+none_mades (Calls n call ∷ newer) none = none_mades newer none
 
 pub mades_append : {H : Type 0} (newer log : List (Entry H)) → mades (newer ++ log) ≡ mades newer ++ mades log
 mades_append [] log = refl
@@ -39,6 +49,7 @@ mades_append (Of x ∷ newer) log = mades_append newer log
 mades_append (Says e ∷ newer) log = mades_append newer log
 mades_append (Made n handler ∷ newer) log = ap (λ t. n ∷ t) (mades_append newer log)
 mades_append (Asks n index ∷ newer) log = mades_append newer log
+mades_append (Calls n call ∷ newer) log = mades_append newer log
 
 -- what is made for a stream where this is told of it: its handler, where both ends agree, unless it was made before
 abbrev pub made_by : {H : Type 0} → ℕ → List (ConnEvent H) → Option H → List ℕ
@@ -54,6 +65,7 @@ module _ {P H : Type 0} (inbound_leads outbound_leads : P → ℕ → List ℕ �
   made_before first now log (Says e ∷ newer) none before = made_before first now log newer none before
   made_before first now log (Made n handler ∷ newer) none before = absurd none
   made_before first now log (Asks n index ∷ newer) none before = made_before first now log newer none before
+  made_before first now log (Calls n call ∷ newer) none before = made_before first now log newer none before
 
   -- the protocols stay where no handler was made
   pub makes_none : (before behind : P) → behind ≡ before → (log newer : List (Entry H)) → MakesNone newer

@@ -12,7 +12,7 @@ use Rattle.yamux_session.specs.State.{State}
 use Rattle.streams.specs.Streams.{fresh}
 use Rattle.streams.specs.State.{Streaming, Stands, is_talking}
 use Rattle.conn_log.specs.declared.earlier.Earlier.{Earlier}
-use Rattle.conn_log.specs.Entries.{Entry, since, agreed_in, over_in, done_in, made_in}
+use Rattle.conn_log.specs.Entries.{Entry, since, agreed_in, over_in, done_in, made_in, calls_in}
 use Rattle.conn_log.specs.Held.{IsHeld, IsAtRest, AreLeft, earlier_of}
 use Rattle.conn_log.specs.Routes.{IsNoOpening, Around, set_aside}
 use Rattle.serving.proofs.StageKinds.{talking_kind, talking_awaits}
@@ -51,6 +51,7 @@ module _ {P H : Type 0} (step : H → HandlerCall → H → Type 0) (fails : H �
     others_kept = λ m apart made going. subst (λ (t : Option (Streaming H)). IsSome t) (sym (elsewhere m apart)) (a.others_kept m apart made going);
     resets_told = a.resets_told;
     reset_came = a.reset_came;
+    end_told = a.end_told;
     end_came = a.end_came;
     heard = a.heard;
     opens_none = a.opens_none;
@@ -71,6 +72,7 @@ module _ {P H : Type 0} (step : H → HandlerCall → H → Type 0) (fails : H �
     ended_is = refl;
     sent_is = sym (a.heard.sent ∙ sent_stays n just_opened rest a.opens_none);
     made_is = sym (ap (made_in n) none);
+    calls_is = sym (ap (calls_in n) none);
     stands = stands;
     talking = λ it. ap (agreed_in n) none;
     agreed_on = λ off. absurd (let e : true ≡ false = sym talks ∙ off in cc e);

@@ -15,13 +15,19 @@ use Rattle.yamux_session.specs.History.Item.{Came, Did}
 use Rattle.yamux_session.specs.History.Act.{Taken, Close}
 use Rattle.yamux_session.specs.Rows.{header}
 use Rattle.yamux_session.proofs.Hearing.{or_none}
-use Rattle.conn_log.specs.Entries.{items, since, over_in}
+use Rattle.handlers.specs.Calls.{Asked}
+use Rattle.streams.specs.declared.stage.Stage.TheVariants as stages
+use Rattle.streams.specs.State.{is_talking}
+use Rattle.conn_log.specs.Entries.{Entry, items, since, agreed, over_in}
 use Rattle.conn_log.specs.Entries.Entry.{Of}
 use Rattle.conn_log.specs.Due.{was_reset}
 use Rattle.conn_log.specs.Held.{IsSide}
 use Rattle.conn_log.specs.EntryRows.{opened, agrees, refuses}
 use Rattle.conn_log.specs.PlaceRows as rows
-use Rattle.conn_log.specs.PlaceRows.{TalkPlaceRows, LastPlaceRows, ActPlaceRows, is_due}
+use Rattle.conn_log.specs.PlaceRows.{TalkPlaceRows, LastPlaceRows, ActPlaceRows, CallPlaceRows, AnewRows, is_due}
+
+abbrev no_bytes : List ℕ
+no_bytes = []
 
 front_nil : (first rest : List ℕ) → [] ≡ first ++ rest → first ≡ []
 front_nil [] rest e = refl
@@ -120,4 +126,40 @@ act_place_rows = record {
   all = (omega arith, (omega arith, tt));
   newest_not = λ h. omega (arith, h.0);
   oldest_not = λ h. omega (arith, h.1.0);
+}
+
+-- a handler that serves isn't asked before both ends agree
+serves : {log : List (Entry ℕ)} {request : Asked} {handler : ℕ} → (m : rows.may_be_asked log request) → m.there.stream.stage ≡ stages.Serving handler
+    → agreed Client log 2 ≡ None → ⊥
+serves m is none = m.agreed_on (ap is_talking is) none
+
+pub call_place_rows : CallPlaceRows
+call_place_rows = record {
+  asks_for = λ bytes room. (refl, refl, refl);
+  when_over = λ call h. on_is_off h.going;
+  before_an_agreement = λ h. serves h h.in_turn.0 refl;
+  end_before_an_agreement = λ h. serves h h.in_turn.0 refl;
+  handed_nothing = λ h. by_turn h.in_turn.2;
+  end_that_did_not_come = λ h. off_is_on h.asked_for.1;
+  end_with_a_reset = λ h. off_is_on h.asked_for.1;
+  asked_behind_a_reset = λ room h. off_is_on h.in_turn.0;
+  asked_when_closed = λ room h. on_is_off h.in_turn.1;
+  asked_twice = λ room h. by_talk h.in_turn.3 (λ talks. some_is_none 1 (h.talking talks));
+} where
+  by_turn : {A : Type 0} → (A × (no_bytes ≢ [])) ⊎ ⊥ → ⊥
+  by_turn (inl handed) = handed.1 refl
+  by_turn (inr agreed) = agreed
+
+  by_talk : {A : Type 0} → A ⊎ ⊥ → (A → ⊥) → ⊥
+  by_talk (inl talks) not_talking = not_talking talks
+  by_talk (inr anew) not_talking = anew
+
+pub anew_rows : AnewRows
+anew_rows = record {
+  at_first = tt;
+  behind_a_frame = tt;
+  behind_data = tt;
+  behind_its_end = tt;
+  asked = λ anew. anew;
+  asked_and_done = λ anew. anew;
 }

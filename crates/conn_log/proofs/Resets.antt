@@ -287,18 +287,30 @@ alive_told events_tell role past came told n tells =
 not_both : {b : Bool} → b ≡ true → b ≡ false → ⊥
 not_both on off = absurd (let e : true ≡ false = sym on ∙ off in cc e)
 
+-- credit is told once, before data and the end
+abbrev pub CreditFirst : List Told → Type 0
+CreditFirst [] = Unit {0}
+CreditFirst (Told.Ended m ∷ told) = AllByRecursion IsNoCredit told × CreditFirst told
+CreditFirst (Told.Opened m ∷ told) = CreditFirst told
+CreditFirst (Told.Payload m b ∷ told) = AllByRecursion IsNoCredit told × CreditFirst told
+CreditFirst (Told.Reset m ∷ told) = CreditFirst told
+CreditFirst (Told.Accepted m ∷ told) = CreditFirst told
+CreditFirst (Told.Credit m ∷ told) = AllByRecursion IsNoCredit told × CreditFirst told
+CreditFirst (Told.GoAway code ∷ told) = CreditFirst told
+CreditFirst (Told.Fault fault ∷ told) = CreditFirst told
+
 -- it is told of no more
 module _ (n : ℕ) where
-  pub none_last : (s : Seen) (told : List Told) → s.live ≡ false → AllByRecursion (IsNamed n) told → AllByRecursion (IsNoOpening n) told → AreAlive n s told → EndsLast true told
-  none_last s [] dead named none alive = tt
-  none_last s (Told.Opened m ∷ told) dead named none alive = absurd (not_both (its_own m n named.0) none.0)
-  none_last s (Told.Payload m b ∷ told) dead named none alive = absurd (not_both (alive.0 named.0) dead)
-  none_last s (Told.Ended m ∷ told) dead named none alive = absurd (not_both (alive.0 named.0) dead)
-  none_last s (Told.Reset m ∷ told) dead named none alive = absurd (not_both (alive.0 named.0) dead)
-  none_last s (Told.Accepted m ∷ told) dead named none alive = none_last s told dead named.1 none.1 alive.1
-  none_last s (Told.Credit m ∷ told) dead named none alive = none_last s told dead named.1 none.1 alive.1
-  none_last s (Told.GoAway code ∷ told) dead named none alive = none_last s told dead named.1 none.1 alive.1
-  none_last s (Told.Fault fault ∷ told) dead named none alive = none_last s told dead named.1 none.1 alive.1
+  pub none_last : (s : Seen) (told : List Told) → s.live ≡ false → AllByRecursion (IsNamed n) told → AllByRecursion (IsNoOpening n) told → AreAlive n s told → CreditFirst told → EndsLast true told
+  none_last s [] dead named none alive first = tt
+  none_last s (Told.Opened m ∷ told) dead named none alive first = absurd (not_both (its_own m n named.0) none.0)
+  none_last s (Told.Payload m b ∷ told) dead named none alive first = absurd (not_both (alive.0 named.0) dead)
+  none_last s (Told.Ended m ∷ told) dead named none alive first = absurd (not_both (alive.0 named.0) dead)
+  none_last s (Told.Reset m ∷ told) dead named none alive first = absurd (not_both (alive.0 named.0) dead)
+  none_last s (Told.Accepted m ∷ told) dead named none alive first = none_last s told dead named.1 none.1 alive.1 first
+  none_last s (Told.Credit m ∷ told) dead named none alive first = (none_last s told dead named.1 none.1 alive.1 first.1, first.0)
+  none_last s (Told.GoAway code ∷ told) dead named none alive first = none_last s told dead named.1 none.1 alive.1 first
+  none_last s (Told.Fault fault ∷ told) dead named none alive first = none_last s told dead named.1 none.1 alive.1 first
 
   pub none_reset : (s : Seen) (told : List Told) → s.live ≡ false → AllByRecursion (IsNamed n) told → AllByRecursion (IsNoOpening n) told → AreAlive n s told → told_reset n told ≡ false
   none_reset s [] dead named none alive = refl
@@ -311,34 +323,22 @@ module _ (n : ℕ) where
   none_reset s (Told.GoAway code ∷ told) dead named none alive = none_reset s told dead named.1 none.1 alive.1
   none_reset s (Told.Fault fault ∷ told) dead named none alive = none_reset s told dead named.1 none.1 alive.1
 
--- credit is told before the end
-abbrev pub CreditFirst : List Told → Type 0
-CreditFirst [] = Unit {0}
-CreditFirst (Told.Ended m ∷ told) = AllByRecursion IsNoCredit told × CreditFirst told
-CreditFirst (Told.Opened m ∷ told) = CreditFirst told
-CreditFirst (Told.Payload m b ∷ told) = CreditFirst told
-CreditFirst (Told.Reset m ∷ told) = CreditFirst told
-CreditFirst (Told.Accepted m ∷ told) = CreditFirst told
-CreditFirst (Told.Credit m ∷ told) = CreditFirst told
-CreditFirst (Told.GoAway code ∷ told) = CreditFirst told
-CreditFirst (Told.Fault fault ∷ told) = CreditFirst told
-
 -- the end is the last that is told of it, or a reset is
 pub ends_last : (n : ℕ) (ended : Bool) (s : Seen) (told : List Told) → AllByRecursion (IsNamed n) told → AllByRecursion (IsNoOpening n) told → EndsOnce n ended told → AreAlive n s told
     → CreditFirst told → EndsLast ended told
 ends_last n ended s [] all none once alive first = tt
 ends_last n ended s (Told.Opened m ∷ told) all none once alive first = absurd (not_both (its_own m n all.0) none.0)
 ends_last n ended s (Told.Payload m b ∷ told) all none once alive first =
-    (once.0 all.0, ends_last n ended (hears n s (Told.Payload m b)) told all.1 none.1 once.1 alive.1 first)
+    (once.0 all.0, ends_last n ended (hears n s (Told.Payload m b)) told all.1 none.1 once.1 alive.1 first.1, first.0)
 ends_last n ended s (Told.Ended m ∷ told) all none once alive first = (
   once.0 all.0,
   ends_last n true (hears n s (Told.Ended m)) told all.1 none.1 (subst (λ (b : Bool). EndsOnce n (cond b true ended) told) (its_own m n all.0) once.1) alive.1 first.1,
   first.0,
 )
 ends_last n ended s (Told.Reset m ∷ told) all none once alive first =
-    none_last n (hears n s (Told.Reset m)) told (ap (λ b. (cond b (record s { live = false }) s).live) (its_own m n all.0)) all.1 none.1 alive.1
+    none_last n (hears n s (Told.Reset m)) told (ap (λ b. (cond b (record s { live = false }) s).live) (its_own m n all.0)) all.1 none.1 alive.1 first
 ends_last n ended s (Told.Accepted m ∷ told) all none once alive first = ends_last n ended s told all.1 none.1 once alive.1 first
-ends_last n ended s (Told.Credit m ∷ told) all none once alive first = ends_last n ended s told all.1 none.1 once alive.1 first
+ends_last n ended s (Told.Credit m ∷ told) all none once alive first = (ends_last n ended s told all.1 none.1 once alive.1 first.1, first.0)
 ends_last n ended s (Told.GoAway code ∷ told) all none once alive first = ends_last n ended s told all.1 none.1 once alive.1 first
 ends_last n ended s (Told.Fault fault ∷ told) all none once alive first = ends_last n ended s told all.1 none.1 once alive.1 first
 

@@ -31,7 +31,7 @@ last_first false (Told.Payload m b ∷ rest) last = absurd (let e = last.0 in cc
 last_first false (Told.Ended m ∷ rest) last = absurd (let e = last.0 in cc e)
 last_first false (Told.Reset m ∷ rest) last = last
 last_first false (Told.Accepted m ∷ rest) last = last_first false rest last
-last_first false (Told.Credit m ∷ rest) last = last_first false rest last
+last_first false (Told.Credit m ∷ rest) last = (last_first false rest last.0, last.1)
 last_first false (Told.GoAway code ∷ rest) last = last_first false rest last
 last_first false (Told.Fault fault ∷ rest) last = last_first false rest last
 
@@ -53,6 +53,7 @@ module _ {P H : Type 0} (step : H → HandlerCall → H → Type 0) (fails : H �
     others_kept = λ m apart made going. subst (λ (t : Option (Streaming H)). IsSome t) (sym (elsewhere m apart)) (a.others_kept m apart made going);
     resets_told = λ m was. by_number m (eqb_tells n m) (a.resets_told m was);
     reset_came = λ told. a.reset_came (ap (λ b. b || told_reset n rest) (same n));
+    end_told = a.end_told;
     end_came = λ told. a.end_came (ap (λ b. b || told_reset n rest) (same n));
     heard = subst (λ (x : Seen). AgreesOn (seen role (items log) n) (all_heard n x rest)) (heard_reset n view) a.heard;
     opens_none = a.opens_none.1;

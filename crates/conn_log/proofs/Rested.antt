@@ -1,5 +1,6 @@
 -- What a frame told was routed: all streams are at rest again.
 use Rattle.std.proofs.Common.{◌≡◌, ◌≢◌, ◌⊎◌, inl, inr, ℕ, ◌==◌, ◌||◌, Bool, true, false, List, [], ◌∷◌, ◌++◌, Option, Some, None, refl, sym, ap, ◌∙◌, subst}
+use Rattle.std.specs.List.{AllByRecursion}
 use Rattle.std.specs.Prelude.{IfSome, IsSome}
 use Rattle.std.proofs.lemmas.List.{append-nil}
 use Rattle.std.proofs.lemmas.Bool.Decides.{eqb_tells}
@@ -16,7 +17,7 @@ use Rattle.conn_log.specs.Entries.{Entry, items, said, is_over, made_of}
 use Rattle.conn_log.specs.Due.{told_reset, was_reset, told_end}
 use Rattle.conn_log.specs.Held.{IsAtRest}
 use Rattle.conn_log.specs.Rests.{AreAtRest, Grows}
-use Rattle.conn_log.specs.Routes.{IsStill, EndsLast, IsMoving, Routes, Routed, Awaits, IsUnderWay}
+use Rattle.conn_log.specs.Routes.{IsNoCredit, IsStill, EndsLast, IsMoving, Routes, Routed, Awaits, IsUnderWay}
 use Rattle.conn_log.proofs.Turning.{turn_unasked, rested_on}
 use Rattle.conn_log.proofs.Settling.{routed_behind}
 
@@ -94,6 +95,7 @@ module _ {P H : Type 0} (step : H → HandlerCall → H → Type 0) (fails : H �
       others_kept = r.around.others_kept;
       resets_told = λ m. subst (λ b. was_reset role (items log) m ≡ true → (is_over role log m ≡ true) ⊎ (b ≡ true)) (still_reset m t rest is) (r.around.resets_told m);
       reset_came = subst (λ b. b ≡ true → was_reset role (items log) n ≡ true) (still_reset n t rest is) r.around.reset_came;
+      end_told = λ told. r.around.end_told (still_end n t rest is ∙ told);
       end_came = λ reset. ap (λ b. view.ended || b) (sym (still_end n t rest is)) ∙ r.around.end_came (still_reset n t rest is ∙ reset);
       heard = subst (λ (x : Seen). AgreesOn (seen role (items log) n) (all_heard n x rest)) (still_hears n view t is) r.around.heard;
       opens_none = r.around.opens_none.1;
@@ -108,10 +110,14 @@ module _ {P H : Type 0} (step : H → HandlerCall → H → Type 0) (fails : H �
     own_kept = r.own_kept;
     own_to_reset = subst (λ b. b ≡ true → is_over role log n ≡ false → IsSome (streams n)) (still_reset n t rest is) r.own_to_reset;
   } where
+    behind : {Q : Type 0} → AllByRecursion IsNoCredit (t ∷ rest) ⊎ Q → AllByRecursion IsNoCredit rest ⊎ Q
+    behind (inl none) = inl none.1
+    behind (inr other) = inr other
+
     goes_on : (s : Option (Streaming H)) → IfSome s (λ it. IsMoving step fails is_closed is_finished inbound_makes outbound_makes eager names peer role log n view (t ∷ rest) it)
         → IfSome s (λ it. IsMoving step fails is_closed is_finished inbound_makes outbound_makes eager names peer role log n view rest it)
     goes_on None own = tt
-    goes_on (Some it) own = record { held = own.held; unfinished = own.unfinished; over_by_end = own.over_by_end; settled = λ quiet live. own.settled (still_quiet n t is, quiet) live }
+    goes_on (Some it) own = record { held = own.held; unfinished = own.unfinished; over_by_end = own.over_by_end; anew = behind own.anew; settled = λ quiet live. own.settled (still_quiet n t is, quiet) live }
 
   -- ---- event by event
 
@@ -147,6 +153,7 @@ module _ {P H : Type 0} (step : H → HandlerCall → H → Type 0) (fails : H �
             ended_is = m.held.ended_is ∙ sym ended;
             sent_is = m.held.sent_is;
             made_is = m.held.made_is;
+            calls_is = m.held.calls_is;
             stands = m.held.stands;
             talking = m.held.talking;
             agreed_on = m.held.agreed_on;

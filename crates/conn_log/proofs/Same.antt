@@ -17,8 +17,8 @@ use Rattle.streams.specs.State.{Streaming}
 use Rattle.serving.specs.Served.{IsSettled}
 use Rattle.conn_log.specs.declared.event.ConnEvent.{ConnEvent}
 use Rattle.conn_log.specs.declared.event.ConnEvent.TheVariants as event
-use Rattle.conn_log.specs.Entries.{Entry, items, agreed, is_over, was_done, made_of, asked, is_kept, left_behind}
-use Rattle.conn_log.specs.Entries.Entry.{Of, Says, Made}
+use Rattle.conn_log.specs.Entries.{Entry, items, agreed, is_over, was_done, made_of, calls_of, asked, is_kept, left_behind}
+use Rattle.conn_log.specs.Entries.Entry.{Of, Says, Made, Calls}
 use Rattle.conn_log.specs.Held.{IsSide, IsHeld, IsAtRest, IsPast, AreLeft}
 
 -- these are of the stream what they were
@@ -29,10 +29,11 @@ pub record Same {H : Type 0} (role : Role) (log now : List (Entry H)) (m : ℕ) 
   pub over_is : is_over role now m ≡ is_over role log m
   pub done_is : was_done role now m ≡ was_done role log m
   pub made_is : made_of role now m ≡ made_of role log m
+  pub calls_is : calls_of role now m ≡ calls_of role log m
   pub asked_is : asked now m ≡ asked log m
 
 pub same_refl : {H : Type 0} (role : Role) (log : List (Entry H)) (m : ℕ) → Same role log log m
-same_refl role log m = record { seen_is = refl; windows_is = refl; agreed_is = refl; over_is = refl; done_is = refl; made_is = refl; asked_is = refl }
+same_refl role log m = record { seen_is = refl; windows_is = refl; agreed_is = refl; over_is = refl; done_is = refl; made_is = refl; calls_is = refl; asked_is = refl }
 
 pub same_trans : {H : Type 0} (role : Role) (log mid now : List (Entry H)) (m : ℕ) → Same role log mid m → Same role mid now m → Same role log now m
 same_trans role log mid now m a b = record {
@@ -42,6 +43,7 @@ same_trans role log mid now m a b = record {
   over_is = b.over_is ∙ a.over_is;
   done_is = b.done_is ∙ a.done_is;
   made_is = b.made_is ∙ a.made_is;
+  calls_is = b.calls_is ∙ a.calls_is;
   asked_is = b.asked_is ∙ a.asked_is;
 }
 
@@ -71,6 +73,7 @@ module _ {H : Type 0} (acts_do : ActsDo) (acts_move : ActsMove) where
         over_is = refl;
         done_is = refl;
         made_is = refl;
+        calls_is = refl;
         asked_is = refl;
       }
   same_by_act role log n m (Taken k count) on e =
@@ -83,6 +86,7 @@ module _ {H : Type 0} (acts_do : ActsDo) (acts_move : ActsMove) where
         over_is = refl;
         done_is = refl;
         made_is = refl;
+        calls_is = refl;
         asked_is = refl;
       }
   same_by_act role log n m (Close k) on e =
@@ -95,6 +99,7 @@ module _ {H : Type 0} (acts_do : ActsDo) (acts_move : ActsMove) where
         over_is = refl;
         done_is = refl;
         made_is = refl;
+        calls_is = refl;
         asked_is = refl;
       }
   same_by_act role log n m (Reset k) on e =
@@ -107,6 +112,7 @@ module _ {H : Type 0} (acts_do : ActsDo) (acts_move : ActsMove) where
         over_is = refl;
         done_is = refl;
         made_is = refl;
+        calls_is = refl;
         asked_is = refl;
       }
   same_by_act role log n m (Start k) on e = absurd on
@@ -131,6 +137,7 @@ same_by_event role log n m (event.Agreed k index) of e = record {
   over_is = refl;
   done_is = refl;
   made_is = refl;
+  calls_is = refl;
   asked_is = refl;
 }
 same_by_event role log n m (event.Refused k) of e = record {
@@ -140,6 +147,7 @@ same_by_event role log n m (event.Refused k) of e = record {
   over_is = ap (λ b. b || is_over role log m) (other_one k n m of e);
   done_is = refl;
   made_is = refl;
+  calls_is = refl;
   asked_is = refl;
 }
 same_by_event role log n m (event.Done k handler) of e = record {
@@ -149,6 +157,7 @@ same_by_event role log n m (event.Done k handler) of e = record {
   over_is = ap (λ b. b || is_over role log m) (other_one k n m of e);
   done_is = ap (λ b. b || was_done role log m) (other_one k n m of e);
   made_is = refl;
+  calls_is = refl;
   asked_is = refl;
 }
 same_by_event role log n m (event.Broken k cause) of e = record {
@@ -158,6 +167,7 @@ same_by_event role log n m (event.Broken k cause) of e = record {
   over_is = ap (λ b. b || is_over role log m) (other_one k n m of e);
   done_is = refl;
   made_is = refl;
+  calls_is = refl;
   asked_is = refl;
 }
 same_by_event role log n m (event.Upgraded key) of e = absurd of
@@ -172,6 +182,19 @@ same_by_making role log n m handler e = record {
   over_is = refl;
   done_is = refl;
   made_is = ap (λ b. cond b (Some handler) (made_of role log m)) e;
+  calls_is = refl;
+  asked_is = refl;
+}
+
+pub same_by_call : {H : Type 0} (role : Role) (log : List (Entry H)) (n m : ℕ) (call : HandlerCall) → (n == m) ≡ false → Same role log (Calls n call ∷ log) m
+same_by_call role log n m call e = record {
+  seen_is = refl;
+  windows_is = refl;
+  agreed_is = refl;
+  over_is = refl;
+  done_is = refl;
+  made_is = refl;
+  calls_is = ap (λ b. cond b (calls_of role log m ++ call ∷ []) (calls_of role log m)) e;
   asked_is = refl;
 }
 
@@ -205,6 +228,7 @@ module _ {H : Type 0} (step : H → HandlerCall → H → Type 0) (is_closed is_
     ended_is = h.ended_is;
     sent_is = h.sent_is ∙ ap (λ (x : Seen). x.sent) (sym s.seen_is);
     made_is = h.made_is ∙ sym s.made_is;
+    calls_is = h.calls_is ∙ sym s.calls_is;
     stands = h.stands;
     talking = λ is. s.agreed_is ∙ h.talking is;
     agreed_on = λ is none. h.agreed_on is (sym s.agreed_is ∙ none);
@@ -228,6 +252,7 @@ module _ {H : Type 0} (step : H → HandlerCall → H → Type 0) (is_closed is_
           ended_is = r.held.ended_is ∙ ended;
           sent_is = r.held.sent_is ∙ ap (λ (x : Seen). x.sent) (sym s.seen_is);
           made_is = r.held.made_is ∙ sym s.made_is;
+          calls_is = r.held.calls_is ∙ sym s.calls_is;
           stands = r.held.stands;
           talking = λ is. s.agreed_is ∙ r.held.talking is;
           agreed_on = λ is none. r.held.agreed_on is (sym s.agreed_is ∙ none);

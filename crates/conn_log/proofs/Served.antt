@@ -17,7 +17,7 @@ use Rattle.streams.specs.Streams.{Past}
 use Rattle.streams.specs.State.{Streaming, Stands}
 use Rattle.serving.specs.Served.{IsDue as ActIsDue, AreDue, GaveAll as StreamGaveAll, HasSent as StreamHasSent, with_sent}
 use Rattle.conn_log.specs.declared.earlier.Earlier.{Earlier}
-use Rattle.conn_log.specs.Entries.{Entry, items, said, agreed, is_over, was_done, made_of, asked, left_behind}
+use Rattle.conn_log.specs.Entries.{Entry, items, said, agreed, is_over, was_done, made_of, calls_of, asked, left_behind}
 use Rattle.conn_log.specs.Entries.Entry.{Of}
 use Rattle.conn_log.specs.Due.{HasCome, IsThere, GaveAll, HasGiven, IsDue, AllDue, was_reset, end_was_told}
 use Rattle.conn_log.specs.Held.{IsSide}
@@ -62,6 +62,7 @@ pub record Own {H : Type 0} (role : Role) (log now : List (Entry H)) (n : ℕ) :
   pub over_is : is_over role now n ≡ is_over role log n
   pub done_is : was_done role now n ≡ was_done role log n
   pub made_is : made_of role now n ≡ made_of role log n
+  pub calls_is : calls_of role now n ≡ calls_of role log n
   pub asked_is : asked now n ≡ asked log n
 
 own_trans : {H : Type 0} (role : Role) (log mid now : List (Entry H)) (n : ℕ) → Own role log mid n → Own role mid now n → Own role log now n
@@ -72,6 +73,7 @@ own_trans role log mid now n a b = record {
   over_is = b.over_is ∙ a.over_is;
   done_is = b.done_is ∙ a.done_is;
   made_is = b.made_is ∙ a.made_is;
+  calls_is = b.calls_is ∙ a.calls_is;
   asked_is = b.asked_is ∙ a.asked_is;
 }
 
@@ -79,16 +81,16 @@ module _ {H : Type 0} (acts_do : ActsDo) where
   own_by : (role : Role) (log : List (Entry H)) (n : ℕ) (act : Act) → IsOn n act → Own role log (Of (Did act) ∷ log) n
   own_by role log n (Write k pieces) on =
       let is = acts_do role (items log) (Write k pieces) n ∙ does_is n (seen role (items log) n) (Write k pieces) on in
-      record { came_is = ap (λ (x : Seen). x.came) is; ended_is = ap (λ (x : Seen). x.ended) is; agreed_is = refl; over_is = refl; done_is = refl; made_is = refl; asked_is = refl }
+      record { came_is = ap (λ (x : Seen). x.came) is; ended_is = ap (λ (x : Seen). x.ended) is; agreed_is = refl; over_is = refl; done_is = refl; made_is = refl; calls_is = refl; asked_is = refl }
   own_by role log n (Taken k count) on =
       let is = acts_do role (items log) (Taken k count) n in
-      record { came_is = ap (λ (x : Seen). x.came) is; ended_is = ap (λ (x : Seen). x.ended) is; agreed_is = refl; over_is = refl; done_is = refl; made_is = refl; asked_is = refl }
+      record { came_is = ap (λ (x : Seen). x.came) is; ended_is = ap (λ (x : Seen). x.ended) is; agreed_is = refl; over_is = refl; done_is = refl; made_is = refl; calls_is = refl; asked_is = refl }
   own_by role log n (Close k) on =
       let is = acts_do role (items log) (Close k) n ∙ does_is n (seen role (items log) n) (Close k) on in
-      record { came_is = ap (λ (x : Seen). x.came) is; ended_is = ap (λ (x : Seen). x.ended) is; agreed_is = refl; over_is = refl; done_is = refl; made_is = refl; asked_is = refl }
+      record { came_is = ap (λ (x : Seen). x.came) is; ended_is = ap (λ (x : Seen). x.ended) is; agreed_is = refl; over_is = refl; done_is = refl; made_is = refl; calls_is = refl; asked_is = refl }
   own_by role log n (Reset k) on =
       let is = acts_do role (items log) (Reset k) n ∙ does_is n (seen role (items log) n) (Reset k) on in
-      record { came_is = ap (λ (x : Seen). x.came) is; ended_is = ap (λ (x : Seen). x.ended) is; agreed_is = refl; over_is = refl; done_is = refl; made_is = refl; asked_is = refl }
+      record { came_is = ap (λ (x : Seen). x.came) is; ended_is = ap (λ (x : Seen). x.ended) is; agreed_is = refl; over_is = refl; done_is = refl; made_is = refl; calls_is = refl; asked_is = refl }
   own_by role log n (Start k) on = absurd on
   own_by role log n (Act.GoAway code) on = absurd on
 
@@ -113,7 +115,7 @@ module _ {P H : Type 0} (step : H → HandlerCall → H → Type 0) (fails : H �
   all_on past n so_far out (act ∷ acts) due = (on_of _ n so_far out act due.0, all_on past n so_far out acts due.1)
 
   pub did_own : (log : List (Entry H)) (n : ℕ) (acts : List Act) → AllOn n acts → Own role log (did acts ++ log) n
-  did_own log n [] on = record { came_is = refl; ended_is = refl; agreed_is = refl; over_is = refl; done_is = refl; made_is = refl; asked_is = refl }
+  did_own log n [] on = record { came_is = refl; ended_is = refl; agreed_is = refl; over_is = refl; done_is = refl; made_is = refl; calls_is = refl; asked_is = refl }
   did_own log n (act ∷ acts) on = own_trans role log (did acts ++ log) _ n (did_own log n acts on.1) (own_by acts_do role (did acts ++ log) n act on.0)
 
   -- a stream that is open behind them, and live, was so before
@@ -218,6 +220,7 @@ module _ {P H : Type 0} (step : H → HandlerCall → H → Type 0) (fails : H �
     ended_by = λ is. (own.ended_is ∙ (c.ended_by is).0, (c.ended_by is).1);
     sent_is = refl;
     made_is = c.made_is ∙ sym own.made_is;
+    calls_is = c.calls_is ∙ sym own.calls_is;
   }
 
   -- ---- why each act is due
@@ -369,9 +372,9 @@ module _ {P H : Type 0} (step : H → HandlerCall → H → Type 0) (fails : H �
 
   pub come_of : (log : List (Entry H)) (n : ℕ) (view : Seen) (rest : List Told) (so_far : Past H) → IsSide role names log n so_far.side
       → so_far.got ≡ view.came → so_far.ended ≡ view.ended → so_far.sent ≡ written role (items log) n → so_far.made ≡ made_of role log n
-      → AllByRecursion (IsNoOpening n) rest → EndsLast view.ended rest → AgreesOn (seen role (items log) n) (all_heard n view rest)
+      → so_far.calls ≡ calls_of role log n → AllByRecursion (IsNoOpening n) rest → EndsLast view.ended rest → AgreesOn (seen role (items log) n) (all_heard n view rest)
       → HasCome step fails is_closed is_finished inbound_makes outbound_makes eager names peer role log n so_far
-  come_of log n view rest so_far side got ended sent made none last a = by_end view.ended refl where
+  come_of log n view rest so_far side got ended sent made calls none last a = by_end view.ended refl where
     by_end : (b : Bool) → view.ended ≡ b → HasCome step fails is_closed is_finished inbound_makes outbound_makes eager names peer role log n so_far
     by_end true e = record {
       side_is = side;
@@ -380,6 +383,7 @@ module _ {P H : Type 0} (step : H → HandlerCall → H → Type 0) (fails : H �
       ended_by = λ is. (a.ended (ended_stays n view rest none e), refl);
       sent_is = sent;
       made_is = made;
+      calls_is = calls;
     }
     by_end false e =
         let front = came_front n view rest none in
@@ -390,6 +394,7 @@ module _ {P H : Type 0} (step : H → HandlerCall → H → Type 0) (fails : H �
           ended_by = λ is. absurd (not_yet e (sym ended ∙ is));
           sent_is = sent;
           made_is = made;
+          calls_is = calls;
         }
 
   -- ---- all streams but this one

@@ -15,7 +15,7 @@ use Rattle.conn_log.specs.declared.earlier.Earlier.{Earlier}
 use Rattle.conn_log.specs.declared.event.ConnEvent.{ConnEvent}
 use Rattle.conn_log.specs.declared.event.ConnEvent.TheVariants as event
 use Rattle.conn_log.specs.Entries.{Entry, items, said, asks, is_over}
-use Rattle.conn_log.specs.Entries.Entry.{Of, Says, Made, Asks}
+use Rattle.conn_log.specs.Entries.Entry.{Of, Says, Made, Asks, Calls}
 use Rattle.conn_log.specs.Due.{IsGivenUp}
 use Rattle.conn_log.specs.Making.{MakesNone}
 use Rattle.conn_log.specs.Routes.{KeepsTurn, IsMoving, Around, Routes, Routed, Resets}
@@ -30,6 +30,7 @@ said_append (Of x ∷ newer) log = said_append newer log
 said_append (Says e ∷ newer) log = ap (λ t. t ++ e ∷ []) (said_append newer log) ∙ append_assoc (said log) (said newer) (e ∷ [])
 said_append (Made n handler ∷ newer) log = said_append newer log
 said_append (Asks n index ∷ newer) log = said_append newer log
+said_append (Calls n call ∷ newer) log = said_append newer log
 
 pub asks_append : {H : Type 0} (newer log : List (Entry H)) → asks (newer ++ log) ≡ asks log ++ asks newer
 asks_append [] log = sym (append-nil (asks log))
@@ -38,6 +39,7 @@ asks_append (Says e ∷ newer) log = asks_append newer log
 asks_append (Made n handler ∷ newer) log = asks_append newer log
 asks_append (Asks n index ∷ newer) log =
     ap (λ t. t ++ (n, index) ∷ []) (asks_append newer log) ∙ append_assoc (asks log) (asks newer) ((n, index) ∷ [])
+asks_append (Calls n call ∷ newer) log = asks_append newer log
 
 -- no stream was opened in either part
 pub none_asked : {H : Type 0} (newer log : List (Entry H)) → asks newer ≡ [] → asks log ≡ [] → asks (newer ++ log) ≡ []
@@ -93,6 +95,7 @@ module _ {P H : Type 0} (step : H → HandlerCall → H → Type 0) (fails : H �
     not_going (Says event.Shut ∷ then) g going = absurd g
     not_going (Made m handler ∷ then) g going = absurd g
     not_going (Asks m index ∷ then) g going = absurd g
+    not_going (Calls m call ∷ then) g going = absurd g
 
     apart : (m : ℕ) → (n == m) ≡ false → Same role log (Of (Did (Reset n)) ∷ log) m
     apart m e = same_by_act acts_do acts_move role log n m (Reset n) refl e

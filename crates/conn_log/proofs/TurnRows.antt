@@ -12,6 +12,7 @@ turn_rows = record {
   asked = refl;
   the_frame_goes_on = refl;
   passed = refl;
+  passed_answered = refl;
   passed_asked = refl;
   started = refl;
 }
@@ -30,6 +31,7 @@ about_rows = record {
   handed_out = refl;
   broken = refl;
   made = refl;
+  answered = λ call. refl;
   asked = refl;
 }
 
@@ -54,6 +56,7 @@ in_turn_rows = record {
   about_none = λ key. (tt, (tt, (tt, (tt, (tt, (tt, tt))))));
   told_late = λ h. one_is_three h.0;
   made_late = λ h. one_is_three h.0;
+  answered_late = λ h. one_is_three h.0;
   done_late = λ h. one_is_three h.0;
   told_behind_another = λ h. three_is_two h.0;
   told_early = λ h. not_yet 2 h.1.1.0;

@@ -9,7 +9,7 @@ use Rattle.yamux_session.specs.History.Act.{Start, Write, Taken, Close, Reset}
 use Rattle.conn_log.specs.declared.event.ConnEvent.{ConnEvent}
 use Rattle.conn_log.specs.declared.event.ConnEvent.TheVariants as event
 use Rattle.conn_log.specs.Entries.{Entry, asks, put_aside}
-use Rattle.conn_log.specs.Entries.Entry.{Of, Says, Made, Asks}
+use Rattle.conn_log.specs.Entries.Entry.{Of, Says, Made, Asks, Calls}
 use Rattle.conn_log.specs.Turns.{turn, acted_on, told_about, about, IsTurnOf, AreInTurn}
 use Rattle.conn_log.specs.Rests.{AreRested}
 use Rattle.conn_log.specs.Routes.{KeepsTurn}
@@ -22,6 +22,7 @@ IsOnly n (Of (Did act)) = IsOn n act
 IsOnly n (Says e) = IsOf n e
 IsOnly n (Made m handler) = m ≡ n
 IsOnly n (Asks m index) = ⊥
+IsOnly n (Calls m call) = m ≡ n
 
 pub turn_on : {H : Type 0} (n : ℕ) (newer log : List (Entry H)) → AllByRecursion (IsOnly n) newer → turn (newer ++ log) ≡ turn log
 turn_on n [] log all = refl
@@ -30,6 +31,7 @@ turn_on n (Of (Did act) ∷ newer) log all = turn_on n newer log all.1
 turn_on n (Says e ∷ newer) log all = turn_on n newer log all.1
 turn_on n (Made m handler ∷ newer) log all = turn_on n newer log all.1
 turn_on n (Asks m index ∷ newer) log all = absurd all.0
+turn_on n (Calls m call ∷ newer) log all = turn_on n newer log all.1
 
 turn_of_act : (n : ℕ) (now : Option ℕ) (act : Act) → IsOn n act → now ≡ Some n → IsTurnOf now (acted_on act)
 turn_of_act n now (Write m pieces) on is = is ∙ ap Some (sym on)
@@ -54,6 +56,7 @@ turn_of n now (Of (Did act)) only is = turn_of_act n now act only is
 turn_of n now (Says e) only is = turn_of_event n now e only is
 turn_of n now (Made m handler) only is = is ∙ ap Some (sym only)
 turn_of n now (Asks m index) only is = absurd only
+turn_of n now (Calls m call) only is = is ∙ ap Some (sym only)
 
 pub in_turn_on : {H : Type 0} (n : ℕ) (newer log : List (Entry H)) → AllByRecursion (IsOnly n) newer → turn log ≡ Some n → AreInTurn log → AreInTurn (newer ++ log)
 in_turn_on n [] log all is before = before
@@ -67,6 +70,7 @@ aside_on role n (Of (Did act) ∷ newer) log all = aside_on role n newer log all
 aside_on role n (Says e ∷ newer) log all = aside_on role n newer log all.1
 aside_on role n (Made m handler ∷ newer) log all = aside_on role n newer log all.1
 aside_on role n (Asks m index ∷ newer) log all = absurd all.0
+aside_on role n (Calls m call ∷ newer) log all = aside_on role n newer log all.1
 
 -- ---- where no turn was given
 
@@ -77,6 +81,7 @@ same_turns (Of (Did act) ∷ newer) log keeps before = same_turns newer log keep
 same_turns (Says e ∷ newer) log keeps before = same_turns newer log keeps before
 same_turns (Made n handler ∷ newer) log keeps before = same_turns newer log keeps before
 same_turns (Asks n index ∷ newer) log keeps before = absurd keeps
+same_turns (Calls n call ∷ newer) log keeps before = same_turns newer log keeps before
 
 -- no stream was opened
 pub turn_unasked : {H : Type 0} (newer : List (Entry H)) → KeepsTurn newer → asks newer ≡ []
@@ -86,6 +91,7 @@ turn_unasked (Of (Did act) ∷ newer) keeps = turn_unasked newer keeps
 turn_unasked (Says e ∷ newer) keeps = turn_unasked newer keeps
 turn_unasked (Made n handler ∷ newer) keeps = turn_unasked newer keeps
 turn_unasked (Asks n index ∷ newer) keeps = absurd keeps
+turn_unasked (Calls n call ∷ newer) keeps = turn_unasked newer keeps
 
 module _ {P H : Type 0} (step : H → HandlerCall → H → Type 0) (fails : H → Asked → ℕ → Type 0)
     (is_closed is_finished : H → Bool) (inbound_makes outbound_makes : P → ℕ → List ℕ → H → Type 0)
@@ -98,3 +104,4 @@ module _ {P H : Type 0} (step : H → HandlerCall → H → Type 0) (fails : H �
   rested_on (Says e ∷ newer) log keeps before = rested_on newer log keeps before
   rested_on (Made n handler ∷ newer) log keeps before = rested_on newer log keeps before
   rested_on (Asks n index ∷ newer) log keeps before = absurd keeps
+  rested_on (Calls n call ∷ newer) log keeps before = rested_on newer log keeps before

@@ -224,7 +224,7 @@ no_data_last (Told.Payload m b ∷ rest) last = absurd (let e = last.0 in cc e)
 no_data_last (Told.Ended m ∷ rest) last = (tt, no_data_last rest last.1)
 no_data_last (Told.Reset m ∷ rest) last = (tt, no_data_last rest last)
 no_data_last (Told.Accepted m ∷ rest) last = (tt, no_data_last rest last)
-no_data_last (Told.Credit m ∷ rest) last = (tt, no_data_last rest last)
+no_data_last (Told.Credit m ∷ rest) last = (tt, no_data_last rest last.0)
 no_data_last (Told.GoAway code ∷ rest) last = (tt, no_data_last rest last)
 no_data_last (Told.Fault fault ∷ rest) last = (tt, no_data_last rest last)
 

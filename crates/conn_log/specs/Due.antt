@@ -3,7 +3,7 @@
 -- hashicorp yamux, "Flow Control" and "Flag Field"; what a connection tells is this project's profile.
 use Rattle.std.specs.Prelude.{◌≡◌, ◌≢◌, ◌⊎◌, ℕ, ◌<◌, ◌-◌, ◌==◌, ◌||◌, Bool, true, false, if◌then◌else◌, None}
 use Rattle.std.specs.Prelude.{Some, List, [], ◌∷◌, ◌++◌, length}
-use Rattle.handlers.specs.Calls.{HandlerCall, Asked, ToTake, ToGive, ToEnd}
+use Rattle.handlers.specs.Calls.{HandlerCall, Take, Give, End, Asked, ToTake, ToGive, ToEnd}
 use Rattle.ms_select.specs.declared.fault.SelectFault.TheVariants as select_faults
 use Rattle.talks.specs.Talks.{Side, IsOpen, Agrees, IsTurnedDown, Faults}
 use Rattle.yamux_session.specs.declared.event.Role.{Role}
@@ -25,8 +25,8 @@ use Rattle.dispatch.specs.declared.direction.Direction.{Direction}
 use Rattle.dispatch.specs.declared.direction.Direction.TheVariants.{Inbound, Outbound}
 use Rattle.dispatch.specs.Dispatch.{made_by}
 use Rattle.conn_log.specs.declared.event.ConnEvent.TheVariants as event
-use Rattle.conn_log.specs.Entries.{Entry, items, agreed, is_over, was_done, made_of}
-use Rattle.conn_log.specs.Entries.Entry.{Of, Says, Made, Asks}
+use Rattle.conn_log.specs.Entries.{Entry, items, agreed, is_over, was_done, made_of, calls_of}
+use Rattle.conn_log.specs.Entries.Entry.{Of, Says, Made, Asks, Calls}
 use Rattle.conn_log.specs.Held.{IsSide, IsHeld}
 
 -- this end opened the streams that have its numbers
@@ -57,11 +57,24 @@ end_was_told role [] n = false
 end_was_told role (x ∷ past) n =
     if opens role past x n then false else told_end n (events_at role past x) || end_was_told role past n
 
+-- what a handler that answered so was asked for
+abbrev pub asks_for : HandlerCall → Asked
+asks_for (Take bytes) = ToTake bytes
+asks_for (Give room bytes) = ToGive room
+asks_for End = ToEnd
+
 -- the newest entry agrees on a protocol for the stream, or makes its handler behind that
 abbrev pub HasJustAgreed : {H : Type 0} → ℕ → List (Entry H) → Type 0
 HasJustAgreed n (Says (event.Agreed m index) ∷ log) = m ≡ n
 HasJustAgreed n (Made k handler ∷ Says (event.Agreed m index) ∷ log) = (k ≡ n) × (m ≡ n)
 HasJustAgreed n log = ⊥
+
+-- Something else than acts stands behind the newest entry by which a handler was asked to give: it is asked once behind
+-- each frame, behind its making, and behind each other call.
+abbrev pub IsAskedAnew : {H : Type 0} → List (Entry H) → Type 0
+IsAskedAnew (Of (Did act) ∷ log) = IsAskedAnew log
+IsAskedAnew (Calls n (Give room bytes) ∷ log) = ⊥
+IsAskedAnew log = Unit {0}
 
 -- the newest entry gives the stream up, and the other end didn't reset it
 abbrev pub IsGivenUp : {H : Type 0} → ℕ → List (Entry H) → Type 0
@@ -72,7 +85,8 @@ IsGivenUp n log = ⊥
 module _ {P H : Type 0} (step : H → HandlerCall → H → Type 0) (fails : H → Asked → ℕ → Type 0)
     (is_closed is_finished : H → Bool) (inbound_makes outbound_makes : P → ℕ → List ℕ → H → Type 0)
     (eager : ℕ → Bool) (names : List (List ℕ)) (peer : List ℕ) (role : Role) where
-  -- What came to a stream, and what was sent and made for it, is what the list says, or of its data a beginning.
+  -- What came to a stream, and what was sent and made for it and asked of its handler, is what the list says, or of its
+  -- data a beginning.
   pub record HasCome (log : List (Entry H)) (n : ℕ) (so_far : Past H) : Type 0 where
     pub side_is : IsSide role names log n so_far.side
     pub rest : List ℕ
@@ -80,6 +94,7 @@ module _ {P H : Type 0} (step : H → HandlerCall → H → Type 0) (fails : H �
     pub ended_by : so_far.ended ≡ true → (finished role (items log) n ≡ true) × (rest ≡ [])
     pub sent_is : so_far.sent ≡ written role (items log) n
     pub made_is : so_far.made ≡ made_of role log n
+    pub calls_is : so_far.calls ≡ calls_of role log n
 
   -- the talk of the stream comes to this by a beginning of its data
   pub record ComesTo (log : List (Entry H)) (n : ℕ) (fact : Side → List ℕ → List ℕ → Type 0) : Type 0 where
@@ -110,7 +125,7 @@ module _ {P H : Type 0} (step : H → HandlerCall → H → Type 0) (fails : H �
   abbrev pub IsAskedFor : List (Entry H) → ℕ → Past H → List ℕ → Asked → Type 0
   IsAskedFor log n so_far waiting (ToTake bytes) = inbound role (items log) n ≡ so_far.got ++ bytes
   IsAskedFor log n so_far waiting ToEnd =
-      (inbound role (items log) n ≡ so_far.got) × (finished role (items log) n ≡ true)
+      (inbound role (items log) n ≡ so_far.got) × (end_was_told role (items log) n ≡ true)
   IsAskedFor log n so_far waiting (ToGive room) =
       (inbound role (items log) n ≡ so_far.got) × (room ≡ credit role (items log) n - length waiting)
 
@@ -122,26 +137,34 @@ module _ {P H : Type 0} (step : H → HandlerCall → H → Type 0) (fails : H �
   -- It may be asked for that in its turn: what came, and its end, is told to a handler that serves the stream, wasn't
   -- told of the end before, and isn't finished: one that is finished was handed out, unless its talk has just agreed.
   -- It is handed some bytes, unless the talk took all of them. The end is told to one that gave what it has by all that
-  -- came before. One that isn't closed is asked to give.
+  -- came before. While a stream is live, and this direction open, one that isn't closed is asked to give: anew, unless
+  -- its talk goes on.
   abbrev pub IsInTurn : List (Entry H) → ℕ → Stage H → Past H → H → Asked → Type 0
   IsInTurn log n stage so_far handler (ToTake bytes) = (stage ≡ Serving handler) × (so_far.ended ≡ false)
       × (((is_finished handler ≡ false) × (bytes ≢ [])) ⊎ HasJustAgreed n log)
   IsInTurn log n stage so_far handler ToEnd = (stage ≡ Serving handler) × (so_far.ended ≡ false)
       × (is_finished handler ≡ false) × WasAsked log n so_far handler
-  IsInTurn log n stage so_far handler (ToGive room) = is_closed handler ≡ false
+  IsInTurn log n stage so_far handler (ToGive room) = (is_live role (items log) n ≡ true)
+      × (closed role (items log) n ≡ false) × (is_closed handler ≡ false)
+      × ((is_talking stage ≡ true) ⊎ IsAskedAnew log)
 
-  -- Its handler was asked for this, and failed with this number. By then Agreed was told of it, where its talk is over,
-  -- and only there.
-  pub record HandlerFails (log : List (Entry H)) (n : ℕ) (number : ℕ) : Type 0 where
+  -- Its handler may be asked for this, while its last event wasn't told. By then Agreed was told of it, where its talk
+  -- is over, and only there.
+  pub record MayBeAsked (log : List (Entry H)) (n : ℕ) (request : Asked) : Type 0 where
     pub there : IsThere log n
     pub handler : H
     pub held : handler_of there.stream.stage ≡ Some handler
-    pub request : Asked
     pub asked_for : IsAskedFor log n there.so_far there.stream.waiting request
     pub in_turn : IsInTurn log n there.stream.stage there.so_far handler request
-    pub fails_by : fails handler request number
     pub talking : is_talking there.stream.stage ≡ true → agreed role log n ≡ None
     pub agreed_on : is_talking there.stream.stage ≡ false → agreed role log n ≢ None
+    pub going : is_over role log n ≡ false
+
+  -- its handler was asked for something, and failed with this number
+  pub record HandlerFails (log : List (Entry H)) (n : ℕ) (number : ℕ) : Type 0 where
+    pub request : Asked
+    pub asked : MayBeAsked log n request
+    pub fails_by : fails asked.handler request number
 
   -- A stream stands by all of its data, and by its end where that was told: its talk and its handler were handed what
   -- came, and what they led to was told.
@@ -157,12 +180,13 @@ module _ {P H : Type 0} (step : H → HandlerCall → H → Type 0) (fails : H �
       × ComesTo log n (λ side first output. Faults side first fault output)
   IsBroken log n (causes.Handler fault) = HandlerFails log n fault.number
   IsBroken log n causes.Reset = (was_reset role (items log) n ≡ true) × HasHeard log n
-  IsBroken log n causes.Ended = (finished role (items log) n ≡ true) × (agreed role log n ≡ None)
+  IsBroken log n causes.Ended = (end_was_told role (items log) n ≡ true) × (agreed role log n ≡ None)
       × ComesTo log n (λ side first output. (first ≡ inbound role (items log) n) × IsOpen side first output)
 
   -- ---- each entry where it stands
 
-  -- The handler was handed all data that came on its stream, was asked last, and is finished.
+  -- The handler was handed all data that came on its stream, was asked last, and is finished. While this direction of a
+  -- live stream is open, what it gave waits only where no credit is left.
   pub record IsDone (log : List (Entry H)) (n : ℕ) (handler : H) : Type 0 where
     pub so_far : Past H
     pub waiting : List ℕ
@@ -171,6 +195,8 @@ module _ {P H : Type 0} (step : H → HandlerCall → H → Type 0) (fails : H �
     pub served : IsServed step so_far handler waiting
     pub finished : is_finished handler ≡ true
     pub asked : WasAsked log n so_far handler
+    pub none_waits : is_live role (items log) n ≡ true → closed role (items log) n ≡ false
+        → 0 < credit role (items log) n → waiting ≡ []
 
   -- The stream gave what it has by all data that came: nothing waits, and its handler was asked last with all the
   -- credit, unless it is closed, or was handed out and that was told.
@@ -226,6 +252,7 @@ module _ {P H : Type 0} (step : H → HandlerCall → H → Type 0) (fails : H �
   IsDue log (Says event.Shut) = ⊥
   IsDue log (Made n handler) = MayBeMade log n handler
   IsDue log (Asks n index) = index < length names
+  IsDue log (Calls n call) = MayBeAsked log n (asks_for call)
 
   abbrev pub AllDue : List (Entry H) → Type 0
   AllDue [] = Unit {0}

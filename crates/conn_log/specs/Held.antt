@@ -12,7 +12,8 @@ use Rattle.yamux_session.specs.Data.{inbound, written}
 use Rattle.streams.specs.Streams.{Past}
 use Rattle.streams.specs.State.{Streaming, Stands, is_talking, awaits_handler, has_finished, was_handed_out}
 use Rattle.serving.specs.Served.{IsSettled}
-use Rattle.conn_log.specs.Entries.{Entry, items, agreed, is_over, was_done, made_of, asked, is_kept, left_behind}
+use Rattle.conn_log.specs.Entries.{Entry, items, agreed, is_over, was_done, made_of, calls_of, asked, is_kept}
+use Rattle.conn_log.specs.Entries.{left_behind}
 use Rattle.conn_log.specs.declared.earlier.Earlier.{Earlier}
 
 -- who opens a stream asks for the one name that was asked for; the other end answers with all of its names
@@ -28,8 +29,8 @@ earlier_of n (it ∷ past) = if it.number == n then it.stream ∷ earlier_of n p
 
 module _ {H : Type 0} (step : H → HandlerCall → H → Type 0) (is_closed is_finished : H → Bool) (names : List (List ℕ))
     (role : Role) where
-  -- A stream of which this came, by which it stands: what was sent on it and made for it is what the list says. Agreed
-  -- was told of it where its talk is over, and Done where its handler was handed out.
+  -- A stream of which this came, by which it stands: what was sent on it, made for it and asked of its handler is what
+  -- the list says. Agreed was told of it where its talk is over, and Done where its handler was handed out.
   pub record IsHeld (log : List (Entry H)) (n : ℕ) (got : List ℕ) (ended : Bool) (stream : Streaming H) : Type 0 where
     pub so_far : Past H
     pub side_is : IsSide role names log n so_far.side
@@ -37,6 +38,7 @@ module _ {H : Type 0} (step : H → HandlerCall → H → Type 0) (is_closed is_
     pub ended_is : so_far.ended ≡ ended
     pub sent_is : so_far.sent ≡ written role (items log) n
     pub made_is : so_far.made ≡ made_of role log n
+    pub calls_is : so_far.calls ≡ calls_of role log n
     pub stands : Stands step stream so_far
     pub talking : is_talking stream.stage ≡ true → agreed role log n ≡ None
     pub agreed_on : is_talking stream.stage ≡ false → agreed role log n ≢ None

@@ -6,7 +6,7 @@ use Rattle.yamux_session.specs.declared.event.Role.{Role}
 use Rattle.dispatch.specs.Dispatch.{led_by}
 use Rattle.conn_log.specs.declared.event.ConnEvent.TheVariants as event
 use Rattle.conn_log.specs.Entries.{Entry}
-use Rattle.conn_log.specs.Entries.Entry.{Of, Says, Made, Asks}
+use Rattle.conn_log.specs.Entries.Entry.{Of, Says, Made, Asks, Calls}
 use Rattle.conn_log.specs.Due.{direction_of}
 
 -- no handler was made
@@ -16,6 +16,7 @@ MakesNone (Of x ∷ log) = MakesNone log
 MakesNone (Says e ∷ log) = MakesNone log
 MakesNone (Made n handler ∷ log) = ⊥
 MakesNone (Asks n index ∷ log) = MakesNone log
+MakesNone (Calls n call ∷ log) = MakesNone log
 
 module _ {P H : Type 0} (inbound_leads outbound_leads : P → ℕ → List ℕ → H → P → Type 0) (peer : List ℕ)
     (role : Role) where
@@ -37,6 +38,7 @@ module _ {P H : Type 0} (inbound_leads outbound_leads : P → ℕ → List ℕ �
   AreMadeInTurn first (Made n handler ∷ log) now =
       (before : P) × AreMadeInTurn first log before × Leads log n before handler now
   AreMadeInTurn first (Asks n index ∷ log) now = AreMadeInTurn first log now
+  AreMadeInTurn first (Calls n call ∷ log) now = AreMadeInTurn first log now
 
   -- The list was longer then: what was made in turn before is made so behind, from whichever first protocols on.
   abbrev pub MakesOn : P → P → List (Entry H) → List (Entry H) → Type 0

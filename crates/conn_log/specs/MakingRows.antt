@@ -1,5 +1,6 @@
 -- Worked rows of handlers that are made in turn (this project's profile).
 use Rattle.std.specs.Prelude.{◌≡◌, ◌≢◌, ◌↔◌, ℕ, ◌+◌, List, [], ◌∷◌}
+use Rattle.handlers.specs.Calls.{HandlerCall, End}
 use Rattle.yamux_session.specs.declared.event.Role.TheVariants.{Client}
 use Rattle.yamux_session.specs.History.{Item}
 use Rattle.yamux_session.specs.History.Item.{Did}
@@ -7,7 +8,7 @@ use Rattle.yamux_session.specs.History.Act.{Close}
 use Rattle.conn_log.specs.declared.event.ConnEvent.{ConnEvent}
 use Rattle.conn_log.specs.declared.event.ConnEvent.TheVariants as event
 use Rattle.conn_log.specs.Entries.{Entry}
-use Rattle.conn_log.specs.Entries.Entry.{Of, Says, Made, Asks}
+use Rattle.conn_log.specs.Entries.Entry.{Of, Says, Made, Asks, Calls}
 use Rattle.conn_log.specs.Making.{AreMadeInTurn, MakesNone, MakesOn}
 
 -- protocols are numbers, and so are handlers: an inbound one is the number before, and adds 1; an outbound one is 100
@@ -43,6 +44,7 @@ pub record MakingRows : Type 0 where
   pub passed : (now : ℕ) → in_turn (Of (Did (Close 2)) ∷ Says (event.Agreed 2 1) ∷ Asks 1 1 ∷ []) now ↔ (now ≡ 5)
   pub passed_item : (x : Item) (now : ℕ) → in_turn (Of x ∷ []) now ↔ (now ≡ 5)
   pub passed_event : (e : ConnEvent ℕ) (now : ℕ) → in_turn (Says e ∷ []) now ↔ (now ≡ 5)
+  pub passed_call : (call : HandlerCall) (now : ℕ) → in_turn (Calls 2 call ∷ []) now ↔ (now ≡ 5)
   -- one that was made, and was made once
   pub inbound : (handler now : ℕ) → in_turn (one_inbound handler) now ↔ ((handler ≡ 5) × (now ≡ 6))
   pub outbound : (handler now : ℕ) → in_turn (Made 3 handler ∷ Asks 3 1 ∷ []) now ↔ ((handler ≡ 105) × (now ≡ 15))
@@ -68,7 +70,8 @@ pub record MakingRows : Type 0 where
   pub grows_on : MakesOn adds_one adds_ten (7 ∷ []) Client 6 7 (one_inbound 5) (two_inbound 5 6)
   pub grows_on_by_two : ¬ MakesOn adds_one adds_ten (7 ∷ []) Client 6 8 (one_inbound 5) (two_inbound 5 6)
   -- none of these makes one, and a Made does, whatever is behind it
-  pub makes_none : MakesNone {H = ℕ} (Of (Did (Close 2)) ∷ Says (event.Agreed 2 1) ∷ Asks 1 1 ∷ [])
+  pub makes_none : MakesNone {H = ℕ} (Calls 2 End ∷ Of (Did (Close 2)) ∷ Says (event.Agreed 2 1) ∷ Asks 1 1 ∷ [])
   pub makes_one : (handler : ℕ) (x : Item) → ¬ MakesNone (Of x ∷ one_inbound handler)
   pub makes_one_said : (handler : ℕ) (e : ConnEvent ℕ) → ¬ MakesNone (Says e ∷ one_inbound handler)
   pub makes_one_asked : (handler : ℕ) → ¬ MakesNone (Asks 1 1 ∷ one_inbound handler)
+  pub makes_one_called : (handler : ℕ) (call : HandlerCall) → ¬ MakesNone (Calls 2 call ∷ one_inbound handler)

@@ -3,6 +3,7 @@
 -- y, and on which the other end has opened stream 2. Lists have the newest first.
 use Rattle.std.specs.Prelude.{◌≡◌, ◌↔◌, ℕ, true, false, List, [], ◌∷◌, ◌++◌}
 use Rattle.peer_ids.specs.Key.{Key}
+use Rattle.handlers.specs.Calls.{HandlerCall, Take, Give, End, Asked, ToTake, ToGive, ToEnd}
 use Rattle.ms_select.specs.declared.fault.SelectFault.TheVariants.{NotProposed, OutOfMemory}
 use Rattle.ms_select.specs.Rows.{x, y}
 use Rattle.yamux_frames.specs.declared.header.FrameKind.TheVariants.{Payload, Window}
@@ -17,10 +18,10 @@ use Rattle.conn_log.specs.declared.event.ConnFault.TheVariants as faults
 use Rattle.conn_log.specs.declared.event.ConnEvent.TheVariants as event
 use Rattle.conn_log.specs.Entries.{Entry}
 use Rattle.conn_log.specs.Entries.Entry.{Of, Says, Asks}
-use Rattle.conn_log.specs.EntryRows.{frame, opened, agrees, refuses, done, breaks}
+use Rattle.conn_log.specs.EntryRows.{frame, opened, agrees, refuses, done, breaks, makes, answers}
 use Rattle.conn_log.specs.AskedRows.{is_1}
 use Rattle.conn_log.specs.DueRows.{inbound, outbound}
-use Rattle.conn_log.specs.Due.{IsThere, HasHeard, IsDue, AllDue}
+use Rattle.conn_log.specs.Due.{asks_for, IsAskedAnew, IsThere, MayBeAsked, HasHeard, IsDue, AllDue}
 
 abbrev pub is_due : List (Entry ℕ) → Entry ℕ → Type 0
 is_due = IsDue (λ before call now. ⊥) (λ handler request number. ⊥) (λ handler. false) (λ handler. false)
@@ -34,6 +35,11 @@ all_due = AllDue (λ before call now. ⊥) (λ handler request number. ⊥) (λ 
 abbrev pub has_heard : List (Entry ℕ) → Type 0
 has_heard log = HasHeard (λ before call now. ⊥) (λ handler request number. ⊥) (λ handler. false) (λ handler. false)
     inbound outbound is_1 (x ∷ y ∷ []) (9 ∷ []) Client log 2
+
+-- its handler may be asked for this
+abbrev pub may_be_asked : List (Entry ℕ) → Asked → Type 0
+may_be_asked log request = MayBeAsked (λ before call now. ⊥) (λ handler request number. ⊥) (λ handler. false)
+    (λ handler. false) inbound outbound is_1 (x ∷ y ∷ []) (9 ∷ []) Client log 2 request
 
 -- it stands there
 abbrev pub is_there : List (Entry ℕ) → Type 0
@@ -103,3 +109,33 @@ pub record ActPlaceRows : Type 0 where
   pub all : all_due (Asks 3 0 ∷ Asks 1 1 ∷ [])
   pub newest_not : ¬ all_due (Asks 3 2 ∷ Asks 1 1 ∷ [])
   pub oldest_not : ¬ all_due (Asks 3 0 ∷ Asks 1 2 ∷ [])
+
+-- what a handler is asked for
+pub record CallPlaceRows : Type 0 where
+  pub asks_for : (bytes : List ℕ) (room : ℕ) → (asks_for (Take bytes) ≡ ToTake bytes)
+      × (asks_for (Give room bytes) ≡ ToGive room) × (asks_for End ≡ ToEnd)
+  -- behind its last event it is asked for nothing
+  pub when_over : (call : HandlerCall) → ¬ is_due (refuses 2 ∷ opened 2) (answers 2 call)
+  -- before both ends agree it is told nothing
+  pub before_an_agreement : ¬ is_due has_come (answers 2 (Take (99 ∷ [])))
+  pub end_before_an_agreement : ¬ is_due (frame 4 2 ++ opened 2) (answers 2 End)
+  -- behind that it is handed some bytes, and told the end where that was told, which isn't where a reset came with it
+  pub handed_nothing : ¬ is_due (Of (Did (Close 2)) ∷ agrees 2 1 ∷ opened 2) (answers 2 (Take []))
+  pub end_that_did_not_come : ¬ is_due (agrees 2 1 ∷ opened 2) (answers 2 End)
+  pub end_with_a_reset : ¬ is_due (frame 12 2 ++ agrees 2 1 ∷ opened 2) (answers 2 End)
+  -- it isn't asked behind a reset, where this direction is closed, nor twice
+  pub asked_behind_a_reset : (room : ℕ) → ¬ is_due (frame 8 2 ++ agrees 2 1 ∷ opened 2) (answers 2 (Give room []))
+  pub asked_when_closed : (room : ℕ)
+      → ¬ is_due (Of (Did (Close 2)) ∷ agrees 2 1 ∷ opened 2) (answers 2 (Give room []))
+  pub asked_twice : (room : ℕ)
+      → ¬ is_due (answers 2 (Give 5 []) ∷ agrees 2 1 ∷ opened 2) (answers 2 (Give room []))
+
+-- whether it is asked anew there
+pub record AnewRows : Type 0 where
+  pub at_first : IsAskedAnew {H = ℕ} (makes 1 101 ∷ Asks 1 1 ∷ [])
+  pub behind_a_frame : IsAskedAnew {H = ℕ} (frame 0 2 ++ answers 2 (Give 5 []) ∷ [])
+  pub behind_data : IsAskedAnew {H = ℕ} (answers 2 (Take (9 ∷ [])) ∷ answers 2 (Give 5 []) ∷ [])
+  pub behind_its_end : IsAskedAnew {H = ℕ} (answers 2 End ∷ answers 2 (Give 5 []) ∷ [])
+  pub asked : ¬ IsAskedAnew {H = ℕ} (answers 2 (Give 5 (9 ∷ [])) ∷ frame 0 2)
+  pub asked_and_done : ¬ IsAskedAnew {H = ℕ}
+      (Of (Did (Taken 2 1)) ∷ Of (Did (Close 2)) ∷ answers 2 (Give 5 []) ∷ frame 0 2)

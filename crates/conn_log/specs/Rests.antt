@@ -12,7 +12,7 @@ use Rattle.streams.specs.State.{Streaming}
 use Rattle.conn_log.specs.declared.earlier.Earlier.{Earlier}
 use Rattle.conn_log.specs.declared.event.ConnEvent.{ConnEvent}
 use Rattle.conn_log.specs.Entries.{Entry, items, said, asks, is_over, made_of, put_aside}
-use Rattle.conn_log.specs.Entries.Entry.{Of, Says, Made, Asks}
+use Rattle.conn_log.specs.Entries.Entry.{Of, Says, Made, Asks, Calls}
 use Rattle.conn_log.specs.Turns.{AreInTurn}
 use Rattle.conn_log.specs.Due.{AllDue, was_reset}
 use Rattle.conn_log.specs.Held.{IsAtRest, AreLeft, earlier_of}
@@ -60,6 +60,7 @@ module _ {P H : Type 0} (step : H → HandlerCall → H → Type 0) (fails : H �
   AreRested (Says e ∷ log) = AreRested log
   AreRested (Made n handler ∷ log) = AreRested log
   AreRested (Asks n index ∷ log) = IsRested log × AreRested log
+  AreRested (Calls n call ∷ log) = AreRested log
 
   -- The list has grown by entries that say what was told, its handlers were made so, these bytes came, and all is at
   -- rest again.

@@ -14,7 +14,7 @@ use Rattle.yamux_session.specs.declared.event.Event.TheVariants as heard
 use Rattle.yamux_session.specs.Events.{Told, events}
 use Rattle.yamux_session.specs.Seen.{Seen, seen, all_heard, just_opened, AgreesOn, IsQuiet}
 use Rattle.yamux_session.specs.State.{State, Stands as SessionStands}
-use Rattle.streams.specs.State.{Streaming, has_finished, was_handed_out}
+use Rattle.streams.specs.State.{Streaming, is_talking, is_open, has_finished, was_handed_out}
 use Rattle.serving.specs.Served.{IsSettled}
 use Rattle.conn_log.specs.declared.earlier.Earlier.{Earlier}
 use Rattle.conn_log.specs.declared.event.ConnEvent.{ConnEvent}
@@ -23,9 +23,9 @@ use Rattle.routing.specs.declared.delivered.Outcome.{Outcome}
 use Rattle.routing.specs.declared.delivered.Outcome.TheVariants.{Going, Done, Refused, Broken}
 use Rattle.conn_log.specs.declared.event.ConnEvent.TheVariants as event
 use Rattle.conn_log.specs.Entries.{Entry, items, said, since, is_over, made_of, put_aside}
-use Rattle.conn_log.specs.Entries.Entry.{Of, Says, Made, Asks}
+use Rattle.conn_log.specs.Entries.Entry.{Of, Says, Made, Asks, Calls}
 use Rattle.conn_log.specs.Turns.{turn, AreInTurn}
-use Rattle.conn_log.specs.Due.{AllDue, told_reset, was_reset, told_end, end_was_told}
+use Rattle.conn_log.specs.Due.{AllDue, IsAskedAnew, told_reset, was_reset, told_end, end_was_told}
 use Rattle.conn_log.specs.Held.{IsHeld, IsAtRest, AreLeft, earlier_of}
 use Rattle.conn_log.specs.Rests.{AreAtRest}
 
@@ -51,10 +51,11 @@ abbrev pub IsNoCredit : Told → Type 0
 IsNoCredit (Told.Credit m) = ⊥
 IsNoCredit other = Unit {0}
 
--- the end is told once, and behind it, or behind a reset, neither data nor the end; nor is credit behind the end
+-- the end is told once, and behind it, or behind a reset, neither data nor the end; credit is told once, before both
 abbrev pub EndsLast : Bool → List Told → Type 0
 EndsLast ended [] = Unit {0}
-EndsLast ended (Told.Payload m b ∷ rest) = (ended ≡ false) × EndsLast ended rest
+EndsLast ended (Told.Credit m ∷ rest) = EndsLast ended rest × AllByRecursion IsNoCredit rest
+EndsLast ended (Told.Payload m b ∷ rest) = (ended ≡ false) × EndsLast ended rest × AllByRecursion IsNoCredit rest
 EndsLast ended (Told.Ended m ∷ rest) = (ended ≡ false) × EndsLast true rest × AllByRecursion IsNoCredit rest
 EndsLast ended (Told.Reset m ∷ rest) = EndsLast true rest
 EndsLast ended (other ∷ rest) = EndsLast ended rest
@@ -72,6 +73,7 @@ KeepsTurn (Of (Did act) ∷ log) = KeepsTurn log
 KeepsTurn (Says e ∷ log) = KeepsTurn log
 KeepsTurn (Made n handler ∷ log) = KeepsTurn log
 KeepsTurn (Asks n index ∷ log) = ⊥
+KeepsTurn (Calls n call ∷ log) = KeepsTurn log
 
 -- The stream was reset where it was live; else nothing was done.
 abbrev pub Resets : Role → List Item → List ℕ → List ℕ → ℕ → State → State → Type 0
@@ -98,9 +100,20 @@ module _ {P H : Type 0} (step : H → HandlerCall → H → Type 0) (fails : H �
       pub held : IsHeld step is_closed is_finished names role log n view.came view.ended stream
       pub unfinished : has_finished is_finished stream.stage ≡ false
       pub over_by_end : view.live ≡ false → view.ended ≡ true
+      -- by credit that is still to be routed its handler is asked anew
+      pub anew : AllByRecursion IsNoCredit rest ⊎ ((is_talking stream.stage ≡ true) ⊎ IsAskedAnew log)
       -- it was served by all that came but the rest, where that brings neither data nor credit
       pub settled : AllByRecursion (IsQuiet n) rest → is_live role (items log) n ≡ true
           → IsSettled step is_closed is_finished role (items log) n held.so_far.left stream
+
+  -- The stream that is named may be served: its handler is asked anew, and no credit is to be routed behind that,
+  -- unless its talk goes on.
+  pub record MayBeServed (log : List (Entry H)) (n : ℕ) (view : Seen) (rest : List Told) (stream : Streaming H) : Type 0
+    where
+      pub held : IsHeld step is_closed is_finished names role log n view.came view.ended stream
+      pub over_by_end : view.live ≡ false → view.ended ≡ true
+      pub last : AllByRecursion IsNoCredit rest ⊎ (is_talking stream.stage ≡ true)
+      pub anew : is_open is_closed stream.stage ≡ true → (is_talking stream.stage ≡ true) ⊎ IsAskedAnew log
 
   -- All streams but the one that is named are at rest, and of that one so much was seen.
   pub record Around (log : List (Entry H)) (fed sent : List ℕ) (session : State) (streams : ℕ → Option (Streaming H))
@@ -117,6 +130,8 @@ module _ {P H : Type 0} (step : H → HandlerCall → H → Type 0) (fails : H �
     pub resets_told : (m : ℕ) → was_reset role (items log) m ≡ true
         → (is_over role log m ≡ true) ⊎ (told_reset m rest ≡ true)
     pub reset_came : told_reset n rest ≡ true → was_reset role (items log) n ≡ true
+    -- an end that is still to be routed was told
+    pub end_told : told_end n rest ≡ true → end_was_told role (items log) n ≡ true
     -- before a reset the end was seen, or is still to be routed, where it was told
     pub end_came : told_reset n rest ≡ true → view.ended || told_end n rest ≡ end_was_told role (items log) n
     pub heard : AgreesOn (seen role (items log) n) (all_heard n view rest)

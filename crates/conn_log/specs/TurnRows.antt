@@ -12,12 +12,14 @@ use Rattle.yamux_session.specs.History.{Act}
 use Rattle.yamux_session.specs.History.Item.{Came, Did}
 use Rattle.yamux_session.specs.History.Act.{Start, Write, Taken, Close, Reset}
 use Rattle.yamux_session.specs.Rows.{header}
+use Rattle.handlers.specs.Calls.{HandlerCall, End}
 use Rattle.yamux_session.specs.State.{State}
 use Rattle.streams.specs.State.{Streaming}
 use Rattle.conn_log.specs.declared.earlier.Earlier.{Earlier}
 use Rattle.conn_log.specs.Entries.{Entry}
 use Rattle.conn_log.specs.Entries.Entry.{Of, Asks}
-use Rattle.conn_log.specs.EntryRows.{frame, opened, reset, agrees, refuses, done, breaks, makes, of_none, two_aside}
+use Rattle.conn_log.specs.EntryRows.{frame, opened, reset, agrees, refuses, done, breaks, makes, answers, of_none}
+use Rattle.conn_log.specs.EntryRows.{two_aside}
 use Rattle.conn_log.specs.AskedRows.{is_1}
 use Rattle.conn_log.specs.DueRows.{inbound, outbound}
 use Rattle.conn_log.specs.PlaceRows.{was_reset, opens_it}
@@ -36,6 +38,7 @@ pub record TurnRows : Type 0 where
   pub the_frame_goes_on : turn {H = ℕ} (Of (Came Tail) ∷ Asks 3 0 ∷ Of (Came (header Window 0 2 0)) ∷ []) ≡ Some 2
   -- all else leaves it
   pub passed : turn (makes 2 7 ∷ agrees 2 1 ∷ reset 2 ∷ frame 0 4) ≡ Some 4
+  pub passed_answered : turn (answers 2 End ∷ makes 2 7 ∷ frame 0 4) ≡ Some 4
   pub passed_asked : turn (makes 2 7 ∷ agrees 2 1 ∷ reset 2 ∷ Asks 3 0 ∷ frame 0 4) ≡ Some 3
   pub started : turn {H = ℕ} (Of (Did (Start 3)) ∷ []) ≡ None
 
@@ -55,6 +58,7 @@ pub record AboutRows : Type 0 where
   pub handed_out : about (done 3 7) ≡ Some 3
   pub broken : about (breaks 3) ≡ Some 3
   pub made : about (makes 3 7) ≡ Some 3
+  pub answered : (call : HandlerCall) → about (answers 3 call) ≡ Some 3
   pub asked : about {H = ℕ} (Asks 3 0) ≡ None
 
 pub record InTurnRows : Type 0 where
@@ -65,6 +69,7 @@ pub record InTurnRows : Type 0 where
   -- what is told, made or done of a stream behind another's newer frame, or behind another that was opened
   pub told_late : ¬ AreInTurn (refuses 3 ∷ frame 0 1 ++ frame 0 3)
   pub made_late : ¬ AreInTurn (makes 3 7 ∷ frame 0 1 ++ frame 0 3)
+  pub answered_late : ¬ AreInTurn (answers 3 End ∷ frame 0 1 ++ frame 0 3)
   pub done_late : ¬ AreInTurn (reset 3 ∷ frame 0 1 ++ frame 0 3)
   pub told_behind_another : ¬ AreInTurn (refuses 2 ∷ Asks 3 1 ∷ opened 2)
   -- or before the first, as an older entry too
@@ -98,10 +103,10 @@ pub record RestedRows : Type 0 where
   pub asked_behind_all : is_rested [] → are_rested (Asks 1 0 ∷ [])
   pub head_untold : ¬ are_rested (opens_it ∷ was_reset)
   pub asked_untold : ¬ are_rested (Asks 1 0 ∷ was_reset)
-  pub passed : are_rested (makes 2 7 ∷ agrees 2 1 ∷ reset 2 ∷ Of (Came Tail) ∷ Of (Came (Byte 9))
+  pub passed : are_rested (answers 2 End ∷ makes 2 7 ∷ agrees 2 1 ∷ reset 2 ∷ Of (Came Tail) ∷ Of (Came (Byte 9))
       ∷ Of (Came (Garbled (9 ∷ []))) ∷ [])
   -- nor is an older one passed over
-  pub older : ¬ are_rested (makes 2 7 ∷ agrees 2 1 ∷ reset 2 ∷ Of (Came Tail) ∷ Of (Came (Byte 9))
+  pub older : ¬ are_rested (answers 2 End ∷ makes 2 7 ∷ agrees 2 1 ∷ reset 2 ∷ Of (Came Tail) ∷ Of (Came (Byte 9))
       ∷ Of (Came (Garbled (9 ∷ []))) ∷ opens_it ∷ was_reset)
   pub older_head : (log : List (Entry ℕ)) → are_rested (opens_it ∷ log) → are_rested log
   pub older_asked : (log : List (Entry ℕ)) → are_rested (Asks 1 0 ∷ log) → are_rested log

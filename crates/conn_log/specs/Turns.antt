@@ -8,7 +8,7 @@ use Rattle.yamux_session.specs.History.Act.{Start, Write, Taken, Close, Reset}
 use Rattle.conn_log.specs.declared.event.ConnEvent.{ConnEvent}
 use Rattle.conn_log.specs.declared.event.ConnEvent.TheVariants as event
 use Rattle.conn_log.specs.Entries.{Entry, items}
-use Rattle.conn_log.specs.Entries.Entry.{Of, Says, Made, Asks}
+use Rattle.conn_log.specs.Entries.Entry.{Of, Says, Made, Asks, Calls}
 
 -- the stream whose turn it is: that of the newest frame, or that which this end opened since
 abbrev pub turn : {H : Type 0} → List (Entry H) → Option ℕ
@@ -18,6 +18,7 @@ turn (Of (Did act) ∷ log) = turn log
 turn (Says e ∷ log) = turn log
 turn (Made n handler ∷ log) = turn log
 turn (Asks n index ∷ log) = Some n
+turn (Calls n call ∷ log) = turn log
 
 -- the stream that this end acted on
 abbrev pub acted_on : Act → Option ℕ
@@ -45,6 +46,7 @@ about (Of (Did act)) = acted_on act
 about (Says e) = told_about e
 about (Made n handler) = Some n
 about (Asks n index) = None
+about (Calls n call) = Some n
 
 -- it is that stream's turn, where there is one
 abbrev pub IsTurnOf : Option ℕ → Option ℕ → Type 0

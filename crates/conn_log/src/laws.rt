@@ -1,11 +1,11 @@
 //! What the definitions come to.
 
 ghost use Rattle.conn_log.specs.MakingRows.{MakingRows};
-ghost use Rattle.conn_log.specs.EntryRows.{ListRows, SinceRows, AgreedRows, OverRows, HandlerRows, LeftRows};
-ghost use Rattle.conn_log.specs.EntryRows.{AsideRows, AskedForRows};
+ghost use Rattle.conn_log.specs.EntryRows.{ListRows, SinceRows, AgreedRows, OverRows, HandlerRows, CallRows};
+ghost use Rattle.conn_log.specs.EntryRows.{LeftRows, AsideRows, AskedForRows};
 ghost use Rattle.conn_log.specs.TurnRows.{TurnRows, AboutRows, InTurnRows, RestedRows};
 ghost use Rattle.conn_log.specs.DueRows.{DirectionRows, ResetRows, EndRows, JustAgreedRows, GivenUpRows, MayBeMadeRows};
-ghost use Rattle.conn_log.specs.PlaceRows.{TalkPlaceRows, LastPlaceRows, ActPlaceRows};
+ghost use Rattle.conn_log.specs.PlaceRows.{TalkPlaceRows, LastPlaceRows, ActPlaceRows, CallPlaceRows, AnewRows};
 ghost use Rattle.conn_log.specs.AskedRows.{RefusedAsRows, EarlyRows, ToldOfRows, MadeEarlyRows, BrokenOfRows};
 
 /// The definitions say of worked lists what they are to say.
@@ -16,6 +16,7 @@ pub fn worked_rows()
     ensures agreed { AgreedRows }
     ensures over { OverRows }
     ensures handlers { HandlerRows }
+    ensures calls { CallRows }
     ensures left { LeftRows }
     ensures aside { AsideRows }
     ensures asked_for { AskedForRows }
@@ -28,6 +29,8 @@ pub fn worked_rows()
     ensures talk_places { TalkPlaceRows }
     ensures last_places { LastPlaceRows }
     ensures act_places { ActPlaceRows }
+    ensures call_places { CallPlaceRows }
+    ensures anew { AnewRows }
     ensures refused_as { RefusedAsRows }
     ensures early { EarlyRows }
     ensures told_of { ToldOfRows }

@@ -5,7 +5,7 @@ use Rattle.yamux_session.specs.declared.event.Role.{Role}
 use Rattle.conn_log.specs.declared.event.ConnEvent.{ConnEvent}
 use Rattle.conn_log.specs.declared.event.ConnEvent.TheVariants as event
 use Rattle.conn_log.specs.Entries.{Entry, said, agreement}
-use Rattle.conn_log.specs.Entries.Entry.{Of, Says, Made, Asks}
+use Rattle.conn_log.specs.Entries.Entry.{Of, Says, Made, Asks, Calls}
 use Rattle.conn_log.proofs.Making.{mades}
 use Rattle.conn_log.proofs.Arriving.{arrived}
 use Rattle.held_order.specs.Orders.{newest_held}
@@ -48,6 +48,7 @@ module _ {H : Type 0} (role : Role) where
   grows (Says e ∷ newer) log all = let both = parts (said newer) e all in by_event (newer ++ log) e both.1 ∙ grows newer log both.0
   grows (Made n handler ∷ newer) log all = ap (λ t. n ∷ t) (grows newer log all)
   grows (Asks n index ∷ newer) log all = grows newer log all
+  grows (Calls n call ∷ newer) log all = grows newer log all
 
   -- where at most an agreement was told, what was made is held too
   pub grows_by : (newer log : List (Entry H)) (n : ℕ) (agreed : Option ℕ) → said newer ≡ agreement n agreed

@@ -1,3 +1,5 @@
 mod Arranging
 mod Newest
+mod HeldLaws
+mod Once
 pub mod Growing

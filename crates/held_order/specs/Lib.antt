@@ -1,5 +1,7 @@
 -- definitions that public clauses name
 pub mod Orders
 pub mod Laws
+pub mod HeldLaws
 -- worked rows
 pub mod OrderRows
+pub mod HeldRows

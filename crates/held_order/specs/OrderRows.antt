@@ -3,6 +3,7 @@
 -- Source: this project's profile.
 use Rattle.std.specs.Prelude.{◌≡◌, ℕ, true, false, List, [], ◌∷◌, ◌++◌}
 use Rattle.peer_ids.specs.Key.{Key}
+use Rattle.handlers.specs.Calls.{End}
 use Rattle.yamux_session.specs.declared.event.Role.TheVariants.{Client, Server}
 use Rattle.yamux_session.specs.History.Item.{Did}
 use Rattle.yamux_session.specs.History.Act.{Close}
@@ -11,7 +12,7 @@ use Rattle.streams.specs.declared.stop.Cause.TheVariants as causes
 use Rattle.conn_log.specs.declared.event.ConnEvent.TheVariants as event
 use Rattle.conn_log.specs.Entries.{Entry}
 use Rattle.conn_log.specs.Entries.Entry.{Of, Says, Asks}
-use Rattle.conn_log.specs.EntryRows.{frame, opened, reset, agrees, refuses, done, breaks, makes, of_none}
+use Rattle.conn_log.specs.EntryRows.{frame, opened, reset, agrees, refuses, done, breaks, makes, answers, of_none}
 use Rattle.held_order.specs.Orders.{without, with_if, without_if, lets_go, heard, newest_held, arranged}
 
 -- a handler for each of two streams of the other end, that of stream 3 first
@@ -58,7 +59,8 @@ pub record NewestRows : Type 0 where
   pub done : newest_held Server (done 3 7 ∷ two) ≡ 1 ∷ []
   pub refused : newest_held Server (refuses 1 ∷ two) ≡ 3 ∷ []
   pub broken : newest_held Server (breaks 1 ∷ two) ≡ 3 ∷ []
-  pub passed : (key : Key) → newest_held Server (of_none key ++ Asks 2 0 ∷ reset 5 ∷ frame 0 1 ++ two) ≡ 1 ∷ 3 ∷ []
+  pub passed : (key : Key) → newest_held Server (of_none key ++ answers 1 End ∷ Asks 2 0 ∷ reset 5 ∷ frame 0 1 ++ two)
+      ≡ 1 ∷ 3 ∷ []
   -- Its number was opened anew: within the talk of the new opening no handler was made for it, so none goes where that
   -- is broken, or refused, or reset.
   pub broken_in_its_talk : newest_held Server (breaks 3 ∷ opened 3 ++ both_ended) ≡ 1 ∷ 3 ∷ []

@@ -7,7 +7,7 @@ use Rattle.yamux_session.specs.declared.event.Role.{Role}
 use Rattle.conn_log.specs.declared.event.ConnEvent.{ConnEvent}
 use Rattle.conn_log.specs.declared.event.ConnEvent.TheVariants as event
 use Rattle.conn_log.specs.Entries.{Entry, made_of}
-use Rattle.conn_log.specs.Entries.Entry.{Of, Says, Made, Asks}
+use Rattle.conn_log.specs.Entries.Entry.{Of, Says, Made, Asks, Calls}
 
 -- ---- what is held
 
@@ -50,6 +50,7 @@ newest_held role (Of x ∷ log) = newest_held role log
 newest_held role (Says e ∷ log) = heard role log e (newest_held role log)
 newest_held role (Made n handler ∷ log) = n ∷ newest_held role log
 newest_held role (Asks n index ∷ log) = newest_held role log
+newest_held role (Calls n call ∷ log) = newest_held role log
 
 -- ---- putting what is held in order
 

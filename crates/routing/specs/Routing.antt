@@ -2,7 +2,7 @@
 -- Source: multistream-select 1.0, "Protocol Negotiation"; libp2p connections, "Opening new streams over a connection";
 -- hashicorp yamux, "Flow Control"; that a stream is served behind each piece is this project's profile.
 use Rattle.std.specs.Prelude.{◌≡◌, ◌≢◌, ◌⊎◌, ℕ, Bool, true, false, List, ◌++◌, Option, Some, None}
-use Rattle.handlers.specs.Calls.{HandlerCall, Asked, ToTake, ToEnd}
+use Rattle.handlers.specs.Calls.{HandlerCall, Take, End, Asked, ToTake, ToEnd}
 use Rattle.handlers.specs.declared.handler.HandlerFault.{HandlerFault}
 use Rattle.ms_select.specs.declared.fault.SelectFault.TheVariants as select_faults
 use Rattle.talks.specs.Talks.{IsTurnedDown, Faults}
@@ -13,9 +13,9 @@ use Rattle.yamux_session.specs.State.{State}
 use Rattle.streams.specs.declared.stop.Cause.TheVariants as causes
 use Rattle.streams.specs.declared.stop.Stop.TheVariants as stops
 use Rattle.streams.specs.declared.stage.Stage.TheVariants as stages
-use Rattle.streams.specs.Streams.{Past}
-use Rattle.streams.specs.State.{Streaming, Stands, is_talking, was_handed_out, kind_of, Served}
-use Rattle.serving.specs.Served.{Serves, GivesUp}
+use Rattle.streams.specs.Streams.{Past, with_call}
+use Rattle.streams.specs.State.{Streaming, Stands, is_talking, was_handed_out, answering, kind_of, Served}
+use Rattle.serving.specs.Served.{Asking, Serves, GivesUp}
 use Rattle.dispatch.specs.Dispatch.{AgreesBy, IsMade}
 use Rattle.routing.specs.declared.delivered.Delivered.{Delivered}
 use Rattle.routing.specs.declared.delivered.Outcome.{Outcome}
@@ -27,11 +27,12 @@ module _ {H : Type 0} (step : H → HandlerCall → H → Type 0) (fails : H →
   -- and nothing was done.
   abbrev pub Came : Past H → Streaming H → State → Outcome H → State → Streaming H → Type 0
   Came so_far old before Going session stream =
-      Serves step is_closed is_finished (was_handed_out old.stage) role past fed sent n so_far None session stream
+      Asking is_closed role past n old so_far (λ now. Serves step is_closed is_finished (was_handed_out old.stage) role
+      past fed sent n now None session stream)
       × (kind_of stream.stage ≡ kind_of old.stage)
   Came so_far old before (Done handler) session stream =
-      Serves step is_closed is_finished (was_handed_out old.stage) role past fed sent n so_far (Some handler) session
-      stream
+      Asking is_closed role past n old so_far (λ now. Serves step is_closed is_finished (was_handed_out old.stage) role
+      past fed sent n now (Some handler) session stream)
       × (kind_of old.stage ≡ Served)
   Came so_far old before Refused session stream = ⊥
   Came so_far old before (Broken cause) session stream =
@@ -54,14 +55,16 @@ module _ {H : Type 0} (step : H → HandlerCall → H → Type 0) (fails : H →
 
   -- data behind the talk
   abbrev pub Takes : Past H → List ℕ → Streaming H → State → Outcome H → State → Streaming H → Type 0
-  Takes so_far bytes = Hands (ToTake bytes) (record so_far { got = so_far.got ++ bytes; left = None })
+  Takes so_far bytes old = Hands (ToTake bytes)
+      (with_call (record so_far { got = so_far.got ++ bytes; left = None }) (answering old.stage (Take bytes))) old
 
   -- What came of the end: an end within the talk breaks the stream, and nothing is done.
   abbrev pub Ends : Past H → Streaming H → State → Outcome H → State → Streaming H → Type 0
   Ends so_far old before outcome session stream =
       (is_talking old.stage ≡ true → (outcome ≡ Broken causes.Ended) × (session ≡ before))
       × (is_talking old.stage ≡ false
-      → Hands ToEnd (record so_far { ended = true; left = None }) old before outcome session stream)
+      → Hands ToEnd (with_call (record so_far { ended = true; left = None }) (answering old.stage End)) old before
+      outcome session stream)
 
   module _ (makes : ℕ → H → Type 0) (none_made : Type 0) where
     -- By this front both ends agree on the protocol of this index, and the handler took the rest: so far this came

@@ -1,6 +1,7 @@
 -- The rows of a connection's list, whatever is in it.
 use Rattle.std.proofs.Common.{◌≡◌, ◌⊎◌, ◌↔◌, ℕ, inl, inr, Bool, true, false, ◌&&◌, ◌||◌, not, is_some, List, [], ◌∷◌, Option, Some, None, IsSome, refl, ap, ◌∙◌, ne_eqb, eq-eqb}
 use Rattle.std.proofs.lemmas.Bool.{and_right}
+use Rattle.handlers.specs.Calls.{HandlerCall}
 use Rattle.yamux_session.specs.declared.event.Role.{Role}
 use Rattle.yamux_frames.specs.Frames.Arrival.{Head}
 use Rattle.yamux_session.specs.History.{Item}
@@ -11,7 +12,7 @@ use Rattle.streams.specs.declared.stop.Cause.{Cause}
 use Rattle.conn_log.specs.declared.event.ConnEvent.{ConnEvent}
 use Rattle.conn_log.specs.declared.event.ConnEvent.TheVariants as event
 use Rattle.conn_log.specs.Entries.{Entry, items, is_over, made_of, is_kept}
-use Rattle.conn_log.specs.Entries.Entry.{Of, Says, Made, Asks}
+use Rattle.conn_log.specs.Entries.Entry.{Of, Says, Made, Asks, Calls}
 use Rattle.conn_log.specs.Turns.{turn, about, IsTurnOf}
 use Rattle.conn_log.specs.Due.{told_reset, was_reset, told_end, end_was_told, HasJustAgreed}
 use Rattle.conn_log.specs.Asked.{IsBrokenOf}
@@ -21,11 +22,13 @@ use Rattle.row_check.specs.AnyLogRows.{AnyListRows, AnyStreamEntryRows, AnyEarli
 -- ---- lists
 
 entries : {H : Type 0} (entry : Entry H) → ((x : Item) × (entry ≡ Of x)) ⊎ (((e : ConnEvent H) × (entry ≡ Says e))
-    ⊎ (((n : ℕ) × (handler : H) × (entry ≡ Made n handler)) ⊎ ((n : ℕ) × (index : ℕ) × (entry ≡ Asks n index))))
+    ⊎ (((n : ℕ) × (handler : H) × (entry ≡ Made n handler)) ⊎ (((n : ℕ) × (index : ℕ) × (entry ≡ Asks n index))
+    ⊎ ((n : ℕ) × (call : HandlerCall) × (entry ≡ Calls n call)))))
 entries (Of x) = inl (x, refl)
 entries (Says e) = inr (inl (e, refl))
 entries (Made n handler) = inr (inr (inl (n, handler, refl)))
-entries (Asks n index) = inr (inr (inr (n, index, refl)))
+entries (Asks n index) = inr (inr (inr (inl (n, index, refl))))
+entries (Calls n call) = inr (inr (inr (inr (n, call, refl))))
 
 pub any_lists : {H : Type 0} → AnyListRows H
 any_lists = record {
@@ -35,14 +38,19 @@ any_lists = record {
   told = λ e log. (refl, refl, refl);
   made = λ n handler log. (refl, refl, refl);
   opened = λ n index log. (refl, refl, refl);
+  answered = λ n call log. (refl, refl, refl);
   asked_of_none = λ n. refl;
   asked_for = λ n index log. rw (eq-eqb n n refl) refl;
   asked_for_another = λ n m index log ne. rw (ne_eqb m n ne) refl;
-  asked_before = λ n m x e handler log. (refl, refl, refl);
+  asked_before = λ n m x e handler call log. (refl, refl, refl, refl);
   made_of_none = λ n. refl;
   made_for_it = λ n handler log. rw (eq-eqb n n refl) refl;
   made_for_another = λ n m handler log ne. rw (ne_eqb m n ne) refl;
-  made_before = λ n m index x e log. (refl, refl, refl);
+  made_before = λ n m index x e call log. (refl, refl, refl, refl);
+  called_none = λ n. refl;
+  called = λ n call log. rw (eq-eqb n n refl) refl;
+  called_another = λ n m call log ne. rw (ne_eqb m n ne) refl;
+  called_before = λ n m index x e handler log. (refl, refl, refl, refl);
   no_agreement = λ n. refl;
   an_agreement = λ n index. refl;
 }
@@ -54,26 +62,29 @@ kept_is (Some handler) false = (λ e. (refl, refl), λ h. refl)
 
 pub any_stream_entries : {H : Type 0} → AnyStreamEntryRows H
 any_stream_entries {H} = record {
-  none = λ role n. (refl, refl, refl, refl);
-  opened = λ role n x log e. (rw e refl, rw e refl, rw e refl, rw e refl);
-  not_opened = λ role n x log e. (rw e refl, rw e refl, rw e refl, rw e refl);
-  asked_for = λ role n index log. (rw (eq-eqb n n refl) refl, rw (eq-eqb n n refl) refl, rw (eq-eqb n n refl) refl, rw (eq-eqb n n refl) refl);
-  another_asked_for = λ role n m index log ne. (rw (ne_eqb m n ne) refl, rw (ne_eqb m n ne) refl, rw (ne_eqb m n ne) refl, rw (ne_eqb m n ne) refl);
+  none = λ role n. (refl, refl, refl, refl, refl);
+  opened = λ role n x log e. (rw e refl, rw e refl, rw e refl, rw e refl, rw e refl);
+  not_opened = λ role n x log e. (rw e refl, rw e refl, rw e refl, rw e refl, rw e refl);
+  asked_for = λ role n index log. (rw (eq-eqb n n refl) refl, rw (eq-eqb n n refl) refl, rw (eq-eqb n n refl) refl, rw (eq-eqb n n refl) refl, rw (eq-eqb n n refl) refl);
+  another_asked_for = λ role n m index log ne. (rw (ne_eqb m n ne) refl, rw (ne_eqb m n ne) refl, rw (ne_eqb m n ne) refl, rw (ne_eqb m n ne) refl, rw (ne_eqb m n ne) refl);
   made = λ role n handler log. rw (eq-eqb n n refl) refl;
-  made_alone = λ role n m handler log. (refl, refl, refl);
+  made_alone = λ role n m handler log. (refl, refl, refl, refl);
   another_made = λ role n m handler log ne. rw (ne_eqb m n ne) refl;
-  told_makes_none = λ role n e log. refl;
+  told_makes_none = λ role n e log. (refl, refl);
+  answered = λ role n call log. rw (eq-eqb n n refl) refl;
+  answered_alone = λ role n m call log. (refl, refl, refl, refl);
+  another_answered = λ role n m call log ne. rw (ne_eqb m n ne) refl;
   agreed_on = λ role n index log. (rw (eq-eqb n n refl) refl, refl, refl);
   refused = λ role n log. (refl, rw (eq-eqb n n refl) refl, refl);
   handed_out = λ role n handler log. (refl, rw (eq-eqb n n refl) refl, rw (eq-eqb n n refl) refl);
   broken = λ role n cause log. (refl, rw (eq-eqb n n refl) refl, refl);
   of_another = λ role n m index handler cause log ne. (
-    (rw (ne_eqb m n ne) refl, refl, refl, refl),
-    (refl, rw (ne_eqb m n ne) refl, refl, refl),
-    (refl, rw (ne_eqb m n ne) refl, rw (ne_eqb m n ne) refl, refl),
-    (refl, rw (ne_eqb m n ne) refl, refl, refl),
+    (rw (ne_eqb m n ne) refl, refl, refl, refl, refl),
+    (refl, rw (ne_eqb m n ne) refl, refl, refl, refl),
+    (refl, rw (ne_eqb m n ne) refl, rw (ne_eqb m n ne) refl, refl, refl),
+    (refl, rw (ne_eqb m n ne) refl, refl, refl, refl),
   );
-  of_none = λ role n key fault log. ((refl, refl, refl, refl), (refl, refl, refl, refl), (refl, refl, refl, refl));
+  of_none = λ role n key fault log. ((refl, refl, refl, refl, refl), (refl, refl, refl, refl, refl), (refl, refl, refl, refl, refl));
   kept = λ role n log. kept_is (made_of role log n) (is_over role log n);
 }
 
@@ -86,6 +97,7 @@ any_earlier = record {
   told = λ role n e log. (refl, refl);
   made = λ role n m handler log. (refl, refl);
   asked_for = λ role n m index log. (refl, refl);
+  answered = λ role n m call log. (refl, refl);
   put_last = λ role h log e k. rw e rw k refl;
   head_opens_none = λ role h log e. rw e refl;
   head_of_none_kept = λ role h log k. rw (and_right (opens role (items log) (Came (Head h)) h.stream) (is_kept role log h.stream) k) refl;
@@ -104,11 +116,11 @@ any_turns = record {
   none = refl;
   came = λ x log. refl;
   head = λ h log. refl;
-  passed = λ act e n handler log. (refl, refl, refl);
+  passed = λ act e n handler call log. (refl, refl, refl, refl);
   asked_for = λ n index log. refl;
   about_none = λ x n index code key fault. (refl, refl, refl, refl, refl, refl);
   about_acts = λ n count pieces. (refl, refl, refl, refl, refl);
-  about_events = λ n index handler cause. (refl, refl, refl, refl, refl);
+  about_events = λ n index handler call cause. (refl, refl, refl, refl, refl, refl);
   in_turn_of_none = tt;
   in_turn = λ entry log. (
     λ t. ((turn_is (turn log) (about entry)).0 t.0, t.1),
@@ -139,6 +151,7 @@ just_agreed_is : {H : Type 0} (n : ℕ) (log : List (Entry H)) → HasJustAgreed
 just_agreed_is n [] is = absurd is
 just_agreed_is n (Of x ∷ log) is = absurd is
 just_agreed_is n (Asks m index ∷ log) is = absurd is
+just_agreed_is n (Calls m call ∷ log) is = absurd is
 just_agreed_is n (Says (event.Agreed m index) ∷ log) is = (index, log, inl (ap (λ k. Says (event.Agreed k index) ∷ log) is))
 just_agreed_is n (Says (event.Upgraded key) ∷ log) is = absurd is
 just_agreed_is n (Says (event.Refused m) ∷ log) is = absurd is
@@ -149,6 +162,7 @@ just_agreed_is n (Says event.Shut ∷ log) is = absurd is
 just_agreed_is n (Made k handler ∷ []) is = absurd is
 just_agreed_is n (Made k handler ∷ Of x ∷ log) is = absurd is
 just_agreed_is n (Made k handler ∷ Asks m index ∷ log) is = absurd is
+just_agreed_is n (Made k handler ∷ Calls m call ∷ log) is = absurd is
 just_agreed_is n (Made k handler ∷ Made m other ∷ log) is = absurd is
 just_agreed_is n (Made k handler ∷ Says (event.Agreed m index) ∷ log) is =
     (index, log, inr (handler, ap (λ j. Made j handler ∷ Says (event.Agreed m index) ∷ log) is.0 ∙ ap (λ j. Made n handler ∷ Says (event.Agreed j index) ∷ log) is.1))
@@ -179,6 +193,11 @@ any_endings = record {
   just_agreed = λ n m index log. (λ h. h, λ h. h);
   just_made = λ n k m index handler log. (λ h. h, λ h. h);
   just_agreed_is = just_agreed_is;
+  asked_for = λ room bytes. (refl, refl, refl);
+  anew_at_first = tt;
+  anew = λ x e n index handler bytes log. (tt, tt, tt, tt, tt, tt);
+  anew_behind_acts = λ act log. (λ h. h, λ h. h);
+  not_anew = λ n room bytes log a. a;
   refused = λ n m log. (λ h. h, λ h. h);
   broken = λ n m cause log. (λ h. h, λ h. h);
   told = λ n handler cause. (refl, refl, refl, refl);
@@ -197,6 +216,7 @@ module _ {P H : Type 0} (inbound_leads outbound_leads : P → ℕ → List ℕ �
   leads_is n before behind handler [] l = absurd l
   leads_is n before behind handler (Of x ∷ log) l = absurd l
   leads_is n before behind handler (Made m other ∷ log) l = absurd l
+  leads_is n before behind handler (Calls m call ∷ log) l = absurd l
   leads_is n before behind handler (Asks m index ∷ log) l = (index, log, inr (ap (λ k. Asks k index ∷ log) l.0))
   leads_is n before behind handler (Says (event.Agreed m index) ∷ log) l = (index, log, inl (ap (λ k. Says (event.Agreed k index) ∷ log) l.0))
   leads_is n before behind handler (Says (event.Upgraded key) ∷ log) l = absurd l
@@ -211,6 +231,7 @@ module _ {P H : Type 0} (inbound_leads outbound_leads : P → ℕ → List ℕ �
     none = λ first now. (λ h. h, λ h. h);
     an_item = λ first now x log. (λ h. h, λ h. h);
     told = λ first now e log. (λ h. h, λ h. h);
+    answered = λ first now n call log. (λ h. h, λ h. h);
     asked_for = λ first now n index log. (λ h. h, λ h. h);
     made = λ first now n handler log. (λ h. h, λ h. h);
     agreed_inbound = λ n m index before behind handler log e. rw e (λ h. h, λ h. h);

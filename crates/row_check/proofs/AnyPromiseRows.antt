@@ -1,5 +1,5 @@
 -- The rows of the laws of a connection, and of the order of its handlers.
-use Rattle.std.proofs.Common.{◌≡◌, ◌≢◌, ℕ, suc, ◌==◌, ◌||◌, Bool, true, false, List, [], ◌∷◌, ◌++◌, Some, None, refl, ap, ◌∙◌, ne_eqb, eq-eqb, lt-ltb, arith, length, cond, nat_lt}
+use Rattle.std.proofs.Common.{◌≡◌, ℕ, suc, ◌==◌, Bool, List, [], ◌∷◌, Some, None, refl, ap, ◌∙◌, ne_eqb, eq-eqb, lt-ltb, arith, length, cond, nat_lt}
 use Rattle.std.specs.Prelude.{is_some}
 use Rattle.std.specs.List.{position, position_or_len}
 use Rattle.handlers.specs.Calls.{HandlerCall, Asked}
@@ -21,7 +21,7 @@ pub any_orders : {H : Type 0} → AnyOrderRows H
 any_orders = record {
   none_yet = λ role. refl;
   made = λ role log n handler. refl;
-  passed = λ role log x n index. (refl, refl);
+  passed = λ role log x n index call. (refl, refl, refl);
   hears = λ role log e. refl;
   agreed = λ role log n index newest. refl;
   goes = λ role log n handler cause newest. (refl, refl, refl);

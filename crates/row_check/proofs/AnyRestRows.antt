@@ -8,9 +8,9 @@ use Rattle.yamux_session.specs.Data.{inbound}
 use Rattle.talks.specs.Talks.{IsOpen}
 use Rattle.conn_log.specs.declared.event.ConnEvent.TheVariants as event
 use Rattle.conn_log.specs.Entries.{Entry, items}
-use Rattle.conn_log.specs.Entries.Entry.{Of, Says, Made, Asks}
+use Rattle.conn_log.specs.Entries.Entry.{Of, Says, Made, Asks, Calls}
 use Rattle.conn_log.specs.Due.{IsGivenUp}
-use Rattle.row_check.specs.AnyRestRows.{AnySideRows, AnyHeldRows, AnyComingRows, AnyDueRows, AnyRestRows, may_be_made, rests}
+use Rattle.row_check.specs.AnyRestRows.{AnySideRows, AnyHeldRows, AnyComingRows, AnyDueRows, AnyRestRows, AskedSo, is_there, may_be_asked, may_be_made, rests}
 
 pub any_sides : {H : Type 0} → AnySideRows H
 any_sides = record {
@@ -28,17 +28,18 @@ any_held step is_closed is_finished names role = record {
     ended_is = h.2;
     sent_is = h.3;
     made_is = h.4;
-    stands = h.5;
-    talking = h.6;
-    agreed_on = h.7;
-    over = h.8;
-    done = h.9;
-    served = h.10;
+    calls_is = h.5;
+    stands = h.6;
+    talking = h.7;
+    agreed_on = h.8;
+    over = h.9;
+    done = h.10;
+    served = h.11;
   };
   held_is = λ log n got ended stream h.
-      (h.so_far, (h.side_is, h.got_is, h.ended_is, h.sent_is, h.made_is, h.stands, h.talking, h.agreed_on, h.over, h.done, h.served));
+      (h.so_far, (h.side_is, h.got_is, h.ended_is, h.sent_is, h.made_is, h.calls_is, h.stands, h.talking, h.agreed_on, h.over, h.done, h.served));
   held_by_name = λ log n got ended stream h.
-      (h.side_is, h.got_is, h.ended_is, h.sent_is, h.made_is, h.stands, h.talking, h.agreed_on, h.over, h.done, h.served);
+      (h.side_is, h.got_is, h.ended_is, h.sent_is, h.made_is, h.calls_is, h.stands, h.talking, h.agreed_on, h.over, h.done, h.served);
   at_rest = λ log n stream held settled unfinished over. record { held = held; settled = settled; unfinished = unfinished; over_by_end = over };
   at_rest_is = λ log n stream r. (r.held, r.settled, r.unfinished, r.over_by_end);
   past = λ newer older n stream over kept r. record { newer = newer; older = older; log_is = refl; over = over; kept = kept; place_is = refl; at_rest = r };
@@ -53,6 +54,7 @@ given_up_is n [] g = absurd g
 given_up_is n (Of x ∷ log) g = absurd g
 given_up_is n (Made m handler ∷ log) g = absurd g
 given_up_is n (Asks m index ∷ log) g = absurd g
+given_up_is n (Calls m call ∷ log) g = absurd g
 given_up_is n (Says (event.Refused m) ∷ log) g = (log, inl (ap (λ k. Says (event.Refused k) ∷ log) g))
 given_up_is n (Says (event.Broken m cause) ∷ log) g = (log, inr (cause, g.1, ap (λ k. Says (event.Broken k cause) ∷ log) g.0))
 given_up_is n (Says (event.Upgraded key) ∷ log) g = absurd g
@@ -63,19 +65,32 @@ given_up_is n (Says event.Shut ∷ log) g = absurd g
 
 module _ {P H : Type 0} (step : H → HandlerCall → H → Type 0) (fails : H → Asked → ℕ → Type 0) (is_closed is_finished : H → Bool)
     (inbound_makes outbound_makes : P → ℕ → List ℕ → H → Type 0) (eager : ℕ → Bool) (names : List (List ℕ)) (peer : List ℕ) (role : Role) where
+  abbrev asked_by : (log : List (Entry H)) (n : ℕ) (there : is_there step fails is_closed is_finished inbound_makes outbound_makes eager names peer role log n)
+      (handler : H) (request : Asked) → AskedSo step fails is_closed is_finished inbound_makes outbound_makes eager names peer role log n there handler request
+      → may_be_asked step fails is_closed is_finished inbound_makes outbound_makes eager names peer role log n request
+  asked_by log n there handler request h = record { there = there; handler = handler; held = h.0; asked_for = h.1; in_turn = h.2; talking = h.3; agreed_on = h.4; going = h.5 }
+
   pub any_coming : AnyComingRows step fails is_closed is_finished inbound_makes outbound_makes eager names peer role
   any_coming = record {
-    come = λ log n so_far rest side got ended sent made. record { side_is = side; rest = rest; got_is = got; ended_by = ended; sent_is = sent; made_is = made };
-    come_is = λ log n so_far c. (c.rest, c.side_is, c.got_is, c.ended_by, c.sent_is, c.made_is);
+    come = λ log n so_far rest side got ended sent made calls.
+        record { side_is = side; rest = rest; got_is = got; ended_by = ended; sent_is = sent; made_is = made; calls_is = calls };
+    come_is = λ log n so_far c. (c.rest, c.side_is, c.got_is, c.ended_by, c.sent_is, c.made_is, c.calls_is);
     there = λ log n so_far stream come stands. record { so_far = so_far; stream = stream; come = come; stands = stands };
     there_is = λ log n t. (t.so_far, t.stream, t.come, t.stands);
     there_by_name = λ log n t. (t.come, t.stands);
     asked_to_take = λ log n so_far waiting bytes. (λ h. h, λ h. h);
     asked_to_end = λ log n so_far waiting. (λ h. h, λ h. h);
     asked_to_give = λ log n room so_far waiting. (λ h. h, λ h. h);
-    fails_by = λ log n number there handler request held asked turn by talking agreed_on.
-        record { there = there; handler = handler; held = held; request = request; asked_for = asked; in_turn = turn; fails_by = by; talking = talking; agreed_on = agreed_on };
-    fails_by_is = λ log n number f. (f.there, f.handler, f.request, f.held, f.asked_for, f.in_turn, f.fails_by, f.talking, f.agreed_on);
+    asked_so = λ log n request. (
+      λ a. (a.there, a.handler, (a.held, a.asked_for, a.in_turn, a.talking, a.agreed_on, a.going)),
+      λ h. asked_by log n h.0 h.1 request h.2,
+    );
+    asked_by_name = λ log n request a. (a.held, a.asked_for, a.in_turn, a.talking, a.agreed_on, a.going);
+    fails_by = λ log n number there handler request so by. record { request = request; asked = asked_by log n there handler request so; fails_by = by };
+    fails_by_is = λ log n number f.
+        let a = f.asked in
+        (a.there, a.handler, f.request, (a.held, a.asked_for, a.in_turn, a.talking, a.agreed_on, a.going), f.fails_by);
+    fails_by_name = λ log n number f. (f.asked, f.fails_by);
     takes_in_turn = λ log n stage so_far handler bytes. (λ h. h, λ h. h);
     ends_in_turn = λ log n stage so_far handler. (λ h. h, λ h. h);
     gives_in_turn = λ log n stage so_far handler room. (λ h. h, λ h. h);
@@ -103,8 +118,9 @@ module _ {P H : Type 0} (step : H → HandlerCall → H → Type 0) (fails : H �
         },
       ),
     );
-    done = λ log n handler so_far waiting come all served finished asked. record { so_far = so_far; waiting = waiting; come = come; all_came = all; served = served; finished = finished; asked = asked };
-    done_is = λ log n handler d. (d.so_far, d.waiting, d.come, d.all_came, d.served, d.finished, d.asked);
+    done = λ log n handler so_far waiting come all served finished asked none.
+        record { so_far = so_far; waiting = waiting; come = come; all_came = all; served = served; finished = finished; asked = asked; none_waits = none };
+    done_is = λ log n handler d. (d.so_far, d.waiting, d.come, d.all_came, d.served, d.finished, d.asked, d.none_waits);
     gave = λ log n there came none asked told same. record { there = there; all_came = came; none_waits = none; asked = asked; was_told = told; not_given_up = same };
     gave_is = λ log n g. (g.there, g.all_came, g.none_waits, g.asked, g.was_told, g.not_given_up);
     gave_by_name = λ log n g. (g.all_came, g.none_waits, g.asked, g.was_told);
@@ -121,6 +137,7 @@ module _ {P H : Type 0} (step : H → HandlerCall → H → Type 0) (fails : H �
   made_is [] n handler m = absurd m
   made_is (Of x ∷ log) n handler m = absurd m
   made_is (Made k other ∷ log) n handler m = absurd m
+  made_is (Calls k call ∷ log) n handler m = absurd m
   made_is (Asks k index ∷ log) n handler m = (index, log, inr (ap (λ it. Asks it index ∷ log) m.0))
   made_is (Says (event.Agreed k index) ∷ log) n handler m = (index, log, inl (ap (λ it. Says (event.Agreed it index) ∷ log) m.0))
   made_is (Says (event.Upgraded key) ∷ log) n handler m = absurd m
@@ -155,6 +172,7 @@ module _ {P H : Type 0} (step : H → HandlerCall → H → Type 0) (fails : H �
     of_no_stream = λ log key fault. (λ h. h, λ h. h, λ h. h);
     made = λ log n handler. (λ h. h, λ h. h);
     asked_for = λ log n index. (λ h. h, λ h. h);
+    answered = λ log n room bytes. ((λ h. h, λ h. h), (λ h. h, λ h. h), (λ h. h, λ h. h));
     made_inbound = λ log n m index handler e. rw e (λ h. h, λ h. h);
     made_outbound = λ log n m index handler e. rw e (λ h. h, λ h. h);
     made_early = λ log n m index handler e. rw e (λ h. h, λ h. h);
@@ -208,6 +226,7 @@ module _ {P H : Type 0} (step : H → HandlerCall → H → Type 0) (fails : H �
     acted = λ act log. (λ r. r, λ r. r);
     told = λ e log. (λ r. r, λ r. r);
     made = λ n handler log. (λ r. r, λ r. r);
+    answered = λ n call log. (λ r. r, λ r. r);
     grows = λ making newer log before fed sent session streams past unasked makes rested at_rest.
         record { newer = newer; told_is = refl; unasked = unasked; makes = makes; rested = rested; at_rest = at_rest };
     grows_is = λ making log before after fed sent session streams past g. (g.newer, g.told_is, g.unasked, g.makes, g.rested, g.at_rest);

@@ -20,9 +20,10 @@ any_told = record {
   no_credit = λ n b fault. (tt, tt, tt, tt, tt, tt, tt);
   nothing_more = λ ended. tt;
   a_byte = λ ended m b rest. (λ h. h, λ h. h);
+  a_credit = λ ended m rest. (λ h. h, λ h. h);
   its_end = λ ended m rest. (λ h. h, λ h. h);
   a_reset = λ ended m rest. (λ h. h, λ h. h);
-  passed = λ ended m rest. ((λ h. h, λ h. h), (λ h. h, λ h. h), (λ h. h, λ h. h), (λ h. h, λ h. h));
+  passed = λ ended m rest. ((λ h. h, λ h. h), (λ h. h, λ h. h), (λ h. h, λ h. h));
   passed_fault = λ ended fault rest. (λ h. h, λ h. h);
   none_aside = λ n. refl;
   aside = λ n it e. rw e refl;
@@ -34,7 +35,7 @@ any_told = record {
   held_alive = λ live it. (λ h. h, λ h. h);
   keeps_turn = tt;
   turns = λ x n index log. (λ h. h, λ h. h);
-  keeps = λ act e n handler log. ((λ h. h, λ h. h), (λ h. h, λ h. h), (λ h. h, λ h. h));
+  keeps = λ act e n handler call log. ((λ h. h, λ h. h), (λ h. h, λ h. h), (λ h. h, λ h. h), (λ h. h, λ h. h));
   resets = λ role past fed sent n old session. (λ h. h, λ h. h);
   for_it = λ n m bytes. ((λ h. h, λ h. h), (λ h. h, λ h. h), (λ h. h, λ h. h), (λ h. h, λ h. h), (λ h. h, λ h. h), (λ h. h, λ h. h));
   for_none = λ n code fault. (tt, tt);
@@ -67,8 +68,13 @@ module _ {P H : Type 0} (step : H → HandlerCall → H → Type 0) (fails : H �
     (inbound_makes outbound_makes : P → ℕ → List ℕ → H → Type 0) (eager : ℕ → Bool) (names : List (List ℕ)) (peer : List ℕ) (role : Role) where
   pub any_routes : AnyRouteRows step fails is_closed is_finished inbound_makes outbound_makes eager names peer role
   any_routes = record {
-    moves = λ log n view rest stream held unfinished over settled. record { held = held; unfinished = unfinished; over_by_end = over; settled = settled };
-    moves_is = λ log n view rest stream m. (m.held, m.unfinished, m.over_by_end, m.settled);
+    moves = λ log n view rest stream held unfinished over anew settled.
+        record { held = held; unfinished = unfinished; over_by_end = over; anew = anew; settled = settled };
+    moves_is = λ log n view rest stream m. (m.held, m.unfinished, m.over_by_end, m.anew, m.settled);
+    served = λ log n view rest stream. (
+      λ s. (s.held, s.over_by_end, s.last, s.anew),
+      λ h. record { held = h.0; over_by_end = h.1; last = h.2; anew = h.3 },
+    );
     others = λ log fed sent session streams past n view rest. (
       λ a. (
         a.session_stands,
@@ -78,6 +84,7 @@ module _ {P H : Type 0} (step : H → HandlerCall → H → Type 0) (fails : H �
         (λ m ne. a.others_kept m (ne_eqb n m ne)),
         a.resets_told,
         a.reset_came,
+        a.end_told,
         a.end_came,
         a.heard,
         a.opens_none,
@@ -95,14 +102,15 @@ module _ {P H : Type 0} (step : H → HandlerCall → H → Type 0) (fails : H �
         others_kept = λ m apart. h.4 m (not_same m n apart);
         resets_told = h.5;
         reset_came = h.6;
-        end_came = h.7;
-        heard = h.8;
-        opens_none = h.9;
-        ends_last = h.10;
-        earlier = h.11;
-        past_is = h.12;
-        in_turn = h.13;
-        turn_is = h.14;
+        end_told = h.7;
+        end_came = h.8;
+        heard = h.9;
+        opens_none = h.10;
+        ends_last = h.11;
+        earlier = h.12;
+        past_is = h.13;
+        in_turn = h.14;
+        turn_is = h.15;
       },
     );
     all = λ log fed sent session streams past n view rest. (

@@ -6,8 +6,9 @@ use Rattle.yamux_session.specs.declared.event.Role.{Role}
 use Rattle.yamux_session.specs.History.{Item}
 use Rattle.yamux_session.specs.History.Item.{Did}
 use Rattle.streams.specs.Handled.{AskedLast}
-use Rattle.streams.specs.State.{is_talking, handler_of, holds}
-use Rattle.streams.specs.Streams.{IsAsking}
+use Rattle.streams.specs.State.{Streaming, is_talking, handler_of, holds}
+use Rattle.streams.specs.Streams.{Past, IsAsking, with_call}
+use Rattle.serving.specs.Served.{MayBeAsked, Asking}
 use Rattle.row_check.specs.AnyStreamRows.{AnyStageRows, AnyHearingRows, AnyStandingRows, AnyServingRows, AnyDirectionRows, AnyRoutingRows}
 
 -- either of two
@@ -32,6 +33,9 @@ any_stages = record {
   over = λ test. (refl, refl, refl);
   holds_is = λ stage. by_held (handler_of stage);
   is_fresh = λ side made. refl;
+  answers = λ talk held handler index call. (refl, refl, refl, refl, refl);
+  calls_on = λ calls call. (refl, refl);
+  called = λ past call. refl;
   goes_on = λ old new. (λ h. h, λ h. h);
   serves_then = λ old new handler index used e. rw e (λ h. h, λ h. h);
   awaits_then = λ old new index used e. rw e (λ h. h, λ h. h);
@@ -67,14 +71,14 @@ some_is found fact h x e = subst (λ o. IfSome o fact) e h
 module _ {H : Type 0} (step : H → HandlerCall → H → Type 0) where
   pub any_standing : AnyStandingRows step
   any_standing = record {
-    handled = λ made value bytes ended was. record { was_handed = was; gave_is = refl; asked = tt };
-    handled_left = λ made value bytes ended left was last. record { was_handed = was; gave_is = refl; asked = last };
-    handled_is = λ made value bytes gave ended left h. (h.was_handed, h.gave_is, λ n e. some_is left (λ k. AskedLast h.was_handed.calls k) h.asked n e);
+    handled = λ made value bytes ended was. record { was_handed = was; calls_are = refl; gave_is = refl; asked = tt };
+    handled_left = λ made value bytes ended left was last. record { was_handed = was; calls_are = refl; gave_is = refl; asked = last };
+    handled_is = λ made value calls bytes gave ended left h. (h.was_handed, h.calls_are, h.gave_is, λ n e. some_is left (λ k. AskedLast h.was_handed.calls k) h.asked n e);
     agreed = λ past index first rest output gave waiting got agrees sent. record { first = first; output = output; got_is = got; agrees = agrees; sent_is = sent };
     agreed_is = λ past index rest gave waiting a. (a.first, a.output, a.got_is, a.agrees, a.sent_is);
     awaits = λ past index waiting. (
-      λ a. (a.agreed, a.none_made, a.none_asked, a.not_ended),
-      λ h. record { agreed = h.0; none_made = h.1; none_asked = h.2; not_ended = h.3 },
+      λ a. (a.agreed, a.none_made, a.none_asked, a.none_called, a.not_ended),
+      λ h. record { agreed = h.0; none_made = h.1; none_asked = h.2; none_called = h.3; not_ended = h.4 },
     );
     none_early = λ past gave. (λ h. h, λ h. h);
     early = λ past handler gave. (
@@ -114,8 +118,23 @@ module _ {H : Type 0} (step : H → HandlerCall → H → Type 0) where
   }
 
 module _ {H : Type 0} (step : H → HandlerCall → H → Type 0) (fails : H → Asked → ℕ → Type 0) (is_closed is_finished : H → Bool) where
+  asked_once : (role : Role) (past : List Item) (n : ℕ) (stream : Streaming H) (so_far : Past H) (came : Past H → Bool) (call : Option HandlerCall)
+      → IfSome call (MayBeAsked is_closed role past n stream) → came (with_call so_far call) ≡ true
+      → (came so_far ≡ true) ⊎ ((one : HandlerCall) × MayBeAsked is_closed role past n stream one × (came (record so_far { calls = so_far.calls ++ one ∷ [] }) ≡ true))
+  asked_once role past n stream so_far came None may e = inl e
+  asked_once role past n stream so_far came (Some one) may e = inr (one, may, e)
+
+  asks_so : (role : Role) (past : List Item) (n : ℕ) (stream : Streaming H) (so_far : Past H) (came : Past H → Bool)
+      → (came so_far ≡ true) ⊎ ((one : HandlerCall) × MayBeAsked is_closed role past n stream one × (came (record so_far { calls = so_far.calls ++ one ∷ [] }) ≡ true))
+      → Asking is_closed role past n stream so_far (λ now. came now ≡ true)
+  asks_so role past n stream so_far came (inl e) = (None, tt, e)
+  asks_so role past n stream so_far came (inr h) = (Some h.0, h.1, h.2)
+
   pub any_serving : (was_done : Bool) → AnyServingRows step fails is_closed is_finished was_done
   any_serving was_done = record {
+    asks_to_give = λ role past n room stream bytes. (λ h. h, λ h. h);
+    asks_nothing_else = λ role past n stream bytes. (λ h. h, λ h. h);
+    asking = λ role past n stream so_far came. (λ h. asked_once role past n stream so_far came h.0 h.1 h.2, asks_so role past n stream so_far came);
     sent = λ role past n so_far left. refl;
     writes = λ role past n m so_far pieces. (
       λ h. (h.0, (h.1.stream, h.1.left, h.1.stands)),

@@ -30,10 +30,10 @@ use Rattle.streams.specs.Handled.{AskedLast}
 use Rattle.streams.specs.Rows.{calls, served_past}
 use Rattle.streams.proofs.Deciding.{one_answer, one_split}
 use Rattle.streams.proofs.Hearing.{open_before}
-use Rattle.streams.proofs.Rows.{early_rows, hears_rows, stream_rows, sends_its_talk}
+use Rattle.streams.proofs.Rows.{hears_rows, stream_rows, sends_its_talk}
 use Rattle.row_check.specs.StreamRows.{asking, asking_early, asked, gave_9}
-use Rattle.row_check.specs.StandingRows.{AnsweredRows, UsedRows, TalkingRows, BehindRows, ServingRows, GivesBack, back_past, asking_talk}
-use Rattle.row_check.proofs.StreamRows.{place_rows}
+use Rattle.row_check.specs.StandingRows.{AnsweredRows, UsedRows, TalkingRows, BehindRows, ServingRows, GivesBack, back_past, back_by, asking_talk}
+use Rattle.row_check.proofs.StreamRows.{early_gave, place_rows}
 
 -- whatever came, the end that asks has written its question
 wrote : (input output : List ℕ) (standing : Result Answer SelectFault) → Talks asks input standing output → output ≡ question
@@ -47,6 +47,10 @@ notes made value (call ∷ acts) arises =
 
 made_so : (some made : List HandlerCall) → Some some ≡ Some made → some ≡ made
 made_so some made e = cc e
+
+-- one that was made with none noted has noted what it was called
+noted_so : (value made acts : List HandlerCall) → Some [] ≡ Some made → Arises Noting made acts value → acts ≡ value
+noted_so value made acts is arises = ap (λ t. t ++ acts) (made_so [] made is) ∙ notes made value acts arises
 
 -- ---- what is heard
 
@@ -125,13 +129,13 @@ pub while_talking : TalkingRows
 while_talking = record {
   here = λ waiting. (
     all_waits asking_talk waiting,
-    λ is. record { output = question; gave = []; going = asking_goes; early = (refl, refl, refl); sent_is = is; not_ended = refl },
+    λ is. record { output = question; gave = []; going = asking_goes; early = (refl, refl, refl, refl); sent_is = is; not_ended = refl },
   );
   here_early = λ waiting. (
     λ t.
         let output = wrote header_bytes t.output (Ok Going) (open_before asks asking_talk header_bytes t.output t.going) in
         t.sent_is ∙ ap (λ (o : List ℕ). o ++ t.gave) output ∙ ap (λ (g : List ℕ). question ++ g) (gave_so t.gave t.early),
-    λ is. record { output = question; gave = 9 ∷ []; going = asking_goes; early = early_rows.gave; sent_is = is; not_ended = refl },
+    λ is. record { output = question; gave = 9 ∷ []; going = asking_goes; early = early_gave; sent_is = is; not_ended = refl },
   );
   waits = all_waits;
   sent = λ talk waiting t.
@@ -142,6 +146,7 @@ while_talking = record {
   ended = λ talk waiting t. absurd (let not_ended = t.not_ended in cc not_ended);
   lost = λ talk waiting t. absurd (let none = t.early.0 in cc none);
   none_asked = λ gave e. absurd (let none = e.1 in cc none);
+  none_called = λ gave e. absurd (let none = e.3 in cc none);
   other_room = λ e.
       let made = made_so [] e.1.0 e.1.1 in
       let all : e.1.2.was_handed.calls ≡ gave_9 =
@@ -149,11 +154,12 @@ while_talking = record {
       let last = subst (λ (t : List HandlerCall). AskedLast t 3) all e.1.2.asked in
       one_asked last.before last.room last.bytes last.calls_are last.left_is;
   not_made = λ gave e. absurd (let none = e.1.1 in cc none);
-  other_made = λ e.
+  other_made = λ by e.
       let made = made_so (End ∷ []) e.1.0 e.1.1 in
       let all : End ∷ e.1.2.was_handed.calls ≡ gave_9 =
       ap (λ t. t ++ e.1.2.was_handed.calls) made ∙ notes e.1.0 gave_9 e.1.2.was_handed.calls e.1.2.was_handed.arises in
       absurd (cc all);
+  other_calls = λ by gave e. sym e.1.2.calls_are ∙ noted_so gave_9 e.1.0 e.1.2.was_handed.calls e.1.1 e.1.2.was_handed.arises;
   data_behind = λ index waiting a.
       let past = record asked { got = header_bytes ++ x_bytes ++ 7 ∷ [] } in
       let output = wrote a.agreed.first a.agreed.output (Ok (Agreed index)) a.agreed.agrees in
@@ -226,7 +232,7 @@ behind_pieces = record {
       output = question;
       gave = [];
       hears = (na_bytes, [], refl, ask_rows.turned_down);
-      early = (refl, refl, refl);
+      early = (refl, refl, refl, refl);
       sent_is = ap (λ (t : List ℕ). header_bytes ++ t) is;
     },
   );
@@ -240,7 +246,7 @@ behind_pieces = record {
       output = question;
       gave = [];
       runs_out = ask_rows.memory;
-      early = (refl, refl, refl);
+      early = (refl, refl, refl, refl);
       sent_is = ap (λ (t : List ℕ). header_bytes ++ t) is;
     },
   );
@@ -248,9 +254,9 @@ behind_pieces = record {
     λ r.
         let output = wrote (header_bytes ++ take r.runs_out.n (3 ∷ 47 ∷ [])) r.output (Ok Going) r.runs_out.before in
         r.sent_is ∙ ap (λ (t : List ℕ). t ++ r.gave) output ∙ ap (λ (t : List ℕ). question ++ t) (gave_so r.gave r.early),
-    λ is. record { output = question; gave = 9 ∷ []; runs_out = ask_rows.memory; early = early_rows.gave; sent_is = is },
+    λ is. record { output = question; gave = 9 ∷ []; runs_out = ask_rows.memory; early = early_gave; sent_is = is },
   );
-  to_the_talk = inl (record { output = question; gave = []; runs_out = ask_rows.memory; early = (refl, refl, refl); sent_is = refl });
+  to_the_talk = inl (record { output = question; gave = []; runs_out = ask_rows.memory; early = (refl, refl, refl, refl); sent_is = refl });
   no_piece = no_piece;
   behind_data = record {
     front = z_bytes;
@@ -283,15 +289,15 @@ comes_back made value (End ∷ acts) arises = absurd arises.1
 abbrev both : List ℕ
 both = header_bytes ++ y_bytes
 
-back_split : HasAgreed back_past 1 (1 ∷ 2 ∷ []) (2 ∷ []) (y_bytes ++ 2 ∷ [])
-back_split = record { first = both; output = both; got_is = refl; agrees = answer_rows.agreed; sent_is = refl }
+back_split : (by : List HandlerCall) → HasAgreed (back_past by) 1 (1 ∷ 2 ∷ []) (2 ∷ []) (y_bytes ++ 2 ∷ [])
+back_split by = record { first = both; output = both; got_is = refl; agrees = answer_rows.agreed; sent_is = refl }
 
 begins_so : (made : List ℕ) → Some [] ≡ Some made → [] ≡ made
 begins_so made e = cc e
 
-not_the_last : ¬ IsDone GivesBack back_past (y_bytes ++ 2 ∷ [])
-not_the_last d =
-    let split = one_split back_past d.index 1 (d.front ++ d.rest) (1 ∷ 2 ∷ []) d.gave (2 ∷ []) (y_bytes ++ 2 ∷ []) d.agreed back_split in
+not_the_last : (by : List HandlerCall) → ¬ IsDone GivesBack (back_past by) (y_bytes ++ 2 ∷ [])
+not_the_last by d =
+    let split = one_split (back_past by) d.index 1 (d.front ++ d.rest) (1 ∷ 2 ∷ []) d.gave (2 ∷ []) (y_bytes ++ 2 ∷ []) d.agreed (back_split by) in
     let h = d.handled.was_handed in
     let arises = subst (λ (m : List ℕ). Arises GivesBack m h.calls d.handler) (sym (begins_so d.made d.made_is)) h.arises in
     let back = comes_back [] d.handler h.calls arises in
@@ -304,11 +310,12 @@ not_the_last d =
 pub serving_rows : ServingRows
 serving_rows = record {
   not_made = λ value waiting s. absurd (let none = s.made_is in cc none);
-  other_made = λ waiting s.
+  other_made = λ by waiting s.
       let made = made_so (Give 1 [] ∷ []) s.made s.made_is in
       let all : Give 1 [] ∷ s.handled.was_handed.calls ≡ calls =
       ap (λ t. t ++ s.handled.was_handed.calls) made ∙ notes s.made calls s.handled.was_handed.calls s.handled.was_handed.arises in
       absurd (cc all);
+  other_calls = λ by waiting s. sym s.handled.calls_are ∙ noted_so calls s.made s.handled.was_handed.calls s.made_is s.handled.was_handed.arises;
   waits = λ waiting. (
     λ s.
         let made = made_so [] s.made s.made_is in
@@ -333,7 +340,8 @@ serving_rows = record {
     agreed = record { first = both; output = both; got_is = refl; agrees = answer_rows.agreed; sent_is = refl };
     made_is = refl;
     handled = record {
-      was_handed = record { calls = Take (1 ∷ []) ∷ Give 5 (1 ∷ []) ∷ []; arises = (1 ∷ [], (refl, refl), ([], (refl, refl), refl)); joined = refl; ends = refl };
+      was_handed = record { calls = back_by (1 ∷ []); arises = (1 ∷ [], (refl, refl), ([], (refl, refl), refl)); joined = refl; ends = refl };
+      calls_are = refl;
       gave_is = refl;
       asked = tt;
     };
@@ -350,7 +358,8 @@ serving_rows = record {
     agreed = record { first = both; output = both; got_is = refl; agrees = answer_rows.agreed; sent_is = refl };
     made_is = refl;
     handled = record {
-      was_handed = record { calls = Take (1 ∷ 2 ∷ []) ∷ Give 5 (1 ∷ 2 ∷ []) ∷ []; arises = (1 ∷ 2 ∷ [], (refl, refl), ([], (refl, refl), refl)); joined = refl; ends = refl };
+      was_handed = record { calls = back_by (1 ∷ 2 ∷ []); arises = (1 ∷ 2 ∷ [], (refl, refl), ([], (refl, refl), refl)); joined = refl; ends = refl };
+      calls_are = refl;
       gave_is = refl;
       asked = tt;
     };

@@ -4,6 +4,7 @@
 use Rattle.std.specs.Prelude.{◌≡◌, ◌≢◌, ◌⊎◌, ◌↔◌, ℕ, suc, Bool, true, false, List, [], ◌∷◌, ◌++◌}
 use Rattle.std.specs.Prelude.{Some, None, IsSome}
 use Rattle.peer_ids.specs.Key.{Key}
+use Rattle.handlers.specs.Calls.{HandlerCall, Take, Give, End, ToTake, ToGive, ToEnd}
 use Rattle.yamux_frames.specs.declared.header.Header.{Header}
 use Rattle.yamux_frames.specs.Frames.{Arrival, last_stream}
 use Rattle.yamux_frames.specs.Frames.Arrival.{Head, Byte, Tail, Garbled}
@@ -23,12 +24,13 @@ use Rattle.conn_log.specs.declared.event.ConnEvent.{ConnEvent}
 use Rattle.conn_log.specs.declared.event.ConnEvent.TheVariants as event
 use Rattle.conn_log.specs.declared.event.ConnFault.{ConnFault}
 use Rattle.conn_log.specs.Entries.{Entry, items, said, asks, asked, agreement, agreed, is_over, was_done, made_in}
-use Rattle.conn_log.specs.Entries.{made_of}
+use Rattle.conn_log.specs.Entries.{made_of, calls_in, calls_of}
 use Rattle.conn_log.specs.Entries.{is_kept, left_behind, put_aside}
-use Rattle.conn_log.specs.Entries.Entry.{Of, Says, Made, Asks}
+use Rattle.conn_log.specs.Entries.Entry.{Of, Says, Made, Asks, Calls}
 use Rattle.conn_log.specs.Turns.{turn, about, AreInTurn}
 use Rattle.conn_log.specs.Held.{earlier_of}
 use Rattle.conn_log.specs.Due.{direction_of, told_reset, was_reset, told_end, end_was_told, HasJustAgreed, IsGivenUp}
+use Rattle.conn_log.specs.Due.{asks_for, IsAskedAnew}
 use Rattle.conn_log.specs.Making.{Leads, AreMadeInTurn, MakesOn}
 use Rattle.conn_log.specs.Asked.{IsEarly, told_of, AreMadeEarly, IsBrokenOf}
 
@@ -38,7 +40,8 @@ use Rattle.conn_log.specs.Asked.{IsEarly, told_of, AreMadeEarly, IsBrokenOf}
 pub record AnyListRows (H : Type 0) : Type 0 where
   -- there is no other entry
   pub entries : (entry : Entry H) → ((x : Item) × (entry ≡ Of x)) ⊎ (((e : ConnEvent H) × (entry ≡ Says e))
-      ⊎ (((n : ℕ) × (handler : H) × (entry ≡ Made n handler)) ⊎ ((n : ℕ) × (index : ℕ) × (entry ≡ Asks n index))))
+      ⊎ (((n : ℕ) × (handler : H) × (entry ≡ Made n handler)) ⊎ (((n : ℕ) × (index : ℕ) × (entry ≡ Asks n index))
+      ⊎ ((n : ℕ) × (call : HandlerCall) × (entry ≡ Calls n call)))))
   pub none : (items {H = H} [] ≡ []) × (said {H = H} [] ≡ []) × (asks {H = H} [] ≡ [])
   pub an_item : (x : Item) (log : List (Entry H))
       → (items (Of x ∷ log) ≡ x ∷ items log) × (said (Of x ∷ log) ≡ said log) × (asks (Of x ∷ log) ≡ asks log)
@@ -48,35 +51,48 @@ pub record AnyListRows (H : Type 0) : Type 0 where
       × (said (Made n handler ∷ log) ≡ said log) × (asks (Made n handler ∷ log) ≡ asks log)
   pub opened : (n index : ℕ) (log : List (Entry H)) → (items (Asks n index ∷ log) ≡ Did (Start n) ∷ items log)
       × (said (Asks n index ∷ log) ≡ said log) × (asks (Asks n index ∷ log) ≡ asks log ++ (n, index) ∷ [])
+  pub answered : (n : ℕ) (call : HandlerCall) (log : List (Entry H)) → (items (Calls n call ∷ log) ≡ items log)
+      × (said (Calls n call ∷ log) ≡ said log) × (asks (Calls n call ∷ log) ≡ asks log)
   -- for which protocol a stream was opened
   pub asked_of_none : (n : ℕ) → asked {H = H} [] n ≡ None
   pub asked_for : (n index : ℕ) (log : List (Entry H)) → asked (Asks n index ∷ log) n ≡ Some index
   pub asked_for_another : (n m index : ℕ) (log : List (Entry H)) → m ≢ n → asked (Asks m index ∷ log) n ≡ asked log n
-  pub asked_before : (n m : ℕ) (x : Item) (e : ConnEvent H) (handler : H) (log : List (Entry H))
+  pub asked_before : (n m : ℕ) (x : Item) (e : ConnEvent H) (handler : H) (call : HandlerCall) (log : List (Entry H))
       → (asked (Of x ∷ log) n ≡ asked log n) × (asked (Says e ∷ log) n ≡ asked log n)
-      × (asked (Made m handler ∷ log) n ≡ asked log n)
+      × (asked (Made m handler ∷ log) n ≡ asked log n) × (asked (Calls m call ∷ log) n ≡ asked log n)
   -- which handler was made, wherever it stands
   pub made_of_none : (n : ℕ) → made_in {H = H} n [] ≡ None
   pub made_for_it : (n : ℕ) (handler : H) (log : List (Entry H)) → made_in n (Made n handler ∷ log) ≡ Some handler
   pub made_for_another : (n m : ℕ) (handler : H) (log : List (Entry H)) → m ≢ n
       → made_in n (Made m handler ∷ log) ≡ made_in n log
-  pub made_before : (n m index : ℕ) (x : Item) (e : ConnEvent H) (log : List (Entry H))
+  pub made_before : (n m index : ℕ) (x : Item) (e : ConnEvent H) (call : HandlerCall) (log : List (Entry H))
       → (made_in n (Of x ∷ log) ≡ made_in n log) × (made_in n (Says e ∷ log) ≡ made_in n log)
-      × (made_in n (Asks m index ∷ log) ≡ made_in n log)
+      × (made_in n (Asks m index ∷ log) ≡ made_in n log) × (made_in n (Calls m call ∷ log) ≡ made_in n log)
+  -- which calls were answered, in order
+  pub called_none : (n : ℕ) → calls_in {H = H} n [] ≡ []
+  pub called : (n : ℕ) (call : HandlerCall) (log : List (Entry H))
+      → calls_in n (Calls n call ∷ log) ≡ calls_in n log ++ call ∷ []
+  pub called_another : (n m : ℕ) (call : HandlerCall) (log : List (Entry H)) → m ≢ n
+      → calls_in n (Calls m call ∷ log) ≡ calls_in n log
+  pub called_before : (n m index : ℕ) (x : Item) (e : ConnEvent H) (handler : H) (log : List (Entry H))
+      → (calls_in n (Of x ∷ log) ≡ calls_in n log) × (calls_in n (Says e ∷ log) ≡ calls_in n log)
+      × (calls_in n (Made m handler ∷ log) ≡ calls_in n log) × (calls_in n (Asks m index ∷ log) ≡ calls_in n log)
   pub no_agreement : (n : ℕ) → agreement {H = H} n None ≡ []
   pub an_agreement : (n index : ℕ) → agreement {H = H} n (Some index) ≡ event.Agreed n index ∷ []
 
--- nothing was told or made of the stream since it was opened
+-- nothing was told, made or answered of the stream since it was opened
 abbrev pub IsNew : {H : Type 0} → Role → List (Entry H) → ℕ → Type 0
 IsNew role log n = (agreed role log n ≡ None) × (is_over role log n ≡ false) × (was_done role log n ≡ false)
-    × (made_of role log n ≡ None)
+    × (made_of role log n ≡ None) × (calls_of role log n ≡ [])
 
 -- the longer list says the same of it as the other
 abbrev pub SaysSame : {H : Type 0} → Role → List (Entry H) → List (Entry H) → ℕ → Type 0
 SaysSame role longer log n = (agreed role longer n ≡ agreed role log n) × (is_over role longer n ≡ is_over role log n)
     × (was_done role longer n ≡ was_done role log n) × (made_of role longer n ≡ made_of role log n)
+    × (calls_of role longer n ≡ calls_of role log n)
 
--- On what a stream agrees, whether its last event and its Done were told, and its handler: at any entry
+-- On what a stream agrees, whether its last event and its Done were told, its handler, and what that answered: at any
+-- entry
 pub record AnyStreamEntryRows (H : Type 0) : Type 0 where
   pub none : (role : Role) (n : ℕ) → IsNew {H = H} role [] n
   pub opened : (role : Role) (n : ℕ) (x : Item) (log : List (Entry H)) → opens role (items log) x n ≡ true
@@ -92,10 +108,21 @@ pub record AnyStreamEntryRows (H : Type 0) : Type 0 where
       → (agreed role (Made m handler ∷ log) n ≡ agreed role log n)
       × (is_over role (Made m handler ∷ log) n ≡ is_over role log n)
       × (was_done role (Made m handler ∷ log) n ≡ was_done role log n)
+      × (calls_of role (Made m handler ∷ log) n ≡ calls_of role log n)
   pub another_made : (role : Role) (n m : ℕ) (handler : H) (log : List (Entry H)) → m ≢ n
       → made_of role (Made m handler ∷ log) n ≡ made_of role log n
   pub told_makes_none : (role : Role) (n : ℕ) (e : ConnEvent H) (log : List (Entry H))
-      → made_of role (Says e ∷ log) n ≡ made_of role log n
+      → (made_of role (Says e ∷ log) n ≡ made_of role log n) × (calls_of role (Says e ∷ log) n ≡ calls_of role log n)
+  -- the newest call comes last
+  pub answered : (role : Role) (n : ℕ) (call : HandlerCall) (log : List (Entry H))
+      → calls_of role (Calls n call ∷ log) n ≡ calls_of role log n ++ call ∷ []
+  pub answered_alone : (role : Role) (n m : ℕ) (call : HandlerCall) (log : List (Entry H))
+      → (agreed role (Calls m call ∷ log) n ≡ agreed role log n)
+      × (is_over role (Calls m call ∷ log) n ≡ is_over role log n)
+      × (was_done role (Calls m call ∷ log) n ≡ was_done role log n)
+      × (made_of role (Calls m call ∷ log) n ≡ made_of role log n)
+  pub another_answered : (role : Role) (n m : ℕ) (call : HandlerCall) (log : List (Entry H)) → m ≢ n
+      → calls_of role (Calls m call ∷ log) n ≡ calls_of role log n
   pub agreed_on : (role : Role) (n index : ℕ) (log : List (Entry H))
       → (agreed role (Says (event.Agreed n index) ∷ log) n ≡ Some index)
       × (is_over role (Says (event.Agreed n index) ∷ log) n ≡ is_over role log n)
@@ -141,6 +168,9 @@ pub record AnyEarlierRows (H : Type 0) : Type 0 where
   pub asked_for : (role : Role) (n m index : ℕ) (log : List (Entry H))
       → (left_behind role (Asks m index ∷ log) n ≡ left_behind role log n)
       × (put_aside role (Asks m index ∷ log) ≡ put_aside role log)
+  pub answered : (role : Role) (n m : ℕ) (call : HandlerCall) (log : List (Entry H))
+      → (left_behind role (Calls m call ∷ log) n ≡ left_behind role log n)
+      × (put_aside role (Calls m call ∷ log) ≡ put_aside role log)
   -- the number of the stream that a head opens anew comes last
   pub put_last : (role : Role) (h : Header) (log : List (Entry H))
       → opens role (items log) (Came (Head h)) h.stream ≡ true
@@ -168,9 +198,9 @@ pub record AnyTurnRows (H : Type 0) : Type 0 where
   pub came : (x : Arrival) (log : List (Entry H))
       → turn (Of (Came x) ∷ log) ≡ Some (last_stream (x ∷ arrivals (items log)))
   pub head : (h : Header) (log : List (Entry H)) → turn (Of (Came (Head h)) ∷ log) ≡ Some h.stream
-  pub passed : (act : Act) (e : ConnEvent H) (n : ℕ) (handler : H) (log : List (Entry H))
+  pub passed : (act : Act) (e : ConnEvent H) (n : ℕ) (handler : H) (call : HandlerCall) (log : List (Entry H))
       → (turn (Of (Did act) ∷ log) ≡ turn log) × (turn (Says e ∷ log) ≡ turn log)
-      × (turn (Made n handler ∷ log) ≡ turn log)
+      × (turn (Made n handler ∷ log) ≡ turn log) × (turn (Calls n call ∷ log) ≡ turn log)
   pub asked_for : (n index : ℕ) (log : List (Entry H)) → turn (Asks n index ∷ log) ≡ Some n
   pub about_none : (x : Arrival) (n index code : ℕ) (key : Key) (fault : ConnFault)
       → (about {H = H} (Of (Came x)) ≡ None) × (about {H = H} (Asks n index) ≡ None)
@@ -179,10 +209,10 @@ pub record AnyTurnRows (H : Type 0) : Type 0 where
   pub about_acts : (n count : ℕ) (pieces : List (List ℕ)) → (about {H = H} (Of (Did (Start n))) ≡ Some n)
       × (about {H = H} (Of (Did (Write n pieces))) ≡ Some n) × (about {H = H} (Of (Did (Taken n count))) ≡ Some n)
       × (about {H = H} (Of (Did (Close n))) ≡ Some n) × (about {H = H} (Of (Did (Reset n))) ≡ Some n)
-  pub about_events : (n index : ℕ) (handler : H) (cause : Cause)
+  pub about_events : (n index : ℕ) (handler : H) (call : HandlerCall) (cause : Cause)
       → (about {H = H} (Says (event.Agreed n index)) ≡ Some n) × (about {H = H} (Says (event.Refused n)) ≡ Some n)
       × (about (Says (event.Done n handler)) ≡ Some n) × (about {H = H} (Says (event.Broken n cause)) ≡ Some n)
-      × (about (Made n handler) ≡ Some n)
+      × (about (Made n handler) ≡ Some n) × (about {H = H} (Calls n call) ≡ Some n)
   pub in_turn_of_none : AreInTurn {H = H} []
   pub in_turn : (entry : Entry H) (log : List (Entry H)) → AreInTurn (entry ∷ log)
       ↔ (((n : ℕ) → about entry ≡ Some n → turn log ≡ Some n) × AreInTurn log)
@@ -230,6 +260,16 @@ pub record AnyEndingRows (H : Type 0) : Type 0 where
   pub just_agreed_is : (n : ℕ) (log : List (Entry H)) → HasJustAgreed n log → (index : ℕ) × (older : List (Entry H))
       × ((log ≡ Says (event.Agreed n index) ∷ older)
       ⊎ ((handler : H) × (log ≡ Made n handler ∷ Says (event.Agreed n index) ∷ older)))
+  -- what a handler was asked for, by its call
+  pub asked_for : (room : ℕ) (bytes : List ℕ) → (asks_for (Take bytes) ≡ ToTake bytes)
+      × (asks_for (Give room bytes) ≡ ToGive room) × (asks_for End ≡ ToEnd)
+  -- one is asked to give behind each entry but acts, and what gave
+  pub anew_at_first : IsAskedAnew {H = H} []
+  pub anew : (x : Arrival) (e : ConnEvent H) (n index : ℕ) (handler : H) (bytes : List ℕ) (log : List (Entry H))
+      → IsAskedAnew (Of (Came x) ∷ log) × IsAskedAnew (Says e ∷ log) × IsAskedAnew (Made n handler ∷ log)
+      × IsAskedAnew (Asks n index ∷ log) × IsAskedAnew (Calls n (Take bytes) ∷ log) × IsAskedAnew (Calls n End ∷ log)
+  pub anew_behind_acts : (act : Act) (log : List (Entry H)) → IsAskedAnew (Of (Did act) ∷ log) ↔ IsAskedAnew log
+  pub not_anew : (n room : ℕ) (bytes : List ℕ) (log : List (Entry H)) → ¬ IsAskedAnew (Calls n (Give room bytes) ∷ log)
   -- what gives a stream up
   pub refused : (n m : ℕ) (log : List (Entry H)) → IsGivenUp n (Says (event.Refused m) ∷ log) ↔ (m ≡ n)
   pub broken : (n m : ℕ) (cause : Cause) (log : List (Entry H))
@@ -262,6 +302,9 @@ module _ {P H : Type 0} (inbound_leads outbound_leads : P → ℕ → List ℕ �
         ↔ AreMadeInTurn inbound_leads outbound_leads peer role first log now
     pub told : (first now : P) (e : ConnEvent H) (log : List (Entry H))
         → AreMadeInTurn inbound_leads outbound_leads peer role first (Says e ∷ log) now
+        ↔ AreMadeInTurn inbound_leads outbound_leads peer role first log now
+    pub answered : (first now : P) (n : ℕ) (call : HandlerCall) (log : List (Entry H))
+        → AreMadeInTurn inbound_leads outbound_leads peer role first (Calls n call ∷ log) now
         ↔ AreMadeInTurn inbound_leads outbound_leads peer role first log now
     pub asked_for : (first now : P) (n index : ℕ) (log : List (Entry H))
         → AreMadeInTurn inbound_leads outbound_leads peer role first (Asks n index ∷ log) now

@@ -4,7 +4,7 @@
 use Rattle.std.specs.Prelude.{◌≡◌, ◌≢◌, ◌⊎◌, ◌↔◌, ℕ, ◌<◌, Bool, true, false, List, [], ◌∷◌, ◌++◌, length, map, Option}
 use Rattle.std.specs.Prelude.{Some}
 use Rattle.std.specs.Prelude.{Ok, ◌+◌, ◌==◌, None, take, drop}
-use Rattle.std.specs.List.{AllByRecursion, Contains, position, remove}
+use Rattle.std.specs.List.{Contains, position, remove}
 use Rattle.handlers.specs.Calls.{HandlerCall, Asked}
 use Rattle.peer_ids.specs.Key.{Key}
 use Rattle.talks.specs.State.{Talking as Talk}
@@ -28,9 +28,9 @@ use Rattle.streams.specs.State.{Streaming, handler_of, was_handed_out}
 use Rattle.conn_log.specs.declared.earlier.Earlier.{Earlier}
 use Rattle.conn_log.specs.declared.event.ConnEvent.{ConnEvent}
 use Rattle.conn_log.specs.declared.event.ConnEvent.TheVariants as event
-use Rattle.conn_log.specs.Entries.{Entry, items, said, agreed, is_over, was_done, made_of}
+use Rattle.conn_log.specs.Entries.{Entry, items, said, agreed, is_over, was_done, made_of, calls_of}
 use Rattle.conn_log.specs.Held.{IsSide}
-use Rattle.conn_log.specs.Entries.Entry.{Of, Says, Made, Asks}
+use Rattle.conn_log.specs.Entries.Entry.{Of, Says, Made, Asks, Calls}
 use Rattle.held_order.specs.Orders.{without, with_if, without_if, lets_go, heard, newest_held, arranged}
 use Rattle.held_order.specs.Laws.{LetsGo, Arranges, times, numbers, of_number}
 use Rattle.conn_core.specs.declared.calls.ConnAct.{ConnAct}
@@ -48,9 +48,10 @@ pub record AnyOrderRows (H : Type 0) : Type 0 where
   pub none_yet : (role : Role) → newest_held {H = H} role [] ≡ []
   pub made : (role : Role) (log : List (Entry H)) (n : ℕ) (handler : H)
       → newest_held role (Made n handler ∷ log) ≡ n ∷ newest_held role log
-  pub passed : (role : Role) (log : List (Entry H)) (x : Item) (n index : ℕ)
+  pub passed : (role : Role) (log : List (Entry H)) (x : Item) (n index : ℕ) (call : HandlerCall)
       → (newest_held role (Of x ∷ log) ≡ newest_held role log)
       × (newest_held role (Asks n index ∷ log) ≡ newest_held role log)
+      × (newest_held role (Calls n call ∷ log) ≡ newest_held role log)
   pub hears : (role : Role) (log : List (Entry H)) (e : ConnEvent H)
       → newest_held role (Says e ∷ log) ≡ heard role log e (newest_held role log)
   pub agreed : (role : Role) (log : List (Entry H)) (n index : ℕ) (newest : List ℕ)
@@ -128,14 +129,14 @@ module _ {P H : Type 0} (step : H → HandlerCall → H → Type 0) (fails : H �
         → (side : Side) × (index : ℕ) × (first rest output gave : List ℕ) × (made : H) × (left : Option ℕ)
         × IsSide end (listed start) log n side × (inbound end (items log) n ≡ first ++ rest)
         × Agrees side first index output × (agreed end log n ≡ Some index) × (made_of end log n ≡ Some made)
-        × Handled step made rest (finished end (items log) n) gave left handler
+        × Handled step made (calls_of end log n) rest (finished end (items log) n) gave left handler
         × (written_on end (items log) n ++ stream.waiting ≡ output ++ gave) × (is_finished handler ≡ false)
         × AskedSo end log n stream handler left
     pub early_is : (end : Role) (log : List (Entry H)) (n : ℕ) (stream : Streaming H) (handler : H)
         → IsEarly step is_closed is_finished (listed start) end log n stream handler
         → (side : Side) × (output gave : List ℕ) × (made : H) × (left : Option ℕ) × (is_own end n ≡ true)
         × IsSide end (listed start) log n side × IsOpen side (inbound end (items log) n) output
-        × (made_of end log n ≡ Some made) × Handled step made [] false gave left handler
+        × (made_of end log n ≡ Some made) × Handled step made (calls_of end log n) [] false gave left handler
         × (written_on end (items log) n ++ stream.waiting ≡ output ++ gave) × AskedSo end log n stream handler left
     pub are_serving : AreServing step fails is_closed is_finished inbound_makes outbound_makes listed is_eager
         inbound_leads outbound_leads start role own → (session : State) (streams : ℕ → Option (Streaming H))

@@ -4,7 +4,7 @@
 use Rattle.std.specs.Prelude.{◌≡◌, ◌≢◌, ◌⊎◌, ◌↔◌, ℕ, suc, ◌<◌, ◌-◌, Bool, true, false, List, [], ◌∷◌, ◌++◌, length, map}
 use Rattle.std.specs.Prelude.{slice_get, Option, Some, None, IsSome}
 use Rattle.std.specs.List.{AllByRecursion}
-use Rattle.handlers.specs.Calls.{HandlerCall, Asked, ToTake, ToGive, ToEnd}
+use Rattle.handlers.specs.Calls.{HandlerCall, Take, Give, End, Asked, ToTake, ToGive, ToEnd}
 use Rattle.handlers.specs.declared.handler.HandlerFault.{HandlerFault}
 use Rattle.peer_ids.specs.Key.{Key}
 use Rattle.ms_select.specs.declared.fault.SelectFault.{SelectFault}
@@ -36,12 +36,12 @@ use Rattle.conn_log.specs.declared.event.ConnEvent.TheVariants as event
 use Rattle.conn_log.specs.declared.event.ConnFault.{ConnFault}
 use Rattle.conn_log.specs.Entries.{Entry, items, said, asks, asked, agreed, is_over, was_done, made_of, is_kept}
 use Rattle.conn_log.specs.Entries.{left_behind}
-use Rattle.conn_log.specs.Entries.{put_aside}
-use Rattle.conn_log.specs.Entries.Entry.{Of, Says, Made, Asks}
+use Rattle.conn_log.specs.Entries.{put_aside, calls_of}
+use Rattle.conn_log.specs.Entries.Entry.{Of, Says, Made, Asks, Calls}
 use Rattle.conn_log.specs.Turns.{AreInTurn}
 use Rattle.conn_log.specs.Held.{IsSide, IsHeld, IsAtRest, IsPast, AreLeft, earlier_of}
 use Rattle.conn_log.specs.Due.{was_reset, end_was_told, HasJustAgreed, MayBeMade, HasCome, IsThere, IsAskedFor}
-use Rattle.conn_log.specs.Due.{HasHeard}
+use Rattle.conn_log.specs.Due.{IsAskedAnew, MayBeAsked, HasHeard}
 use Rattle.conn_log.specs.Due.{IsInTurn, HandlerFails, IsBroken, IsDone, GaveAll, HasGiven, IsDue, AllDue}
 use Rattle.conn_log.specs.Rests.{AreAtRest, IsRested, AreRested, Grows}
 use Rattle.conn_log.specs.Asked.{IsBrokenOf, Asked as AskedOf}
@@ -66,7 +66,8 @@ module _ {H : Type 0} (step : H → HandlerCall → H → Type 0) (is_closed is_
   abbrev pub HeldSo : List (Entry H) → ℕ → List ℕ → Bool → Streaming H → Past H → Type 0
   HeldSo log n got ended stream so_far = IsSide role names log n so_far.side × (so_far.got ≡ got)
       × (so_far.ended ≡ ended) × (so_far.sent ≡ written role (items log) n) × (so_far.made ≡ made_of role log n)
-      × Stands step stream so_far × (is_talking stream.stage ≡ true → agreed role log n ≡ None)
+      × (so_far.calls ≡ calls_of role log n) × Stands step stream so_far
+      × (is_talking stream.stage ≡ true → agreed role log n ≡ None)
       × (is_talking stream.stage ≡ false → agreed role log n ≢ None)
       × (is_over role log n ≡ was_handed_out stream.stage) × (was_done role log n ≡ was_handed_out stream.stage)
       × (awaits_handler stream.stage ≡ false)
@@ -125,6 +126,17 @@ module _ {P H : Type 0} (step : H → HandlerCall → H → Type 0) (fails : H �
   abbrev pub in_turn : List (Entry H) → ℕ → Stage H → Past H → H → Asked → Type 0
   in_turn = IsInTurn step fails is_closed is_finished inbound_makes outbound_makes eager names peer role
 
+  abbrev pub may_be_asked : List (Entry H) → ℕ → Asked → Type 0
+  may_be_asked = MayBeAsked step fails is_closed is_finished inbound_makes outbound_makes eager names peer role
+
+  -- the handler of the stream that stands there may be asked for this
+  abbrev pub AskedSo : (log : List (Entry H)) (n : ℕ) → is_there log n → H → Asked → Type 0
+  AskedSo log n there handler request = (handler_of there.stream.stage ≡ Some handler)
+      × asked_with log n there.so_far there.stream.waiting request
+      × in_turn log n there.stream.stage there.so_far handler request
+      × (is_talking there.stream.stage ≡ true → agreed role log n ≡ None)
+      × (is_talking there.stream.stage ≡ false → agreed role log n ≢ None) × (is_over role log n ≡ false)
+
   abbrev pub has_heard : List (Entry H) → ℕ → Type 0
   has_heard = HasHeard step fails is_closed is_finished inbound_makes outbound_makes eager names peer role
 
@@ -158,11 +170,13 @@ module _ {P H : Type 0} (step : H → HandlerCall → H → Type 0) (fails : H �
     pub come : (log : List (Entry H)) (n : ℕ) (so_far : Past H) (rest : List ℕ) → IsSide role names log n so_far.side
         → inbound role (items log) n ≡ so_far.got ++ rest
         → (so_far.ended ≡ true → (finished role (items log) n ≡ true) × (rest ≡ []))
-        → so_far.sent ≡ written role (items log) n → so_far.made ≡ made_of role log n → has_come log n so_far
+        → so_far.sent ≡ written role (items log) n → so_far.made ≡ made_of role log n
+        → so_far.calls ≡ calls_of role log n → has_come log n so_far
     pub come_is : (log : List (Entry H)) (n : ℕ) (so_far : Past H) → has_come log n so_far → (rest : List ℕ)
         × IsSide role names log n so_far.side × (inbound role (items log) n ≡ so_far.got ++ rest)
         × (so_far.ended ≡ true → (finished role (items log) n ≡ true) × (rest ≡ []))
         × (so_far.sent ≡ written role (items log) n) × (so_far.made ≡ made_of role log n)
+        × (so_far.calls ≡ calls_of role log n)
     pub there : (log : List (Entry H)) (n : ℕ) (so_far : Past H) (stream : Streaming H) → has_come log n so_far
         → Stands step stream so_far → is_there log n
     pub there_is : (log : List (Entry H)) (n : ℕ) → is_there log n
@@ -174,22 +188,21 @@ module _ {P H : Type 0} (step : H → HandlerCall → H → Type 0) (fails : H �
         → asked_with log n so_far waiting (ToTake bytes) ↔ (inbound role (items log) n ≡ so_far.got ++ bytes)
     pub asked_to_end : (log : List (Entry H)) (n : ℕ) (so_far : Past H) (waiting : List ℕ)
         → asked_with log n so_far waiting ToEnd
-        ↔ ((inbound role (items log) n ≡ so_far.got) × (finished role (items log) n ≡ true))
+        ↔ ((inbound role (items log) n ≡ so_far.got) × (end_was_told role (items log) n ≡ true))
     pub asked_to_give : (log : List (Entry H)) (n room : ℕ) (so_far : Past H) (waiting : List ℕ)
         → asked_with log n so_far waiting (ToGive room)
         ↔ ((inbound role (items log) n ≡ so_far.got) × (room ≡ credit role (items log) n - length waiting))
+    -- what a handler may be asked for, and by what of that it fails
+    pub asked_so : (log : List (Entry H)) (n : ℕ) (request : Asked) → may_be_asked log n request
+        ↔ ((there : is_there log n) × (handler : H) × AskedSo log n there handler request)
+    pub asked_by_name : (log : List (Entry H)) (n : ℕ) (request : Asked) (a : may_be_asked log n request)
+        → AskedSo log n a.there a.handler request
     pub fails_by : (log : List (Entry H)) (n number : ℕ) (there : is_there log n) (handler : H) (request : Asked)
-        → handler_of there.stream.stage ≡ Some handler
-        → asked_with log n there.so_far there.stream.waiting request
-        → in_turn log n there.stream.stage there.so_far handler request → fails handler request number
-        → (is_talking there.stream.stage ≡ true → agreed role log n ≡ None)
-        → (is_talking there.stream.stage ≡ false → agreed role log n ≢ None) → handler_fails log n number
+        → AskedSo log n there handler request → fails handler request number → handler_fails log n number
     pub fails_by_is : (log : List (Entry H)) (n number : ℕ) → handler_fails log n number → (there : is_there log n)
-        × (handler : H) × (request : Asked) × (handler_of there.stream.stage ≡ Some handler)
-        × asked_with log n there.so_far there.stream.waiting request
-        × in_turn log n there.stream.stage there.so_far handler request × fails handler request number
-        × (is_talking there.stream.stage ≡ true → agreed role log n ≡ None)
-        × (is_talking there.stream.stage ≡ false → agreed role log n ≢ None)
+        × (handler : H) × (request : Asked) × AskedSo log n there handler request × fails handler request number
+    pub fails_by_name : (log : List (Entry H)) (n number : ℕ) (f : handler_fails log n number)
+        → may_be_asked log n f.request × fails f.asked.handler f.request number
     pub takes_in_turn : (log : List (Entry H)) (n : ℕ) (stage : Stage H) (so_far : Past H) (handler : H)
         (bytes : List ℕ) → in_turn log n stage so_far handler (ToTake bytes)
         ↔ ((stage ≡ stages.Serving handler) × (so_far.ended ≡ false)
@@ -199,7 +212,9 @@ module _ {P H : Type 0} (step : H → HandlerCall → H → Type 0) (fails : H �
         × (is_finished handler ≡ false) × (is_live role (items log) n ≡ true → closed role (items log) n ≡ false
         → is_closed handler ≡ false → so_far.left ≡ Some (credit role (items log) n)))
     pub gives_in_turn : (log : List (Entry H)) (n : ℕ) (stage : Stage H) (so_far : Past H) (handler : H) (room : ℕ)
-        → in_turn log n stage so_far handler (ToGive room) ↔ (is_closed handler ≡ false)
+        → in_turn log n stage so_far handler (ToGive room) ↔ ((is_live role (items log) n ≡ true)
+        × (closed role (items log) n ≡ false) × (is_closed handler ≡ false)
+        × ((is_talking stage ≡ true) ⊎ IsAskedAnew log))
     pub heard : (log : List (Entry H)) (n : ℕ) (stream : Streaming H)
         → held_by step is_closed is_finished names role log n (inbound role (items log) n)
         (end_was_told role (items log) n) stream → has_finished is_finished stream.stage ≡ false → has_heard log n
@@ -215,20 +230,24 @@ module _ {P H : Type 0} (step : H → HandlerCall → H → Type 0) (fails : H �
     pub broken_by_reset : (log : List (Entry H)) (n : ℕ) → is_broken log n causes.Reset
         ↔ ((was_reset role (items log) n ≡ true) × has_heard log n)
     pub broken_by_its_end : (log : List (Entry H)) (n : ℕ) → is_broken log n causes.Ended
-        ↔ ((finished role (items log) n ≡ true) × (agreed role log n ≡ None)
+        ↔ ((end_was_told role (items log) n ≡ true) × (agreed role log n ≡ None)
         × ((side : Side) × (output : List ℕ) × IsSide role names log n side
         × IsOpen side (inbound role (items log) n) output))
     pub done : (log : List (Entry H)) (n : ℕ) (handler : H) (so_far : Past H) (waiting : List ℕ)
         → has_come log n so_far → inbound role (items log) n ≡ so_far.got → IsServed step so_far handler waiting
         → is_finished handler ≡ true
         → (is_live role (items log) n ≡ true → closed role (items log) n ≡ false → is_closed handler ≡ false
-        → so_far.left ≡ Some (credit role (items log) n)) → is_done log n handler
+        → so_far.left ≡ Some (credit role (items log) n))
+        → (is_live role (items log) n ≡ true → closed role (items log) n ≡ false → 0 < credit role (items log) n
+        → waiting ≡ []) → is_done log n handler
     pub done_is : (log : List (Entry H)) (n : ℕ) (handler : H) → is_done log n handler → (so_far : Past H)
         × (waiting : List ℕ) × has_come log n so_far × (inbound role (items log) n ≡ so_far.got)
         × IsServed step so_far handler waiting
         × (is_finished handler ≡ true)
         × (is_live role (items log) n ≡ true → closed role (items log) n ≡ false → is_closed handler ≡ false
         → so_far.left ≡ Some (credit role (items log) n))
+        × (is_live role (items log) n ≡ true → closed role (items log) n ≡ false → 0 < credit role (items log) n
+        → waiting ≡ [])
     pub gave : (log : List (Entry H)) (n : ℕ) (there : is_there log n)
         → inbound role (items log) n ≡ there.so_far.got → there.stream.waiting ≡ []
         → (is_open is_closed there.stream.stage ≡ true → there.so_far.left ≡ Some (credit role (items log) n))
@@ -295,6 +314,11 @@ module _ {P H : Type 0} (step : H → HandlerCall → H → Type 0) (fails : H �
         × ¬ is_due log (Says event.Shut)
     pub made : (log : List (Entry H)) (n : ℕ) (handler : H) → is_due log (Made n handler) ↔ may_be_made log n handler
     pub asked_for : (log : List (Entry H)) (n index : ℕ) → is_due log (Asks n index) ↔ (index < length names)
+    -- a call may stand there where its handler may be asked for it
+    pub answered : (log : List (Entry H)) (n room : ℕ) (bytes : List ℕ)
+        → (is_due log (Calls n (Take bytes)) ↔ may_be_asked log n (ToTake bytes))
+        × (is_due log (Calls n (Give room bytes)) ↔ may_be_asked log n (ToGive room))
+        × (is_due log (Calls n End) ↔ may_be_asked log n ToEnd)
     -- a handler may be made where its stream has just agreed, or was just opened for an eager protocol
     pub made_inbound : (log : List (Entry H)) (n m index : ℕ) (handler : H) → is_own role n ≡ false
         → may_be_made (Says (event.Agreed m index) ∷ log) n handler
@@ -353,6 +377,8 @@ module _ {P H : Type 0} (step : H → HandlerCall → H → Type 0) (fails : H �
     pub acted : (act : Act) (log : List (Entry H)) → are_rested (Of (Did act) ∷ log) ↔ are_rested log
     pub told : (e : ConnEvent H) (log : List (Entry H)) → are_rested (Says e ∷ log) ↔ are_rested log
     pub made : (n : ℕ) (handler : H) (log : List (Entry H)) → are_rested (Made n handler ∷ log) ↔ are_rested log
+    pub answered : (n : ℕ) (call : HandlerCall) (log : List (Entry H))
+        → are_rested (Calls n call ∷ log) ↔ are_rested log
     -- a list that grows by what came, and one that grows by a stream that this end opens
     pub grows : (making : List (Entry H) → List (Entry H) → Bool) (newer log : List (Entry H))
         (before : List (ConnEvent H)) (fed sent : List ℕ) (session : State) (streams : ℕ → Option (Streaming H))

@@ -19,21 +19,21 @@ use Rattle.yamux_session.specs.State.{State, Stands as SessionStands, FirstFault
 use Rattle.yamux_frames.specs.Frames.{Arrival}
 use Rattle.streams.specs.declared.stop.Cause.{Cause}
 use Rattle.streams.specs.declared.stop.Cause.TheVariants as causes
-use Rattle.streams.specs.State.{Streaming, has_finished, was_handed_out}
+use Rattle.streams.specs.State.{Streaming, is_talking, is_open, has_finished, was_handed_out}
 use Rattle.serving.specs.Served.{IsSettled}
 use Rattle.conn_log.specs.declared.earlier.Earlier.{Earlier}
 use Rattle.conn_log.specs.declared.event.ConnEvent.{ConnEvent}
 use Rattle.conn_log.specs.declared.event.ConnEvent.TheVariants as event
 use Rattle.routing.specs.declared.delivered.Outcome.TheVariants as outcomes
 use Rattle.conn_log.specs.Entries.{Entry, items, said, asks, since, is_over, made_of, put_aside}
-use Rattle.conn_log.specs.Entries.Entry.{Of, Says, Made, Asks}
+use Rattle.conn_log.specs.Entries.Entry.{Of, Says, Made, Asks, Calls}
 use Rattle.conn_log.specs.Turns.{turn, AreInTurn}
-use Rattle.conn_log.specs.Due.{AllDue, told_reset, was_reset, told_end, end_was_told}
+use Rattle.conn_log.specs.Due.{AllDue, IsAskedAnew, told_reset, was_reset, told_end, end_was_told}
 use Rattle.conn_log.specs.Held.{IsHeld, IsAtRest, AreLeft, earlier_of}
 use Rattle.conn_log.specs.Rests.{AreAtRest, AreRested}
 use Rattle.conn_log.specs.Routes.{IsStill, IsNoOpening, IsNoData, IsNoCredit, EndsLast, set_aside, KeepsTurn, Resets}
 use Rattle.conn_log.specs.Routes.{IsFor}
-use Rattle.conn_log.specs.Routes.{IsMoving, Around, Routes, Comes, Routed, Opening, Awaits, IsUnderWay}
+use Rattle.conn_log.specs.Routes.{IsMoving, MayBeServed, Around, Routes, Comes, Routed, Opening, Awaits, IsUnderWay}
 use Rattle.conn_log.specs.Making.{MakesOn}
 use Rattle.board.specs.declared.board.Board.{Board}
 use Rattle.held_order.specs.Orders.{newest_held}
@@ -62,14 +62,15 @@ pub record AnyRouteToldRows (H : Type 0) : Type 0 where
       × IsNoCredit (Told.GoAway n) × IsNoCredit (Told.Fault fault)
   pub nothing_more : (ended : Bool) → EndsLast ended []
   pub a_byte : (ended : Bool) (m b : ℕ) (rest : List Told) → EndsLast ended (Told.Payload m b ∷ rest)
-      ↔ ((ended ≡ false) × EndsLast ended rest)
+      ↔ ((ended ≡ false) × EndsLast ended rest × AllByRecursion IsNoCredit rest)
+  pub a_credit : (ended : Bool) (m : ℕ) (rest : List Told) → EndsLast ended (Told.Credit m ∷ rest)
+      ↔ (EndsLast ended rest × AllByRecursion IsNoCredit rest)
   pub its_end : (ended : Bool) (m : ℕ) (rest : List Told) → EndsLast ended (Told.Ended m ∷ rest)
       ↔ ((ended ≡ false) × EndsLast true rest × AllByRecursion IsNoCredit rest)
   pub a_reset : (ended : Bool) (m : ℕ) (rest : List Told) → EndsLast ended (Told.Reset m ∷ rest) ↔ EndsLast true rest
   pub passed : (ended : Bool) (m : ℕ) (rest : List Told)
       → (EndsLast ended (Told.Opened m ∷ rest) ↔ EndsLast ended rest)
       × (EndsLast ended (Told.Accepted m ∷ rest) ↔ EndsLast ended rest)
-      × (EndsLast ended (Told.Credit m ∷ rest) ↔ EndsLast ended rest)
       × (EndsLast ended (Told.GoAway m ∷ rest) ↔ EndsLast ended rest)
   pub passed_fault : (ended : Bool) (fault : Fault) (rest : List Told)
       → EndsLast ended (Told.Fault fault ∷ rest) ↔ EndsLast ended rest
@@ -91,9 +92,9 @@ pub record AnyRouteToldRows (H : Type 0) : Type 0 where
   pub keeps_turn : KeepsTurn {H = H} []
   pub turns : (x : Arrival) (n index : ℕ) (log : List (Entry H)) → ¬ KeepsTurn (Of (Came x) ∷ log)
       × ¬ KeepsTurn (Asks n index ∷ log)
-  pub keeps : (act : Act) (e : ConnEvent H) (n : ℕ) (handler : H) (log : List (Entry H))
+  pub keeps : (act : Act) (e : ConnEvent H) (n : ℕ) (handler : H) (call : HandlerCall) (log : List (Entry H))
       → (KeepsTurn (Of (Did act) ∷ log) ↔ KeepsTurn log) × (KeepsTurn (Says e ∷ log) ↔ KeepsTurn log)
-      × (KeepsTurn (Made n handler ∷ log) ↔ KeepsTurn log)
+      × (KeepsTurn (Made n handler ∷ log) ↔ KeepsTurn log) × (KeepsTurn (Calls n call ∷ log) ↔ KeepsTurn log)
   pub resets : (role : Role) (past : List Item) (fed sent : List ℕ) (n : ℕ) (old session : State)
       → Resets role past fed sent n old session ↔ (SessionStands role (Did (Reset n) ∷ past) fed sent session
       ⊎ ((session ≡ old) × (is_live role past n ≡ false)))
@@ -129,6 +130,9 @@ module _ {P H : Type 0} (step : H → HandlerCall → H → Type 0) (fails : H �
   abbrev pub is_moving : List (Entry H) → ℕ → Seen → List Told → Streaming H → Type 0
   is_moving = IsMoving step fails is_closed is_finished inbound_makes outbound_makes eager names peer role
 
+  abbrev pub may_be_served : List (Entry H) → ℕ → Seen → List Told → Streaming H → Type 0
+  may_be_served = MayBeServed step fails is_closed is_finished inbound_makes outbound_makes eager names peer role
+
   abbrev pub around : List (Entry H) → List ℕ → List ℕ → State → (ℕ → Option (Streaming H)) → List (Earlier H) → ℕ
       → Seen → List Told → Type 0
   around = Around step fails is_closed is_finished inbound_makes outbound_makes eager names peer role
@@ -150,6 +154,7 @@ module _ {P H : Type 0} (step : H → HandlerCall → H → Type 0) (fails : H �
     pub moves : (log : List (Entry H)) (n : ℕ) (view : Seen) (rest : List Told) (stream : Streaming H)
         (held : IsHeld step is_closed is_finished names role log n view.came view.ended stream)
         → has_finished is_finished stream.stage ≡ false → (view.live ≡ false → view.ended ≡ true)
+        → AllByRecursion IsNoCredit rest ⊎ ((is_talking stream.stage ≡ true) ⊎ IsAskedAnew log)
         → (AllByRecursion (IsQuiet n) rest → is_live role (items log) n ≡ true
         → IsSettled step is_closed is_finished role (items log) n held.so_far.left stream)
         → is_moving log n view rest stream
@@ -157,8 +162,15 @@ module _ {P H : Type 0} (step : H → HandlerCall → H → Type 0) (fails : H �
         → is_moving log n view rest stream
         → (held : IsHeld step is_closed is_finished names role log n view.came view.ended stream)
         × (has_finished is_finished stream.stage ≡ false) × (view.live ≡ false → view.ended ≡ true)
+        × (AllByRecursion IsNoCredit rest ⊎ ((is_talking stream.stage ≡ true) ⊎ IsAskedAnew log))
         × (AllByRecursion (IsQuiet n) rest → is_live role (items log) n ≡ true
         → IsSettled step is_closed is_finished role (items log) n held.so_far.left stream)
+    pub served : (log : List (Entry H)) (n : ℕ) (view : Seen) (rest : List Told) (stream : Streaming H)
+        → may_be_served log n view rest stream
+        ↔ (IsHeld step is_closed is_finished names role log n view.came view.ended stream
+        × (view.live ≡ false → view.ended ≡ true)
+        × (AllByRecursion IsNoCredit rest ⊎ (is_talking stream.stage ≡ true))
+        × (is_open is_closed stream.stage ≡ true → (is_talking stream.stage ≡ true) ⊎ IsAskedAnew log))
     pub others : (log : List (Entry H)) (fed sent : List ℕ) (session : State) (streams : ℕ → Option (Streaming H))
         (past : List (Earlier H)) (n : ℕ) (view : Seen) (rest : List Told)
         → around log fed sent session streams past n view rest ↔ (SessionStands role (items log) fed sent session
@@ -170,6 +182,7 @@ module _ {P H : Type 0} (step : H → HandlerCall → H → Type 0) (fails : H �
         × ((m : ℕ) → was_reset role (items log) m ≡ true
         → (is_over role log m ≡ true) ⊎ (told_reset m rest ≡ true))
         × (told_reset n rest ≡ true → was_reset role (items log) n ≡ true)
+        × (told_end n rest ≡ true → end_was_told role (items log) n ≡ true)
         × (told_reset n rest ≡ true → view.ended || told_end n rest ≡ end_was_told role (items log) n)
         × AgreesOn (seen role (items log) n) (all_heard n view rest) × AllByRecursion (IsNoOpening n) rest
         × EndsLast view.ended rest

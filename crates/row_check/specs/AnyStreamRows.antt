@@ -4,7 +4,7 @@
 use Rattle.std.specs.Prelude.{◌≡◌, ◌≢◌, ◌⊎◌, ◌↔◌, ℕ, ◌+◌, ◌-◌, ◌<◌, ◌≤◌, Bool, true, false, not, List, [], ◌∷◌, ◌++◌}
 use Rattle.std.specs.Prelude.{map}
 use Rattle.std.specs.Prelude.{length, take, drop, slice_get, Option, Some, None, IfSome, is_some, Result, Ok, Err}
-use Rattle.handlers.specs.Calls.{HandlerCall, Give, Asked, ToTake, ToGive, ToEnd, WasHanded, given}
+use Rattle.handlers.specs.Calls.{HandlerCall, Take, Give, End, Asked, ToTake, ToGive, ToEnd, WasHanded, given}
 use Rattle.handlers.specs.declared.handler.HandlerFault.{HandlerFault}
 use Rattle.ms_select.specs.declared.answer.Answer.{Answer}
 use Rattle.ms_select.specs.declared.answer.Answer.TheVariants as answer
@@ -31,14 +31,14 @@ use Rattle.streams.specs.declared.stop.Stop.{Stop}
 use Rattle.streams.specs.declared.stop.Stop.TheVariants as stops
 use Rattle.streams.specs.Stops.{FailsBy}
 use Rattle.streams.specs.Handled.{AskedLast, Handled}
-use Rattle.streams.specs.Streams.{Past, fresh, IsGoing, HasAgreed, IsEarly, IsServed}
+use Rattle.streams.specs.Streams.{Past, fresh, and_call, with_call, IsGoing, HasAgreed, IsEarly, IsServed}
 use Rattle.streams.specs.State.{Streaming, Stands, is_talking, awaits_handler, handler_of, holds_handler, is_open}
 use Rattle.streams.specs.State.{has_closed}
-use Rattle.streams.specs.State.{has_finished, was_handed_out, kind_of, InTalk, Awaiting, Served}
+use Rattle.streams.specs.State.{has_finished, was_handed_out, answering, kind_of, InTalk, Awaiting, Served}
 use Rattle.streams.specs.Hearing.{used_of, Hears, HasHeard, Moves, HasNoRoom, HasRunOut, RunsOut}
 use Rattle.streams.specs.Laws.{OneSplit}
 use Rattle.serving.specs.Served.{with_sent, IsDue, AreDue, Goes, IsSettled, HandsOut, Serves, GivesUp}
-use Rattle.serving.specs.Served.{MayGrow}
+use Rattle.serving.specs.Served.{MayBeAsked, Asking, MayGrow}
 use Rattle.dispatch.specs.declared.direction.Direction.TheVariants.{Inbound, Outbound}
 use Rattle.dispatch.specs.Dispatch.{IsKnown, made_by, led_by, makes_once, AgreesBy, IsMade, Negotiates, MakingRunsOut}
 use Rattle.routing.specs.declared.delivered.Delivered.{Delivered}
@@ -76,7 +76,24 @@ pub record AnyStageRows (H : Type 0) : Type 0 where
       × (has_finished test stages.Over ≡ false)
   pub holds_is : (stage : Stage H) → holds_handler stage ≡ is_some (handler_of stage)
   pub is_fresh : (side : Side) (made : Option H)
-      → fresh side made ≡ record { side = side; got = []; ended = false; sent = []; made = made; left = None }
+      → fresh side made
+      ≡ record { side = side; got = []; ended = false; sent = []; made = made; calls = []; left = None }
+  -- a call is answered by the handler that serves, and by no other one; the list has it behind the others
+  pub answers : (talk : Talking) (held : Option H) (handler : H) (index : ℕ) (call : HandlerCall)
+      → (answering (stages.Talking talk held) call ≡ None) × (answering {H = H} (stages.Agreed index) call ≡ None)
+      × (answering (stages.Serving handler) call ≡ Some call) × (answering {H = H} stages.Done call ≡ None)
+      × (answering {H = H} stages.Over call ≡ None)
+  pub calls_on : (calls : List HandlerCall) (call : HandlerCall) → (and_call calls None ≡ calls)
+      × (and_call calls (Some call) ≡ calls ++ call ∷ [])
+  pub called : (past : Past H) (call : Option HandlerCall) → with_call past call ≡ record {
+    side = past.side;
+    got = past.got;
+    ended = past.ended;
+    sent = past.sent;
+    made = past.made;
+    calls = and_call past.calls call;
+    left = past.left;
+  }
   -- where it is behind what it heard
   pub goes_on : (old new : Stage H) → Moves old (Ok heard.Going) new
       ↔ ((is_talking new ≡ true) × (handler_of new ≡ handler_of old))
@@ -128,13 +145,14 @@ module _ {H : Type 0} (step : H → HandlerCall → H → Type 0) where
   -- Where a stream stands, by what came and what was done: these facts, and no others
   pub record AnyStandingRows : Type 0 where
     pub handled : (made value : H) (bytes : List ℕ) (ended : Bool) (was : WasHanded step made bytes ended value)
-        → Handled step made bytes ended (given was.calls) None value
+        → Handled step made was.calls bytes ended (given was.calls) None value
     pub handled_left : (made value : H) (bytes : List ℕ) (ended : Bool) (left : ℕ)
         (was : WasHanded step made bytes ended value) → AskedLast was.calls left
-        → Handled step made bytes ended (given was.calls) (Some left) value
-    pub handled_is : (made value : H) (bytes gave : List ℕ) (ended : Bool) (left : Option ℕ)
-        → Handled step made bytes ended gave left value → (was : WasHanded step made bytes ended value)
-        × (given was.calls ≡ gave) × ((n : ℕ) → left ≡ Some n → AskedLast was.calls n)
+        → Handled step made was.calls bytes ended (given was.calls) (Some left) value
+    -- by the calls that are said, and by no others
+    pub handled_is : (made value : H) (calls : List HandlerCall) (bytes gave : List ℕ) (ended : Bool) (left : Option ℕ)
+        → Handled step made calls bytes ended gave left value → (was : WasHanded step made bytes ended value)
+        × (was.calls ≡ calls) × (given was.calls ≡ gave) × ((n : ℕ) → left ≡ Some n → AskedLast was.calls n)
     pub agreed : (past : Past H) (index : ℕ) (first rest output gave waiting : List ℕ) → past.got ≡ first ++ rest
         → Agrees past.side first index output → past.sent ++ waiting ≡ output ++ gave
         → HasAgreed past index rest gave waiting
@@ -143,12 +161,14 @@ module _ {H : Type 0} (step : H → HandlerCall → H → Type 0) where
         × (past.sent ++ waiting ≡ output ++ gave)
     pub awaits : (past : Past H) (index : ℕ) (waiting : List ℕ)
         → Stands step (record { waiting = waiting; stage = stages.Agreed index }) past
-        ↔ (HasAgreed past index [] [] waiting × (past.made ≡ None) × (past.left ≡ None) × (past.ended ≡ false))
+        ↔ (HasAgreed past index [] [] waiting × (past.made ≡ None) × (past.left ≡ None) × (past.calls ≡ [])
+        × (past.ended ≡ false))
     pub none_early : (past : Past H) (gave : List ℕ)
-        → IsEarly step past None gave ↔ ((past.made ≡ None) × (past.left ≡ None) × (gave ≡ []))
+        → IsEarly step past None gave
+        ↔ ((past.made ≡ None) × (past.left ≡ None) × (gave ≡ []) × (past.calls ≡ []))
     pub early : (past : Past H) (handler : H) (gave : List ℕ) → IsEarly step past (Some handler) gave
         ↔ (((name : List ℕ) × (index : ℕ) × (past.side ≡ Asks name index))
-        × ((made : H) × (past.made ≡ Some made) × Handled step made [] false gave past.left handler))
+        × ((made : H) × (past.made ≡ Some made) × Handled step made past.calls [] false gave past.left handler))
     pub talks : (past : Past H) (talk : Talking) (handler : Option H) (waiting output gave : List ℕ)
         → IsGoing past.side talk past.got output → IsEarly step past handler gave
         → past.sent ++ waiting ≡ output ++ gave → past.ended ≡ false
@@ -159,23 +179,23 @@ module _ {H : Type 0} (step : H → HandlerCall → H → Type 0) where
         × (past.sent ++ waiting ≡ output ++ gave) × (past.ended ≡ false)
     pub serves : (past : Past H) (handler made : H) (index : ℕ) (rest gave waiting : List ℕ)
         → HasAgreed past index rest gave waiting → past.made ≡ Some made
-        → Handled step made rest past.ended gave past.left handler
+        → Handled step made past.calls rest past.ended gave past.left handler
         → Stands step (record { waiting = waiting; stage = stages.Serving handler }) past
     pub serves_is : (past : Past H) (handler : H) (waiting : List ℕ)
         → Stands step (record { waiting = waiting; stage = stages.Serving handler }) past
         → (made : H) × (index : ℕ) × (rest gave : List ℕ) × HasAgreed past index rest gave waiting
-        × (past.made ≡ Some made) × Handled step made rest past.ended gave past.left handler
+        × (past.made ≡ Some made) × Handled step made past.calls rest past.ended gave past.left handler
     pub served_is : (past : Past H) (handler : H) (waiting : List ℕ) → IsServed step past handler waiting
         ↔ Stands step (record { waiting = waiting; stage = stages.Serving handler }) past
     pub done : (past : Past H) (made handler : H) (index : ℕ) (front rest gave waiting : List ℕ) (said : Bool)
         → HasAgreed past index (front ++ rest) gave waiting → past.made ≡ Some made
-        → Handled step made front said gave None handler
+        → Handled step made past.calls front said gave None handler
         → (said ≡ true → (past.ended ≡ true) × (rest ≡ []))
         → Stands step (record { waiting = waiting; stage = stages.Done }) past
     pub done_is : (past : Past H) (waiting : List ℕ)
         → Stands step (record { waiting = waiting; stage = stages.Done }) past → (made handler : H) × (index : ℕ)
         × (front rest gave : List ℕ) × (said : Bool) × HasAgreed past index (front ++ rest) gave waiting
-        × (past.made ≡ Some made) × Handled step made front said gave None handler
+        × (past.made ≡ Some made) × Handled step made past.calls front said gave None handler
         × (said ≡ true → (past.ended ≡ true) × (rest ≡ []))
     pub over : (past : Past H) (waiting : List ℕ)
         → ¬ Stands step (record { waiting = waiting; stage = stages.Over }) past
@@ -212,6 +232,18 @@ module _ {H : Type 0} (step : H → HandlerCall → H → Type 0) (fails : H →
 
   -- Serving a stream: these facts, and no others
   pub record AnyServingRows (was_done : Bool) : Type 0 where
+    -- its handler may be asked to give, and for nothing else
+    pub asks_to_give : (role : Role) (past : List Item) (n room : ℕ) (stream : Streaming H) (bytes : List ℕ)
+        → MayBeAsked is_closed role past n stream (Give room bytes)
+        ↔ ((is_live role past n ≡ true) × (closed role past n ≡ false) × (is_open is_closed stream.stage ≡ true)
+        × (room ≡ credit role past n - length stream.waiting))
+    pub asks_nothing_else : (role : Role) (past : List Item) (n : ℕ) (stream : Streaming H) (bytes : List ℕ)
+        → ¬ MayBeAsked is_closed role past n stream (Take bytes) × ¬ MayBeAsked is_closed role past n stream End
+    -- at most once, and that call stands in its list then
+    pub asking : (role : Role) (past : List Item) (n : ℕ) (stream : Streaming H) (so_far : Past H)
+        (came : Past H → Bool) → Asking is_closed role past n stream so_far (λ now. came now ≡ true)
+        ↔ ((came so_far ≡ true) ⊎ ((call : HandlerCall) × MayBeAsked is_closed role past n stream call
+        × (came (record so_far { calls = so_far.calls ++ call ∷ [] }) ≡ true)))
     pub sent : (role : Role) (past : List Item) (n : ℕ) (so_far : Past H) (left : Option ℕ)
         → with_sent role past n so_far left ≡ record {
           side = so_far.side;
@@ -219,6 +251,7 @@ module _ {H : Type 0} (step : H → HandlerCall → H → Type 0) (fails : H →
           ended = so_far.ended;
           sent = written role past n;
           made = so_far.made;
+          calls = so_far.calls;
           left = left;
         }
     pub writes : (role : Role) (past : List Item) (n m : ℕ) (so_far : Past H) (pieces : List (List ℕ))
@@ -327,6 +360,11 @@ module _ {H : Type 0} (step : H → HandlerCall → H → Type 0) (fails : H →
   abbrev pub negotiates : Past H → List ℕ → Result Heard Stop → Streaming H → Type 0
   negotiates = Negotiates step makes none_made
 
+  -- its handler was called at most once, and so far this came then
+  abbrev pub asked_so : Streaming H → Past H → (Past H → Type 0) → Type 0
+  asked_so stream so_far fact = (call : Option HandlerCall)
+      × IfSome call (MayBeAsked is_closed role past n stream) × fact (with_call so_far call)
+
   abbrev pub came_to : Past H → Streaming H → State → Outcome H → State → Streaming H → Type 0
   came_to = Came step fails is_closed is_finished role past fed sent n
 
@@ -384,13 +422,12 @@ module _ {H : Type 0} (step : H → HandlerCall → H → Type 0) (fails : H →
     -- what serving comes to
     pub came_on : (so_far : Past H) (old stream : Streaming H) (before session : State)
         → came_to so_far old before outcomes.Going session stream
-        ↔ (Serves step is_closed is_finished (was_handed_out old.stage) role past fed sent n so_far None session stream
-        × (kind_of stream.stage ≡ kind_of old.stage))
+        ↔ (asked_so old so_far (λ now. Serves step is_closed is_finished (was_handed_out old.stage) role past fed sent n
+        now None session stream) × (kind_of stream.stage ≡ kind_of old.stage))
     pub came_done : (so_far : Past H) (old stream : Streaming H) (before session : State) (handler : H)
         → came_to so_far old before (outcomes.Done handler) session stream
-        ↔ (Serves step is_closed is_finished (was_handed_out old.stage) role past fed sent n so_far (Some handler)
-        session stream
-        × (kind_of old.stage ≡ Served))
+        ↔ (asked_so old so_far (λ now. Serves step is_closed is_finished (was_handed_out old.stage) role past fed sent n
+        now (Some handler) session stream) × (kind_of old.stage ≡ Served))
     pub came_refused : (so_far : Past H) (old stream : Streaming H) (before session : State)
         → ¬ came_to so_far old before outcomes.Refused session stream
     pub came_broken : (so_far : Past H) (old stream : Streaming H) (before session : State) (cause : Cause)
@@ -408,8 +445,9 @@ module _ {H : Type 0} (step : H → HandlerCall → H → Type 0) (fails : H →
     pub takes : (so_far : Past H) (bytes : List ℕ) (old stream : Streaming H) (before session : State)
         (outcome : Outcome H)
         → Takes step fails is_closed is_finished role past fed sent n so_far bytes old before outcome session stream
-        ↔ hands (ToTake bytes) (record so_far { got = so_far.got ++ bytes; left = None }) old before outcome session
-        stream
+        ↔ hands (ToTake bytes)
+        (with_call (record so_far { got = so_far.got ++ bytes; left = None }) (answering old.stage (Take bytes))) old
+        before outcome session stream
     pub ended_in_talk : (so_far : Past H) (old stream : Streaming H) (before session : State) (outcome : Outcome H)
         → is_talking old.stage ≡ true
         → Ends step fails is_closed is_finished role past fed sent n so_far old before outcome session stream
@@ -417,7 +455,8 @@ module _ {H : Type 0} (step : H → HandlerCall → H → Type 0) (fails : H →
     pub ended : (so_far : Past H) (old stream : Streaming H) (before session : State) (outcome : Outcome H)
         → is_talking old.stage ≡ false
         → Ends step fails is_closed is_finished role past fed sent n so_far old before outcome session stream
-        ↔ hands ToEnd (record so_far { ended = true; left = None }) old before outcome session stream
+        ↔ hands ToEnd (with_call (record so_far { ended = true; left = None }) (answering old.stage End)) old before
+        outcome session stream
     -- both ends agree within the data, and the stream talks on or stops
     pub has_agreed : (so_far : Past H) (bytes : List ℕ) (index : ℕ) (front rest : List ℕ) (middle : Streaming H)
         (made : H) → AgreesBy so_far bytes index front rest → IsMade makes none_made so_far index made

@@ -18,7 +18,7 @@ use Rattle.streams.specs.declared.stop.Stop.TheVariants.{Broken}
 use Rattle.streams.specs.Streams.{Past, HasAgreed, IsEarly, IsTalking, AwaitsHandler, IsServed, IsDone, fresh}
 use Rattle.streams.specs.State.{Stands}
 use Rattle.streams.specs.Hearing.{Hears, HasHeard, HasNoRoom, HasRunOut, RunsOut, used_of}
-use Rattle.streams.specs.Rows.{came, calls, served_past, done_past}
+use Rattle.streams.specs.Rows.{came, calls, served_past, called, done_past}
 use Rattle.row_check.specs.StreamRows.{asking, asking_early, asked, gave_9}
 
 -- What is heard is answered so, and in no other way
@@ -81,9 +81,17 @@ pub record TalkingRows : Type 0 where
       → ¬ IsTalking Noting (record asking { made = Some [] }) talk None waiting
   -- none was asked where there is none, and one that is there left the room that is said, and is the one that was made
   pub none_asked : (gave : List ℕ) → ¬ IsEarly Noting (record (fresh asks None) { left = Some 4 }) None gave
-  pub other_room : ¬ IsEarly Noting (record (fresh asks (Some [])) { left = Some 3 }) (Some gave_9) (9 ∷ [])
-  pub not_made : (gave : List ℕ) → ¬ IsEarly Noting (record (fresh asks None) { left = Some 4 }) (Some gave_9) gave
-  pub other_made : ¬ IsEarly Noting (record (fresh asks (Some (End ∷ []))) { left = Some 4 }) (Some gave_9) (9 ∷ [])
+  pub none_called : (gave : List ℕ) → ¬ IsEarly Noting (record (fresh asks None) { calls = gave_9 }) None gave
+  pub other_room : ¬ IsEarly Noting (record (fresh asks (Some [])) { calls = gave_9; left = Some 3 }) (Some gave_9)
+      (9 ∷ [])
+  pub not_made : (gave : List ℕ)
+      → ¬ IsEarly Noting (record (fresh asks None) { calls = gave_9; left = Some 4 }) (Some gave_9) gave
+  -- whichever calls it answered
+  pub other_made : (by : List HandlerCall)
+      → ¬ IsEarly Noting (record (fresh asks (Some (End ∷ []))) { calls = by; left = Some 4 }) (Some gave_9) (9 ∷ [])
+  -- and it answered these calls, and no others
+  pub other_calls : (by : List HandlerCall) (gave : List ℕ)
+      → IsEarly Noting (record asking_early { calls = by }) (Some gave_9) gave → by ≡ gave_9
   -- nothing came behind the bytes by which both ends agree, where the handler is awaited
   pub data_behind : (index : ℕ) (waiting : List ℕ)
       → ¬ AwaitsHandler (record asked { got = header_bytes ++ x_bytes ++ 7 ∷ [] }) index waiting
@@ -109,16 +117,29 @@ GivesBack old (Take bytes) new = (old ≡ []) × (new ≡ bytes)
 GivesBack old (Give room bytes) new = (bytes ≡ old) × (new ≡ [])
 GivesBack old End new = ⊥
 
--- a stream that answered with y, with such a handler
-abbrev pub back_past : Past (List ℕ)
-back_past = record { side = answers; got = came; ended = false; sent = header_bytes; made = Some []; left = None }
+-- a stream that answered with y, with such a handler, which answered these calls
+abbrev pub back_past : List HandlerCall → Past (List ℕ)
+back_past by = record {
+  side = answers;
+  got = came;
+  ended = false;
+  sent = header_bytes;
+  made = Some [];
+  calls = by;
+  left = None;
+}
+
+-- the handler was handed these bytes, and gave them
+abbrev pub back_by : List ℕ → List HandlerCall
+back_by bytes = Take bytes ∷ Give 5 bytes ∷ []
 
 -- Which handler serves a stream, and of what one was handed that is done
 pub record ServingRows : Type 0 where
   pub not_made : (value : List HandlerCall) (waiting : List ℕ)
-      → ¬ IsServed Noting (record served_past { made = None }) value waiting
-  pub other_made : (waiting : List ℕ)
-      → ¬ IsServed Noting (record served_past { made = Some (Give 1 [] ∷ []) }) calls waiting
+      → ¬ IsServed Noting (record (called value) { made = None }) value waiting
+  pub other_made : (by : List HandlerCall) (waiting : List ℕ)
+      → ¬ IsServed Noting (record (called by) { made = Some (Give 1 [] ∷ []) }) calls waiting
+  pub other_calls : (by : List HandlerCall) (waiting : List ℕ) → IsServed Noting (called by) calls waiting → by ≡ calls
   pub waits : (waiting : List ℕ)
       → Stands Noting (record { waiting = waiting; stage = stages.Serving calls }) served_past
       ↔ (waiting ≡ y_bytes ++ 9 ∷ [])
@@ -129,7 +150,7 @@ pub record ServingRows : Type 0 where
       → Stands Noting (record { waiting = waiting; stage = stages.Talking asking_talk None }) asking
       ↔ (waiting ≡ question)
   -- what was handed over is the first part of the data, of which it may be all; the room that one left says nothing
-  pub part : IsDone GivesBack back_past (y_bytes ++ 1 ∷ [])
-  pub whole : IsDone GivesBack back_past (y_bytes ++ 1 ∷ 2 ∷ [])
-  pub not_the_last : ¬ IsDone GivesBack back_past (y_bytes ++ 2 ∷ [])
+  pub part : IsDone GivesBack (back_past (back_by (1 ∷ []))) (y_bytes ++ 1 ∷ [])
+  pub whole : IsDone GivesBack (back_past (back_by (1 ∷ 2 ∷ []))) (y_bytes ++ 1 ∷ 2 ∷ [])
+  pub not_the_last : (by : List HandlerCall) → ¬ IsDone GivesBack (back_past by) (y_bytes ++ 2 ∷ [])
   pub any_room : IsDone Noting (record done_past { left = Some 7 }) (y_bytes ++ 9 ∷ [])

@@ -33,11 +33,11 @@ pub record MoveRows : Type 0 where
 abbrev pub asking : Past (List HandlerCall)
 asking = record (fresh asks None) { got = header_bytes }
 
-abbrev pub asking_early : Past (List HandlerCall)
-asking_early = record (fresh asks (Some [])) { got = header_bytes; left = Some 4 }
-
 abbrev pub gave_9 : List HandlerCall
 gave_9 = Give 5 (9 ∷ []) ∷ []
+
+abbrev pub asking_early : Past (List HandlerCall)
+asking_early = record (fresh asks (Some [])) { got = header_bytes; calls = gave_9; left = Some 4 }
 
 -- What waits where the talk is over too: all that it wrote, and behind it what an eager handler gave
 pub record HeardRows : Type 0 where
@@ -71,9 +71,12 @@ GivesLast (call ∷ old) (Give room bytes) new = new ≡ call ∷ old
 abbrev pub asked : Past (List HandlerCall)
 asked = record asking { got = header_bytes ++ x_bytes }
 
--- one whose handler was handed out, and to which neither data behind the talk nor the end came
-abbrev pub quiet_past : Past (List HandlerCall)
-quiet_past = record done_past { got = header_bytes ++ y_bytes; ended = false }
+-- one whose handler was handed out behind these calls, and one to which neither data behind the talk nor the end came
+abbrev pub done_by : List HandlerCall → Past (List HandlerCall)
+done_by calls = record done_past { calls = calls }
+
+abbrev pub quiet_past : List HandlerCall → Past (List HandlerCall)
+quiet_past calls = record (done_by calls) { got = header_bytes ++ y_bytes; ended = false }
 
 -- Where a stream stands that awaits its handler, and one whose handler was handed out
 pub record PlaceRows : Type 0 where
@@ -83,13 +86,16 @@ pub record PlaceRows : Type 0 where
       → ¬ AwaitsHandler (record asked { made = Some [] }) index waiting
   pub asked_already : (index : ℕ) (waiting : List ℕ)
       → ¬ AwaitsHandler (record asked { left = Some 4 }) index waiting
+  pub called_already : (index : ℕ) (waiting : List ℕ)
+      → ¬ AwaitsHandler (record asked { calls = gave_9 }) index waiting
   pub ended_already : (index : ℕ) (waiting : List ℕ)
       → ¬ AwaitsHandler (record asked { ended = true }) index waiting
   -- what waits was given by the handler, or written by the talk
-  pub gave_nothing : (waiting : List ℕ) → IsDone NoStep done_past waiting ↔ (waiting ≡ y_bytes)
-  -- and its end was said behind all data, and where it came
-  pub end_said_early : ¬ IsDone GivesLast done_past (y_bytes ++ 9 ∷ [])
-  pub no_end_came : ¬ IsDone GivesLast quiet_past (y_bytes ++ 9 ∷ [])
+  pub gave_nothing : (calls : List HandlerCall) (waiting : List ℕ)
+      → IsDone NoStep (done_by calls) waiting ↔ ((calls ≡ []) × (waiting ≡ y_bytes))
+  -- and its end was said behind all data, and where it came, whichever calls it answered
+  pub end_said_early : (calls : List HandlerCall) → ¬ IsDone GivesLast (done_by calls) (y_bytes ++ 9 ∷ [])
+  pub no_end_came : (calls : List HandlerCall) → ¬ IsDone GivesLast (quiet_past calls) (y_bytes ++ 9 ∷ [])
   -- so a stream stands there, and one that was refused or given up stands nowhere
   pub stands_done : (past : Past (List HandlerCall)) (waiting : List ℕ)
       → Stands Noting (record { waiting = waiting; stage = stages.Done }) past ↔ IsDone Noting past waiting

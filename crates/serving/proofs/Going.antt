@@ -17,9 +17,9 @@ use Rattle.yamux_session.specs.Acts.{open_credit}
 use Rattle.yamux_session.specs.State.{State, Stands as SessionStands}
 use Rattle.streams.specs.declared.stage.Stage.{Stage}
 use Rattle.streams.specs.declared.stage.Stage.TheVariants as stages
-use Rattle.streams.specs.Streams.{Past, IsServed}
+use Rattle.streams.specs.Streams.{Past, IsServed, with_call}
 use Rattle.streams.specs.State.{Streaming, Stands, StandsAt, is_open, has_closed, has_finished, was_handed_out}
-use Rattle.serving.specs.Served.{Goes, GaveAll, HasGiven, HasSent, HandsOut, Serves, with_sent}
+use Rattle.serving.specs.Served.{Asking, Goes, GaveAll, HasGiven, HasSent, HandsOut, Serves, with_sent}
 use Rattle.serving.specs.Steps.{Sends, WasAsked, WasClosed, Closes, Counts}
 use Rattle.serving.proofs.Acts.{taken_keeps, none_left, has_written, is_closed_then, closing_writes_nothing, closing_keeps_credit, closing_takes_nothing}
 use Rattle.serving.proofs.Refusals.{open_with, not_open, not_used_up, some_left, nothing_left}
@@ -48,16 +48,20 @@ module _ {H : Type 0} (step : H → HandlerCall → H → Type 0) (is_closed is_
   -- this direction isn't open: the stream isn't asked
   pub not_asked : (role : Role) (past : List Item) (fed sent : List ℕ) (n : ℕ) (so_far : Past H) (session : State) (x : Streaming H)
       → SessionStands role past fed sent session → Stands step x so_far → so_far.sent ≡ written role past n → open_credit role past n ≡ None
-      → WasAsked step is_closed is_finished was_done role past fed sent n so_far session x
+      → Asking is_closed role past n x so_far (λ now. WasAsked step is_closed is_finished was_done role past fed sent n now session x)
   unfolding begins
-  not_asked role past fed sent n so_far session x at stands e none = record {
-    goes = begins role past fed sent n so_far session x at stands e;
-    live_is = refl;
-    closed_is = refl;
-    asked = λ live unclosed is. absurd (not_both (not_open role past n none live) unclosed);
-    none_waits = λ live unclosed some. absurd (not_both (not_open role past n none live) unclosed);
-    untaken_is = refl;
-  }
+  not_asked role past fed sent n so_far session x at stands e none = (
+    None,
+    tt,
+    record {
+      goes = begins role past fed sent n so_far session x at stands e;
+      live_is = refl;
+      closed_is = refl;
+      asked = λ live unclosed is. absurd (not_both (not_open role past n none live) unclosed);
+      none_waits = λ live unclosed some. absurd (not_both (not_open role past n none live) unclosed);
+      untaken_is = refl;
+    },
+  )
 
   module _ (acts_do : ActsDo) (acts_move : ActsMove) where
     asked_by : (role : Role) (past : List Item) (fed sent : List ℕ) (n amount : ℕ) (so_far : Past H) (session : State) (x : Streaming H)
@@ -109,10 +113,12 @@ module _ {H : Type 0} (step : H → HandlerCall → H → Type 0) (is_closed is_
         }
 
     -- what the stream gave was written, where it gave anything
-    pub was_asked : (role : Role) (past : List Item) (fed sent : List ℕ) (n amount : ℕ) (so_far : Past H) (session : State) (x : Streaming H)
-        → Sends step is_closed role past fed sent n amount so_far session x → so_far.sent ≡ written role past n → open_credit role past n ≡ Some amount
-        → WasAsked step is_closed is_finished was_done role past fed sent n so_far session x
-    was_asked role past fed sent n amount so_far session x s e is_open = asked_by role past fed sent n amount so_far session x s e is_open s.acts_are
+    pub was_asked : (role : Role) (past : List Item) (fed sent : List ℕ) (n amount : ℕ) (so_far : Past H) (session : State) (old x : Streaming H)
+        → Asking is_closed role past n old so_far (λ now. Sends step is_closed role past fed sent n amount now session x) → so_far.sent ≡ written role past n
+        → open_credit role past n ≡ Some amount
+        → Asking is_closed role past n old so_far (λ now. WasAsked step is_closed is_finished was_done role past fed sent n now session x)
+    was_asked role past fed sent n amount so_far session old x (gave, may, s) e is_open =
+        (gave, may, asked_by role past fed sent n amount (with_call so_far gave) session x s e is_open s.acts_are)
 
     -- a handler that is finished is handed out
     pub record HasFinished (role : Role) (past : List Item) (fed sent : List ℕ) (n : ℕ) (so_far : Past H)

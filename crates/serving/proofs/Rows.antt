@@ -1,5 +1,5 @@
 -- The worked rows of serving.
-use Rattle.std.proofs.Common.{◌≡◌, ◌⊎◌, ℕ, ◌<◌, Bool, true, false, not, List, [], ◌∷◌, ◌++◌, Option, Some, None, refl, sym, ap, ◌∙◌, subst, inl, inr, arith}
+use Rattle.std.proofs.Common.{◌≡◌, ◌⊎◌, ℕ, ◌<◌, Bool, true, false, not, List, [], ◌∷◌, ◌++◌, length, length-append, Option, Some, None, refl, sym, ap, ◌∙◌, subst, inl, inr, arith}
 use Rattle.std.specs.Prelude.{IfSome}
 use Rattle.ms_select.specs.Rows.{header_bytes, y_bytes}
 use Rattle.handlers.specs.Calls.{HandlerCall, Take, Give, ToGive, Arises}
@@ -17,7 +17,7 @@ use Rattle.streams.specs.State.{StandsAt, is_open, has_closed, has_finished, was
 use Rattle.talks.proofs.Rows.{answer_rows}
 use Rattle.streams.proofs.Rows.{something_waits, sends_its_talk}
 use Rattle.serving.specs.Served.{MayGrow, GaveAll, with_sent}
-use Rattle.serving.specs.Rows.{any_step, itself, never, Stays, Unasked, came_behind, unsent, unsent_with, talk_sent, DueRows, WriteRows, CloseRows, TakeRows, HandRows, SettledRows, RefusalRows, taken}
+use Rattle.serving.specs.Rows.{any_step, itself, never, Stays, came_behind, never_asked, then_asked, unsent, unsent_with, talk_sent, DueRows, WriteRows, CloseRows, TakeRows, HandRows, SettledRows, AskRows, RefusalRows, taken}
 
 -- ---- what is due
 
@@ -60,6 +60,7 @@ sent_header = record {
   made_is = refl;
   handled = record {
     was_handed = record { calls = Take (1 ∷ 2 ∷ []) ∷ []; arises = (true, tt, refl); joined = refl; ends = refl };
+    calls_are = refl;
     gave_is = refl;
     asked = tt;
   };
@@ -105,7 +106,7 @@ agreed_with : (handler : Bool) → HasAgreed (with_sent Server talk_sent 1 (unse
 agreed_with handler = record { first = header_bytes ++ y_bytes; output = header_bytes ++ y_bytes; got_is = refl; agrees = answer_rows.agreed; sent_is = refl }
 
 -- it serves, and was never asked
-unasked_with : (handler : Bool) → StandsAt Unasked (stages.Serving handler) (with_sent Server talk_sent 1 (unsent_with handler) None) []
+unasked_with : (handler : Bool) → StandsAt Stays (stages.Serving handler) (with_sent Server talk_sent 1 (unsent_with handler) None) []
 unasked_with handler = record {
   index = 1;
   rest = came_behind;
@@ -114,7 +115,8 @@ unasked_with handler = record {
   agreed = agreed_with handler;
   made_is = refl;
   handled = record {
-    was_handed = record { calls = Take came_behind ∷ []; arises = (handler, (refl, refl), refl); joined = refl; ends = refl };
+    was_handed = record { calls = never_asked; arises = (handler, refl, refl); joined = refl; ends = refl };
+    calls_are = refl;
     gave_is = refl;
     asked = tt;
   };
@@ -124,7 +126,11 @@ unasked_with handler = record {
 left_then : ℕ
 left_then = credit Server talk_sent 1
 
-asked_with : (handler : Bool) → StandsAt Stays (stages.Serving handler) (with_sent Server talk_sent 1 (unsent_with handler) (Some left_then)) []
+asked_past : Bool → Past Bool
+asked_past handler = record (unsent_with handler) { calls = then_asked }
+
+asked_with : (handler : Bool) → StandsAt Stays (stages.Serving handler) (with_sent Server talk_sent 1 (asked_past handler) (Some left_then)) []
+unfolding left_then asked_past
 asked_with handler = record {
   index = 1;
   rest = came_behind;
@@ -133,13 +139,14 @@ asked_with handler = record {
   agreed = record { first = header_bytes ++ y_bytes; output = header_bytes ++ y_bytes; got_is = refl; agrees = answer_rows.agreed; sent_is = refl };
   made_is = refl;
   handled = record {
-    was_handed = record { calls = Take came_behind ∷ Give left_then [] ∷ []; arises = (handler, refl, (handler, refl, refl)); joined = refl; ends = refl };
+    was_handed = record { calls = then_asked; arises = (handler, refl, (handler, refl, refl)); joined = refl; ends = refl };
+    calls_are = refl;
     gave_is = refl;
     asked = record { before = Take came_behind ∷ []; room = left_then; bytes = []; calls_are = refl; left_is = omega arith };
   };
 }
 
-done_with_it : (handler : Bool) → StandsAt Unasked stages.Done (with_sent Server talk_sent 1 (unsent_with handler) None) []
+done_with_it : (handler : Bool) → StandsAt Stays stages.Done (with_sent Server talk_sent 1 (unsent_with handler) None) []
 unfolding unasked_with
 done_with_it handler = record {
   index = 1;
@@ -159,18 +166,13 @@ stays_on : (made value : Bool) (calls : List HandlerCall) → Arises Stays made 
 stays_on made value [] a = sym a
 stays_on made value (call ∷ calls) (mid, same, a) = stays_on mid value calls a ∙ same
 
-stays_unasked : (made value : Bool) (calls : List HandlerCall) → Arises Unasked made calls value → value ≡ made
-stays_unasked made value [] a = sym a
-stays_unasked made value (call ∷ calls) (mid, (same, is), a) = stays_unasked mid value calls a ∙ same
-
 -- one that was never asked was not asked last
-never_asked : (made value : Bool) (before : List HandlerCall) (room : ℕ) (bytes : List ℕ) → Arises Unasked made (before ++ Give room bytes ∷ []) value → ⊥
-never_asked made value [] room bytes (mid, (same, is), a) = absurd (cc is)
-never_asked made value (call ∷ before) room bytes (mid, step, a) = never_asked mid value before room bytes a
+not_asked_last : (before : List HandlerCall) (room : ℕ) (bytes : List ℕ) → never_asked ≡ before ++ Give room bytes ∷ [] → ⊥
+not_asked_last [] room bytes e = absurd (cc e)
+not_asked_last (call ∷ before) room bytes e = omega (arith, ap length e, length-append before (Give room bytes ∷ []))
 
-asked_never : (made value : Bool) (calls : List HandlerCall) (left : ℕ) → Arises Unasked made calls value → AskedLast calls left → ⊥
-asked_never made value calls left a asked =
-    never_asked made value asked.before asked.room asked.bytes (subst (λ (c : List HandlerCall). Arises Unasked made c value) asked.calls_are a)
+asked_never : (calls : List HandlerCall) (left : ℕ) → calls ≡ never_asked → AskedLast calls left → ⊥
+asked_never calls left are asked = not_asked_last asked.before asked.room asked.bytes (sym are ∙ asked.calls_are)
 
 made_of : {a b : Bool} → Some a ≡ Some b → a ≡ b
 made_of e = cc e
@@ -179,7 +181,7 @@ both_ways : {b : Bool} → b ≡ true → b ≡ false → ⊥
 both_ways on off = absurd (let e : true ≡ false = sym on ∙ off in cc e)
 
 -- a handler that is neither closed nor finished, and wasn't handed out, may give more
-serves_on : (stage : Stage Bool) (waiting : List ℕ) (left : Option ℕ) → StandsAt Stays stage (with_sent Server talk_sent 1 (unsent_with false) left) waiting
+serves_on : (stage : Stage Bool) (waiting : List ℕ) (left : Option ℕ) → StandsAt Stays stage (with_sent Server talk_sent 1 (record (unsent_with false) { calls = then_asked }) left) waiting
     → (has_closed itself stage ≡ true) ⊎ (has_finished itself stage ≡ true) → (was_handed_out stage ≡ true → false ≡ true) → ⊥
 serves_on (stages.Talking talk None) waiting left s over out = absurd (let e = s.early.0 in cc e)
 serves_on (stages.Talking talk (Some handler)) waiting left s over out = s.early.0
@@ -196,21 +198,21 @@ serves_on stages.Over waiting left s over out = s
 
 -- nor did one give what it has that is open, and was never asked
 may_give : (closed : Bool → Bool) (made : Bool) → closed made ≡ false → (stage : Stage Bool) (waiting : List ℕ) (left : Option ℕ)
-    → StandsAt Unasked stage (with_sent Server talk_sent 1 (unsent_with made) left) waiting
+    → StandsAt Stays stage (with_sent Server talk_sent 1 (unsent_with made) left) waiting
     → (is_open closed stage ≡ true → left ≡ Some (credit Server talk_sent 1)) → (was_handed_out stage ≡ true → false ≡ true) → ⊥
 may_give closed made unclosed (stages.Talking talk None) waiting left s asked out = absurd (let e = s.early.0 in cc e)
 may_give closed made unclosed (stages.Talking talk (Some handler)) waiting left s asked out = s.early.0
 may_give closed made unclosed (stages.Agreed index) waiting left s asked out = absurd (let e = s.none_made in cc e)
 may_give closed made unclosed (stages.Serving handler) waiting left s asked out =
-    let same : handler ≡ made = stays_unasked s.made handler s.handled.was_handed.calls s.handled.was_handed.arises ∙ sym (made_of s.made_is) in
+    let same : handler ≡ made = stays_on s.made handler s.handled.was_handed.calls s.handled.was_handed.arises ∙ sym (made_of s.made_is) in
     let open_still : not (closed handler) ≡ true = ap (λ b. not (closed b)) same ∙ ap not unclosed in
-    asked_never s.made handler s.handled.was_handed.calls (credit Server talk_sent 1) s.handled.was_handed.arises
+    asked_never s.handled.was_handed.calls (credit Server talk_sent 1) s.handled.calls_are
     (subst (λ (l : Option ℕ). IfSome l (AskedLast s.handled.was_handed.calls)) (asked open_still) s.handled.asked)
 may_give closed made unclosed stages.Done waiting left s asked out = absurd (let e = out refl in cc e)
 may_give closed made unclosed stages.Over waiting left s asked out = s
 
 -- those that gave what they have
-closed_gave : GaveAll Unasked itself never false Server talk_sent 1 (unsent_with true)
+closed_gave : GaveAll Stays itself never false Server talk_sent 1 (unsent_with true)
 closed_gave = record {
   stream = record { waiting = []; stage = stages.Serving true };
   left = None;
@@ -220,8 +222,8 @@ closed_gave = record {
   out_before = λ out. absurd (cc out);
 }
 
-asked_gave : (closed finished : Bool → Bool) (handler : Bool) → GaveAll Stays closed finished false Server talk_sent 1 (unsent_with handler)
-unfolding left_then
+asked_gave : (closed finished : Bool → Bool) (handler : Bool) → GaveAll Stays closed finished false Server talk_sent 1 (record (unsent_with handler) { calls = then_asked })
+unfolding left_then asked_past
 asked_gave closed finished handler = record {
   stream = record { waiting = []; stage = stages.Serving handler };
   left = Some left_then;
@@ -231,7 +233,7 @@ asked_gave closed finished handler = record {
   out_before = λ out. absurd (cc out);
 }
 
-out_gave : (closed : Bool → Bool) → GaveAll Unasked closed never true Server talk_sent 1 (unsent_with false)
+out_gave : (closed : Bool → Bool) → GaveAll Stays closed never true Server talk_sent 1 (unsent_with false)
 out_gave closed = record {
   stream = record { waiting = []; stage = stages.Done };
   left = None;
@@ -319,6 +321,21 @@ settled_rows = record {
     over = λ on none. absurd (cc none);
     was_taken = λ some. refl;
   };
+}
+
+-- ---- what a handler may be asked for
+
+pub ask_rows : AskRows
+ask_rows = record {
+  all = (refl, refl, refl, refl);
+  behind_what_waits = (refl, refl, refl, refl);
+  less = λ m. let e = m.3 in let all : credit Server two_bytes 1 ≡ 262144 = refl in omega (arith, e, all);
+  closed = λ m. absurd (let e = m.2 in cc e);
+  done = λ m. absurd (let e = m.2 in cc e);
+  shut = λ room m. absurd (let e = m.1 in cc e);
+  reset = λ room m. absurd (let e = m.0 in cc e);
+  taken = λ bytes m. m;
+  ended = λ m. m;
 }
 
 -- ---- refusals

@@ -1,17 +1,20 @@
 -- What a stream gave was written.
-use Rattle.std.proofs.Common.{◌≡◌, ◌≢◌, ℕ, ◌≤◌, ◌-◌, min, Bool, true, false, List, [], ◌∷◌, ◌++◌, length, map, take, ◌⊎◌, inl, inr, Some, Result, Ok, Err, refl, sym, ap, ◌∙◌, subst, arith}
+use Rattle.std.proofs.Common.{◌≡◌, ◌≢◌, ℕ, ◌≤◌, ◌-◌, min, Bool, true, false, List, [], ◌∷◌, ◌++◌, length, map, take, ◌⊎◌, inl, inr, Some, None, Result, Ok, Err, refl, sym, ap, ◌∙◌, subst, arith}
 use Rattle.std.specs.Prelude.{OnOk}
 use Rattle.std.specs.List.{concat}
 use Rattle.std.proofs.lemmas.List.{take_all}
-use Rattle.handlers.specs.Calls.{HandlerCall}
+use Rattle.handlers.specs.Calls.{HandlerCall, Give}
 use Rattle.yamux_session.specs.declared.event.Role.{Role}
 use Rattle.yamux_session.specs.History.{Item, Act}
 use Rattle.yamux_session.specs.History.Item.{Did}
 use Rattle.yamux_session.specs.History.Act.{Write}
 use Rattle.yamux_session.specs.State.{State, Stands as SessionStands}
-use Rattle.streams.specs.Streams.{Past}
+use Rattle.yamux_session.specs.Acts.{open_credit}
+use Rattle.streams.specs.Streams.{Past, with_call}
 use Rattle.streams.specs.State.{Streaming, Stands, is_open}
+use Rattle.serving.specs.Served.{Asking}
 use Rattle.serving.specs.Steps.{Sends}
+use Rattle.serving.proofs.Refusals.{open_with}
 
 pub on_ok : {A E : Type 0} {P Q : Type 0} (r : Result A E) → (P → Q) → OnOk r P → OnOk r Q
 on_ok (Ok x) f p = f p
@@ -30,44 +33,56 @@ none_of (x ∷ xs) e = absurd (cc e)
 module _ {H : Type 0} (step : H → HandlerCall → H → Type 0) (closed : H → Bool) where
   -- where the stream stands behind what it gave
   pub record Given (so_far : Past H) (amount : ℕ) (old new : Streaming H) (bytes : List ℕ) : Type 0 where
-    pub asked : is_open closed old.stage ≡ true → Stands step new (record so_far { sent = so_far.sent ++ bytes; left = Some (amount - length bytes) })
+    pub asked : is_open closed old.stage ≡ true → (more : List ℕ) × (bytes ≡ take amount old.waiting ++ more)
+        × Stands step new (with_call (record so_far { sent = so_far.sent ++ bytes; left = Some (amount - length bytes) }) (Some (Give (amount - length old.waiting) more)))
     pub not_asked : is_open closed old.stage ≡ false → Stands step new (record so_far { sent = so_far.sent ++ bytes })
     pub same : is_open closed old.stage ≡ false → new.stage ≡ old.stage
     pub full : new.waiting ≢ [] → length bytes ≡ amount
 
   gave_by : (role : Role) (past : List Item) (fed sent : List ℕ) (n amount : ℕ) (so_far : Past H) (session : State) (old new : Streaming H) (pieces : List (List ℕ)) (acts : List Act)
       → (acts ≡ Write n pieces ∷ []) ⊎ ((acts ≡ []) × (pieces ≡ [])) → SessionStands role (map Did acts ++ past) fed sent session → Given so_far amount old new (concat pieces)
-      → (b : Bool) → is_open closed old.stage ≡ b → Sends step closed role past fed sent n amount so_far session new
-  gave_by role past fed sent n amount so_far session old new pieces acts are at g true e = record {
-    pieces = pieces;
-    acts = acts;
-    acts_are = are;
-    left = Some (amount - length (concat pieces));
-    session_stands = at;
-    stream_stands = g.asked e;
-    asked = λ is. refl;
-    full = g.full;
-  }
-  gave_by role past fed sent n amount so_far session old new pieces acts are at g false e = record {
-    pieces = pieces;
-    acts = acts;
-    acts_are = are;
-    left = so_far.left;
-    session_stands = at;
-    stream_stands = g.not_asked e;
-    asked = λ is. absurd (let both : true ≡ false = sym is ∙ ap (is_open closed) (g.same e) ∙ e in cc both);
-    full = g.full;
-  }
+      → open_credit role past n ≡ Some amount → (b : Bool) → is_open closed old.stage ≡ b
+      → Asking closed role past n old so_far (λ now. Sends step closed role past fed sent n amount now session new)
+  gave_by role past fed sent n amount so_far session old new pieces acts are at g some true e =
+      let it = open_with role past n amount some in
+      let call = Give (amount - length old.waiting) (g.asked e).0 in (
+        Some call,
+        (it.is_live, it.unclosed, e, ap (λ k. k - length old.waiting) (sym it.credit_is)),
+        record {
+          pieces = pieces;
+          acts = acts;
+          acts_are = are;
+          left = Some (amount - length (concat pieces));
+          session_stands = at;
+          stream_stands = (g.asked e).2;
+          asked = λ is. refl;
+          full = g.full;
+        },
+      )
+  gave_by role past fed sent n amount so_far session old new pieces acts are at g some false e = (
+    None,
+    tt,
+    record {
+      pieces = pieces;
+      acts = acts;
+      acts_are = are;
+      left = so_far.left;
+      session_stands = at;
+      stream_stands = g.not_asked e;
+      asked = λ is. absurd (let both : true ≡ false = sym is ∙ ap (is_open closed) (g.same e) ∙ e in cc both);
+      full = g.full;
+    },
+  )
 
   pub gave : (role : Role) (past : List Item) (fed sent : List ℕ) (n amount : ℕ) (so_far : Past H) (session : State) (old new : Streaming H) (bytes : List ℕ) (pieces : List (List ℕ))
       → concat pieces ≡ bytes → SessionStands role (Did (Write n pieces) ∷ past) fed sent session → Given so_far amount old new bytes
-      → Sends step closed role past fed sent n amount so_far session new
-  gave role past fed sent n amount so_far session old new bytes pieces e at g =
-      gave_by role past fed sent n amount so_far session old new pieces (Write n pieces ∷ []) (inl refl) at (subst (λ t. Given so_far amount old new t) (sym e) g) (is_open closed old.stage) refl
+      → open_credit role past n ≡ Some amount → Asking closed role past n old so_far (λ now. Sends step closed role past fed sent n amount now session new)
+  gave role past fed sent n amount so_far session old new bytes pieces e at g some =
+      gave_by role past fed sent n amount so_far session old new pieces (Write n pieces ∷ []) (inl refl) at (subst (λ t. Given so_far amount old new t) (sym e) g) some (is_open closed old.stage) refl
 
   -- one that gave nothing
   pub gave_none : (role : Role) (past : List Item) (fed sent : List ℕ) (n amount : ℕ) (so_far : Past H) (session : State) (old new : Streaming H) (bytes : List ℕ)
       → bytes ≡ [] → SessionStands role past fed sent session → Given so_far amount old new bytes
-      → Sends step closed role past fed sent n amount so_far session new
-  gave_none role past fed sent n amount so_far session old new bytes e at g =
-      gave_by role past fed sent n amount so_far session old new [] [] (inr (refl, refl)) at (subst (λ t. Given so_far amount old new t) e g) (is_open closed old.stage) refl
+      → open_credit role past n ≡ Some amount → Asking closed role past n old so_far (λ now. Sends step closed role past fed sent n amount now session new)
+  gave_none role past fed sent n amount so_far session old new bytes e at g some =
+      gave_by role past fed sent n amount so_far session old new [] [] (inr (refl, refl)) at (subst (λ t. Given so_far amount old new t) e g) some (is_open closed old.stage) refl

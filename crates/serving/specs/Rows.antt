@@ -2,7 +2,7 @@
 -- handler is closed, and finished, where it is `true`.
 use Rattle.std.specs.Prelude.{◌≡◌, ◌↔◌, ℕ, Bool, true, false, List, [], ◌∷◌, Option, Some, None}
 use Rattle.ms_select.specs.Rows.{header_bytes, y_bytes}
-use Rattle.handlers.specs.Calls.{HandlerCall, Take, Asked, ToGive}
+use Rattle.handlers.specs.Calls.{HandlerCall, Take, Give, End, Asked, ToGive}
 use Rattle.yamux_session.specs.declared.event.Role.{Role}
 use Rattle.yamux_session.specs.declared.event.Role.TheVariants.{Client, Server}
 use Rattle.yamux_session.specs.History.{Item, Act}
@@ -16,7 +16,8 @@ use Rattle.streams.specs.declared.stop.Stop.TheVariants.{Broken, OutOfMemory}
 use Rattle.streams.specs.Streams.{Past}
 use Rattle.streams.specs.State.{Streaming}
 use Rattle.streams.specs.Rows.{came, served_past}
-use Rattle.serving.specs.Served.{IsDue, HasSent, IsSettled, HandsOut, GivesUp, MayGrow}
+use Rattle.yamux_session.specs.Windows.{credit}
+use Rattle.serving.specs.Served.{MayBeAsked, IsDue, HasSent, IsSettled, HandsOut, GivesUp, MayGrow}
 
 abbrev pub itself : Bool → Bool
 itself b = b
@@ -49,6 +50,7 @@ unsent_with handler = record {
   ended = false;
   sent = [];
   made = Some handler;
+  calls = Take (1 ∷ 2 ∷ []) ∷ [];
   left = None;
 }
 
@@ -76,39 +78,42 @@ came_behind = 1 ∷ 2 ∷ []
 abbrev pub Stays : Bool → HandlerCall → Bool → Type 0
 Stays old call new = new ≡ old
 
--- and was never asked for bytes
-abbrev pub Unasked : Bool → HandlerCall → Bool → Type 0
-Unasked old call new = (new ≡ old) × (call ≡ Take came_behind)
+-- it was handed them, and never asked for bytes
+abbrev pub never_asked : List HandlerCall
+never_asked = Take came_behind ∷ []
 
--- whether this direction may be closed then
-abbrev pub MayClose : (Bool → HandlerCall → Bool → Type 0) → (closed finished : Bool → Bool) → (was_done handler : Bool)
-    → Type 0
-MayClose step closed finished was_done handler =
-    IsDue step closed finished was_done Server talk_sent 1 (unsent_with handler) (Close 1)
+-- or was asked for as many bytes as there is credit, and gave none
+abbrev pub then_asked : List HandlerCall
+then_asked = Take came_behind ∷ Give (credit Server talk_sent 1) [] ∷ []
+
+-- whether this direction may be closed behind these calls
+abbrev pub MayClose : List HandlerCall → (closed finished : Bool → Bool) → (was_done handler : Bool) → Type 0
+MayClose calls closed finished was_done handler =
+    IsDue Stays closed finished was_done Server talk_sent 1 (record (unsent_with handler) { calls = calls }) (Close 1)
 
 -- This direction isn't closed while what the talk wrote waits, though the handler is closed; and then only where the
 -- handler is closed, or finished and was asked, or was handed out before.
 pub record CloseRows : Type 0 where
   pub waiting : ¬ Due unsent Server two_bytes (Close 1)
-  pub closed : MayClose Unasked itself never false true
-  pub finished : MayClose Stays never itself false true
-  pub finished_unasked : ¬ MayClose Unasked never itself false true
-  pub handed_out : MayClose Unasked never never true false
-  pub serving : ¬ MayClose Stays itself itself false false
+  pub closed : MayClose never_asked itself never false true
+  pub finished : MayClose then_asked never itself false true
+  pub finished_unasked : ¬ MayClose never_asked never itself false true
+  pub handed_out : MayClose never_asked never never true false
+  pub serving : ¬ MayClose then_asked itself itself false false
 
 -- whether what came may count as taken then
-abbrev pub MayTake : (Bool → HandlerCall → Bool → Type 0) → (closed : Bool → Bool) → (was_done handler : Bool) → Type 0
-MayTake step closed was_done handler =
-    IsDue step closed never was_done Server talk_sent 1 (unsent_with handler) (Taken 1 2)
+abbrev pub MayTake : List HandlerCall → (closed : Bool → Bool) → (was_done handler : Bool) → Type 0
+MayTake calls closed was_done handler =
+    IsDue Stays closed never was_done Server talk_sent 1 (record (unsent_with handler) { calls = calls }) (Taken 1 2)
 
 -- What came is taken where the stream gave what it has: nothing waits, and its handler is closed, or was asked, or was
 -- handed out before.
 pub record TakeRows : Type 0 where
   pub waiting : ¬ Due unsent Server two_bytes (Taken 1 2)
-  pub closed : MayTake Unasked itself false true
-  pub asked : MayTake Stays itself false false
-  pub unasked : ¬ MayTake Unasked itself false false
-  pub handed_out : MayTake Unasked itself true false
+  pub closed : MayTake never_asked itself false true
+  pub asked : MayTake then_asked itself false false
+  pub unasked : ¬ MayTake never_asked itself false false
+  pub handed_out : MayTake never_asked itself true false
 
 abbrev pub serving_of : List ℕ → Bool → Streaming Bool
 serving_of waiting handler = record { waiting = waiting; stage = Serving handler }
@@ -148,6 +153,22 @@ pub record SettledRows : Type 0 where
   pub not_closed : ¬ Settled Server taken None (serving_of [] true)
   pub done_and_not_closed : ¬ Settled Server taken None (done_with [])
   pub done_with_output : Settled Client all_written None (done_with (7 ∷ []))
+
+abbrev pub MayAsk : Role → List Item → Streaming Bool → HandlerCall → Type 0
+MayAsk role past stream call = MayBeAsked itself role past 1 stream call
+
+-- what a handler may be asked for: as many bytes as there is credit behind what waits, where it isn't closed, and this
+-- direction of a live stream is open
+pub record AskRows : Type 0 where
+  pub all : MayAsk Server two_bytes (serving_of [] false) (Give 262144 (7 ∷ []))
+  pub behind_what_waits : MayAsk Server two_bytes (serving_of (1 ∷ 2 ∷ []) false) (Give 262142 [])
+  pub less : ¬ MayAsk Server two_bytes (serving_of [] false) (Give 262143 [])
+  pub closed : ¬ MayAsk Server two_bytes (serving_of [] true) (Give 262144 [])
+  pub done : ¬ MayAsk Server two_bytes (done_with []) (Give 262144 [])
+  pub shut : (room : ℕ) → ¬ MayAsk Server (Did (Close 1) ∷ two_bytes) (serving_of [] false) (Give room [])
+  pub reset : (room : ℕ) → ¬ MayAsk Server (Did (Reset 1) ∷ two_bytes) (serving_of [] false) (Give room [])
+  pub taken : (bytes : List ℕ) → ¬ MayAsk Server two_bytes (serving_of [] false) (Take bytes)
+  pub ended : ¬ MayAsk Server two_bytes (serving_of [] false) End
 
 -- a handler that fails by 3 where it is asked for 7 bytes
 abbrev pub Fails7 : Bool → Asked → ℕ → Type 0

@@ -3,7 +3,7 @@
 -- credit, and when data counts as taken, is this project's profile.
 use Rattle.std.specs.Prelude.{◌≡◌, ◌≢◌, ◌⊎◌, ℕ, ◌<◌, ◌-◌, Bool, true, false, List, [], ◌∷◌, ◌++◌, map, length}
 use Rattle.std.specs.Prelude.{Option, Some, IfSome, IfNone}
-use Rattle.handlers.specs.Calls.{HandlerCall, Asked, ToGive}
+use Rattle.handlers.specs.Calls.{HandlerCall, Take, Give, End, Asked, ToGive}
 use Rattle.yamux_session.specs.declared.event.Role.{Role}
 use Rattle.yamux_session.specs.History.{Item, Act}
 use Rattle.yamux_session.specs.History.Item.{Did}
@@ -14,9 +14,27 @@ use Rattle.yamux_session.specs.Data.{written}
 use Rattle.yamux_session.specs.State.{State, Stands as SessionStands}
 use Rattle.streams.specs.declared.stage.Stage.TheVariants.{Done}
 use Rattle.streams.specs.declared.stop.Stop.{Stop}
-use Rattle.streams.specs.Streams.{Past, IsServed}
+use Rattle.streams.specs.Streams.{Past, IsServed, with_call}
 use Rattle.streams.specs.State.{Streaming, Stands, handler_of, is_open, has_closed, has_finished, was_handed_out}
 use Rattle.streams.specs.Stops.{FailsBy}
+
+-- ---- the call by which a stream is served
+
+-- What may be asked for: while the stream is live, and this direction open, a handler that it holds, and that isn't
+-- closed, is asked for as many bytes as there is credit behind what waits.
+abbrev pub MayBeAsked : {H : Type 0} → (H → Bool) → Role → List Item → ℕ → Streaming H → HandlerCall → Type 0
+MayBeAsked is_closed role past n stream (Give room bytes) =
+    (is_live role past n ≡ true) × (closed role past n ≡ false) × (is_open is_closed stream.stage ≡ true)
+    × (room ≡ credit role past n - length stream.waiting)
+MayBeAsked is_closed role past n stream (Take bytes) = ⊥
+MayBeAsked is_closed role past n stream End = ⊥
+
+-- The stream's handler was called at most once, for what it may be asked for, and so far this came then.
+abbrev pub Asking : {H : Type 0} → (H → Bool) → Role → List Item → ℕ → Streaming H → Past H → (Past H → Type 0) → Type 0
+Asking is_closed role past n stream so_far Came = (gave : Option HandlerCall)
+    × IfSome gave (MayBeAsked is_closed role past n stream) × Came (with_call so_far gave)
+
+-- ---- what is done then
 
 -- the stream's past where its session's list is this: what was sent on it is what was written
 abbrev pub with_sent : {H : Type 0} → Role → List Item → ℕ → Past H → Option ℕ → Past H

@@ -2,7 +2,8 @@
 
 ghost use Rattle.std.specs.Prelude.{Bool};
 ghost use Rattle.streams.specs.Streams.{Past};
-ghost use Rattle.serving.specs.Rows.{DueRows, WriteRows, CloseRows, TakeRows, HandRows, SettledRows, RefusalRows};
+ghost use Rattle.serving.specs.Rows.{DueRows, WriteRows, CloseRows, TakeRows, HandRows, SettledRows};
+ghost use Rattle.serving.specs.Rows.{AskRows, RefusalRows};
 
 /// The definitions say of worked histories what they are to say.
 pub fn worked_rows()
@@ -12,5 +13,6 @@ pub fn worked_rows()
     ensures takes { TakeRows }
     ensures hands { (so_far : Past Bool) → HandRows so_far }
     ensures settled { SettledRows }
+    ensures asks { AskRows }
     ensures refusals { RefusalRows }
 {}

@@ -10,7 +10,7 @@ ghost use Rattle.yamux_session.specs.State.{Stands as SessionStands, Whenever};
 ghost use Rattle.streams.specs.declared.stage.Stage.TheVariants.{Over};
 ghost use Rattle.streams.specs.Streams.{Past};
 ghost use Rattle.streams.specs.State.{Stands, Served, kind_of, was_handed_out};
-ghost use Rattle.serving.specs.Served.{Serves, GivesUp, MayGrow};
+ghost use Rattle.serving.specs.Served.{Asking, Serves, GivesUp, MayGrow};
 ghost use Rattle.serving.specs.Steps.{Sends, WasAsked, Closes, Counts};
 
 use handlers::Handler;
@@ -28,7 +28,8 @@ fn send<H: Handler>(
     ensures sends { (role : Role) (past : List Item) (fed sent : List ℕ) (so_far : Past H)
         → SessionStands role past fed sent session.old → open_credit role past number ≡ Some credit
         → Stands H.steps stream.old so_far → OnOk result
-        (Sends H.steps H.is_closed role past fed sent number credit so_far session.new stream.new) }
+        (Asking H.is_closed role past number stream.old so_far (λ now.
+        Sends H.steps H.is_closed role past fed sent number credit now session.new stream.new)) }
     ensures silent { IfOk result (λ wrote. wrote ≡ false → session.new ≡ session.old) }
     ensures fault { IfErr result (λ stop. stop ≢ Stop.OutOfMemory → (session.new ≡ session.old)
         × ((stream.new ≡ record stream.old { stage = Over }) × GivesUp H.fails H.is_closed stream.old credit stop)) }
@@ -50,8 +51,9 @@ fn ask<H: Handler>(session: &mut Session, number: u32, stream: &mut Stream<H>) -
     ensures asks { (role : Role) (past : List Item) (fed sent : List ℕ) (so_far : Past H)
         → SessionStands role past fed sent session.old → Stands H.steps stream.old so_far
         → so_far.sent ≡ written role past number → OnOk result
-        (WasAsked H.steps H.is_closed H.is_finished (was_handed_out stream.old.stage) role past fed sent number so_far
-        session.new stream.new) }
+        (Asking H.is_closed role past number stream.old so_far (λ now.
+        WasAsked H.steps H.is_closed H.is_finished (was_handed_out stream.old.stage) role past fed sent number now
+        session.new stream.new)) }
     ensures left { IfOk result (λ is_left. is_left ≡ true
         → Whenever session.new (λ role past. open_credit role past number ≢ Some 0)) }
     ensures kind { OnOk result (kind_of stream.new.stage ≡ kind_of stream.old.stage) }
@@ -148,8 +150,9 @@ pub fn serve<H: Handler>(
     ensures serves { (role : Role) (past : List Item) (fed sent : List ℕ) (so_far : Past H)
         → SessionStands role past fed sent session.old → Stands H.steps stream.old so_far
         → so_far.sent ≡ written role past number → IfOk result (λ handler.
-        Serves H.steps H.is_closed H.is_finished (was_handed_out stream.old.stage) role past fed sent number so_far
-        handler session.new stream.new) }
+        Asking H.is_closed role past number stream.old so_far (λ now.
+        Serves H.steps H.is_closed H.is_finished (was_handed_out stream.old.stage) role past fed sent number now
+        handler session.new stream.new)) }
     // A stream is done only with its handler handed out, which served it.
     ensures kind { result ≡ Ok None → kind_of stream.new.stage ≡ kind_of stream.old.stage }
     ensures served { IfOk result (λ handler. IfSome handler (λ it. kind_of stream.old.stage ≡ Served)) }

@@ -3,6 +3,7 @@
 
 ghost use Rattle.std.specs.Prelude.{◌≡◌, [], ◌∷◌, ⊤, ◌==◌, ◌&&◌, false, codes};
 
+use crate::greeting::{KEY, OTHER, ROOM};
 use crate::stopping::{Why, why_broken};
 use conn_core::ConnCore;
 use conn_log::ConnEvent;
@@ -121,18 +122,9 @@ impl Protocols for Owings {
     }
 }
 
-/// The key of this end, and all that the other end sends in the upgrade, with a Secp256k1 key of one byte.
-const KEY: &[u8] = b"\x08\x02\x12\x01\x05";
-
-const OTHER: &[u8] = b"\x13/multistream/1.0.0\n\x11/plaintext/2.0.0\n\
-    \x10\x0a\x07\0\x05\x08\x02\x12\x01\x06\x12\x05\x08\x02\x12\x01\x06\x13/multistream/1.0.0\n\x0d/yamux/1.0.0\n";
-
 /// The other end opens the streams 1 and 3 for `/mute`.
 const OPENS: &[u8] = b"\0\0\0\x01\0\0\0\x01\0\0\0\x1b\x13/multistream/1.0.0\n\x06/mute\n\
     \0\0\0\x01\0\0\0\x03\0\0\0\x1b\x13/multistream/1.0.0\n\x06/mute\n";
-
-/// The room of a handler: the window of a stream, but for the 27 bytes of this end's talk.
-const ROOM: usize = 262_117;
 
 /// A window update of one byte, and three bytes of data, each with the end of the stream's data.
 const CREDIT_AND_END_1: &[u8] = b"\0\x01\0\x04\0\0\0\x01\0\0\0\x01";
@@ -169,8 +161,8 @@ fn only_told(events: &[ConnEvent<Owing>]) -> Told {
     }
 }
 
-/// What a handler owes at first, whether it fails at an early end, the piece that comes once it has given what there was
-/// room for, and what is told.
+/// What a handler owes at first, whether it fails at an early end, the piece that comes once it has given what there
+/// was room for, and what is told.
 type Row = (usize, bool, &'static [u8], Told);
 
 const FAILED: Why = Why::Handler(7);

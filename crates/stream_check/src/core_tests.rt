@@ -3,6 +3,7 @@
 
 ghost use Rattle.std.specs.Prelude.{◌≡◌, [], ◌∷◌, ⊤, false, not, codes, if◌then◌else◌};
 
+use crate::greeting::{KEY, OTHER};
 use conn_core::*;
 use conn_log::ConnEvent;
 use handlers::{Handler, HandlerFault, Protocols};
@@ -100,12 +101,6 @@ impl Protocols for Mutes {
         })
     }
 }
-
-/// The key of this end, and all that the other end sends in the upgrade, with a Secp256k1 key of one byte.
-const KEY: &[u8] = b"\x08\x02\x12\x01\x05";
-
-const OTHER: &[u8] = b"\x13/multistream/1.0.0\n\x11/plaintext/2.0.0\n\
-    \x10\x0a\x07\0\x05\x08\x02\x12\x01\x06\x12\x05\x08\x02\x12\x01\x06\x13/multistream/1.0.0\n\x0d/yamux/1.0.0\n";
 
 /// All that this end writes.
 const OUTPUT: &[u8] = b"\x13/multistream/1.0.0\n\x11/plaintext/2.0.0\n\

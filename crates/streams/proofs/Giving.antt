@@ -36,9 +36,9 @@ order_of room waiting front (x ∷ left) (y ∷ given) parts count short =
     absurd (omega (arith, ap length parts, length-append front (x ∷ left)))
 
 module _ {H : Type 0} (step : H → HandlerCall → H → Type 0) (closed : H → Bool) where
-  agreed_sent : (past : Past H) (last : Option ℕ) (index : ℕ) (rest gave waiting front left given : List ℕ) → Parts waiting front left given
-      → HasAgreed past index rest gave waiting → HasAgreed (record past { sent = past.sent ++ (front ++ given); left = last }) index rest (gave ++ given) left
-  agreed_sent past last index rest gave waiting front left given p a = record {
+  agreed_sent : (past : Past H) (last : Option ℕ) (calls : List HandlerCall) (index : ℕ) (rest gave waiting front left given : List ℕ) → Parts waiting front left given
+      → HasAgreed past index rest gave waiting → HasAgreed (record past { sent = past.sent ++ (front ++ given); calls = calls; left = last }) index rest (gave ++ given) left
+  agreed_sent past last calls index rest gave waiting front left given p a = record {
     first = a.first;
     output = a.output;
     got_is = a.got_is;
@@ -57,33 +57,33 @@ module _ {H : Type 0} (step : H → HandlerCall → H → Type 0) (closed : H �
   -- a handler that isn't closed is asked last, with the room that is left
   pub was_asked : (past : Past H) (old new : Stage H) (rest last : ℕ) (waiting front left given : List ℕ) → is_open closed old ≡ true → Parts waiting front left given
       → length given + last ≡ rest → StandsAt step old past waiting → StageGives step closed old rest new given
-      → StandsAt step new (record past { sent = past.sent ++ (front ++ given); left = Some last }) left
+      → StandsAt step new (record past { sent = past.sent ++ (front ++ given); calls = past.calls ++ Give rest given ∷ []; left = Some last }) left
   was_asked past (stages.Talking talk None) new rest last waiting front left given unclosed p sum s g = absurd cc
   was_asked past (stages.Talking talk (Some handler)) new rest last waiting front left given unclosed p sum s g =
       let early = s.early in
-      subst (λ (t : Stage H). StandsAt step t (record past { sent = past.sent ++ (front ++ given); left = Some last }) left) (sym g.1)
+      subst (λ (t : Stage H). StandsAt step t (record past { sent = past.sent ++ (front ++ given); calls = past.calls ++ Give rest given ∷ []; left = Some last }) left) (sym g.1)
       (record {
         output = s.output;
         gave = s.gave ++ given;
         going = s.going;
         early = (
           early.0,
-          (early.1.0, early.1.1, after_give step early.1.0 handler g.0 [] s.gave given false past.left rest last early.1.2 (stepped handler g.0 rest given unclosed g.2) sum),
+          (early.1.0, early.1.1, after_give step early.1.0 handler g.0 past.calls [] s.gave given false past.left rest last early.1.2 (stepped handler g.0 rest given unclosed g.2) sum),
         );
         sent_is = sent_on past.sent waiting front left given s.output s.gave p s.sent_is;
         not_ended = s.not_ended;
       })
   was_asked past (stages.Agreed index) new rest last waiting front left given unclosed p sum s g = absurd cc
   was_asked past (stages.Serving handler) new rest last waiting front left given unclosed p sum s g =
-      subst (λ (t : Stage H). StandsAt step t (record past { sent = past.sent ++ (front ++ given); left = Some last }) left) (sym g.1)
+      subst (λ (t : Stage H). StandsAt step t (record past { sent = past.sent ++ (front ++ given); calls = past.calls ++ Give rest given ∷ []; left = Some last }) left) (sym g.1)
       (record {
         index = s.index;
         rest = s.rest;
         gave = s.gave ++ given;
         made = s.made;
-        agreed = agreed_sent past (Some last) s.index s.rest s.gave waiting front left given p s.agreed;
+        agreed = agreed_sent past (Some last) (past.calls ++ Give rest given ∷ []) s.index s.rest s.gave waiting front left given p s.agreed;
         made_is = s.made_is;
-        handled = after_give step s.made handler g.0 s.rest s.gave given past.ended past.left rest last s.handled (stepped handler g.0 rest given unclosed g.2) sum;
+        handled = after_give step s.made handler g.0 past.calls s.rest s.gave given past.ended past.left rest last s.handled (stepped handler g.0 rest given unclosed g.2) sum;
       })
   was_asked past stages.Done new rest last waiting front left given unclosed p sum s g = absurd cc
   was_asked past stages.Over new rest last waiting front left given unclosed p sum s g = absurd s
@@ -127,6 +127,7 @@ module _ {H : Type 0} (step : H → HandlerCall → H → Type 0) (closed : H �
     agreed = agreed_on past index [] [] waiting front left parts s.agreed;
     none_made = s.none_made;
     none_asked = s.none_asked;
+    none_called = s.none_called;
     not_ended = s.not_ended;
   }
   front_sent past (stages.Serving handler) waiting front left parts s = record {

@@ -1,5 +1,5 @@
 -- Where a stream stands behind a call.
-use Rattle.std.proofs.Common.{◌≡◌, ◌≢◌, ◌⊎◌, ℕ, ◌+◌, Bool, true, false, List, [], ◌∷◌, ◌++◌, take, Option, Some, None, Result, Ok, Err, refl, sym, ap, ◌∙◌, subst, append_assoc, inl, inr}
+use Rattle.std.proofs.Common.{◌≡◌, ◌≢◌, ◌⊎◌, ℕ, Bool, true, false, List, [], ◌∷◌, ◌++◌, take, Option, Some, None, Result, Ok, Err, refl, sym, ap, ◌∙◌, subst, append_assoc, inl, inr}
 use Rattle.std.proofs.lemmas.List.{append-nil, append_cancel_left}
 use Rattle.ms_select.specs.declared.answer.Answer.{Answer}
 use Rattle.ms_select.specs.declared.answer.Answer.TheVariants as answers
@@ -17,8 +17,8 @@ use Rattle.streams.specs.declared.stop.Stop.TheVariants.{Broken, OutOfMemory}
 use Rattle.streams.specs.declared.stage.Stage.{Stage}
 use Rattle.streams.specs.declared.stage.Stage.TheVariants as stages
 use Rattle.streams.specs.Handled.{Handled}
-use Rattle.streams.specs.Streams.{Past, fresh, IsAsking, IsEarly, HasAgreed, IsTalking, IsServed, IsDone}
-use Rattle.streams.specs.State.{Streaming, Stands, StandsAt, awaits_handler, handler_of}
+use Rattle.streams.specs.Streams.{Past, fresh, with_call, IsAsking, IsEarly, HasAgreed, IsTalking, IsServed, IsDone}
+use Rattle.streams.specs.State.{Streaming, Stands, StandsAt, awaits_handler, answering, handler_of}
 use Rattle.streams.specs.Hearing.{Hears, HasHeard, HasNoRoom, RunsOut, used_of, served}
 use Rattle.streams.specs.InTalk.{TalkHears, stage_by}
 use Rattle.streams.proofs.Hearing.{still_open}
@@ -114,6 +114,7 @@ module _ {H : Type 0} (step : H → HandlerCall → H → Type 0) where
     agreed = agreed_by past first output [] now index t (subst (λ (g : List ℕ). past.sent ++ now ≡ output ++ g) early.2 e);
     none_made = early.0;
     none_asked = early.1;
+    none_called = early.3;
     not_ended = going_on;
   }
   then_served past (Some handler) first output gave now index going_on early t e = record {
@@ -123,7 +124,7 @@ module _ {H : Type 0} (step : H → HandlerCall → H → Type 0) where
     made = early.1.0;
     agreed = agreed_by past first output gave now index t e;
     made_is = early.1.1;
-    handled = subst (λ (b : Bool). Handled step early.1.0 [] b gave past.left handler) (sym going_on) early.1.2;
+    handled = subst (λ (b : Bool). Handled step early.1.0 past.calls [] b gave past.left handler) (sym going_on) early.1.2;
   }
 
   pub then_stands : (past : Past H) (talk new : Talking) (handler : Option H) (piece waiting now : List ℕ) (heard : Heard)
@@ -150,16 +151,17 @@ module _ {H : Type 0} (step : H → HandlerCall → H → Type 0) where
     made = handler;
     agreed = record { first = s.agreed.first; output = s.agreed.output; got_is = s.agreed.got_is; agrees = s.agreed.agrees; sent_is = s.agreed.sent_is };
     made_is = refl;
-    handled = subst (λ (b : Bool). Handled step handler [] b [] past.left handler) (sym s.not_ended)
-        (subst (λ (l : Option ℕ). Handled step handler [] false [] l handler) (sym s.none_asked) (fresh_handled step handler));
+    handled = subst (λ (b : Bool). Handled step handler past.calls [] b [] past.left handler) (sym s.not_ended)
+        (subst (λ (l : Option ℕ). Handled step handler past.calls [] false [] l handler) (sym s.none_asked)
+        (subst (λ (c : List HandlerCall). Handled step handler c [] false [] None handler) (sym s.none_called) (fresh_handled step handler)));
   }
   handed_in past (stages.Serving h) handler waiting e s = absurd cc
   handed_in past stages.Done handler waiting e s = absurd cc
   handed_in past stages.Over handler waiting e s = absurd s
 
-  more_came : (past : Past H) (left : Option ℕ) (index : ℕ) (rest gave waiting more : List ℕ) → HasAgreed past index rest gave waiting
-      → HasAgreed (record past { got = past.got ++ more; left = left }) index (rest ++ more) gave waiting
-  more_came past left index rest gave waiting more a = record {
+  more_came : (past : Past H) (left : Option ℕ) (calls : List HandlerCall) (index : ℕ) (rest gave waiting more : List ℕ) → HasAgreed past index rest gave waiting
+      → HasAgreed (record past { got = past.got ++ more; calls = calls; left = left }) index (rest ++ more) gave waiting
+  more_came past left calls index rest gave waiting more a = record {
     first = a.first;
     output = a.output;
     got_is = ap (λ (t : List ℕ). t ++ more) a.got_is ∙ append_assoc a.first rest more;
@@ -168,17 +170,17 @@ module _ {H : Type 0} (step : H → HandlerCall → H → Type 0) where
   }
 
   pub has_taken : (past : Past H) (old new : H) (waiting more : List ℕ) → past.ended ≡ false → IsServed step past old waiting → step old (Take more) new
-      → IsServed step (record past { got = past.got ++ more; left = None }) new waiting
+      → IsServed step (record past { got = past.got ++ more; calls = past.calls ++ Take more ∷ []; left = None }) new waiting
   has_taken past old new waiting more going_on s stepped = record {
     index = s.index;
     rest = s.rest ++ more;
     gave = s.gave;
     made = s.made;
-    agreed = more_came past None s.index s.rest s.gave waiting more s.agreed;
+    agreed = more_came past None (past.calls ++ Take more ∷ []) s.index s.rest s.gave waiting more s.agreed;
     made_is = s.made_is;
-    handled = subst (λ (b : Bool). Handled step s.made (s.rest ++ more) b s.gave None new) (sym going_on)
-        (after_take step s.made old new s.rest more s.gave past.left
-        (subst (λ (b : Bool). Handled step s.made s.rest b s.gave past.left old) going_on s.handled) stepped);
+    handled = subst (λ (b : Bool). Handled step s.made (past.calls ++ Take more ∷ []) (s.rest ++ more) b s.gave None new) (sym going_on)
+        (after_take step s.made old new past.calls s.rest more s.gave past.left
+        (subst (λ (b : Bool). Handled step s.made past.calls s.rest b s.gave past.left old) going_on s.handled) stepped);
   }
 
   not_said : (said ended : Bool) {P : Type 0} → ended ≡ false → (said ≡ true → (ended ≡ true) × P) → said ≡ true → ⊥
@@ -195,26 +197,27 @@ module _ {H : Type 0} (step : H → HandlerCall → H → Type 0) where
     handler = d.handler;
     said = d.said;
     agreed = subst (λ (t : List ℕ). HasAgreed (record past { got = past.got ++ more; left = None }) d.index t d.gave waiting) (append_assoc d.front d.rest more)
-        (more_came past None d.index (d.front ++ d.rest) d.gave waiting more d.agreed);
+        (more_came past None past.calls d.index (d.front ++ d.rest) d.gave waiting more d.agreed);
     made_is = d.made_is;
     handled = d.handled;
     end_came = λ e. absurd (not_said d.said past.ended going_on d.end_came e);
   }
 
-  ended_too : (past : Past H) (index : ℕ) (rest gave waiting : List ℕ) → HasAgreed past index rest gave waiting
-      → HasAgreed (record past { ended = true; left = None }) index rest gave waiting
-  ended_too past index rest gave waiting a = record { first = a.first; output = a.output; got_is = a.got_is; agrees = a.agrees; sent_is = a.sent_is }
+  ended_too : (past : Past H) (calls : List HandlerCall) (index : ℕ) (rest gave waiting : List ℕ) → HasAgreed past index rest gave waiting
+      → HasAgreed (record past { ended = true; calls = calls; left = None }) index rest gave waiting
+  ended_too past calls index rest gave waiting a = record { first = a.first; output = a.output; got_is = a.got_is; agrees = a.agrees; sent_is = a.sent_is }
 
   pub has_ended : (past : Past H) (old new : H) (waiting : List ℕ) → past.ended ≡ false → IsServed step past old waiting → step old End new
-      → IsServed step (record past { ended = true; left = None }) new waiting
+      → IsServed step (record past { ended = true; calls = past.calls ++ End ∷ []; left = None }) new waiting
   has_ended past old new waiting going_on s stepped = record {
     index = s.index;
     rest = s.rest;
     gave = s.gave;
     made = s.made;
-    agreed = ended_too past s.index s.rest s.gave waiting s.agreed;
+    agreed = ended_too past (past.calls ++ End ∷ []) s.index s.rest s.gave waiting s.agreed;
     made_is = s.made_is;
-    handled = after_end step s.made old new s.rest s.gave past.left (subst (λ (b : Bool). Handled step s.made s.rest b s.gave past.left old) going_on s.handled) stepped;
+    handled = after_end step s.made old new past.calls s.rest s.gave past.left
+        (subst (λ (b : Bool). Handled step s.made past.calls s.rest b s.gave past.left old) going_on s.handled) stepped;
   }
 
   pub done_ended : (past : Past H) (waiting : List ℕ) → past.ended ≡ false → IsDone step past waiting → IsDone step (record past { ended = true; left = None }) waiting
@@ -226,7 +229,7 @@ module _ {H : Type 0} (step : H → HandlerCall → H → Type 0) where
     made = d.made;
     handler = d.handler;
     said = d.said;
-    agreed = ended_too past d.index (d.front ++ d.rest) d.gave waiting d.agreed;
+    agreed = ended_too past past.calls d.index (d.front ++ d.rest) d.gave waiting d.agreed;
     made_is = d.made_is;
     handled = d.handled;
     end_came = λ e. absurd (not_said d.said past.ended going_on d.end_came e);
@@ -243,7 +246,7 @@ module _ {H : Type 0} (step : H → HandlerCall → H → Type 0) where
     said = past.ended;
     agreed = subst (λ (t : List ℕ). HasAgreed past s.index t s.gave waiting) (sym (append-nil s.rest)) s.agreed;
     made_is = s.made_is;
-    handled = forget step s.made handler s.rest s.gave past.ended past.left s.handled;
+    handled = forget step s.made handler past.calls s.rest s.gave past.ended past.left s.handled;
     end_came = λ e. (e, refl);
   }
 
@@ -252,9 +255,37 @@ module _ {H : Type 0} (step : H → HandlerCall → H → Type 0) where
       → IsServed step past handler waiting
   served_as x past handler waiting e s = subst (λ (y : Streaming H). Stands step y past) e s
 
+  -- the call that it answers is behind the others
+  pub taken_on : (x : Streaming H) (past : Past H) (handler new : H) (waiting more : List ℕ) → x ≡ record { waiting = waiting; stage = stages.Serving handler }
+      → past.ended ≡ false → Stands step x past → step handler (Take more) new
+      → IsServed step (with_call (record past { got = past.got ++ more; left = None }) (answering x.stage (Take more))) new waiting
+  taken_on x past handler new waiting more e going_on s stepped =
+      subst (λ (y : Streaming H). IsServed step (with_call (record past { got = past.got ++ more; left = None }) (answering y.stage (Take more))) new waiting) (sym e)
+      (has_taken past handler new waiting more going_on (served_as x past handler waiting e s) stepped)
+
+  pub ended_on : (x : Streaming H) (past : Past H) (handler new : H) (waiting : List ℕ) → x ≡ record { waiting = waiting; stage = stages.Serving handler }
+      → past.ended ≡ false → Stands step x past → step handler End new
+      → IsServed step (with_call (record past { ended = true; left = None }) (answering x.stage End)) new waiting
+  ended_on x past handler new waiting e going_on s stepped =
+      subst (λ (y : Streaming H). IsServed step (with_call (record past { ended = true; left = None }) (answering y.stage End)) new waiting) (sym e)
+      (has_ended past handler new waiting going_on (served_as x past handler waiting e s) stepped)
+
+  -- one whose handler was handed out, and which drops what comes
+  pub dropped_on : (x : Streaming H) (past : Past H) (waiting more : List ℕ) → x ≡ record { waiting = waiting; stage = stages.Done } → past.ended ≡ false → Stands step x past
+      → Stands step x (with_call (record past { got = past.got ++ more; left = None }) (answering x.stage (Take more)))
+  dropped_on x past waiting more e going_on s =
+      subst (λ (y : Streaming H). Stands step y (with_call (record past { got = past.got ++ more; left = None }) (answering y.stage (Take more)))) (sym e)
+      (has_dropped past waiting more going_on (subst (λ (y : Streaming H). Stands step y past) e s))
+
+  pub end_dropped_on : (x : Streaming H) (past : Past H) (waiting : List ℕ) → x ≡ record { waiting = waiting; stage = stages.Done } → past.ended ≡ false → Stands step x past
+      → Stands step x (with_call (record past { ended = true; left = None }) (answering x.stage End))
+  end_dropped_on x past waiting e going_on s =
+      subst (λ (y : Streaming H). Stands step y (with_call (record past { ended = true; left = None }) (answering y.stage End))) (sym e)
+      (done_ended past waiting going_on (subst (λ (y : Streaming H). Stands step y past) e s))
+
   -- a handler that was just made, at the end that asks
   pub early_at_first : (side : Side) (name : List ℕ) (index : ℕ) (handler : Option H) → side ≡ Asks name index → IsEarly step (fresh side handler) handler []
-  early_at_first side name index None e = (refl, refl, refl)
+  early_at_first side name index None e = (refl, refl, refl, refl)
   early_at_first side name index (Some handler) e = (subst IsAsking (sym e) tt, (handler, refl, fresh_handled step handler))
 
   -- a stream whose talk goes on

@@ -20,7 +20,7 @@ use Rattle.streams.specs.Stops.{of_select}
 use Rattle.streams.specs.Handled.{AskedLast}
 use Rattle.streams.specs.Streams.{Past, HasAgreed, IsEarly, IsServed, IsDone, fresh}
 use Rattle.streams.specs.Hearing.{HasNoRoom}
-use Rattle.streams.specs.Rows.{StageRows, AskedRows, HearsRows, EarlyRows, RoomRows, StopRows, StreamRows, came, calls, served_past, done_past}
+use Rattle.streams.specs.Rows.{StageRows, AskedRows, HearsRows, EarlyRows, RoomRows, StopRows, StreamRows, came, calls, served_past, called, done_past}
 use Rattle.streams.proofs.Deciding.{one_talk, one_split}
 
 -- ---- where a stream is
@@ -55,6 +55,8 @@ stage_rows = record {
   talking_holds = λ talk. (refl, refl);
   serving_holds = (refl, refl, refl, refl);
   kinds = (refl, refl, refl, refl);
+  answers_a_call = (refl, refl, refl, refl);
+  no_answer_yet = λ talk handler. refl;
   talking_kind = λ talk handler. refl;
 }
 
@@ -138,6 +140,9 @@ notes made value (call ∷ calls) arises =
 abbrev split : HasAgreed served_past 1 (1 ∷ 2 ∷ []) (9 ∷ []) (y_bytes ++ 9 ∷ [])
 split = record { first = header_bytes ++ y_bytes; output = header_bytes ++ y_bytes; got_is = refl; agrees = answer_rows.agreed; sent_is = refl }
 
+split_by : (by : List HandlerCall) → HasAgreed (called by) 1 (1 ∷ 2 ∷ []) (9 ∷ []) (y_bytes ++ 9 ∷ [])
+split_by by = record { first = header_bytes ++ y_bytes; output = header_bytes ++ y_bytes; got_is = refl; agrees = answer_rows.agreed; sent_is = refl }
+
 served : IsServed Noting served_past calls (y_bytes ++ 9 ∷ [])
 served = record {
   index = 1;
@@ -148,6 +153,7 @@ served = record {
   made_is = refl;
   handled = record {
     was_handed = record { calls = calls; arises = (_, refl, (_, refl, refl)); joined = refl; ends = refl };
+    calls_are = refl;
     gave_is = refl;
     asked = record { before = Take (1 ∷ 2 ∷ []) ∷ []; room = 5; bytes = 9 ∷ []; calls_are = refl; left_is = refl };
   };
@@ -166,6 +172,7 @@ done = record {
   made_is = refl;
   handled = record {
     was_handed = record { calls = calls ++ End ∷ []; arises = (_, refl, (_, refl, (_, refl, refl))); joined = refl; ends = (refl, tt) };
+    calls_are = refl;
     gave_is = refl;
     asked = tt;
   };
@@ -176,9 +183,9 @@ none_made : (made : List HandlerCall) → Some [] ≡ Some made → [] ≡ made
 none_made made e = cc
 
 -- its handler was handed both bytes, once each
-handed : (value : List HandlerCall) → IsServed Noting served_past value (y_bytes ++ 9 ∷ []) → taken value ≡ 1 ∷ 2 ∷ []
-handed value s =
-    let rest : s.rest ≡ 1 ∷ 2 ∷ [] = (one_split served_past s.index 1 s.rest (1 ∷ 2 ∷ []) s.gave (9 ∷ []) (y_bytes ++ 9 ∷ []) s.agreed split).1 in
+handed : (by value : List HandlerCall) → IsServed Noting (called by) value (y_bytes ++ 9 ∷ []) → taken value ≡ 1 ∷ 2 ∷ []
+handed by value s =
+    let rest : s.rest ≡ 1 ∷ 2 ∷ [] = (one_split (called by) s.index 1 s.rest (1 ∷ 2 ∷ []) s.gave (9 ∷ []) (y_bytes ++ 9 ∷ []) s.agreed (split_by by)).1 in
     let made = none_made s.made s.made_is in
     let all : s.handled.was_handed.calls ≡ value =
     ap (λ t. t ++ s.handled.was_handed.calls) made ∙ notes s.made value s.handled.was_handed.calls s.handled.was_handed.arises in
@@ -202,12 +209,21 @@ noted past value waiting is s =
     ap (λ t. t ++ s.handled.was_handed.calls) made ∙ notes s.made value s.handled.was_handed.calls s.handled.was_handed.arises
 
 -- an eager one has noted what it was handed
-early : (value : List HandlerCall) → IsEarly Noting (fresh asks (Some [])) (Some value) [] → (taken value ≡ []) × EndsAs value false
-early value e =
+early : (by value : List HandlerCall) → IsEarly Noting (record (fresh asks (Some [])) { calls = by }) (Some value) [] → (taken value ≡ []) × EndsAs value false
+early by value e =
     let h = e.1.2 in
     let made = none_made e.1.0 e.1.1 in
     let all : h.was_handed.calls ≡ value = ap (λ t. t ++ h.was_handed.calls) made ∙ notes e.1.0 value h.was_handed.calls h.was_handed.arises in
     (ap taken (sym all) ∙ h.was_handed.joined, subst (λ (t : List HandlerCall). EndsAs t false) all h.was_handed.ends)
+
+-- what it has noted is what it was called
+unnamed : ¬ IsEarly Noting (record (fresh asks (Some [])) { left = Some 4 }) (Some (Give 5 (9 ∷ []) ∷ [])) (9 ∷ [])
+unnamed e =
+    let h = e.1.2 in
+    let made = none_made e.1.0 e.1.1 in
+    let all : [] ≡ Give 5 (9 ∷ []) ∷ [] =
+    sym h.calls_are ∙ ap (λ t. t ++ h.was_handed.calls) made ∙ notes e.1.0 (Give 5 (9 ∷ []) ∷ []) h.was_handed.calls h.was_handed.arises in
+    cc all
 
 pub early_rows : EarlyRows
 early_rows = record {
@@ -218,13 +234,16 @@ early_rows = record {
       refl,
       record {
         was_handed = record { calls = Give 5 (9 ∷ []) ∷ []; arises = (_, refl, refl); joined = refl; ends = refl };
+        calls_are = refl;
         gave_is = refl;
         asked = record { before = []; room = 5; bytes = 9 ∷ []; calls_are = refl; left_is = refl };
       },
     ),
   );
-  handed = λ e. let none : 1 ∷ [] ≡ [] = (early (Take (1 ∷ []) ∷ []) e).0 in absurd cc;
-  ended = λ e. let said : false ≡ true = (early (End ∷ []) e).1.0 in absurd cc;
+  handed = λ e. let none : 1 ∷ [] ≡ [] = (early _ (Take (1 ∷ []) ∷ []) e).0 in absurd cc;
+  ended = λ e. let said : false ≡ true = (early _ (End ∷ []) e).1.0 in absurd cc;
+  unnamed = λ e. unnamed e;
+  answered_by_none = λ e. absurd (let none = e.3 in cc none);
   lost = λ e. absurd (let none = e.0 in cc none);
   answering = λ e. e.0;
 }
@@ -264,7 +283,7 @@ room_rows = record {
     λ r.
         let wrote : r.output ≡ question = wrote_question (header_bytes ++ take r.runs_out.n (3 ∷ 47 ∷ [])) r.output r.runs_out.before in
         r.sent_is ∙ ap (λ (t : List ℕ). t ++ r.gave) wrote ∙ ap (λ (t : List ℕ). question ++ t) r.early.2,
-    λ is. record { output = question; gave = []; runs_out = ask_rows.memory; early = (refl, refl, refl); sent_is = is },
+    λ is. record { output = question; gave = []; runs_out = ask_rows.memory; early = (refl, refl, refl, refl); sent_is = is },
   );
 }
 
@@ -298,12 +317,17 @@ end_not_said s =
     let said : true ≡ false = subst (λ (t : List HandlerCall). EndsAs t true) all s.handled.was_handed.ends in
     cc
 
-end_said_early : ¬ IsServed Noting (record served_past { left = None }) (calls ++ End ∷ []) (y_bytes ++ 9 ∷ [])
+end_said_early : ¬ IsServed Noting (record (called (calls ++ End ∷ [])) { left = None }) (calls ++ End ∷ []) (y_bytes ++ 9 ∷ [])
 end_said_early s =
-    let all = noted (record served_past { left = None }) (calls ++ End ∷ []) (y_bytes ++ 9 ∷ []) refl s in
+    let all = noted (record (called (calls ++ End ∷ [])) { left = None }) (calls ++ End ∷ []) (y_bytes ++ 9 ∷ []) refl s in
     let ends = subst (λ (t : List HandlerCall). EndsAs t false) all s.handled.was_handed.ends in
     let said : false ≡ true = ends.0 in
     cc
+
+called_else : ¬ IsServed Noting (called (Take (1 ∷ 2 ∷ []) ∷ Give 6 (9 ∷ []) ∷ [])) calls (y_bytes ++ 9 ∷ [])
+called_else s =
+    let all : Take (1 ∷ 2 ∷ []) ∷ Give 6 (9 ∷ []) ∷ [] ≡ calls = sym s.handled.calls_are ∙ noted (called (Take (1 ∷ 2 ∷ []) ∷ Give 6 (9 ∷ []) ∷ [])) calls (y_bytes ++ 9 ∷ []) refl s in
+    cc all
 
 longer : (xs ys : List ℕ) → xs ≡ ys → length xs < length ys ⊎ (length ys < length xs) → ⊥
 longer xs ys e (inl lt) = omega (arith, ap length e)
@@ -335,9 +359,10 @@ pub stream_rows : StreamRows
 stream_rows = record {
   served = served;
   done = done;
-  with_talk = λ s. longer (10 ∷ 1 ∷ 2 ∷ []) (1 ∷ 2 ∷ []) (handed _ s) (inr (omega arith));
-  handed_nothing = λ s. longer [] (1 ∷ 2 ∷ []) (handed _ s) (inl (omega arith));
-  handed_twice = λ s. longer (1 ∷ 2 ∷ 1 ∷ 2 ∷ []) (1 ∷ 2 ∷ []) (handed _ s) (inr (omega arith));
+  with_talk = λ s. longer (10 ∷ 1 ∷ 2 ∷ []) (1 ∷ 2 ∷ []) (handed _ _ s) (inr (omega arith));
+  handed_nothing = λ s. longer [] (1 ∷ 2 ∷ []) (handed _ _ s) (inl (omega arith));
+  handed_twice = λ s. longer (1 ∷ 2 ∷ 1 ∷ 2 ∷ []) (1 ∷ 2 ∷ []) (handed _ _ s) (inr (omega arith));
+  called_else = called_else;
   another_room = another_room;
   end_not_said = end_not_said;
   end_said_early = end_said_early;

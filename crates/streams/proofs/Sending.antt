@@ -1,10 +1,10 @@
 -- What a stream gives, by the parts of what waits.
-use Rattle.std.proofs.Common.{◌≡◌, ℕ, ◌+◌, ◌-◌, ◌≤◌, min, true, false, not, Bool, List, [], ◌++◌, length, take, drop, Some, None, sym, ap, ◌∙◌, subst, arith}
+use Rattle.std.proofs.Common.{◌≡◌, ℕ, ◌+◌, ◌-◌, ◌≤◌, min, true, false, not, Bool, List, [], ◌∷◌, ◌++◌, length, take, drop, Some, None, sym, ap, ◌∙◌, subst, arith}
 use Rattle.std.proofs.lemmas.List.{append-nil, length-append, take-append-drop, length-take-le, take_min, drop_min}
 use Rattle.handlers.specs.Calls.{HandlerCall, Give}
 use Rattle.streams.specs.declared.stage.Stage.{Stage}
 use Rattle.streams.specs.declared.stage.Stage.TheVariants as stages
-use Rattle.streams.specs.Streams.{Past}
+use Rattle.streams.specs.Streams.{Past, with_call}
 use Rattle.streams.specs.State.{Streaming, Stands, StandsAt, is_open, is_talking, handler_of}
 use Rattle.streams.specs.Giving.{Gives, StageGives}
 use Rattle.streams.proofs.Giving.{Parts, stepped, order_of, was_asked, none_asked, front_sent}
@@ -36,15 +36,22 @@ front_is_taken waiting front left given bytes room count s = s.front_is ∙ ap (
 module _ {H : Type 0} (step : H → HandlerCall → H → Type 0) (closed : H → Bool) where
   pub asked_on : (x : Streaming H) (past : Past H) (old new : Stage H) (waiting front left given bytes : List ℕ) (room count : ℕ) → x ≡ record { waiting = waiting; stage = old }
       → Sent waiting front left given bytes room count → Stands step x past → is_open closed x.stage ≡ true → StageGives step closed old (room - count) new given
-      → StandsAt step new (record past { sent = past.sent ++ bytes; left = Some (room - length bytes) }) left
+      → (more : List ℕ) × (bytes ≡ take room x.waiting ++ more)
+      × StandsAt step new (with_call (record past { sent = past.sent ++ bytes; left = Some (room - length bytes) }) (Some (Give (room - length x.waiting) more))) left
   asked_on x past old new waiting front left given bytes room count e s stands is_asked gives =
       let held = subst (λ (y : Streaming H). Stands step y past) e stands in
       let shown = subst (λ (y : Streaming H). is_open closed y.stage ≡ true) e is_asked in
       let size = front_length waiting front left given bytes room count s in
       let whole : length bytes ≡ length front + length given = ap length s.bytes_are ∙ length-append front given in
       let sum : length given + (room - length bytes) ≡ room - count = omega (arith, size, whole, s.short, s.count_is) in
-      subst (λ (t : List ℕ). StandsAt step new (record past { sent = past.sent ++ t; left = Some (room - length bytes) }) left) (sym s.bytes_are)
-      (was_asked step closed past old new (room - count) (room - length bytes) waiting front left given shown (cut waiting front left given bytes room count s) sum held gives)
+      let waits : x.waiting ≡ waiting = ap (λ (y : Streaming H). y.waiting) e in
+      let behind : room - count ≡ room - length x.waiting = omega (arith, s.count_is, ap length waits) in (
+        given,
+        s.bytes_are ∙ ap (λ t. t ++ given) (front_is_taken waiting front left given bytes room count s ∙ ap (take room) (sym waits)),
+        subst (λ (k : ℕ). StandsAt step new (record past { sent = past.sent ++ bytes; calls = past.calls ++ Give k given ∷ []; left = Some (room - length bytes) }) left) behind
+            (subst (λ (t : List ℕ). StandsAt step new (record past { sent = past.sent ++ t; calls = past.calls ++ Give (room - count) given ∷ []; left = Some (room - length bytes) }) left) (sym s.bytes_are)
+            (was_asked step closed past old new (room - count) (room - length bytes) waiting front left given shown (cut waiting front left given bytes room count s) sum held gives)),
+      )
 
   pub nothing_asked : (x : Streaming H) (old new : Stage H) (waiting front left given bytes : List ℕ) (room count : ℕ) → x ≡ record { waiting = waiting; stage = old }
       → Sent waiting front left given bytes room count → is_open closed x.stage ≡ false → StageGives step closed old (room - count) new given

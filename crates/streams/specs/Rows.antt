@@ -20,7 +20,8 @@ use Rattle.streams.specs.Stops.{of_select, not_now, FailsBy}
 use Rattle.streams.specs.Handled.{AskedLast}
 use Rattle.streams.specs.Streams.{Past, IsEarly, IsServed, IsDone, fresh}
 use Rattle.streams.specs.State.{is_talking, awaits_handler, handler_of, is_open, has_closed, has_finished}
-use Rattle.streams.specs.State.{holds_handler, was_handed_out, kind_of, InTalk, Awaiting, Served, HandedOut, Ended}
+use Rattle.streams.specs.State.{holds_handler, was_handed_out, answering, kind_of, InTalk, Awaiting, Served, HandedOut}
+use Rattle.streams.specs.State.{Ended}
 use Rattle.streams.specs.Hearing.{Hears, HasNoRoom, HasRunOut}
 
 -- the stages of a stream whose handlers are numbers, and one of which is closed or finished where it is 0
@@ -82,6 +83,10 @@ pub record StageRows : Type 0 where
       × (holds_handler (talking talk None) ≡ false)
   pub serving_holds : (holds_handler (serving 7) ≡ true) × (holds_handler awaiting ≡ false)
       × (holds_handler handed_out ≡ false) × (holds_handler over ≡ false)
+  -- a call is answered by the handler that serves, and by no other one
+  pub answers_a_call : (answering (serving 7) End ≡ Some End) × (answering awaiting End ≡ None)
+      × (answering handed_out End ≡ None) × (answering over End ≡ None)
+  pub no_answer_yet : (talk : Talking) (handler : Option ℕ) → answering (talking talk handler) End ≡ None
   -- each place is of its own kind, whatever is held there
   pub kinds : (kind_of (serving 7) ≡ Served) × (kind_of awaiting ≡ Awaiting) × (kind_of handed_out ≡ HandedOut)
       × (kind_of over ≡ Ended)
@@ -104,9 +109,15 @@ pub record HearsRows : Type 0 where
 
 -- What an eager handler was handed and gave before the other end has answered
 pub record EarlyRows : Type 0 where
-  pub gave : IsEarly Noting (record (fresh asks (Some [])) { left = Some 4 }) (Some (Give 5 (9 ∷ []) ∷ [])) (9 ∷ [])
-  pub handed : ¬ IsEarly Noting (fresh asks (Some [])) (Some (Take (1 ∷ []) ∷ [])) []
-  pub ended : ¬ IsEarly Noting (fresh asks (Some [])) (Some (End ∷ [])) []
+  pub gave : IsEarly Noting (record (fresh asks (Some [])) { calls = Give 5 (9 ∷ []) ∷ []; left = Some 4 })
+      (Some (Give 5 (9 ∷ []) ∷ [])) (9 ∷ [])
+  pub handed : ¬ IsEarly Noting (record (fresh asks (Some [])) { calls = Take (1 ∷ []) ∷ [] })
+      (Some (Take (1 ∷ []) ∷ [])) []
+  pub ended : ¬ IsEarly Noting (record (fresh asks (Some [])) { calls = End ∷ [] }) (Some (End ∷ [])) []
+  -- a call that the list doesn't have, and one that no handler answered
+  pub unnamed : ¬ IsEarly Noting (record (fresh asks (Some [])) { left = Some 4 }) (Some (Give 5 (9 ∷ []) ∷ []))
+      (9 ∷ [])
+  pub answered_by_none : ¬ IsEarly Noting (record (fresh asks None) { calls = Give 5 [] ∷ [] }) None []
   -- one that is there no more, and one at the end that answers
   pub lost : ¬ IsEarly Noting (fresh asks (Some [])) None []
   pub answering : ¬ IsEarly Noting (fresh answers (Some [])) (Some []) []
@@ -150,24 +161,33 @@ served_past = record {
   ended = false;
   sent = header_bytes;
   made = Some [];
+  calls = calls;
   left = Some 4;
 }
 
+-- the same by other calls
+abbrev pub called : List HandlerCall → Past (List HandlerCall)
+called by = record served_past { calls = by }
+
 -- the end came, and then it was handed out
 abbrev pub done_past : Past (List HandlerCall)
-done_past = record served_past { ended = true; left = None }
+done_past = record served_past { ended = true; calls = calls ++ End ∷ []; left = None }
 
 pub record StreamRows : Type 0 where
   pub served : IsServed Noting served_past calls (y_bytes ++ 9 ∷ [])
   pub done : IsDone Noting done_past (y_bytes ++ 9 ∷ [])
   -- a handler that was handed the talk's last byte, one that was handed nothing, and one that was handed all twice
-  pub with_talk : ¬ IsServed Noting served_past (Take (10 ∷ 1 ∷ 2 ∷ []) ∷ Give 5 (9 ∷ []) ∷ []) (y_bytes ++ 9 ∷ [])
-  pub handed_nothing : ¬ IsServed Noting served_past (Give 5 (9 ∷ []) ∷ []) (y_bytes ++ 9 ∷ [])
-  pub handed_twice : ¬ IsServed Noting served_past (Take (1 ∷ 2 ∷ []) ∷ Take (1 ∷ 2 ∷ []) ∷ Give 5 (9 ∷ []) ∷ [])
-      (y_bytes ++ 9 ∷ [])
+  pub with_talk : ¬ IsServed Noting (called (Take (10 ∷ 1 ∷ 2 ∷ []) ∷ Give 5 (9 ∷ []) ∷ []))
+      (Take (10 ∷ 1 ∷ 2 ∷ []) ∷ Give 5 (9 ∷ []) ∷ []) (y_bytes ++ 9 ∷ [])
+  pub handed_nothing : ¬ IsServed Noting (called (Give 5 (9 ∷ []) ∷ [])) (Give 5 (9 ∷ []) ∷ []) (y_bytes ++ 9 ∷ [])
+  pub handed_twice : ¬ IsServed Noting (called (Take (1 ∷ 2 ∷ []) ∷ Take (1 ∷ 2 ∷ []) ∷ Give 5 (9 ∷ []) ∷ []))
+      (Take (1 ∷ 2 ∷ []) ∷ Take (1 ∷ 2 ∷ []) ∷ Give 5 (9 ∷ []) ∷ []) (y_bytes ++ 9 ∷ [])
+  -- one that answered other calls than these
+  pub called_else : ¬ IsServed Noting (called (Take (1 ∷ 2 ∷ []) ∷ Give 6 (9 ∷ []) ∷ [])) calls (y_bytes ++ 9 ∷ [])
   -- room that isn't what it left, an end that it wasn't told, and one that it was told before it came
   pub another_room : ¬ IsServed Noting (record served_past { left = Some 3 }) calls (y_bytes ++ 9 ∷ [])
   pub end_not_said : ¬ IsServed Noting (record served_past { ended = true }) calls (y_bytes ++ 9 ∷ [])
-  pub end_said_early : ¬ IsServed Noting (record served_past { left = None }) (calls ++ End ∷ []) (y_bytes ++ 9 ∷ [])
+  pub end_said_early : ¬ IsServed Noting (record (called (calls ++ End ∷ [])) { left = None }) (calls ++ End ∷ [])
+      (y_bytes ++ 9 ∷ [])
   -- what it gave is lost
   pub nothing_waits : ¬ IsServed Noting served_past calls y_bytes

@@ -89,6 +89,14 @@ was_handed_out (Serving handler) = false
 was_handed_out Done = true
 was_handed_out Over = false
 
+-- the handler that serves it answers a call; where it was handed out what comes is dropped
+abbrev pub answering : {H : Type 0} → Stage H → HandlerCall → Option HandlerCall
+answering (Talking talk handler) call = None
+answering (Agreed index) call = None
+answering (Serving handler) call = Some call
+answering Done call = None
+answering Over call = None
+
 -- ---- where it is, without what is held there
 
 pub data Kind : Type 0 where

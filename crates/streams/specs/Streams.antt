@@ -1,7 +1,7 @@
 -- A stream of a connection: a talk that settles its protocol, and then the handler of that protocol.
 -- Source: multistream-select 1.0, "Protocol Negotiation"; libp2p connections, "Opening new streams over a connection";
 -- that the end that opens a stream may send before the other has answered is this project's profile.
-use Rattle.std.specs.Prelude.{◌≡◌, ℕ, Bool, true, false, List, [], ◌++◌, Option, Some, None}
+use Rattle.std.specs.Prelude.{◌≡◌, ℕ, Bool, true, false, List, [], ◌∷◌, ◌++◌, Option, Some, None}
 use Rattle.ms_select.specs.declared.answer.Answer.TheVariants.{Going}
 use Rattle.handlers.specs.Calls.{HandlerCall}
 use Rattle.talks.specs.Talks.{Side, Asks, Answers, Agrees}
@@ -20,12 +20,22 @@ pub record Past (H : Type 0) : Type 0 where
   pub sent : List ℕ
   -- its handler as it was made
   pub made : Option H
+  -- the calls that it answered, in order
+  pub calls : List HandlerCall
   -- where the handler was asked for bytes last: how much room it left
   pub left : Option ℕ
 
 -- nothing has come to it yet
 abbrev pub fresh : {H : Type 0} → Side → Option H → Past H
-fresh side made = record { side = side; got = []; ended = false; sent = []; made = made; left = None }
+fresh side made = record { side = side; got = []; ended = false; sent = []; made = made; calls = []; left = None }
+
+-- one call more, where there was one
+abbrev pub and_call : List HandlerCall → Option HandlerCall → List HandlerCall
+and_call calls None = calls
+and_call calls (Some call) = calls ++ call ∷ []
+
+abbrev pub with_call : {H : Type 0} → Past H → Option HandlerCall → Past H
+with_call past call = record past { calls = and_call past.calls call }
 
 -- ---- the talk
 
@@ -55,6 +65,7 @@ pub record AwaitsHandler {H : Type 0} (past : Past H) (index : ℕ) (waiting : L
   pub agreed : HasAgreed past index [] [] waiting
   pub none_made : past.made ≡ None
   pub none_asked : past.left ≡ None
+  pub none_called : past.calls ≡ []
   pub not_ended : past.ended ≡ false
 
 -- ---- the handler
@@ -63,9 +74,10 @@ module _ {H : Type 0} (step : H → HandlerCall → H → Type 0) where
   -- Before the talk agrees there is no handler, or that of an eager protocol, at the end that opened the stream: it was
   -- handed nothing, and gave this.
   abbrev pub IsEarly : Past H → Option H → List ℕ → Type 0
-  IsEarly past None gave = (past.made ≡ None) × (past.left ≡ None) × (gave ≡ [])
+  IsEarly past None gave = (past.made ≡ None) × (past.left ≡ None) × (gave ≡ []) × (past.calls ≡ [])
   IsEarly past (Some handler) gave =
-      IsAsking past.side × ((made : H) × (past.made ≡ Some made) × Handled step made [] false gave past.left handler)
+      IsAsking past.side
+      × ((made : H) × (past.made ≡ Some made) × Handled step made past.calls [] false gave past.left handler)
 
   -- Nothing is decided. All that the talk wrote, and behind it what an eager handler gave, was sent or waits.
   pub record IsTalking (past : Past H) (talk : Talking) (handler : Option H) (waiting : List ℕ) : Type 0 where
@@ -84,7 +96,7 @@ module _ {H : Type 0} (step : H → HandlerCall → H → Type 0) where
     pub made : H
     pub agreed : HasAgreed past index rest gave waiting
     pub made_is : past.made ≡ Some made
-    pub handled : Handled step made rest past.ended gave past.left handler
+    pub handled : Handled step made past.calls rest past.ended gave past.left handler
 
   -- The handler was handed out: it had been handed a front of the data behind the talk, and all of it where the end was
   -- said.
@@ -98,5 +110,5 @@ module _ {H : Type 0} (step : H → HandlerCall → H → Type 0) where
     pub said : Bool
     pub agreed : HasAgreed past index (front ++ rest) gave waiting
     pub made_is : past.made ≡ Some made
-    pub handled : Handled step made front said gave None handler
+    pub handled : Handled step made past.calls front said gave None handler
     pub end_came : said ≡ true → (past.ended ≡ true) × (rest ≡ [])

@@ -10,9 +10,9 @@ ghost use Rattle.ms_select.specs.Listening.{IsName};
 ghost use Rattle.handlers.specs.Calls.{Take, End, Give, ToTake, ToEnd, ToGive};
 ghost use Rattle.talks.specs.Talks.{Asks, Answers};
 ghost use Rattle.talks.specs.State.{Stands as TalkStands};
-ghost use Rattle.streams.specs.Streams.{Past, IsEarly, fresh};
+ghost use Rattle.streams.specs.Streams.{Past, IsEarly, fresh, with_call};
 ghost use Rattle.streams.specs.Stops.{FailsBy, not_now};
-ghost use Rattle.streams.specs.State.{Stands, is_talking, awaits_handler};
+ghost use Rattle.streams.specs.State.{Stands, is_talking, awaits_handler, answering};
 ghost use Rattle.streams.specs.State.{handler_of, holds_handler, is_open, has_closed, has_finished, was_handed_out};
 ghost use Rattle.streams.specs.State.{kind_of};
 ghost use Rattle.streams.specs.Giving.{StageGives};
@@ -204,7 +204,8 @@ impl<H: Handler> Stream<H> {
             ⊎ (self.old.stage ≡ Stage.Over)) → (result ≡ Err not_now) × (self.new ≡ self.old) }
         // All data behind the talk is handed over, each byte once.
         ensures stands { (past : Past H) → Stands H.steps self.old past → past.ended ≡ false
-            → OnOk result (Stands H.steps self.new (record past { got = past.got ++ bytes.now; left = None })) }
+            → OnOk result (Stands H.steps self.new (with_call (record past { got = past.got ++ bytes.now; left = None })
+            (answering self.old.stage (Take bytes.now)))) }
     {
         let taken = match &mut self.stage {
             Stage::Serving(handler) => handler.take(bytes),
@@ -233,7 +234,8 @@ impl<H: Handler> Stream<H> {
             → (result ≡ Err not_now) × (self.new ≡ self.old) }
         // The end is said once, behind all data.
         ensures stands { (past : Past H) → Stands H.steps self.old past → past.ended ≡ false
-            → OnOk result (Stands H.steps self.new (record past { ended = true; left = None })) }
+            → OnOk result (Stands H.steps self.new (with_call (record past { ended = true; left = None })
+            (answering self.old.stage End))) }
     {
         let ended = match &mut self.stage {
             Stage::Serving(handler) => handler.end(),
@@ -282,8 +284,10 @@ impl<H: Handler> Stream<H> {
             × (bytes.items ≡ take room self.old.waiting ++ more)
             × H.steps handler (Give (room - length self.old.waiting) more) after) }
         ensures asked { (past : Past H) → Stands H.steps self.old past → is_open H.is_closed self.old.stage ≡ true
-            → IfOk result (λ bytes. Stands H.steps self.new
-            (record past { sent = past.sent ++ bytes.items; left = Some (room - length bytes.items) })) }
+            → IfOk result (λ bytes. (more : List ℕ) × (bytes.items ≡ take room self.old.waiting ++ more)
+            × Stands H.steps self.new
+            (with_call (record past { sent = past.sent ++ bytes.items; left = Some (room - length bytes.items) })
+            (Some (Give (room - length self.old.waiting) more)))) }
         ensures not_asked { (past : Past H) → Stands H.steps self.old past → is_open H.is_closed self.old.stage ≡ false
             → IfOk result (λ bytes. Stands H.steps self.new (record past { sent = past.sent ++ bytes.items })) }
         ensures same { is_open H.is_closed self.old.stage ≡ false

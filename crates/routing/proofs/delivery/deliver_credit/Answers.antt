@@ -1,6 +1,8 @@
-use Rattle.std.proofs.Common.{Err, ap, subst}
+use Rattle.std.proofs.Common.{◌≡◌, Option, Ok, Err, ap, subst}
+use Rattle.std.specs.Prelude.{IfSome}
 use Rattle.streams.specs.declared.stop.Stop.{Stop}
-use Rattle.serving.specs.Served.{GivesUp}
+use Rattle.streams.specs.State.{Served, kind_of, was_handed_out}
+use Rattle.serving.specs.Served.{Asking, Serves, GivesUp}
 use Rattle.routing.specs.Routing.{Came}
 use Rattle.routing.proofs.Delivering.{broken, no_memory, ran_out}
 use Rattle.routing.proofs.delivery.deliver_credit.Goals as goal
@@ -18,3 +20,23 @@ returns-in-Err-clause-came g c = λ role past fed sent so_far at stands e.
 
 pub returns-in-Err-clause-memory : goal.returns-in-Err-clause-memory
 returns-in-Err-clause-memory g c = ran_out c.in-Err.stop c.stopped.result c.stopped.ensures.memory (λ is. c.in-Err.ensures.memory (ap Err is))
+
+pub returns-in-Ok-None-clause-came : goal.returns-in-Ok-None-clause-came
+returns-in-Ok-None-clause-came g c = λ role past fed sent so_far at stands e.
+    let H = g.H.Handler in
+    let none = c.in-Ok-None.field-0-is in (
+      subst (λ (h : Option _). Asking H.is_closed role past c.args.number c.args.stream.now so_far (λ now.
+          Serves H.steps H.is_closed H.is_finished (was_handed_out c.args.stream.now.stage) role past fed sent c.args.number now h c.serve.new.session c.serve.new.stream)) none
+          (c.in-Ok-None.ensures.serves role past fed sent so_far at stands e),
+      c.in-Ok-None.ensures.kind (ap Ok none),
+    )
+
+pub returns-in-Ok-Some-clause-came : goal.returns-in-Ok-Some-clause-came
+returns-in-Ok-Some-clause-came g c = λ role past fed sent so_far at stands e.
+    let H = g.H.Handler in
+    let some = c.in-Ok-Some.field-0-is in (
+      subst (λ (h : Option _). Asking H.is_closed role past c.args.number c.args.stream.now so_far (λ now.
+          Serves H.steps H.is_closed H.is_finished (was_handed_out c.args.stream.now.stage) role past fed sent c.args.number now h c.serve.new.session c.serve.new.stream)) some
+          (c.in-Ok-Some.ensures.serves role past fed sent so_far at stands e),
+      subst (λ (h : Option _). IfSome h (λ it. kind_of c.args.stream.now.stage ≡ Served)) some c.in-Ok-Some.ensures.served,
+    )

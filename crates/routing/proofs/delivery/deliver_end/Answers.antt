@@ -1,5 +1,7 @@
 use Rattle.std.proofs.Common.{inl, inr, true, None, ap, sym, ◌∙◌, refl}
-use Rattle.handlers.specs.Calls.{ToEnd}
+use Rattle.handlers.specs.Calls.{End, ToEnd}
+use Rattle.streams.specs.Streams.{with_call}
+use Rattle.streams.specs.State.{answering}
 use Rattle.routing.specs.declared.delivered.Outcome.TheVariants as outcomes
 use Rattle.routing.specs.Routing.{Came, Ends}
 use Rattle.routing.proofs.Delivering.{answered, broken, quiet, handler_failed, keeps_memory, ran_out, same_stop, stop_is, same_cause}
@@ -8,7 +10,7 @@ use Rattle.routing.proofs.delivery.deliver_end.Goals as goal
 pub returns-in-Ok-clause-ends : goal.returns-in-Ok-clause-ends
 returns-in-Ok-clause-ends g c = λ role past fed sent so_far at stands going awaits e.
     let H = g.H.Handler in
-    let now = record so_far { ended = true; left = None } in
+    let now = with_call (record so_far { ended = true; left = None }) (answering c.args.stream.now.stage End) in
     let there = c.in-Ok.ensures.stands so_far stands going in
     answered
     (λ outcome. Came H.steps H.fails H.is_closed H.is_finished role past fed sent c.args.number now c.end.new.self c.args.session.now outcome c.deliver_credit.new.session c.deliver_credit.new.stream)

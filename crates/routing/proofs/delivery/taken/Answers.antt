@@ -1,5 +1,7 @@
 use Rattle.std.proofs.Common.{inl, inr, ◌++◌, None, refl}
-use Rattle.handlers.specs.Calls.{ToTake}
+use Rattle.handlers.specs.Calls.{Take, ToTake}
+use Rattle.streams.specs.Streams.{with_call}
+use Rattle.streams.specs.State.{answering}
 use Rattle.routing.specs.Routing.{Came, Takes}
 use Rattle.routing.proofs.Delivering.{answered, broken, quiet, handler_failed, keeps_memory, ran_out, same_stop}
 use Rattle.routing.proofs.delivery.taken.Goals as goal
@@ -7,7 +9,7 @@ use Rattle.routing.proofs.delivery.taken.Goals as goal
 pub returns-in-Ok-clause-takes : goal.returns-in-Ok-clause-takes
 returns-in-Ok-clause-takes g c = λ role past fed sent so_far at stands going talks awaits e.
     let H = g.H.Handler in
-    let now = record so_far { got = so_far.got ++ c.args.bytes.now; left = None } in
+    let now = with_call (record so_far { got = so_far.got ++ c.args.bytes.now; left = None }) (answering c.args.stream.now.stage (Take c.args.bytes.now)) in
     let there = c.in-Ok.ensures.stands so_far stands going in
     answered
     (λ outcome. Came H.steps H.fails H.is_closed H.is_finished role past fed sent c.args.number now c.take.new.self c.args.session.now outcome c.deliver_credit.new.session c.deliver_credit.new.stream)

@@ -1,4 +1,4 @@
-use Rattle.serving.proofs.Rows.{due_rows, write_rows, close_rows, take_rows, hand_rows, settled_rows, refusal_rows}
+use Rattle.serving.proofs.Rows.{due_rows, write_rows, close_rows, take_rows, hand_rows, settled_rows, ask_rows, refusal_rows}
 use Rattle.serving.proofs.laws.worked_rows.Goals as goal
 
 pub returns-clause-due : goal.returns-clause-due
@@ -21,3 +21,6 @@ returns-clause-takes c = take_rows
 
 pub returns-clause-hands : goal.returns-clause-hands
 returns-clause-hands c = hand_rows
+
+pub returns-clause-asks : goal.returns-clause-asks
+returns-clause-asks c = ask_rows

@@ -18,7 +18,7 @@ pub returns-in-Ok-true-clause-asks : goal.returns-in-Ok-true-clause-asks
 returns-in-Ok-true-clause-asks g c = λ role past fed sent so_far at stands e.
     let is_open = sym (c.in-Some.ensures.live role past fed sent at) in
     was_asked g.H.Handler.steps g.H.Handler.is_closed g.H.Handler.is_finished (was_handed_out c.args.stream.now.stage) c.acts_tell.ensures.seen c.acts_tell.ensures.windows role past fed sent c.args.number c.in-Some.credit
-    so_far c.send.new.session c.send.new.stream (c.in-Ok-true.ensures.sends role past fed sent so_far at is_open stands) e is_open
+    so_far c.send.new.session c.args.stream.now c.send.new.stream (c.in-Ok-true.ensures.sends role past fed sent so_far at is_open stands) e is_open
 
 pub returns-in-Ok-true-clause-kept : goal.returns-in-Ok-true-clause-kept
 returns-in-Ok-true-clause-kept g c = λ role past fed sent at none. absurd (not_both_credits (c.in-Some.ensures.live role past fed sent at) none)
@@ -27,7 +27,7 @@ pub returns-in-Ok-false-clause-asks : goal.returns-in-Ok-false-clause-asks
 returns-in-Ok-false-clause-asks g c = λ role past fed sent so_far at stands e.
     let is_open = sym (c.in-Some.ensures.live role past fed sent at) in
     was_asked g.H.Handler.steps g.H.Handler.is_closed g.H.Handler.is_finished (was_handed_out c.args.stream.now.stage) c.acts_tell.ensures.seen c.acts_tell.ensures.windows role past fed sent c.args.number c.in-Some.credit
-    so_far c.send.new.session c.send.new.stream (c.in-Ok-false.ensures.sends role past fed sent so_far at is_open stands) e is_open
+    so_far c.send.new.session c.args.stream.now c.send.new.stream (c.in-Ok-false.ensures.sends role past fed sent so_far at is_open stands) e is_open
 
 pub returns-in-Ok-false-clause-left : goal.returns-in-Ok-false-clause-left
 returns-in-Ok-false-clause-left g c = λ some role past fed sent at none.

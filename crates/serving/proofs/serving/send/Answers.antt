@@ -15,7 +15,7 @@ returns-in-Ok-clause-sends g c = λ role past fed sent so_far at is_open stands.
       not_asked = c.in_ok-bytes.ensures.not_asked so_far stands;
       same = λ shut. (c.in_ok-bytes.ensures.same shut).0;
       full = c.in_ok-bytes.ensures.full;
-    })
+    }) is_open
 
 pub returns-then-is_empty-clause-sends : goal.returns-then-is_empty-clause-sends
 returns-then-is_empty-clause-sends g c = λ role past fed sent so_far at is_open stands.
@@ -27,4 +27,4 @@ returns-then-is_empty-clause-sends g c = λ role past fed sent so_far at is_open
       not_asked = c.in_ok-bytes.ensures.not_asked so_far stands;
       same = λ shut. (c.in_ok-bytes.ensures.same shut).0;
       full = c.in_ok-bytes.ensures.full;
-    })
+    }) is_open

@@ -2,6 +2,7 @@ use Rattle.std.proofs.Common.{◌≡◌, ◌≢◌, Bool, true, Option, Some, No
 use Rattle.std.specs.Prelude.{IfNone}
 use Rattle.yamux_session.specs.Acts.{open_credit}
 use Rattle.yamux_session.specs.State.{State, Stands as SessionStands}
+use Rattle.streams.specs.Streams.{with_call}
 use Rattle.streams.specs.State.{Streaming, kind_of, was_handed_out}
 use Rattle.serving.specs.Steps.{Closes}
 use Rattle.serving.proofs.Going.{has_finished_on, was_closed, left_on, was_settled}
@@ -41,17 +42,22 @@ returns-clause-serves g c = λ role past fed sent so_far at stands e.
     let done = was_handed_out c.args.stream.now.stage in
     let seen = c.acts_tell.ensures.seen in
     let windows = c.acts_tell.ensures.windows in
-    let a = c.in_ok-is_left.ensures.asks role past fed sent so_far at stands e in
-    let h = has_finished_on g.H.Handler.steps g.H.Handler.is_closed g.H.Handler.is_finished done seen windows role past fed sent n so_far c.ask.new.session c.finish-handler.result
+    let asked = c.in_ok-is_left.ensures.asks role past fed sent so_far at stands e in
+    let a = asked.2 in
+    let came = with_call so_far asked.0 in
+    let h = has_finished_on g.H.Handler.steps g.H.Handler.is_closed g.H.Handler.is_finished done seen windows role past fed sent n came c.ask.new.session c.finish-handler.result
     c.ask.new.stream c.finish-handler.new.self a c.finish-handler.ensures.handed_out c.finish-handler.ensures.none c.finish-handler.ensures.stands in
     let now = h.was_asked.goes.now in
     let closes = subst (λ (over : Bool). Closes role now fed sent n over c.ask.new.session c.close.new.session) c.closed.ensures
     (c.in_ok-close.ensures.closes role now fed sent h.was_asked.goes.session_stands) in
     let out = out_before _ c.finish-handler.result c.args.stream.now c.ask.new.stream c.finish-handler.new.self c.in_ok-is_left.ensures.kind c.finish-handler.ensures.none in
-    let w = was_closed g.H.Handler.steps g.H.Handler.is_closed g.H.Handler.is_finished done seen windows role past fed sent n so_far c.finish-handler.result
+    let w = was_closed g.H.Handler.steps g.H.Handler.is_closed g.H.Handler.is_finished done seen windows role past fed sent n came c.finish-handler.result
     c.ask.new.session c.close.new.session c.finish-handler.new.self h.was_asked h.handed_out
     out h.asked_last closes in
-    let left : c.in_ok-is_left.is_left ≡ true → open_credit role w.goes.now n ≢ Some 0 = λ is_left. left_on g.H.Handler.steps g.H.Handler.is_closed g.H.Handler.is_finished done seen windows role past fed sent n so_far c.finish-handler.result
-    c.ask.new.session c.close.new.session now c.finish-handler.new.self closes (c.in_ok-is_left.ensures.left is_left) w in
-    was_settled g.H.Handler.steps g.H.Handler.is_closed g.H.Handler.is_finished done seen windows role past fed sent n so_far c.finish-handler.result
-    c.close.new.session c.count_taken.new.session c.finish-handler.new.self w out (c.in_ok-count_taken.ensures.counts role w.goes.now fed sent w.goes.session_stands left)
+    let left : c.in_ok-is_left.is_left ≡ true → open_credit role w.goes.now n ≢ Some 0 = λ is_left. left_on g.H.Handler.steps g.H.Handler.is_closed g.H.Handler.is_finished done seen windows role past fed sent n came c.finish-handler.result
+    c.ask.new.session c.close.new.session now c.finish-handler.new.self closes (c.in_ok-is_left.ensures.left is_left) w in (
+      asked.0,
+      asked.1,
+      was_settled g.H.Handler.steps g.H.Handler.is_closed g.H.Handler.is_finished done seen windows role past fed sent n came c.finish-handler.result
+          c.close.new.session c.count_taken.new.session c.finish-handler.new.self w out (c.in_ok-count_taken.ensures.counts role w.goes.now fed sent w.goes.session_stands left),
+    )

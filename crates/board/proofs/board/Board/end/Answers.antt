@@ -7,7 +7,7 @@ use Rattle.streams.specs.State.{Streaming}
 use Rattle.conn_log.specs.Entries.{items}
 use Rattle.conn_log.specs.Routes.{IsMoving, Routed}
 use Rattle.conn_log.proofs.Arriving.{quiet_behind}
-use Rattle.conn_log.proofs.Ending.{end_came, has_ended}
+use Rattle.conn_log.proofs.Ending.{end_came, end_is_told, has_ended}
 use Rattle.conn_log.proofs.Settling.{routed_on}
 use Rattle.board.proofs.Tables.{elsewhere, here}
 use Rattle.board.proofs.Telling.{on_ok, end_dropped}
@@ -46,7 +46,9 @@ returns-clause-routes g c = λ log fed sent view rest r.
     let ends = c.in_ok-outcome.ensures.ends board.role (items log) fed sent moving.held.so_far around.session_stands moving.held.stands (moving.held.ended_is ∙ going) moving.held.served moving.held.sent_is in
     let now = has_ended H.steps H.fails H.is_closed H.is_finished makes.makes_inbound makes.makes_outbound (makes.is_eager board.protocols) (makes.listed board.protocols) board.peer board.role
     c.acts_tell.ensures.seen c.acts_tell.ensures.windows log fed sent c.args.session.now c.deliver_end.new.session old _ board.past.items n view rest c.in-Some.stream.now c.deliver_end.new.stream
-    around moving.held going moving.unfinished (moving.settled (tt, quiet_behind n rest around.opens_none around.ends_last r.around.ends_last.2)) (elsewhere old _ n (Some c.deliver_end.new.stream) updates.0) (here old _ n (Some c.deliver_end.new.stream) updates.0)
+    around moving.held going moving.unfinished (moving.settled (tt, quiet_behind n rest around.opens_none around.ends_last r.around.ends_last.2))
+    (end_is_told H.steps H.fails H.is_closed H.is_finished makes.makes_inbound makes.makes_outbound (makes.is_eager board.protocols) (makes.listed board.protocols) board.peer board.role log
+    fed sent c.args.session.now old board.past.items n view rest r.around) r.around.ends_last.2 (elsewhere old _ n (Some c.deliver_end.new.stream) updates.0) (here old _ n (Some c.deliver_end.new.stream) updates.0)
     c.in_ok-outcome.outcome ends in
     on_ok c.settle.result
     (λ routed. routed_on H.steps H.fails H.is_closed H.is_finished makes.makes_inbound makes.makes_outbound (makes.is_eager board.protocols) (makes.listed board.protocols) board.peer board.role log

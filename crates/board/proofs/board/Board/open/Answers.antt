@@ -1,10 +1,10 @@
-use Rattle.std.proofs.Common.{◌≡◌, true, false, Option, Some, IsSome, refl, sym, ◌∙◌, subst}
+use Rattle.std.proofs.Common.{inl, inr, ◌≡◌, Option, Some, IsSome, refl, sym, ◌∙◌, subst}
 use Rattle.std.specs.Prelude.{IfSome}
 use Rattle.std.specs.Ordering.{nat_cmp}
 use Rattle.std.specs.BTreeMap as tree
 use Rattle.yamux_session.specs.Seen.{just_opened}
 use Rattle.streams.specs.State.{Streaming}
-use Rattle.conn_log.specs.Held.{IsHeld}
+use Rattle.conn_log.specs.Routes.{MayBeServed}
 use Rattle.conn_log.proofs.Opening.{put_aside, is_fresh}
 use Rattle.board.proofs.Tables.{elsewhere, here}
 use Rattle.board.proofs.board.Board.open.Goals as goal
@@ -27,8 +27,8 @@ returns-clause-routes g c = λ log fed sent rest a no_data none theirs.
     fed sent c.args.session.now old now board.past.items c.put_aside.new.past.items n rest a stream _ c.names.ensures.names c.in-Ok.ensures.stands c.in-Ok.ensures.talks.0 none theirs in
     let placed : now n ≡ Some stream = here middle now n (Some stream) updates in
     c.serve.ensures.serves log fed sent just_opened rest around no_data
-    (subst (λ (t : Option (Streaming _)). IfSome t (λ it. IsHeld H.steps H.is_closed H.is_finished (makes.listed board.protocols) board.role log n just_opened.came just_opened.ended it
-    × (just_opened.live ≡ false → just_opened.ended ≡ true))) (sym placed) (fresh_one, λ off. absurd (cc off)))
+    (subst (λ (t : Option (Streaming _)). IfSome t (MayBeServed H.steps H.fails H.is_closed H.is_finished makes.makes_inbound makes.makes_outbound (makes.is_eager board.protocols) (makes.listed board.protocols) board.peer board.role log n just_opened rest)) (sym placed)
+    (record { held = fresh_one; over_by_end = λ off. absurd (cc off); last = inr c.in-Ok.ensures.talks.0; anew = λ open_still. inl c.in-Ok.ensures.talks.0 }))
     (λ live. subst (λ (t : Option (Streaming _)). IsSome t) (sym placed) refl)
     (λ made going. subst (λ (t : Option (Streaming _)). IsSome t) (sym placed) refl)
     (λ reset going. subst (λ (t : Option (Streaming _)). IsSome t) (sym placed) refl)

@@ -1,11 +1,10 @@
-use Rattle.std.proofs.Common.{◌≡◌, ℕ, true, false, ◌++◌, Option, Some, None, IsSome, refl, sym, ap, subst}
+use Rattle.std.proofs.Common.{◌≡◌, ℕ, ◌++◌, Option, Some, None, IsSome, refl, sym, ap, subst}
 use Rattle.std.specs.Prelude.{IfSome}
 use Rattle.std.specs.Ordering.{nat_cmp}
 use Rattle.std.specs.BTreeMap as tree
 use Rattle.streams.specs.State.{Streaming}
 use Rattle.conn_log.specs.Entries.{items}
-use Rattle.conn_log.specs.Held.{IsHeld}
-use Rattle.conn_log.specs.Routes.{IsMoving, Routed}
+use Rattle.conn_log.specs.Routes.{IsMoving, MayBeServed, Routed}
 use Rattle.conn_log.proofs.Comes.{went}
 use Rattle.conn_log.proofs.Views.{no_data_behind}
 use Rattle.conn_log.proofs.Settling.{routed_on}
@@ -37,7 +36,7 @@ returns-in_default-clause-serves g c = λ log fed sent view rest a no_data held 
     }))
 
 pub returns-clause-serves : goal.returns-clause-serves
-returns-clause-serves g c = λ log fed sent view rest a no_data is_held own kept to_reset.
+returns-clause-serves g c = λ log fed sent view rest a no_data may_serve own kept to_reset.
     let H = g.P.H.Handler in
     let makes = g.P.Protocols in
     let board = c.args.self.now in
@@ -46,12 +45,12 @@ returns-clause-serves g c = λ log fed sent view rest a no_data is_held own kept
     let found : old n ≡ Some c.in-Some.stream.now = sym c.in-Some.ensures.value in
     let some : IsSome (old n) = rw found refl in
     let updates = (c.get_mut.follows.holds c.deliver_credit.new.stream).3 some in
-    let both = subst (λ (t : Option (Streaming _)). IfSome t (λ it. IsHeld H.steps H.is_closed H.is_finished (makes.listed board.protocols) board.role log n view.came view.ended it × (view.live ≡ false → view.ended ≡ true))) found is_held in
-    let held = both.0 in
+    let served = subst (λ (t : Option (Streaming _)). IfSome t (MayBeServed H.steps H.fails H.is_closed H.is_finished makes.makes_inbound makes.makes_outbound (makes.is_eager board.protocols) (makes.listed board.protocols) board.peer board.role log n view rest)) found may_serve in
+    let held = served.held in
     let came = c.in_ok-outcome.ensures.came board.role (items log) fed sent held.so_far a.session_stands held.stands held.sent_is in
     let now = went H.steps H.fails H.is_closed H.is_finished makes.makes_inbound makes.makes_outbound (makes.is_eager board.protocols) (makes.listed board.protocols) board.peer board.role
     c.acts_tell.ensures.seen c.acts_tell.ensures.windows log fed sent c.args.session.now c.deliver_credit.new.session old _ board.past.items n view rest c.in-Some.stream.now c.deliver_credit.new.stream
-    a (no_data_behind n view rest a.opens_none no_data) held both.1 (elsewhere old _ n (Some c.deliver_credit.new.stream) updates.0) (here old _ n (Some c.deliver_credit.new.stream) updates.0)
+    a (no_data_behind n view rest a.opens_none no_data) served (elsewhere old _ n (Some c.deliver_credit.new.stream) updates.0) (here old _ n (Some c.deliver_credit.new.stream) updates.0)
     c.in_ok-outcome.outcome came in
     on_ok c.settle.result
     (λ routed. routed_on H.steps H.fails H.is_closed H.is_finished makes.makes_inbound makes.makes_outbound (makes.is_eager board.protocols) (makes.listed board.protocols) board.peer board.role log
