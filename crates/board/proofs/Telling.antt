@@ -80,7 +80,7 @@ module _ {P H : Type 0} (step : H → HandlerCall → H → Type 0) (fails : H �
       → IfSome r (λ it. IsMoving step fails is_closed is_finished inbound_makes outbound_makes eager names peer role log n view (Told.Credit n ∷ rest) it)
       → IfSome r (MayBeServed step fails is_closed is_finished inbound_makes outbound_makes eager names peer role log n view rest)
   may_serve view None none moving = tt
-  may_serve view (Some it) none moving = record { held = moving.held; over_by_end = moving.over_by_end; last = inl none; anew = λ open_still. by_credit moving.anew } where
+  may_serve view (Some it) none moving = record { held = moving.held; over_by_end = moving.over_by_end; last = inl none; anew = λ open_still. by_credit moving.anew; handed = moving.handed } where
     by_credit : {Q : Type 0} → AllByRecursion IsNoCredit (Told.Credit n ∷ rest) ⊎ Q → Q
     by_credit (inl none) = absurd none.0
     by_credit (inr anew) = anew

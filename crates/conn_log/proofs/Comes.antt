@@ -27,11 +27,11 @@ use Rattle.routing.specs.Routing.{Came}
 use Rattle.conn_log.specs.declared.earlier.Earlier.{Earlier}
 use Rattle.conn_log.specs.declared.event.ConnEvent.{ConnEvent}
 use Rattle.conn_log.specs.declared.event.ConnEvent.TheVariants as event
-use Rattle.conn_log.specs.Entries.{Entry, items, said, agreed, is_last, is_over, was_done, made_of, calls_of}
+use Rattle.conn_log.specs.Entries.{Entry, items, said, agreed, is_last, is_over, was_done, made_of, calls_of, has_taken}
 use Rattle.conn_log.specs.Entries.Entry.{Says, Calls}
 use Rattle.yamux_session.specs.Data.{written}
 use Rattle.std.proofs.lemmas.List.{append_assoc}
-use Rattle.conn_log.specs.Due.{HasCome, IsAskedAnew, MayBeAsked, IsBroken, IsDue}
+use Rattle.conn_log.specs.Due.{HasCome, is_give, is_asked_anew, MayBeAsked, IsBroken, IsDue}
 use Rattle.conn_log.specs.Making.{MakesNone}
 use Rattle.conn_log.specs.Held.{IsSide, IsHeld}
 use Rattle.conn_log.specs.Routes.{KeepsTurn, IsNoCredit, IsMoving, MayBeServed, Around, Routes, Comes}
@@ -57,12 +57,33 @@ answered_by stages.Done call answer e = absurd (cc e)
 answered_by stages.Over call answer e = absurd (cc e)
 
 -- behind what its handler was told it is asked anew
-pub answered_anew : {H : Type 0} {told : HandlerCall} (n : ℕ) (call : HandlerCall) → call ≡ told → IsAskedAnew {H = H} (Calls n told ∷ []) → (log : List (Entry H)) → IsAskedAnew (Calls n call ∷ log)
-answered_anew {H = H} {told = told} n call is anew log = subst (λ (c : HandlerCall). IsAskedAnew {H = H} (Calls n c ∷ log)) (sym is) (by_call told anew) where
-  by_call : (c : HandlerCall) → IsAskedAnew {H = H} (Calls n c ∷ []) → IsAskedAnew {H = H} (Calls n c ∷ log)
-  by_call (Take bytes) anew = tt
-  by_call (Give room bytes) anew = anew
-  by_call End anew = tt
+pub answered_anew : {H : Type 0} {told : HandlerCall} (role : Role) (n : ℕ) (call : HandlerCall) → call ≡ told → is_give told ≡ false → (log : List (Entry H))
+    → is_asked_anew role (Calls n call ∷ log) n ≡ true
+answered_anew role n call is tells log = ap (λ b. cond b (not (is_give call)) (is_asked_anew role log n)) (same n) ∙ ap (λ c. not (is_give c)) is ∙ ap not tells
+
+-- what was handed stays so
+pub taken_still : (calls : List HandlerCall) (call : HandlerCall) → has_taken calls ≡ true → has_taken (calls ++ call ∷ []) ≡ true
+taken_still [] call taken = absurd (cc taken)
+taken_still (Take bytes ∷ calls) call taken = refl
+taken_still (Give room bytes ∷ calls) call taken = taken_still calls call taken
+taken_still (End ∷ calls) call taken = taken_still calls call taken
+
+taken_by : (calls : List HandlerCall) (bytes : List ℕ) → has_taken (calls ++ Take bytes ∷ []) ≡ true
+taken_by [] bytes = refl
+taken_by (Take some ∷ calls) bytes = refl
+taken_by (Give room some ∷ calls) bytes = taken_by calls bytes
+taken_by (End ∷ calls) bytes = taken_by calls bytes
+
+pub taken_last : (calls : List HandlerCall) (call : HandlerCall) (bytes : List ℕ) → call ≡ Take bytes → has_taken (calls ++ call ∷ []) ≡ true
+taken_last calls call bytes is = ap (λ c. has_taken (calls ++ c ∷ [])) is ∙ taken_by calls bytes
+
+-- one that serves answers each call
+pub none_serves : {H : Type 0} (old middle : Stage H) (call : HandlerCall) → answering old call ≡ None → kind_of middle ≡ kind_of old → kind_of middle ≡ Served → ⊥
+none_serves (stages.Talking talk handler) middle call is kind serves = absurd (let e : Rattle.streams.specs.State.InTalk ≡ Served = sym kind ∙ serves in cc e)
+none_serves (stages.Agreed index) middle call is kind serves = absurd (let e : Rattle.streams.specs.State.Awaiting ≡ Served = sym kind ∙ serves in cc e)
+none_serves (stages.Serving handler) middle call is kind serves = absurd (cc is)
+none_serves stages.Done middle call is kind serves = absurd (let e : Rattle.streams.specs.State.HandedOut ≡ Served = sym kind ∙ serves in cc e)
+none_serves stages.Over middle call is kind serves = absurd (let e : Rattle.streams.specs.State.Ended ≡ Served = sym kind ∙ serves in cc e)
 
 -- where no handler serves, only that of a talk is asked
 pub only_talking : {H : Type 0} {P : Type 0} (closed : H → Bool) (old middle : Stage H) (call : HandlerCall) → answering old call ≡ None → kind_of middle ≡ kind_of old
@@ -190,6 +211,7 @@ module _ {P H : Type 0} (step : H → HandlerCall → H → Type 0) (fails : H �
       (a : Around step fails is_closed is_finished inbound_makes outbound_makes eager names peer role log fed sent before streams past n view rest)
       (no_more : (all_heard n view rest).came ≡ view.came) (h : IsListed log n view.came view.ended so_far old) (over : view.live ≡ false → view.ended ≡ true)
       (last : AllByRecursion IsNoCredit rest ⊎ (is_talking old.stage ≡ true))
+      (handed : kind_of old.stage ≡ Served → has_taken (calls_of role log n) ≡ true)
       (elsewhere : (m : ℕ) → (n == m) ≡ false → now m ≡ streams m) (here : now n ≡ Some new) where
     come : HasCome step fails is_closed is_finished inbound_makes outbound_makes eager names peer role log n so_far
     come = come_of step fails is_closed is_finished inbound_makes outbound_makes eager names peer role acts_do acts_move log n view rest so_far h.side_is h.got_is h.ended_is h.sent_is h.made_is
@@ -216,12 +238,12 @@ module _ {P H : Type 0} (step : H → HandlerCall → H → Type 0) (fails : H �
 
     -- no credit is routed behind that, unless its talk goes on
     last_then : (then : List (Entry H)) (x : Streaming H) → kind_of x.stage ≡ kind_of old.stage → AllByRecursion IsNoCredit rest ⊎ (is_talking old.stage ≡ true)
-        → AllByRecursion IsNoCredit rest ⊎ ((is_talking x.stage ≡ true) ⊎ IsAskedAnew then)
+        → AllByRecursion IsNoCredit rest ⊎ ((is_talking x.stage ≡ true) ⊎ (is_asked_anew role then n ≡ true))
     last_then then x kind (inl none) = inl none
     last_then then x kind (inr talks) = inr (inl (same_talking x.stage old.stage kind ∙ talks))
 
     last_served : (then : List (Entry H)) (x : Streaming H) → kind_of old.stage ≡ Served → AllByRecursion IsNoCredit rest ⊎ (is_talking old.stage ≡ true)
-        → AllByRecursion IsNoCredit rest ⊎ ((is_talking x.stage ≡ true) ⊎ IsAskedAnew then)
+        → AllByRecursion IsNoCredit rest ⊎ ((is_talking x.stage ≡ true) ⊎ (is_asked_anew role then n ≡ true))
     last_served then x kind (inl none) = inl none
     last_served then x kind (inr talks) = absurd (let e : true ≡ false = sym talks ∙ served_talking old.stage kind in cc e)
 
@@ -255,6 +277,7 @@ module _ {P H : Type 0} (step : H → HandlerCall → H → Type 0) (fails : H �
           held = held;
           unfinished = s.handed_out.1;
           anew = last_then log_now new kind last;
+          handed = λ serves. ap has_taken own.calls_is ∙ handed (sym kind ∙ serves);
           over_by_end = view_over step fails is_closed is_finished inbound_makes outbound_makes eager names peer role acts_do acts_move (items log) n so_far (was_handed_out old.stage) s.goes.acts view s.goes.due over;
           settled = λ still. subst (λ (t : List Item). is_live role t n ≡ true → IsSettled step is_closed is_finished role t n s.goes.left new) is s.settled;
         } in
@@ -298,6 +321,7 @@ module _ {P H : Type 0} (step : H → HandlerCall → H → Type 0) (fails : H �
             asked = subst (λ (t : List Item). is_live role t n ≡ true → closed role t n ≡ false → is_closed handler ≡ false → s.goes.left ≡ Some (credit role t n)) is (λ live unclosed. s.asked_last (was_alive live) (was_unclosed unclosed));
             none_waits = subst (λ (t : List Item). is_live role t n ≡ true → closed role t n ≡ false → 0 < credit role t n → new.waiting ≡ []) is
                 (λ live unclosed some. (s.settled live).none_waits unclosed some);
+            handed = ap has_taken own.calls_is ∙ handed kind;
           },
         ) in
         let held : IsHeld step is_closed is_finished names role (Says (event.Done n handler) ∷ log_now) n seen_now.came seen_now.ended new = record {
@@ -319,6 +343,7 @@ module _ {P H : Type 0} (step : H → HandlerCall → H → Type 0) (fails : H �
           held = held;
           unfinished = ap (has_finished is_finished) stage_is;
           anew = last_served (Says (event.Done n handler) ∷ log_now) new kind last;
+          handed = λ serves. absurd (let e : Rattle.streams.specs.State.HandedOut ≡ Served = sym (ap kind_of stage_is) ∙ serves in cc e);
           over_by_end = view_over step fails is_closed is_finished inbound_makes outbound_makes eager names peer role acts_do acts_move (items log) n so_far (was_handed_out old.stage) s.goes.acts view s.goes.due over;
           settled = λ still. subst (λ (t : List Item). is_live role t n ≡ true → IsSettled step is_closed is_finished role t n s.goes.left new) is s.settled;
         } in
@@ -423,22 +448,26 @@ module _ {P H : Type 0} (step : H → HandlerCall → H → Type 0) (fails : H �
             fails_by = failed;
           })
 
+    -- and it was handed something still
+    handed_still : (call : HandlerCall) → kind_of old.stage ≡ Served → has_taken (calls_of role (Calls n call ∷ log) n) ≡ true
+    handed_still call serves = ap has_taken (sym (call_is_last log n call (calls_of role log n) refl)) ∙ taken_still (calls_of role log n) call (served.handed serves)
+
     -- by at most one call
     pub went : (outcome : Outcome H) → Came step fails is_closed is_finished role (items log) fed sent n served.held.so_far old before outcome after new
         → Went log fed sent after now past n rest outcome
     went outcomes.Going ((None, may, s), kind) =
-        served_on acts_do acts_move log fed sent before after streams now past n view rest served.held.so_far old new a no_more (listed log n view.came view.ended old served.held) served.over_by_end served.last elsewhere here s kind
+        served_on acts_do acts_move log fed sent before after streams now past n view rest served.held.so_far old new a no_more (listed log n view.came view.ended old served.held) served.over_by_end served.last served.handed elsewhere here s kind
     went outcomes.Going ((Some call, may, s), kind) =
         went_behind log fed sent after now past n rest outcomes.Going call
         (served_on acts_do acts_move (Calls n call ∷ log) fed sent before after streams now past n view rest (with_call served.held.so_far (Some call)) old new
         (around_call log fed sent before streams past n view rest call (call_due call may) a) no_more (listed_behind log n view.came view.ended served.held.so_far old call (listed log n view.came view.ended old served.held))
-        served.over_by_end served.last elsewhere here s kind)
+        served.over_by_end served.last (handed_still call) elsewhere here s kind)
     went (outcomes.Done handler) ((None, may, s), kind) =
-        done_with acts_do acts_move log fed sent before after streams now past n view rest served.held.so_far old new a no_more (listed log n view.came view.ended old served.held) served.over_by_end served.last elsewhere here handler s kind
+        done_with acts_do acts_move log fed sent before after streams now past n view rest served.held.so_far old new a no_more (listed log n view.came view.ended old served.held) served.over_by_end served.last served.handed elsewhere here handler s kind
     went (outcomes.Done handler) ((Some call, may, s), kind) =
         went_behind log fed sent after now past n rest (outcomes.Done handler) call
         (done_with acts_do acts_move (Calls n call ∷ log) fed sent before after streams now past n view rest (with_call served.held.so_far (Some call)) old new
         (around_call log fed sent before streams past n view rest call (call_due call may) a) no_more (listed_behind log n view.came view.ended served.held.so_far old call (listed log n view.came view.ended old served.held))
-        served.over_by_end served.last elsewhere here handler s kind)
+        served.over_by_end served.last (handed_still call) elsewhere here handler s kind)
     went outcomes.Refused c = absurd c
     went (outcomes.Broken cause) c = record { newer = []; none_said = refl; untold = refl; same_turn = tt; unmade = tt; seen_now = view; comes = is_broken c.1.0 cause c.0 c.1.1 c.1.2 }

@@ -13,7 +13,7 @@ use Rattle.streams.specs.declared.stop.Cause.TheVariants as causes
 use Rattle.streams.specs.Streams.{Past, with_call}
 use Rattle.streams.specs.declared.stage.Stage.{Stage}
 use Rattle.streams.specs.declared.stage.Stage.TheVariants as stages
-use Rattle.streams.specs.State.{Streaming, Stands, is_talking, is_open, handler_of, has_finished, was_handed_out, answering, kind_of}
+use Rattle.streams.specs.State.{Streaming, Stands, is_talking, is_open, handler_of, has_finished, was_handed_out, answering, kind_of, Served as Serves}
 use Rattle.dispatch.specs.declared.direction.Direction.TheVariants.{Inbound, Outbound}
 use Rattle.dispatch.specs.Dispatch.{IsKnown, IsMade, makes_once}
 use Rattle.routing.specs.declared.delivered.Outcome.{Outcome}
@@ -23,9 +23,9 @@ use Rattle.routing.specs.Routing.{Came, Takes, HasAgreed, Stops, InTalk, Deliver
 use Rattle.conn_log.specs.declared.earlier.Earlier.{Earlier}
 use Rattle.conn_log.specs.declared.event.ConnEvent.{ConnEvent}
 use Rattle.conn_log.specs.declared.event.ConnEvent.TheVariants as event
-use Rattle.conn_log.specs.Entries.{Entry, items, said, agreed, is_over, was_done, made_of, calls_of, agreement}
+use Rattle.conn_log.specs.Entries.{Entry, items, said, agreed, is_over, was_done, made_of, calls_of, has_taken, agreement}
 use Rattle.conn_log.specs.Entries.Entry.{Says, Made, Calls}
-use Rattle.conn_log.specs.Due.{direction_of, HasJustAgreed, IsAskedAnew, MayBeAsked, IsDue, told_reset, was_reset, told_end}
+use Rattle.conn_log.specs.Due.{direction_of, HasJustAgreed, is_asked_anew, MayBeAsked, IsDue, told_reset, was_reset, told_end}
 use Rattle.conn_log.specs.Making.{MakesNone, MakesOn}
 use Rattle.conn_log.specs.Held.{IsSide, IsHeld}
 use Rattle.conn_log.specs.Routes.{KeepsTurn, IsNoOpening, IsNoCredit, EndsLast, Around, Comes}
@@ -36,7 +36,7 @@ use Rattle.conn_log.proofs.Around.{grown, still}
 use Rattle.conn_log.proofs.Views.{same, came_front}
 use Rattle.serving.proofs.StageKinds.{same_talking, same_awaiting, same_handed, served_talking, served_handed, served_awaits, talking_kind, talking_awaits}
 use Rattle.conn_log.proofs.Settling.{said_append}
-use Rattle.conn_log.proofs.Comes.{Went as Served, went, went_behind, around_event, around_call, IsListed, listed, listed_behind, answered_by, answered_anew, only_talking}
+use Rattle.conn_log.proofs.Comes.{Went as Served, went, went_behind, around_event, around_call, IsListed, listed, listed_behind, answered_by, answered_anew, only_talking, none_serves, taken_last, call_is_last}
 
 -- what is seen of a stream of which these bytes came
 abbrev pub with_bytes : List ℕ → Seen → Seen
@@ -195,10 +195,11 @@ module _ {P H : Type 0} (step : H → HandlerCall → H → Type 0) (fails : H �
     took : (log : List (Entry H)) (bytes : List ℕ) (so_far : Past H) (old middle : Streaming H) (got : List ℕ) (outcome : Outcome H)
         → (a : Around step fails is_closed is_finished inbound_makes outbound_makes eager names peer role log fed sent before streams past n view rest)
         → view.came ≡ got ++ bytes → (l : IsListed step fails is_closed is_finished inbound_makes outbound_makes eager names peer role log n got view.ended so_far old)
-        → (is_open is_closed middle.stage ≡ true → (is_talking middle.stage ≡ true) ⊎ IsAskedAnew log) → Stands step middle (record so_far { got = so_far.got ++ bytes; left = None }) → kind_of middle.stage ≡ kind_of old.stage
+        → (is_open is_closed middle.stage ≡ true → (is_talking middle.stage ≡ true) ⊎ (is_asked_anew role log n ≡ true))
+        → (kind_of middle.stage ≡ Serves → has_taken (calls_of role log n) ≡ true) → Stands step middle (record so_far { got = so_far.got ++ bytes; left = None }) → kind_of middle.stage ≡ kind_of old.stage
         → Came step fails is_closed is_finished role (items log) fed sent n (record so_far { got = so_far.got ++ bytes; left = None }) middle before outcome after new
         → Served step fails is_closed is_finished inbound_makes outbound_makes eager names peer role log fed sent after now past n rest outcome
-    took log bytes so_far old middle got outcome a came l anew stands kind came_to =
+    took log bytes so_far old middle got outcome a came l anew handed stands kind came_to =
         let held : IsHeld step is_closed is_finished names role log n view.came view.ended middle = record {
           so_far = record so_far { got = so_far.got ++ bytes; left = None };
           side_is = l.side_is;
@@ -215,7 +216,7 @@ module _ {P H : Type 0} (step : H → HandlerCall → H → Type 0) (fails : H �
           served = same_awaiting middle.stage old.stage kind ∙ l.served;
         } in
         went step fails is_closed is_finished inbound_makes outbound_makes eager names peer role acts_do acts_move log fed sent before after streams now past n view rest middle new a no_more
-        (record { held = held; over_by_end = over; last = inl no_credit; anew = anew }) elsewhere here outcome came_to
+        (record { held = held; over_by_end = over; last = inl no_credit; anew = anew; handed = handed }) elsewhere here outcome came_to
 
     -- the handler took data behind the talk
     pub takes : (making : List (Entry H) → List (Entry H) → Type 0) (log : List (Entry H)) → ((newer : List (Entry H)) → MakesNone newer → making log (newer ++ log))
@@ -249,7 +250,8 @@ module _ {P H : Type 0} (step : H → HandlerCall → H → Type 0) (fails : H �
 
       by_answer : (answer : Option HandlerCall) → answering old.stage (Take bytes) ≡ answer → Served step fails is_closed is_finished inbound_makes outbound_makes eager names peer role log fed sent after now past n rest outcome
       by_answer None is = took log bytes h.so_far old served.0 got outcome a came (listed step fails is_closed is_finished inbound_makes outbound_makes eager names peer role log n got view.ended old h)
-          (only_talking is_closed old.stage served.0.stage (Take bytes) is served.2) (stands None is) served.2 (came_to None is)
+          (only_talking is_closed old.stage served.0.stage (Take bytes) is served.2)
+          (λ serves. absurd (none_serves old.stage served.0.stage (Take bytes) is served.2 serves)) (stands None is) served.2 (came_to None is)
       by_answer (Some call) is =
           let serves = answered_by old.stage (Take bytes) call is in
           let may : IsDue step fails is_closed is_finished inbound_makes outbound_makes eager names peer role log (Calls n call) =
@@ -259,7 +261,9 @@ module _ {P H : Type 0} (step : H → HandlerCall → H → Type 0) (fails : H �
           (took (Calls n call ∷ log) bytes (with_call h.so_far (Some call)) old served.0 got outcome
           (around_call step fails is_closed is_finished inbound_makes outbound_makes eager names peer role log fed sent before streams past n view rest call may a) came
           (listed_behind step fails is_closed is_finished inbound_makes outbound_makes eager names peer role log n got view.ended h.so_far old call (listed step fails is_closed is_finished inbound_makes outbound_makes eager names peer role log n got view.ended old h))
-          (λ open_still. inr (answered_anew n call serves.0 tt log)) (stands (Some call) is) served.2 (came_to (Some call) is))
+          (λ open_still. inr (answered_anew role n call serves.0 refl log))
+          (λ serving. ap has_taken (sym (call_is_last step fails is_closed is_finished inbound_makes outbound_makes eager names peer role log n call (calls_of role log n) refl)) ∙ taken_last (calls_of role log n) call bytes serves.0)
+          (stands (Some call) is) served.2 (came_to (Some call) is))
     takes making log keeps bytes old got outcome turn a came going h (inr f) =
         stopped making log keeps outcome (event.Broken n (causes.Handler f.1.1)) f.0 a
         (λ around. subst (λ (o : Outcome H). Comes step fails is_closed is_finished inbound_makes outbound_makes eager names peer role log fed sent after now past n view rest o) (sym f.1.4)
@@ -350,7 +354,7 @@ module _ {P H : Type 0} (step : H → HandlerCall → H → Type 0) (fails : H �
             served = talking_awaits middle.stage still_talks;
           } in
           let it = went step fails is_closed is_finished inbound_makes outbound_makes eager names peer role acts_do acts_move log fed sent before after streams now past n view rest middle new a no_more
-          (record { held = held; over_by_end = over; last = inl no_credit; anew = λ open_still. inl still_talks }) elsewhere here outcome came_to in
+          (record { held = held; over_by_end = over; last = inl no_credit; anew = λ open_still. inl still_talks; handed = λ serves. absurd (let e : true ≡ false = sym still_talks ∙ served_talking middle.stage serves in cc e) }) elsewhere here outcome came_to in
           record { newer = it.newer; said_is = it.none_said; untold = it.untold; same_turn = it.same_turn; makes = keeps kept it.newer it.unmade; mades_are = none_mades it.newer it.unmade; seen_now = it.seen_now; comes = it.comes }
 
       -- both ends agree by a front of these bytes, and the handler takes the rest

@@ -15,7 +15,7 @@ use Rattle.streams.specs.declared.stop.Cause.TheVariants as causes
 use Rattle.streams.specs.declared.stage.Stage.{Stage}
 use Rattle.streams.specs.declared.stage.Stage.TheVariants as stages
 use Rattle.streams.specs.Streams.{Past, with_call}
-use Rattle.streams.specs.State.{Streaming, Stands, StandsAt, is_talking, handler_of, is_open as asks_open, has_finished, was_handed_out, answering, kind_of}
+use Rattle.streams.specs.State.{Streaming, Stands, StandsAt, is_talking, handler_of, is_open as asks_open, has_finished, was_handed_out, answering, kind_of, Served}
 use Rattle.serving.specs.Served.{IsSettled}
 use Rattle.streams.proofs.Hearing.{open_before}
 use Rattle.routing.specs.declared.delivered.Outcome.{Outcome}
@@ -23,16 +23,16 @@ use Rattle.routing.specs.declared.delivered.Outcome.TheVariants as outcomes
 use Rattle.routing.specs.Routing.{Came, Hands, Ends}
 use Rattle.conn_log.specs.declared.earlier.Earlier.{Earlier}
 use Rattle.conn_log.specs.declared.event.ConnEvent.TheVariants as event
-use Rattle.conn_log.specs.Entries.{Entry, items}
+use Rattle.conn_log.specs.Entries.{Entry, items, calls_of, has_taken}
 use Rattle.conn_log.specs.Entries.Entry.{Says, Calls}
-use Rattle.conn_log.specs.Due.{HasCome, IsAskedAnew, MayBeAsked, IsDue, told_end, end_was_told}
+use Rattle.conn_log.specs.Due.{HasCome, is_asked_anew, MayBeAsked, IsDue, told_end, end_was_told}
 use Rattle.conn_log.specs.Held.{IsHeld}
 use Rattle.conn_log.specs.Routes.{IsNoCredit, Around, Comes}
 use Rattle.conn_log.proofs.Around.{still}
 use Rattle.conn_log.proofs.Views.{same, none_behind}
 use Rattle.serving.proofs.StageKinds.{same_talking, same_awaiting, same_handed}
 use Rattle.conn_log.proofs.Served.{ended_stays}
-use Rattle.conn_log.proofs.Comes.{Went, went, went_behind, around_event, around_call, IsListed, listed, listed_behind, answered_by, answered_anew, only_talking, or_on}
+use Rattle.conn_log.proofs.Comes.{Went, went, went_behind, around_event, around_call, IsListed, listed, listed_behind, answered_by, answered_anew, only_talking, taken_still, call_is_last, or_on}
 
 -- what is seen of a stream that has ended
 abbrev pub ended_view : Seen → Seen
@@ -96,6 +96,7 @@ module _ {P H : Type 0} (step : H → HandlerCall → H → Type 0) (fails : H �
       (h : IsHeld step is_closed is_finished names role log n view.came view.ended old) (going : view.ended ≡ false) (unfinished : has_finished is_finished old.stage ≡ false)
       (settled : is_live role (items log) n ≡ true → IsSettled step is_closed is_finished role (items log) n h.so_far.left old)
       (was_told : end_was_told role (items log) n ≡ true) (no_credit : AllByRecursion IsNoCredit rest)
+      (handed : kind_of old.stage ≡ Served → has_taken (calls_of role log n) ≡ true)
       (elsewhere : (m : ℕ) → (n == m) ≡ false → now m ≡ streams m) (here : now n ≡ Some new) where
     -- all has come
     all_came : inbound role (items log) n ≡ h.so_far.got
@@ -137,10 +138,11 @@ module _ {P H : Type 0} (step : H → HandlerCall → H → Type 0) (fails : H �
     heard : (then : List (Entry H)) (outcome : Outcome H) (so_far : Past H) (middle : Streaming H)
         → (around : Around step fails is_closed is_finished inbound_makes outbound_makes eager names peer role then fed sent before streams past n (ended_view view) rest)
         → (l : IsListed step fails is_closed is_finished inbound_makes outbound_makes eager names peer role then n view.came view.ended so_far old)
-        → (asks_open is_closed middle.stage ≡ true → (is_talking middle.stage ≡ true) ⊎ IsAskedAnew then) → Stands step middle (record so_far { ended = true; left = None }) → kind_of middle.stage ≡ kind_of old.stage
+        → (asks_open is_closed middle.stage ≡ true → (is_talking middle.stage ≡ true) ⊎ (is_asked_anew role then n ≡ true))
+        → (kind_of old.stage ≡ Served → has_taken (calls_of role then n) ≡ true) → Stands step middle (record so_far { ended = true; left = None }) → kind_of middle.stage ≡ kind_of old.stage
         → Came step fails is_closed is_finished role (items then) fed sent n (record so_far { ended = true; left = None }) middle before outcome after new
         → Went step fails is_closed is_finished inbound_makes outbound_makes eager names peer role then fed sent after now past n rest outcome
-    heard then outcome so_far middle around l anew stands kind came_to =
+    heard then outcome so_far middle around l anew handed stands kind came_to =
         let by_end : IsHeld step is_closed is_finished names role then n (ended_view view).came (ended_view view).ended middle = record {
           so_far = record so_far { ended = true; left = None };
           side_is = l.side_is;
@@ -158,7 +160,7 @@ module _ {P H : Type 0} (step : H → HandlerCall → H → Type 0) (fails : H �
         } in
         went step fails is_closed is_finished inbound_makes outbound_makes eager names peer role acts_do acts_move then fed sent before after streams now past n (ended_view view) rest middle new
         around (none_behind n (ended_view view) rest around.opens_none around.ends_last)
-        (record { held = by_end; over_by_end = λ off. refl; last = inl no_credit; anew = anew }) elsewhere here outcome came_to
+        (record { held = by_end; over_by_end = λ off. refl; last = inl no_credit; anew = anew; handed = λ serves. handed (sym kind ∙ serves) }) elsewhere here outcome came_to
 
     in_talk : (outcome : Outcome H) → is_talking old.stage ≡ true → outcome ≡ outcomes.Broken causes.Ended → after ≡ before → Went step fails is_closed is_finished inbound_makes outbound_makes eager names peer role log fed sent after now past n rest outcome
     in_talk outcome talks is same_session =
@@ -223,7 +225,7 @@ module _ {P H : Type 0} (step : H → HandlerCall → H → Type 0) (fails : H �
           → Went step fails is_closed is_finished inbound_makes outbound_makes eager names peer role log fed sent after now past n rest outcome
       by_hands None is (inl served) =
           heard log outcome h.so_far served.0 a (listed step fails is_closed is_finished inbound_makes outbound_makes eager names peer role log n view.came view.ended old h)
-          (only_talking is_closed old.stage served.0.stage End is served.2) served.1 served.2 served.3
+          (only_talking is_closed old.stage served.0.stage End is served.2) handed served.1 served.2 served.3
       by_hands (Some call) is (inl served) =
           let serves = answered_by old.stage End call is in
           let may : IsDue step fails is_closed is_finished inbound_makes outbound_makes eager names peer role log (Calls n call) =
@@ -232,7 +234,8 @@ module _ {P H : Type 0} (step : H → HandlerCall → H → Type 0) (fails : H �
           (heard (Calls n call ∷ log) outcome (with_call h.so_far (Some call)) served.0
           (around_call step fails is_closed is_finished inbound_makes outbound_makes eager names peer role log fed sent before streams past n (ended_view view) rest call may a)
           (listed_behind step fails is_closed is_finished inbound_makes outbound_makes eager names peer role log n view.came view.ended h.so_far old call
-          (listed step fails is_closed is_finished inbound_makes outbound_makes eager names peer role log n view.came view.ended old h)) (λ open_still. inr (answered_anew n call serves.0 tt log)) served.1 served.2 served.3)
+          (listed step fails is_closed is_finished inbound_makes outbound_makes eager names peer role log n view.came view.ended old h)) (λ open_still. inr (answered_anew role n call serves.0 refl log))
+          (λ serving. ap has_taken (sym (call_is_last step fails is_closed is_finished inbound_makes outbound_makes eager names peer role log n call (calls_of role log n) refl)) ∙ taken_still (calls_of role log n) call (handed serving)) served.1 served.2 served.3)
       by_hands answer is (inr f) = failed outcome f.1.0 f.1.1 f.1.2 f.1.3 f.1.4 f.0
 
       by_talk : (b : Bool) → is_talking old.stage ≡ b → Went step fails is_closed is_finished inbound_makes outbound_makes eager names peer role log fed sent after now past n rest outcome

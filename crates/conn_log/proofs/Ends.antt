@@ -30,7 +30,7 @@ none_ends n (Told.Credit m ∷ told) last = none_ends n told last.0
 none_ends n (Told.GoAway code ∷ told) last = none_ends n told last
 none_ends n (Told.Fault fault ∷ told) last = none_ends n told last
 
-or_assoc : (a b c : Bool) → a || (b || c) ≡ (a || b) || c
+pub or_assoc : (a b c : Bool) → a || (b || c) ≡ (a || b) || c
 or_assoc true b c = refl
 or_assoc false b c = refl
 

@@ -19,9 +19,9 @@ use Rattle.yamux_session.specs.Endings.{opened_in, told_opened, OpeningsAreTold,
 use Rattle.yamux_session.specs.State.{State, Stands as SessionStands, IsOneFrame}
 use Rattle.streams.specs.State.{Streaming}
 use Rattle.conn_log.specs.declared.earlier.Earlier.{Earlier}
-use Rattle.conn_log.specs.Entries.{Entry, items, since, agreed_in, over_in, done_in, made_in, calls_in, is_over, made_of, is_kept, left_behind, put_aside}
+use Rattle.conn_log.specs.Entries.{Entry, items, since, agreed_in, over_in, done_in, made_in, calls_in, is_over, made_of, is_kept, left_behind, put_aside, has_taken}
 use Rattle.conn_log.specs.Turns.{turn}
-use Rattle.conn_log.specs.Due.{IsAskedAnew, AllDue, told_reset, was_reset, told_end, end_was_told}
+use Rattle.conn_log.specs.Due.{told_credit, is_asked_anew, AllDue, told_reset, was_reset, told_end, end_was_told}
 use Rattle.conn_log.specs.Held.{IsAtRest, AreLeft, earlier_of}
 use Rattle.conn_log.specs.Rests.{AreAtRest}
 use Rattle.conn_log.specs.Routes.{IsNoCredit, EndsLast, IsFor, IsNoOpening, IsMoving, Around, Awaits, set_aside}
@@ -32,6 +32,7 @@ use Rattle.conn_log.proofs.Opening.{sent_stays}
 use Rattle.conn_log.proofs.Leaving.{earlier_other, are_left, numbers_are}
 use Rattle.conn_log.proofs.Rested.{end_agrees}
 use Rattle.conn_log.proofs.Arriving.{arrived, items_arrived, asked_arrived, since_arrived, left_arrived, IsNamed, named, opens_none, not_heard, not_opened, quiet, unopened, all_closed_stays, was_live_before}
+use Rattle.conn_log.proofs.Crediting.{credit_arrived, none_told}
 use Rattle.std.proofs.Math.Bool.{or_comm}
 use Rattle.conn_log.proofs.Ends.{ends_unopened, ends_opened, live_ends}
 use Rattle.conn_log.proofs.Heads.{stream_of, credit_first, all_named, all_about, turn_arrived, in_turn_arrived, aside_arrived}
@@ -190,10 +191,10 @@ module _ {P H : Type 0} (step : H → HandlerCall → H → Type 0) (fails : H �
 
   -- ---- of the one that is named
 
-  -- its frame is the newest entry, or nothing came
-  anew_by : {Q : Type 0} (c : List Arrival) → came ≡ c → AllByRecursion IsNoCredit (tellings told) ⊎ (Q ⊎ IsAskedAnew then)
-  anew_by [] is = inl (subst (λ (t : List Told). AllByRecursion IsNoCredit t) (sym (sym (told_is_by role (items log) came (tellings told) tells) ∙ ap (told_by role (items log)) is)) tt)
-  anew_by (x ∷ c) is = inr (inr (subst (λ (t : List Arrival). IsAskedAnew (arrived t ++ log)) (sym is) tt))
+  -- credit of it was told, or none is
+  anew_by : {Q : Type 0} (b : Bool) → told_credit n (tellings told) ≡ b → AllByRecursion IsNoCredit (tellings told) ⊎ (Q ⊎ (is_asked_anew role then n ≡ true))
+  anew_by true is = inr (inr (credit_arrived role came log n (ap (told_credit n) (told_is_by role (items log) came (tellings told) tells) ∙ is)))
+  anew_by false is = inl (none_told n (tellings told) about is)
 
   -- it was opened before
   moving : (it : Streaming H) → AllByRecursion (IsNoOpening n) (tellings told) → IsAtRest step is_closed is_finished names role log n it
@@ -219,7 +220,8 @@ module _ {P H : Type 0} (step : H → HandlerCall → H → Type 0) (fails : H �
         };
         unfinished = r.unfinished;
         over_by_end = r.over_by_end;
-        anew = anew_by came refl;
+        anew = anew_by (told_credit n (tellings told)) refl;
+        handed = λ serves. ap has_taken (ap (calls_in n) (since_same n off)) ∙ r.handed serves;
         settled = λ brings_none live.
             let view = seen role (items log) n in
             let windows_are = ap (λ (t : List Item). windows role t n) items_are ∙ laws.credit_is_told role (items log) came (tellings told) n tells brings_none in

@@ -7,6 +7,7 @@ pub mod Making
 pub mod Comes
 pub mod Settling
 pub mod Ending
+pub mod Crediting
 pub mod Data
 pub mod Resetting
 pub mod Opening

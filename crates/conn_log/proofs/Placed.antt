@@ -4,7 +4,7 @@ use Rattle.std.proofs.lemmas.Bool.Decides.{eqb_tells}
 use Rattle.ms_select.specs.declared.answer.Answer.{Answer}
 use Rattle.ms_select.specs.declared.answer.Answer.TheVariants.{Going, Agreed, NoneLeft}
 use Rattle.ms_select.specs.declared.fault.SelectFault.{SelectFault}
-use Rattle.ms_select.specs.Rows.{x, y, header_bytes}
+use Rattle.ms_select.specs.Rows.{x, y, header_bytes, y_bytes}
 use Rattle.talks.specs.Talks.{Side, Asks, Answers, Talks}
 use Rattle.talks.specs.Rows.{answers}
 use Rattle.talks.proofs.Outcomes.{one_outcome, by_all}
@@ -15,16 +15,15 @@ use Rattle.yamux_session.specs.History.Item.{Came, Did}
 use Rattle.yamux_session.specs.History.Act.{Taken, Close}
 use Rattle.yamux_session.specs.Rows.{header}
 use Rattle.yamux_session.proofs.Hearing.{or_none}
-use Rattle.handlers.specs.Calls.{Asked}
 use Rattle.streams.specs.declared.stage.Stage.TheVariants as stages
 use Rattle.streams.specs.State.{is_talking}
-use Rattle.conn_log.specs.Entries.{Entry, items, since, agreed, over_in}
+use Rattle.conn_log.specs.Entries.{items, since, agreed, over_in}
 use Rattle.conn_log.specs.Entries.Entry.{Of}
 use Rattle.conn_log.specs.Due.{was_reset}
 use Rattle.conn_log.specs.Held.{IsSide}
 use Rattle.conn_log.specs.EntryRows.{opened, agrees, refuses}
 use Rattle.conn_log.specs.PlaceRows as rows
-use Rattle.conn_log.specs.PlaceRows.{TalkPlaceRows, LastPlaceRows, ActPlaceRows, CallPlaceRows, AnewRows, is_due}
+use Rattle.conn_log.specs.PlaceRows.{TalkPlaceRows, LastPlaceRows, ActPlaceRows, CallPlaceRows, AnewRows, TakenRows, is_due}
 
 abbrev no_bytes : List ℕ
 no_bytes = []
@@ -128,38 +127,65 @@ act_place_rows = record {
   oldest_not = λ h. omega (arith, h.1.0);
 }
 
--- a handler that serves isn't asked before both ends agree
-serves : {log : List (Entry ℕ)} {request : Asked} {handler : ℕ} → (m : rows.may_be_asked log request) → m.there.stream.stage ≡ stages.Serving handler
-    → agreed Client log 2 ≡ None → ⊥
-serves m is none = m.agreed_on (ap is_talking is) none
+asked_for_all : is_due rows.served (rows.give_all)
+asked_for_all = record {
+  there = record {
+    so_far = record { side = answers; got = header_bytes ++ y_bytes; ended = false; sent = []; made = Some 51; calls = []; left = None };
+    stream = record { waiting = header_bytes ++ y_bytes; stage = stages.Serving 51 };
+    come = record { side_is = (refl, refl); rest = []; got_is = refl; ended_by = λ e. absurd (off_is_on e); sent_is = refl; made_is = refl; calls_is = refl };
+    stands = record {
+      index = 1;
+      rest = [];
+      gave = [];
+      made = 51;
+      agreed = record { first = header_bytes ++ y_bytes; output = header_bytes ++ y_bytes; got_is = refl; agrees = answer_rows.agreed; sent_is = refl };
+      made_is = refl;
+      handled = record { was_handed = record { calls = []; arises = refl; joined = refl; ends = refl }; calls_are = refl; gave_is = refl; asked = tt };
+    };
+  };
+  handler = 51;
+  held = refl;
+  asked_for = (refl, refl);
+  in_turn = (refl, refl, refl, inr refl);
+  talking = λ e. absurd (off_is_on e);
+  agreed_on = λ e none. some_is_none 1 none;
+  going = refl;
+}
 
 pub call_place_rows : CallPlaceRows
 call_place_rows = record {
   asks_for = λ bytes room. (refl, refl, refl);
+  asked = asked_for_all;
   when_over = λ call h. on_is_off h.going;
-  before_an_agreement = λ h. serves h h.in_turn.0 refl;
-  end_before_an_agreement = λ h. serves h h.in_turn.0 refl;
+  early_when_over = λ call h. on_is_off h.going;
+  before_an_agreement = λ bytes h. h.agreed_on (ap is_talking h.in_turn.0) refl;
+  end_before_an_agreement = λ h. h.agreed_on (ap is_talking h.in_turn.0) refl;
   handed_nothing = λ h. by_turn h.in_turn.2;
   end_that_did_not_come = λ h. off_is_on h.asked_for.1;
   end_with_a_reset = λ h. off_is_on h.asked_for.1;
   asked_behind_a_reset = λ room h. off_is_on h.in_turn.0;
   asked_when_closed = λ room h. on_is_off h.in_turn.1;
   asked_twice = λ room h. by_talk h.in_turn.3 (λ talks. some_is_none 1 (h.talking talks));
+  asked_by_a_frame = λ room h. by_talk h.in_turn.3 (λ talks. some_is_none 1 (h.talking talks));
 } where
   by_turn : {A : Type 0} → (A × (no_bytes ≢ [])) ⊎ ⊥ → ⊥
   by_turn (inl handed) = handed.1 refl
   by_turn (inr agreed) = agreed
 
-  by_talk : {A : Type 0} → A ⊎ ⊥ → (A → ⊥) → ⊥
+  by_talk : {A : Type 0} → A ⊎ (false ≡ true) → (A → ⊥) → ⊥
   by_talk (inl talks) not_talking = not_talking talks
-  by_talk (inr anew) not_talking = anew
+  by_talk (inr anew) not_talking = off_is_on anew
 
 pub anew_rows : AnewRows
 anew_rows = record {
-  at_first = tt;
-  behind_a_frame = tt;
-  behind_data = tt;
-  behind_its_end = tt;
-  asked = λ anew. anew;
-  asked_and_done = λ anew. anew;
+  at_first = refl;
+  by_credit = refl;
+  by_credit_of_another = refl;
+  behind_data = refl;
+  behind_its_end = refl;
+  asked = refl;
+  passed = refl;
 }
+
+pub taken_rows : TakenRows
+taken_rows = record { none = refl; nothing = refl; some = refl }

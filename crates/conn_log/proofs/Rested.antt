@@ -117,7 +117,7 @@ module _ {P H : Type 0} (step : H → HandlerCall → H → Type 0) (fails : H �
     goes_on : (s : Option (Streaming H)) → IfSome s (λ it. IsMoving step fails is_closed is_finished inbound_makes outbound_makes eager names peer role log n view (t ∷ rest) it)
         → IfSome s (λ it. IsMoving step fails is_closed is_finished inbound_makes outbound_makes eager names peer role log n view rest it)
     goes_on None own = tt
-    goes_on (Some it) own = record { held = own.held; unfinished = own.unfinished; over_by_end = own.over_by_end; anew = behind own.anew; settled = λ quiet live. own.settled (still_quiet n t is, quiet) live }
+    goes_on (Some it) own = record { held = own.held; unfinished = own.unfinished; over_by_end = own.over_by_end; anew = behind own.anew; handed = own.handed; settled = λ quiet live. own.settled (still_quiet n t is, quiet) live }
 
   -- ---- event by event
 
@@ -163,6 +163,7 @@ module _ {P H : Type 0} (step : H → HandlerCall → H → Type 0) (fails : H �
           };
           settled = λ live. m.settled tt live;
           unfinished = m.unfinished;
+          handed = m.handed;
           over_by_end = λ off. ended ∙ m.over_by_end (sym a.live ∙ off);
         }
 

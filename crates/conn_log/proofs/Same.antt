@@ -17,7 +17,7 @@ use Rattle.streams.specs.State.{Streaming}
 use Rattle.serving.specs.Served.{IsSettled}
 use Rattle.conn_log.specs.declared.event.ConnEvent.{ConnEvent}
 use Rattle.conn_log.specs.declared.event.ConnEvent.TheVariants as event
-use Rattle.conn_log.specs.Entries.{Entry, items, agreed, is_over, was_done, made_of, calls_of, asked, is_kept, left_behind}
+use Rattle.conn_log.specs.Entries.{Entry, items, agreed, is_over, was_done, made_of, calls_of, has_taken, asked, is_kept, left_behind}
 use Rattle.conn_log.specs.Entries.Entry.{Of, Says, Made, Calls}
 use Rattle.conn_log.specs.Held.{IsSide, IsHeld, IsAtRest, IsPast, AreLeft}
 
@@ -263,6 +263,7 @@ module _ {H : Type 0} (step : H → HandlerCall → H → Type 0) (is_closed is_
         settled = λ on. settled_same step is_closed is_finished role (items log) (items now) m r.held.so_far.left stream (ap (λ (x : Seen). x.closed) s.seen_is)
             (ap (λ (w : Windows). w.credit) s.windows_is) (ap (λ (w : Windows). w.untaken) s.windows_is) (r.settled (sym live ∙ on));
         unfinished = r.unfinished;
+        handed = λ serves. ap has_taken s.calls_is ∙ r.handed serves;
         over_by_end = λ off. sym ended ∙ r.over_by_end (sym live ∙ off);
       }
 

@@ -1,7 +1,7 @@
 -- Why each entry of a connection's list stands where it does: what came to a stream, and what was told and done then.
 -- Source: multistream-select 1.0, "Protocol Negotiation"; libp2p connections, "Opening new streams over a connection";
 -- hashicorp yamux, "Flow Control" and "Flag Field"; what a connection tells is this project's profile.
-use Rattle.std.specs.Prelude.{◌≡◌, ◌≢◌, ◌⊎◌, ℕ, ◌<◌, ◌-◌, ◌==◌, ◌||◌, Bool, true, false, if◌then◌else◌, None}
+use Rattle.std.specs.Prelude.{◌≡◌, ◌≢◌, ◌⊎◌, ℕ, ◌<◌, ◌-◌, ◌==◌, ◌||◌, Bool, true, false, not, if◌then◌else◌, None}
 use Rattle.std.specs.Prelude.{Some, List, [], ◌∷◌, ◌++◌, length}
 use Rattle.handlers.specs.Calls.{HandlerCall, Take, Give, End, Asked, ToTake, ToGive, ToEnd}
 use Rattle.ms_select.specs.declared.fault.SelectFault.TheVariants as select_faults
@@ -25,7 +25,7 @@ use Rattle.dispatch.specs.declared.direction.Direction.{Direction}
 use Rattle.dispatch.specs.declared.direction.Direction.TheVariants.{Inbound, Outbound}
 use Rattle.dispatch.specs.Dispatch.{made_by}
 use Rattle.conn_log.specs.declared.event.ConnEvent.TheVariants as event
-use Rattle.conn_log.specs.Entries.{Entry, items, agreed, is_over, was_done, made_of, calls_of}
+use Rattle.conn_log.specs.Entries.{Entry, items, agreed, is_over, was_done, made_of, calls_of, has_taken}
 use Rattle.conn_log.specs.Entries.Entry.{Of, Says, Made, Asks, Calls}
 use Rattle.conn_log.specs.Held.{IsSide, IsHeld}
 
@@ -69,12 +69,27 @@ HasJustAgreed n (Says (event.Agreed m index) ∷ log) = m ≡ n
 HasJustAgreed n (Made k handler ∷ Says (event.Agreed m index) ∷ log) = (k ≡ n) × (m ≡ n)
 HasJustAgreed n log = ⊥
 
--- Something else than acts stands behind the newest entry by which a handler was asked to give: it is asked once behind
--- each frame, behind its making, and behind each other call.
-abbrev pub IsAskedAnew : {H : Type 0} → List (Entry H) → Type 0
-IsAskedAnew (Of (Did act) ∷ log) = IsAskedAnew log
-IsAskedAnew (Calls n (Give room bytes) ∷ log) = ⊥
-IsAskedAnew log = Unit {0}
+-- whether one of these events tells credit of the stream
+abbrev pub told_credit : ℕ → List Told → Bool
+told_credit n [] = false
+told_credit n (Told.Credit m ∷ told) = m == n || told_credit n told
+told_credit n (other ∷ told) = told_credit n told
+
+-- the call asks for bytes
+abbrev pub is_give : HandlerCall → Bool
+is_give (Take bytes) = false
+is_give (Give room bytes) = true
+is_give End = false
+
+-- Since the handler of the stream was asked for bytes last, credit was told of it, or it answered another call, or was
+-- made. So it is asked once behind each of these.
+abbrev pub is_asked_anew : {H : Type 0} → Role → List (Entry H) → ℕ → Bool
+is_asked_anew role [] n = true
+is_asked_anew role (Of x ∷ log) n = told_credit n (events_at role (items log) x) || is_asked_anew role log n
+is_asked_anew role (Says e ∷ log) n = is_asked_anew role log n
+is_asked_anew role (Made m handler ∷ log) n = m == n || is_asked_anew role log n
+is_asked_anew role (Asks m index ∷ log) n = is_asked_anew role log n
+is_asked_anew role (Calls m call ∷ log) n = if m == n then not (is_give call) else is_asked_anew role log n
 
 -- the newest entry gives the stream up, and the other end didn't reset it
 abbrev pub IsGivenUp : {H : Type 0} → ℕ → List (Entry H) → Type 0
@@ -146,7 +161,7 @@ module _ {P H : Type 0} (step : H → HandlerCall → H → Type 0) (fails : H �
       × (is_finished handler ≡ false) × WasAsked log n so_far handler
   IsInTurn log n stage so_far handler (ToGive room) = (is_live role (items log) n ≡ true)
       × (closed role (items log) n ≡ false) × (is_closed handler ≡ false)
-      × ((is_talking stage ≡ true) ⊎ IsAskedAnew log)
+      × ((is_talking stage ≡ true) ⊎ (is_asked_anew role log n ≡ true))
 
   -- Its handler may be asked for this, while its last event wasn't told. By then Agreed was told of it, where its talk
   -- is over, and only there.
@@ -197,6 +212,8 @@ module _ {P H : Type 0} (step : H → HandlerCall → H → Type 0) (fails : H �
     pub asked : WasAsked log n so_far handler
     pub none_waits : is_live role (items log) n ≡ true → closed role (items log) n ≡ false
         → 0 < credit role (items log) n → waiting ≡ []
+    -- it was handed what stood behind the talk
+    pub handed : has_taken (calls_of role log n) ≡ true
 
   -- The stream gave what it has by all data that came: nothing waits, and its handler was asked last with all the
   -- credit, unless it is closed, or was handed out and that was told.

@@ -2,10 +2,10 @@
 -- streams, which handlers were made, which calls they answered, and which protocols were asked for, each where it was.
 -- The newest stands first.
 -- Source: hashicorp yamux, "Framing"; what a connection tells is this project's profile.
-use Rattle.std.specs.Prelude.{ℕ, suc, Bool, false, not, ◌==◌, ◌&&◌, ◌||◌, if◌then◌else◌}
+use Rattle.std.specs.Prelude.{ℕ, suc, Bool, true, false, not, ◌==◌, ◌&&◌, ◌||◌, if◌then◌else◌}
 use Rattle.std.specs.Prelude.{Option, Some, None, is_some}
 use Rattle.std.specs.Prelude.{List, [], ◌∷◌, ◌++◌}
-use Rattle.handlers.specs.Calls.{HandlerCall}
+use Rattle.handlers.specs.Calls.{HandlerCall, Take, Give, End}
 use Rattle.yamux_frames.specs.Frames.Arrival.{Head, Byte, Tail, Garbled}
 use Rattle.yamux_session.specs.declared.event.Role.{Role}
 use Rattle.yamux_session.specs.History.{Item}
@@ -158,6 +158,13 @@ calls_in n (Calls m call ∷ log) = if m == n then calls_in n log ++ call ∷ []
 -- the calls that its handler answered since the opening, in order
 abbrev pub calls_of : {H : Type 0} → Role → List (Entry H) → ℕ → List HandlerCall
 calls_of role log n = calls_in n (since role log n)
+
+-- by these calls a handler was handed something
+abbrev pub has_taken : List HandlerCall → Bool
+has_taken [] = false
+has_taken (Take bytes ∷ calls) = true
+has_taken (Give room bytes ∷ calls) = has_taken calls
+has_taken (End ∷ calls) = has_taken calls
 
 -- its handler was made since the opening, and its last event wasn't told yet
 abbrev pub is_kept : {H : Type 0} → Role → List (Entry H) → ℕ → Bool

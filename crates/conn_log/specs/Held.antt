@@ -11,9 +11,10 @@ use Rattle.yamux_session.specs.Openings.{is_live, finished}
 use Rattle.yamux_session.specs.Data.{inbound, written}
 use Rattle.streams.specs.Streams.{Past}
 use Rattle.streams.specs.State.{Streaming, Stands, is_talking, awaits_handler, has_finished, was_handed_out}
+use Rattle.streams.specs.State.{Served, kind_of}
 use Rattle.serving.specs.Served.{IsSettled}
 use Rattle.conn_log.specs.Entries.{Entry, items, agreed, is_over, was_done, made_of, calls_of, asked, is_kept}
-use Rattle.conn_log.specs.Entries.{left_behind}
+use Rattle.conn_log.specs.Entries.{left_behind, has_taken}
 use Rattle.conn_log.specs.declared.earlier.Earlier.{Earlier}
 
 -- who opens a stream asks for the one name that was asked for; the other end answers with all of its names
@@ -52,6 +53,8 @@ module _ {H : Type 0} (step : H → HandlerCall → H → Type 0) (is_closed is_
     pub settled : is_live role (items log) n ≡ true
         → IsSettled step is_closed is_finished role (items log) n held.so_far.left stream
     pub unfinished : has_finished is_finished stream.stage ≡ false
+    -- a handler that serves it was handed what stood behind the talk
+    pub handed : kind_of stream.stage ≡ Served → has_taken (calls_of role log n) ≡ true
     -- it is live no more where both ends have ended their direction
     pub over_by_end : is_live role (items log) n ≡ false → finished role (items log) n ≡ true
 

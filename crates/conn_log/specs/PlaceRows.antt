@@ -1,11 +1,11 @@
 -- Worked rows of which entries may stand where (multistream-select 1.0, "Protocol Negotiation"; hashicorp yamux, "Flag
 -- Field"; what a connection tells is this project's profile): of a client's connection whose protocols are called x and
 -- y, and on which the other end has opened stream 2. Lists have the newest first.
-use Rattle.std.specs.Prelude.{◌≡◌, ◌↔◌, ℕ, true, false, List, [], ◌∷◌, ◌++◌}
+use Rattle.std.specs.Prelude.{◌≡◌, ◌↔◌, ℕ, ◌-◌, true, false, List, [], ◌∷◌, ◌++◌, length}
 use Rattle.peer_ids.specs.Key.{Key}
 use Rattle.handlers.specs.Calls.{HandlerCall, Take, Give, End, Asked, ToTake, ToGive, ToEnd}
 use Rattle.ms_select.specs.declared.fault.SelectFault.TheVariants.{NotProposed, OutOfMemory}
-use Rattle.ms_select.specs.Rows.{x, y}
+use Rattle.ms_select.specs.Rows.{x, y, header_bytes, y_bytes}
 use Rattle.yamux_frames.specs.declared.header.FrameKind.TheVariants.{Payload, Window}
 use Rattle.yamux_frames.specs.Frames.Arrival.{Byte, Tail}
 use Rattle.yamux_session.specs.declared.event.Role.TheVariants.{Client}
@@ -16,35 +16,35 @@ use Rattle.yamux_session.specs.Rows.{header}
 use Rattle.streams.specs.declared.stop.Cause.TheVariants as causes
 use Rattle.conn_log.specs.declared.event.ConnFault.TheVariants as faults
 use Rattle.conn_log.specs.declared.event.ConnEvent.TheVariants as event
-use Rattle.conn_log.specs.Entries.{Entry}
+use Rattle.conn_log.specs.Entries.{Entry, has_taken}
 use Rattle.conn_log.specs.Entries.Entry.{Of, Says, Asks}
 use Rattle.conn_log.specs.EntryRows.{frame, opened, agrees, refuses, done, breaks, makes, answers}
 use Rattle.conn_log.specs.AskedRows.{is_1}
 use Rattle.conn_log.specs.DueRows.{inbound, outbound}
-use Rattle.conn_log.specs.Due.{asks_for, IsAskedAnew, IsThere, MayBeAsked, HasHeard, IsDue, AllDue}
+use Rattle.conn_log.specs.Due.{asks_for, is_asked_anew, IsThere, MayBeAsked, HasHeard, IsDue, AllDue}
 
 abbrev pub is_due : List (Entry ℕ) → Entry ℕ → Type 0
-is_due = IsDue (λ before call now. ⊥) (λ handler request number. ⊥) (λ handler. false) (λ handler. false)
+is_due = IsDue (λ before call now. now ≡ before) (λ handler request number. ⊥) (λ handler. false) (λ handler. false)
     inbound outbound is_1 (x ∷ y ∷ []) (9 ∷ []) Client
 
 abbrev pub all_due : List (Entry ℕ) → Type 0
-all_due = AllDue (λ before call now. ⊥) (λ handler request number. ⊥) (λ handler. false) (λ handler. false)
-    inbound outbound is_1 (x ∷ y ∷ []) (9 ∷ []) Client
+all_due = AllDue (λ before call now. now ≡ before) (λ handler request number. ⊥) (λ handler. false)
+    (λ handler. false) inbound outbound is_1 (x ∷ y ∷ []) (9 ∷ []) Client
 
 -- stream 2 stood by all that came when it was reset
 abbrev pub has_heard : List (Entry ℕ) → Type 0
-has_heard log = HasHeard (λ before call now. ⊥) (λ handler request number. ⊥) (λ handler. false) (λ handler. false)
-    inbound outbound is_1 (x ∷ y ∷ []) (9 ∷ []) Client log 2
+has_heard log = HasHeard (λ before call now. now ≡ before) (λ handler request number. ⊥) (λ handler. false)
+    (λ handler. false) inbound outbound is_1 (x ∷ y ∷ []) (9 ∷ []) Client log 2
 
 -- its handler may be asked for this
 abbrev pub may_be_asked : List (Entry ℕ) → Asked → Type 0
-may_be_asked log request = MayBeAsked (λ before call now. ⊥) (λ handler request number. ⊥) (λ handler. false)
-    (λ handler. false) inbound outbound is_1 (x ∷ y ∷ []) (9 ∷ []) Client log 2 request
+may_be_asked log request = MayBeAsked (λ before call now. now ≡ before) (λ handler request number. ⊥)
+    (λ handler. false) (λ handler. false) inbound outbound is_1 (x ∷ y ∷ []) (9 ∷ []) Client log 2 request
 
 -- it stands there
 abbrev pub is_there : List (Entry ℕ) → Type 0
-is_there log = IsThere (λ before call now. ⊥) (λ handler request number. ⊥) (λ handler. false) (λ handler. false)
-    inbound outbound is_1 (x ∷ y ∷ []) (9 ∷ []) Client log 2
+is_there log = IsThere (λ before call now. now ≡ before) (λ handler request number. ⊥) (λ handler. false)
+    (λ handler. false) inbound outbound is_1 (x ∷ y ∷ []) (9 ∷ []) Client log 2
 
 -- the other end has reset it, and has sent one byte on it
 abbrev pub was_reset : List (Entry ℕ)
@@ -52,6 +52,28 @@ was_reset = frame 8 2 ++ opened 2
 
 abbrev pub has_come : List (Entry ℕ)
 has_come = Of (Came Tail) ∷ Of (Came (Byte 99)) ∷ Of (Came (header Payload 0 2 1)) ∷ opened 2
+
+-- these bytes of a frame came, the newest first
+abbrev pub came_on : List ℕ → List (Entry ℕ) → List (Entry ℕ)
+came_on [] log = log
+came_on (b ∷ bytes) log = came_on bytes (Of (Came (Byte b)) ∷ log)
+
+-- the other end has proposed y, both ends agree, and its handler was made
+abbrev pub served : List (Entry ℕ)
+served = makes 2 51 ∷ agrees 2 1 ∷ Of (Came Tail) ∷ came_on (header_bytes ++ y_bytes)
+    (Of (Came (header Payload 0 2 (length (header_bytes ++ y_bytes)))) ∷ opened 2)
+
+-- it gives a byte, and is asked for as many as there is credit behind what the talk wrote
+abbrev pub give_all : Entry ℕ
+give_all = answers 2 (Give (262144 - length (header_bytes ++ y_bytes)) (9 ∷ []))
+
+-- this end has opened stream 1 for an eager protocol
+abbrev pub early : List (Entry ℕ)
+early = makes 1 101 ∷ Asks 1 1 ∷ []
+
+-- five bytes of credit
+abbrev pub credit_came : List (Entry ℕ)
+credit_came = Of (Came Tail) ∷ Of (Came (header Window 0 2 5)) ∷ []
 
 abbrev pub opens_it : Entry ℕ
 opens_it = Of (Came (header Window 1 2 0))
@@ -114,28 +136,41 @@ pub record ActPlaceRows : Type 0 where
 pub record CallPlaceRows : Type 0 where
   pub asks_for : (bytes : List ℕ) (room : ℕ) → (asks_for (Take bytes) ≡ ToTake bytes)
       × (asks_for (Give room bytes) ≡ ToGive room) × (asks_for End ≡ ToEnd)
+  -- as many bytes as there is credit behind what the talk wrote
+  pub asked : is_due served give_all
   -- behind its last event it is asked for nothing
-  pub when_over : (call : HandlerCall) → ¬ is_due (refuses 2 ∷ opened 2) (answers 2 call)
+  pub when_over : (call : HandlerCall) → ¬ is_due (done 2 51 ∷ served) (answers 2 call)
+  pub early_when_over : (call : HandlerCall) → ¬ is_due (breaks 1 ∷ early) (answers 1 call)
   -- before both ends agree it is told nothing
-  pub before_an_agreement : ¬ is_due has_come (answers 2 (Take (99 ∷ [])))
-  pub end_before_an_agreement : ¬ is_due (frame 4 2 ++ opened 2) (answers 2 End)
+  pub before_an_agreement : (bytes : List ℕ) → ¬ is_due early (answers 1 (Take bytes))
+  pub end_before_an_agreement : ¬ is_due (frame 4 1 ++ early) (answers 1 End)
   -- behind that it is handed some bytes, and told the end where that was told, which isn't where a reset came with it
-  pub handed_nothing : ¬ is_due (Of (Did (Close 2)) ∷ agrees 2 1 ∷ opened 2) (answers 2 (Take []))
-  pub end_that_did_not_come : ¬ is_due (agrees 2 1 ∷ opened 2) (answers 2 End)
-  pub end_with_a_reset : ¬ is_due (frame 12 2 ++ agrees 2 1 ∷ opened 2) (answers 2 End)
+  pub handed_nothing : ¬ is_due (Of (Did (Close 2)) ∷ served) (answers 2 (Take []))
+  pub end_that_did_not_come : ¬ is_due served (answers 2 End)
+  pub end_with_a_reset : ¬ is_due (frame 12 2 ++ served) (answers 2 End)
   -- it isn't asked behind a reset, where this direction is closed, nor twice
-  pub asked_behind_a_reset : (room : ℕ) → ¬ is_due (frame 8 2 ++ agrees 2 1 ∷ opened 2) (answers 2 (Give room []))
-  pub asked_when_closed : (room : ℕ)
-      → ¬ is_due (Of (Did (Close 2)) ∷ agrees 2 1 ∷ opened 2) (answers 2 (Give room []))
-  pub asked_twice : (room : ℕ)
-      → ¬ is_due (answers 2 (Give 5 []) ∷ agrees 2 1 ∷ opened 2) (answers 2 (Give room []))
+  pub asked_behind_a_reset : (room : ℕ) → ¬ is_due (frame 8 2 ++ served) (answers 2 (Give room []))
+  pub asked_when_closed : (room : ℕ) → ¬ is_due (Of (Did (Close 2)) ∷ served) (answers 2 (Give room []))
+  pub asked_twice : (room : ℕ) → ¬ is_due (answers 2 (Give 5 []) ∷ served) (answers 2 (Give room []))
+  -- nor by a frame that brings no credit
+  pub asked_by_a_frame : (room : ℕ)
+      → ¬ is_due (frame 0 2 ++ answers 2 (Give 5 []) ∷ served) (answers 2 (Give room []))
 
 -- whether it is asked anew there
 pub record AnewRows : Type 0 where
-  pub at_first : IsAskedAnew {H = ℕ} (makes 1 101 ∷ Asks 1 1 ∷ [])
-  pub behind_a_frame : IsAskedAnew {H = ℕ} (frame 0 2 ++ answers 2 (Give 5 []) ∷ [])
-  pub behind_data : IsAskedAnew {H = ℕ} (answers 2 (Take (9 ∷ [])) ∷ answers 2 (Give 5 []) ∷ [])
-  pub behind_its_end : IsAskedAnew {H = ℕ} (answers 2 End ∷ answers 2 (Give 5 []) ∷ [])
-  pub asked : ¬ IsAskedAnew {H = ℕ} (answers 2 (Give 5 (9 ∷ [])) ∷ frame 0 2)
-  pub asked_and_done : ¬ IsAskedAnew {H = ℕ}
-      (Of (Did (Taken 2 1)) ∷ Of (Did (Close 2)) ∷ answers 2 (Give 5 []) ∷ frame 0 2)
+  pub at_first : is_asked_anew Client (makes 1 101 ∷ Asks 1 1 ∷ []) 1 ≡ true
+  pub by_credit : is_asked_anew Client (credit_came ++ answers 2 (Give 5 []) ∷ opened 2) 2 ≡ true
+  pub by_credit_of_another : is_asked_anew Client (credit_came ++ answers 4 (Give 5 []) ∷ opened 4 ++ opened 2) 4
+      ≡ false
+  pub behind_data : is_asked_anew Client (answers 2 (Take (9 ∷ [])) ∷ answers 2 (Give 5 []) ∷ []) 2 ≡ true
+  pub behind_its_end : is_asked_anew Client (answers 2 End ∷ answers 2 (Give 5 []) ∷ []) 2 ≡ true
+  pub asked : is_asked_anew Client (answers 2 (Give 5 (9 ∷ [])) ∷ credit_came ++ opened 2) 2 ≡ false
+  -- a frame that brings no credit, what is done, told, asked for and called of another lets it be asked no more
+  pub passed : is_asked_anew Client (answers 4 End ∷ makes 4 7 ∷ agrees 2 1 ∷ Asks 1 1 ∷ Of (Did (Close 2)) ∷ frame 0 2
+      ++ answers 2 (Give 5 []) ∷ opened 2) 2 ≡ false
+
+-- what a handler was handed
+pub record TakenRows : Type 0 where
+  pub none : has_taken (Give 5 [] ∷ End ∷ []) ≡ false
+  pub nothing : has_taken [] ≡ false
+  pub some : has_taken (Give 5 [] ∷ End ∷ Take [] ∷ []) ≡ true

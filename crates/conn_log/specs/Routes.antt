@@ -14,7 +14,7 @@ use Rattle.yamux_session.specs.declared.event.Event.TheVariants as heard
 use Rattle.yamux_session.specs.Events.{Told, events}
 use Rattle.yamux_session.specs.Seen.{Seen, seen, all_heard, just_opened, AgreesOn, IsQuiet}
 use Rattle.yamux_session.specs.State.{State, Stands as SessionStands}
-use Rattle.streams.specs.State.{Streaming, is_talking, is_open, has_finished, was_handed_out}
+use Rattle.streams.specs.State.{Streaming, is_talking, is_open, has_finished, was_handed_out, Served, kind_of}
 use Rattle.serving.specs.Served.{IsSettled}
 use Rattle.conn_log.specs.declared.earlier.Earlier.{Earlier}
 use Rattle.conn_log.specs.declared.event.ConnEvent.{ConnEvent}
@@ -22,10 +22,10 @@ use Rattle.streams.specs.declared.stop.Cause.TheVariants as causes
 use Rattle.routing.specs.declared.delivered.Outcome.{Outcome}
 use Rattle.routing.specs.declared.delivered.Outcome.TheVariants.{Going, Done, Refused, Broken}
 use Rattle.conn_log.specs.declared.event.ConnEvent.TheVariants as event
-use Rattle.conn_log.specs.Entries.{Entry, items, said, since, is_over, made_of, put_aside}
+use Rattle.conn_log.specs.Entries.{Entry, items, said, since, is_over, made_of, put_aside, calls_of, has_taken}
 use Rattle.conn_log.specs.Entries.Entry.{Of, Says, Made, Asks, Calls}
 use Rattle.conn_log.specs.Turns.{turn, AreInTurn}
-use Rattle.conn_log.specs.Due.{AllDue, IsAskedAnew, told_reset, was_reset, told_end, end_was_told}
+use Rattle.conn_log.specs.Due.{AllDue, is_asked_anew, told_reset, was_reset, told_end, end_was_told}
 use Rattle.conn_log.specs.Held.{IsHeld, IsAtRest, AreLeft, earlier_of}
 use Rattle.conn_log.specs.Rests.{AreAtRest}
 
@@ -101,7 +101,8 @@ module _ {P H : Type 0} (step : H → HandlerCall → H → Type 0) (fails : H �
       pub unfinished : has_finished is_finished stream.stage ≡ false
       pub over_by_end : view.live ≡ false → view.ended ≡ true
       -- by credit that is still to be routed its handler is asked anew
-      pub anew : AllByRecursion IsNoCredit rest ⊎ ((is_talking stream.stage ≡ true) ⊎ IsAskedAnew log)
+      pub anew : AllByRecursion IsNoCredit rest ⊎ ((is_talking stream.stage ≡ true) ⊎ (is_asked_anew role log n ≡ true))
+      pub handed : kind_of stream.stage ≡ Served → has_taken (calls_of role log n) ≡ true
       -- it was served by all that came but the rest, where that brings neither data nor credit
       pub settled : AllByRecursion (IsQuiet n) rest → is_live role (items log) n ≡ true
           → IsSettled step is_closed is_finished role (items log) n held.so_far.left stream
@@ -113,7 +114,9 @@ module _ {P H : Type 0} (step : H → HandlerCall → H → Type 0) (fails : H �
       pub held : IsHeld step is_closed is_finished names role log n view.came view.ended stream
       pub over_by_end : view.live ≡ false → view.ended ≡ true
       pub last : AllByRecursion IsNoCredit rest ⊎ (is_talking stream.stage ≡ true)
-      pub anew : is_open is_closed stream.stage ≡ true → (is_talking stream.stage ≡ true) ⊎ IsAskedAnew log
+      pub anew : is_open is_closed stream.stage ≡ true
+          → (is_talking stream.stage ≡ true) ⊎ (is_asked_anew role log n ≡ true)
+      pub handed : kind_of stream.stage ≡ Served → has_taken (calls_of role log n) ≡ true
 
   -- All streams but the one that is named are at rest, and of that one so much was seen.
   pub record Around (log : List (Entry H)) (fed sent : List ℕ) (session : State) (streams : ℕ → Option (Streaming H))

@@ -6,6 +6,7 @@ ghost use Rattle.conn_log.specs.EntryRows.{LeftRows, AsideRows, AskedForRows};
 ghost use Rattle.conn_log.specs.TurnRows.{TurnRows, AboutRows, InTurnRows, RestedRows};
 ghost use Rattle.conn_log.specs.DueRows.{DirectionRows, ResetRows, EndRows, JustAgreedRows, GivenUpRows, MayBeMadeRows};
 ghost use Rattle.conn_log.specs.PlaceRows.{TalkPlaceRows, LastPlaceRows, ActPlaceRows, CallPlaceRows, AnewRows};
+ghost use Rattle.conn_log.specs.PlaceRows.{TakenRows};
 ghost use Rattle.conn_log.specs.AskedRows.{RefusedAsRows, EarlyRows, ToldOfRows, MadeEarlyRows, BrokenOfRows};
 
 /// The definitions say of worked lists what they are to say.
@@ -31,6 +32,7 @@ pub fn worked_rows()
     ensures act_places { ActPlaceRows }
     ensures call_places { CallPlaceRows }
     ensures anew { AnewRows }
+    ensures taken { TakenRows }
     ensures refused_as { RefusedAsRows }
     ensures early { EarlyRows }
     ensures told_of { ToldOfRows }

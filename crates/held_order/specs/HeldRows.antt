@@ -28,6 +28,13 @@ pub record ToldOnceRows : Type 0 where
   pub done_twice : ToldOnce Server (done 3 7 ∷ done 3 7 ∷ two) → ⊥
   pub refused_behind : ToldOnce Server (refuses 3 ∷ done 3 7 ∷ two) → ⊥
   pub broken_behind : ToldOnce Server (breaks 3 ∷ refuses 3 ∷ two) → ⊥
+  -- of a stream for which no handler was made, too
+  pub refused_twice : ToldOnce Server (refuses 5 ∷ refuses 5 ∷ opened 5) → ⊥
+  pub done_unmade : ToldOnce Server (done 5 7 ∷ refuses 5 ∷ opened 5) → ⊥
+  pub broken_twice : ToldOnce Server (breaks 5 ∷ breaks 5 ∷ opened 5) → ⊥
+  -- a call is passed over behind a last event too, and a number is asked for anew once its handler is held no more
+  pub answered_behind : ToldOnce Server (answers 3 End ∷ done 3 7 ∷ two)
+  pub asked_behind : ToldOnce Client (Asks 1 0 ∷ breaks 1 ∷ makes 1 7 ∷ Asks 1 0 ∷ [])
   pub made_twice : ToldOnce Server (makes 3 9 ∷ two) → ⊥
   pub made_behind : ToldOnce Server (makes 5 9 ∷ breaks 5 ∷ opened 5) → ⊥
   pub asked_while_held : ToldOnce Client (Asks 1 0 ∷ makes 1 7 ∷ Asks 1 0 ∷ []) → ⊥

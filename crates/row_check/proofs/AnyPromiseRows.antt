@@ -1,11 +1,12 @@
 -- The rows of the laws of a connection, and of the order of its handlers.
-use Rattle.std.proofs.Common.{◌≡◌, ℕ, suc, ◌==◌, Bool, List, [], ◌∷◌, Some, None, refl, ap, ◌∙◌, ne_eqb, eq-eqb, lt-ltb, arith, length, cond, nat_lt}
+use Rattle.std.proofs.Common.{◌≡◌, ℕ, suc, ◌==◌, Bool, List, [], ◌∷◌, Some, None, refl, ap, ◌∙◌, ne_eqb, eq-eqb, lt-ltb, arith, length, cond, nat_lt, ◌+◌}
 use Rattle.std.specs.Prelude.{is_some}
 use Rattle.std.specs.List.{position, position_or_len}
 use Rattle.handlers.specs.Calls.{HandlerCall, Asked}
 use Rattle.peer_ids.specs.Key.{Key}
 use Rattle.upgrade.specs.declared.role.ConnRole.{ConnRole}
 use Rattle.held_order.specs.Orders.{without_if, arranged}
+use Rattle.conn_log.specs.Entries.{left_behind}
 use Rattle.row_check.specs.AnyPromiseRows.{AnyOrderRows, AnyPromiseRows}
 
 none_held : (H : Type 0) (order : List ℕ) → arranged {H = H} order [] ≡ []
@@ -41,6 +42,13 @@ any_orders = record {
   of_it = λ n handler held. rw (eq-eqb n n refl) refl;
   of_another = λ n m handler held ne. rw (ne_eqb m n ne) refl;
   numbered = λ held. refl;
+  names_each = λ law role log once n. (
+    λ kept. law role log once n ∙ ap (λ b. left_behind role log n + cond b 1 0) kept,
+    λ gone. law role log once n ∙ ap (λ b. left_behind role log n + cond b 1 0) gone,
+  );
+  told_once = λ role log entry. (λ h. h, λ h. h);
+  once = λ role log x n index handler call. (tt, tt, (λ h. h, λ h. h), (λ h. h, λ h. h));
+  once_told = λ role log n handler cause. ((λ h. h, λ h. h), (λ h. h, λ h. h), (λ h. h, λ h. h));
   lets_go = λ law n newest. law n newest;
   arranges = λ law. law.all;
   follows = λ law. law.follows;

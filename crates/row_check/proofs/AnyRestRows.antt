@@ -40,8 +40,8 @@ any_held step is_closed is_finished names role = record {
       (h.so_far, (h.side_is, h.got_is, h.ended_is, h.sent_is, h.made_is, h.calls_is, h.stands, h.talking, h.agreed_on, h.over, h.done, h.served));
   held_by_name = λ log n got ended stream h.
       (h.side_is, h.got_is, h.ended_is, h.sent_is, h.made_is, h.calls_is, h.stands, h.talking, h.agreed_on, h.over, h.done, h.served);
-  at_rest = λ log n stream held settled unfinished over. record { held = held; settled = settled; unfinished = unfinished; over_by_end = over };
-  at_rest_is = λ log n stream r. (r.held, r.settled, r.unfinished, r.over_by_end);
+  at_rest = λ log n stream held settled unfinished handed over. record { held = held; settled = settled; unfinished = unfinished; handed = handed; over_by_end = over };
+  at_rest_is = λ log n stream r. (r.held, r.settled, r.unfinished, r.handed, r.over_by_end);
   past = λ newer older n stream over kept r. record { newer = newer; older = older; log_is = refl; over = over; kept = kept; place_is = refl; at_rest = r };
   past_is = λ log n place stream p. (p.newer, p.older, p.log_is, p.over, p.kept, p.place_is, p.at_rest);
   left_to_none = λ log n place. (λ h. h, λ h. h);
@@ -118,9 +118,9 @@ module _ {P H : Type 0} (step : H → HandlerCall → H → Type 0) (fails : H �
         },
       ),
     );
-    done = λ log n handler so_far waiting come all served finished asked none.
-        record { so_far = so_far; waiting = waiting; come = come; all_came = all; served = served; finished = finished; asked = asked; none_waits = none };
-    done_is = λ log n handler d. (d.so_far, d.waiting, d.come, d.all_came, d.served, d.finished, d.asked, d.none_waits);
+    done = λ log n handler so_far waiting come all served finished asked none handed.
+        record { so_far = so_far; waiting = waiting; come = come; all_came = all; served = served; finished = finished; asked = asked; none_waits = none; handed = handed };
+    done_is = λ log n handler d. (d.so_far, d.waiting, d.come, d.all_came, d.served, d.finished, d.asked, d.none_waits, d.handed);
     gave = λ log n there came none asked told same. record { there = there; all_came = came; none_waits = none; asked = asked; was_told = told; not_given_up = same };
     gave_is = λ log n g. (g.there, g.all_came, g.none_waits, g.asked, g.was_told, g.not_given_up);
     gave_by_name = λ log n g. (g.all_came, g.none_waits, g.asked, g.was_told);
@@ -176,6 +176,7 @@ module _ {P H : Type 0} (step : H → HandlerCall → H → Type 0) (fails : H �
     made_inbound = λ log n m index handler e. rw e (λ h. h, λ h. h);
     made_outbound = λ log n m index handler e. rw e (λ h. h, λ h. h);
     made_early = λ log n m index handler e. rw e (λ h. h, λ h. h);
+    made_early_inbound = λ log n m index handler e. rw e (λ h. h, λ h. h);
     made_is = made_is;
   }
 

@@ -2,7 +2,7 @@
 -- Source: hashicorp yamux, "Framing", "Flag Field" and "Flow Control"; multistream-select 1.0, "Protocol Negotiation";
 -- what a connection tells is this project's profile. Lists have the newest first.
 use Rattle.std.specs.Prelude.{◌≡◌, ◌≢◌, ◌⊎◌, ◌↔◌, ℕ, suc, Bool, true, false, List, [], ◌∷◌, ◌++◌}
-use Rattle.std.specs.Prelude.{Some, None, IsSome}
+use Rattle.std.specs.Prelude.{Some, None, IsSome, ◌||◌}
 use Rattle.peer_ids.specs.Key.{Key}
 use Rattle.handlers.specs.Calls.{HandlerCall, Take, Give, End, ToTake, ToGive, ToEnd}
 use Rattle.yamux_frames.specs.declared.header.Header.{Header}
@@ -24,13 +24,13 @@ use Rattle.conn_log.specs.declared.event.ConnEvent.{ConnEvent}
 use Rattle.conn_log.specs.declared.event.ConnEvent.TheVariants as event
 use Rattle.conn_log.specs.declared.event.ConnFault.{ConnFault}
 use Rattle.conn_log.specs.Entries.{Entry, items, said, asks, asked, agreement, agreed, is_over, was_done, made_in}
-use Rattle.conn_log.specs.Entries.{made_of, calls_in, calls_of}
+use Rattle.conn_log.specs.Entries.{made_of, calls_in, calls_of, has_taken}
 use Rattle.conn_log.specs.Entries.{is_kept, left_behind, put_aside}
 use Rattle.conn_log.specs.Entries.Entry.{Of, Says, Made, Asks, Calls}
 use Rattle.conn_log.specs.Turns.{turn, about, AreInTurn}
 use Rattle.conn_log.specs.Held.{earlier_of}
 use Rattle.conn_log.specs.Due.{direction_of, told_reset, was_reset, told_end, end_was_told, HasJustAgreed, IsGivenUp}
-use Rattle.conn_log.specs.Due.{asks_for, IsAskedAnew}
+use Rattle.conn_log.specs.Due.{asks_for, told_credit, is_asked_anew}
 use Rattle.conn_log.specs.Making.{Leads, AreMadeInTurn, MakesOn}
 use Rattle.conn_log.specs.Asked.{IsEarly, told_of, AreMadeEarly, IsBrokenOf}
 
@@ -263,13 +263,36 @@ pub record AnyEndingRows (H : Type 0) : Type 0 where
   -- what a handler was asked for, by its call
   pub asked_for : (room : ℕ) (bytes : List ℕ) → (asks_for (Take bytes) ≡ ToTake bytes)
       × (asks_for (Give room bytes) ≡ ToGive room) × (asks_for End ≡ ToEnd)
-  -- one is asked to give behind each entry but acts, and what gave
-  pub anew_at_first : IsAskedAnew {H = H} []
-  pub anew : (x : Arrival) (e : ConnEvent H) (n index : ℕ) (handler : H) (bytes : List ℕ) (log : List (Entry H))
-      → IsAskedAnew (Of (Came x) ∷ log) × IsAskedAnew (Says e ∷ log) × IsAskedAnew (Made n handler ∷ log)
-      × IsAskedAnew (Asks n index ∷ log) × IsAskedAnew (Calls n (Take bytes) ∷ log) × IsAskedAnew (Calls n End ∷ log)
-  pub anew_behind_acts : (act : Act) (log : List (Entry H)) → IsAskedAnew (Of (Did act) ∷ log) ↔ IsAskedAnew log
-  pub not_anew : (n room : ℕ) (bytes : List ℕ) (log : List (Entry H)) → ¬ IsAskedAnew (Calls n (Give room bytes) ∷ log)
+  -- since a handler was asked last: credit was told, it was made, or it answered another call
+  pub told_of_credit : (n : ℕ) → told_credit n [] ≡ false
+  pub told_its_credit : (n : ℕ) (told : List Told) → told_credit n (Told.Credit n ∷ told) ≡ true
+  pub told_other_credit : (n m : ℕ) (told : List Told) → m ≢ n
+      → told_credit n (Told.Credit m ∷ told) ≡ told_credit n told
+  pub told_no_credit : (n m b : ℕ) (told : List Told) → (told_credit n (Told.Opened m ∷ told) ≡ told_credit n told)
+      × (told_credit n (Told.Accepted m ∷ told) ≡ told_credit n told)
+      × (told_credit n (Told.Payload m b ∷ told) ≡ told_credit n told)
+      × (told_credit n (Told.Ended m ∷ told) ≡ told_credit n told)
+      × (told_credit n (Told.Reset m ∷ told) ≡ told_credit n told)
+      × (told_credit n (Told.GoAway m ∷ told) ≡ told_credit n told)
+  pub anew_at_first : (role : Role) (n : ℕ) → is_asked_anew {H = H} role [] n ≡ true
+  pub anew_by_item : (role : Role) (x : Item) (log : List (Entry H)) (n : ℕ)
+      → is_asked_anew role (Of x ∷ log) n ≡ told_credit n (events_at role (items log) x) || is_asked_anew role log n
+  pub anew_passed : (role : Role) (e : ConnEvent H) (m index n : ℕ) (log : List (Entry H))
+      → (is_asked_anew role (Says e ∷ log) n ≡ is_asked_anew role log n)
+      × (is_asked_anew role (Asks m index ∷ log) n ≡ is_asked_anew role log n)
+  pub anew_made : (role : Role) (n : ℕ) (handler : H) (log : List (Entry H))
+      → is_asked_anew role (Made n handler ∷ log) n ≡ true
+  pub anew_told : (role : Role) (n : ℕ) (bytes : List ℕ) (log : List (Entry H))
+      → (is_asked_anew role (Calls n (Take bytes) ∷ log) n ≡ true) × (is_asked_anew role (Calls n End ∷ log) n ≡ true)
+  pub not_anew : (role : Role) (n room : ℕ) (bytes : List ℕ) (log : List (Entry H))
+      → is_asked_anew role (Calls n (Give room bytes) ∷ log) n ≡ false
+  pub anew_of_another : (role : Role) (n m : ℕ) (handler : H) (call : HandlerCall) (log : List (Entry H)) → m ≢ n
+      → (is_asked_anew role (Made m handler ∷ log) n ≡ is_asked_anew role log n)
+      × (is_asked_anew role (Calls m call ∷ log) n ≡ is_asked_anew role log n)
+  -- whether it was handed something
+  pub taken : (room : ℕ) (bytes : List ℕ) (calls : List HandlerCall) → (has_taken [] ≡ false)
+      × (has_taken (Take bytes ∷ calls) ≡ true) × (has_taken (Give room bytes ∷ calls) ≡ has_taken calls)
+      × (has_taken (End ∷ calls) ≡ has_taken calls)
   -- what gives a stream up
   pub refused : (n m : ℕ) (log : List (Entry H)) → IsGivenUp n (Says (event.Refused m) ∷ log) ↔ (m ≡ n)
   pub broken : (n m : ℕ) (cause : Cause) (log : List (Entry H))
@@ -325,6 +348,9 @@ module _ {P H : Type 0} (inbound_leads outbound_leads : P → ℕ → List ℕ �
     pub asked_outbound : (n m index : ℕ) (before behind : P) (handler : H) (log : List (Entry H)) → is_own role n ≡ true
         → Leads inbound_leads outbound_leads peer role (Asks m index ∷ log) n before handler behind
         ↔ ((m ≡ n) × outbound_leads before index peer handler behind)
+    pub asked_inbound : (n m index : ℕ) (before behind : P) (handler : H) (log : List (Entry H)) → is_own role n ≡ false
+        → Leads inbound_leads outbound_leads peer role (Asks m index ∷ log) n before handler behind
+        ↔ ((m ≡ n) × inbound_leads before index peer handler behind)
     pub leads_is : (n : ℕ) (before behind : P) (handler : H) (log : List (Entry H))
         → Leads inbound_leads outbound_leads peer role log n before handler behind
         → (index : ℕ) × (older : List (Entry H))

@@ -28,11 +28,13 @@ use Rattle.streams.specs.State.{Streaming, handler_of, was_handed_out}
 use Rattle.conn_log.specs.declared.earlier.Earlier.{Earlier}
 use Rattle.conn_log.specs.declared.event.ConnEvent.{ConnEvent}
 use Rattle.conn_log.specs.declared.event.ConnEvent.TheVariants as event
-use Rattle.conn_log.specs.Entries.{Entry, items, said, agreed, is_over, was_done, made_of, calls_of}
+use Rattle.conn_log.specs.Entries.{Entry, items, said, agreed, is_over, was_done, made_of, calls_of, is_kept}
+use Rattle.conn_log.specs.Entries.{left_behind}
 use Rattle.conn_log.specs.Held.{IsSide}
 use Rattle.conn_log.specs.Entries.Entry.{Of, Says, Made, Asks, Calls}
 use Rattle.held_order.specs.Orders.{without, with_if, without_if, lets_go, heard, newest_held, arranged}
 use Rattle.held_order.specs.Laws.{LetsGo, Arranges, times, numbers, of_number}
+use Rattle.held_order.specs.HeldLaws.{IsOnce, ToldOnce, NamesEachHeld}
 use Rattle.conn_core.specs.declared.calls.ConnAct.{ConnAct}
 use Rattle.conn_core.specs.declared.calls.ConnAnswer.{ConnAnswer}
 use Rattle.conn_core.specs.Connects.{session_role}
@@ -87,6 +89,20 @@ pub record AnyOrderRows (H : Type 0) : Type 0 where
       → of_number n ((m, handler) ∷ held) ≡ of_number n held
   pub numbered : (held : List (ℕ × H)) → numbers held ≡ map (λ one. one.0) held
   -- its laws
+  -- the order names each that is held, in a list in which each last event was told once
+  pub names_each : NamesEachHeld H → (role : Role) (log : List (Entry H)) → ToldOnce role log → (n : ℕ)
+      → (is_kept role log n ≡ true → times n (newest_held role log) ≡ left_behind role log n + 1)
+      × (is_kept role log n ≡ false → times n (newest_held role log) ≡ left_behind role log n + 0)
+  pub told_once : (role : Role) (log : List (Entry H)) (entry : Entry H)
+      → ToldOnce role (entry ∷ log) ↔ (IsOnce role log entry × ToldOnce role log)
+  pub once : (role : Role) (log : List (Entry H)) (x : Item) (n index : ℕ) (handler : H) (call : HandlerCall)
+      → IsOnce {H = H} role log (Of x) × IsOnce {H = H} role log (Calls n call)
+      × (IsOnce role log (Made n handler) ↔ ((made_of role log n ≡ None) × (is_over role log n ≡ false)))
+      × (IsOnce role log (Asks n index) ↔ (is_kept role log n ≡ false))
+  pub once_told : (role : Role) (log : List (Entry H)) (n : ℕ) (handler : H) (cause : Cause)
+      → (IsOnce role log (Says (event.Refused n)) ↔ (is_over role log n ≡ false))
+      × (IsOnce role log (Says (event.Done n handler)) ↔ (is_over role log n ≡ false))
+      × (IsOnce role log (Says (event.Broken n cause)) ↔ (is_over role log n ≡ false))
   pub lets_go : LetsGo → (n : ℕ) (newest : List ℕ)
       → ((newer older : List ℕ) × (newest ≡ newer ++ n ∷ older) × (times n newer ≡ 0)
       × (without n newest ≡ newer ++ older)) ⊎ ((times n newest ≡ 0) × (without n newest ≡ newest))

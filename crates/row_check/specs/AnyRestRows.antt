@@ -28,7 +28,7 @@ use Rattle.streams.specs.declared.stop.Cause.{Cause}
 use Rattle.streams.specs.declared.stop.Cause.TheVariants as causes
 use Rattle.streams.specs.Streams.{Past, IsServed}
 use Rattle.streams.specs.State.{Streaming, Stands, is_talking, awaits_handler, handler_of, is_open, has_closed}
-use Rattle.streams.specs.State.{has_finished, was_handed_out}
+use Rattle.streams.specs.State.{has_finished, was_handed_out, Served, kind_of}
 use Rattle.serving.specs.Served.{IsSettled}
 use Rattle.conn_log.specs.declared.earlier.Earlier.{Earlier}
 use Rattle.conn_log.specs.declared.event.ConnEvent.{ConnEvent}
@@ -36,12 +36,12 @@ use Rattle.conn_log.specs.declared.event.ConnEvent.TheVariants as event
 use Rattle.conn_log.specs.declared.event.ConnFault.{ConnFault}
 use Rattle.conn_log.specs.Entries.{Entry, items, said, asks, asked, agreed, is_over, was_done, made_of, is_kept}
 use Rattle.conn_log.specs.Entries.{left_behind}
-use Rattle.conn_log.specs.Entries.{put_aside, calls_of}
+use Rattle.conn_log.specs.Entries.{put_aside, calls_of, has_taken}
 use Rattle.conn_log.specs.Entries.Entry.{Of, Says, Made, Asks, Calls}
 use Rattle.conn_log.specs.Turns.{AreInTurn}
 use Rattle.conn_log.specs.Held.{IsSide, IsHeld, IsAtRest, IsPast, AreLeft, earlier_of}
 use Rattle.conn_log.specs.Due.{was_reset, end_was_told, HasJustAgreed, MayBeMade, HasCome, IsThere, IsAskedFor}
-use Rattle.conn_log.specs.Due.{IsAskedAnew, MayBeAsked, HasHeard}
+use Rattle.conn_log.specs.Due.{is_asked_anew, MayBeAsked, HasHeard}
 use Rattle.conn_log.specs.Due.{IsInTurn, HandlerFails, IsBroken, IsDone, GaveAll, HasGiven, IsDue, AllDue}
 use Rattle.conn_log.specs.Rests.{AreAtRest, IsRested, AreRested, Grows}
 use Rattle.conn_log.specs.Asked.{IsBrokenOf, Asked as AskedOf}
@@ -86,12 +86,14 @@ module _ {H : Type 0} (step : H → HandlerCall → H → Type 0) (is_closed is_
         → (is_live role (items log) n ≡ true
         → IsSettled step is_closed is_finished role (items log) n held.so_far.left stream)
         → has_finished is_finished stream.stage ≡ false
+        → (kind_of stream.stage ≡ Served → has_taken (calls_of role log n) ≡ true)
         → (is_live role (items log) n ≡ false → finished role (items log) n ≡ true) → rests log n stream
     pub at_rest_is : (log : List (Entry H)) (n : ℕ) (stream : Streaming H) → rests log n stream
         → (held : held_by log n (inbound role (items log) n) (finished role (items log) n) stream)
         × (is_live role (items log) n ≡ true
         → IsSettled step is_closed is_finished role (items log) n held.so_far.left stream)
         × (has_finished is_finished stream.stage ≡ false)
+        × (kind_of stream.stage ≡ Served → has_taken (calls_of role log n) ≡ true)
         × (is_live role (items log) n ≡ false → finished role (items log) n ≡ true)
     -- one of an earlier opening rests where its end left it
     pub past : (newer older : List (Entry H)) (n : ℕ) (stream : Streaming H) → is_live role (items older) n ≡ false
@@ -214,7 +216,7 @@ module _ {P H : Type 0} (step : H → HandlerCall → H → Type 0) (fails : H �
     pub gives_in_turn : (log : List (Entry H)) (n : ℕ) (stage : Stage H) (so_far : Past H) (handler : H) (room : ℕ)
         → in_turn log n stage so_far handler (ToGive room) ↔ ((is_live role (items log) n ≡ true)
         × (closed role (items log) n ≡ false) × (is_closed handler ≡ false)
-        × ((is_talking stage ≡ true) ⊎ IsAskedAnew log))
+        × ((is_talking stage ≡ true) ⊎ (is_asked_anew role log n ≡ true)))
     pub heard : (log : List (Entry H)) (n : ℕ) (stream : Streaming H)
         → held_by step is_closed is_finished names role log n (inbound role (items log) n)
         (end_was_told role (items log) n) stream → has_finished is_finished stream.stage ≡ false → has_heard log n
@@ -239,7 +241,7 @@ module _ {P H : Type 0} (step : H → HandlerCall → H → Type 0) (fails : H �
         → (is_live role (items log) n ≡ true → closed role (items log) n ≡ false → is_closed handler ≡ false
         → so_far.left ≡ Some (credit role (items log) n))
         → (is_live role (items log) n ≡ true → closed role (items log) n ≡ false → 0 < credit role (items log) n
-        → waiting ≡ []) → is_done log n handler
+        → waiting ≡ []) → has_taken (calls_of role log n) ≡ true → is_done log n handler
     pub done_is : (log : List (Entry H)) (n : ℕ) (handler : H) → is_done log n handler → (so_far : Past H)
         × (waiting : List ℕ) × has_come log n so_far × (inbound role (items log) n ≡ so_far.got)
         × IsServed step so_far handler waiting
@@ -247,7 +249,7 @@ module _ {P H : Type 0} (step : H → HandlerCall → H → Type 0) (fails : H �
         × (is_live role (items log) n ≡ true → closed role (items log) n ≡ false → is_closed handler ≡ false
         → so_far.left ≡ Some (credit role (items log) n))
         × (is_live role (items log) n ≡ true → closed role (items log) n ≡ false → 0 < credit role (items log) n
-        → waiting ≡ [])
+        → waiting ≡ []) × (has_taken (calls_of role log n) ≡ true)
     pub gave : (log : List (Entry H)) (n : ℕ) (there : is_there log n)
         → inbound role (items log) n ≡ there.so_far.got → there.stream.waiting ≡ []
         → (is_open is_closed there.stream.stage ≡ true → there.so_far.left ≡ Some (credit role (items log) n))
@@ -329,6 +331,9 @@ module _ {P H : Type 0} (step : H → HandlerCall → H → Type 0) (fails : H �
     pub made_early : (log : List (Entry H)) (n m index : ℕ) (handler : H) → is_own role n ≡ true
         → may_be_made (Asks m index ∷ log) n handler
         ↔ ((m ≡ n) × (eager index ≡ true) × ((protocols : P) × outbound_makes protocols index peer handler))
+    pub made_early_inbound : (log : List (Entry H)) (n m index : ℕ) (handler : H) → is_own role n ≡ false
+        → may_be_made (Asks m index ∷ log) n handler
+        ↔ ((m ≡ n) × (eager index ≡ true) × ((protocols : P) × inbound_makes protocols index peer handler))
     pub made_is : (log : List (Entry H)) (n : ℕ) (handler : H) → may_be_made log n handler
         → (index : ℕ) × (older : List (Entry H))
         × ((log ≡ Says (event.Agreed n index) ∷ older) ⊎ (log ≡ Asks n index ∷ older))

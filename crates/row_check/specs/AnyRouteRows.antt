@@ -19,16 +19,16 @@ use Rattle.yamux_session.specs.State.{State, Stands as SessionStands, FirstFault
 use Rattle.yamux_frames.specs.Frames.{Arrival}
 use Rattle.streams.specs.declared.stop.Cause.{Cause}
 use Rattle.streams.specs.declared.stop.Cause.TheVariants as causes
-use Rattle.streams.specs.State.{Streaming, is_talking, is_open, has_finished, was_handed_out}
+use Rattle.streams.specs.State.{Streaming, is_talking, is_open, has_finished, was_handed_out, Served, kind_of}
 use Rattle.serving.specs.Served.{IsSettled}
 use Rattle.conn_log.specs.declared.earlier.Earlier.{Earlier}
 use Rattle.conn_log.specs.declared.event.ConnEvent.{ConnEvent}
 use Rattle.conn_log.specs.declared.event.ConnEvent.TheVariants as event
 use Rattle.routing.specs.declared.delivered.Outcome.TheVariants as outcomes
-use Rattle.conn_log.specs.Entries.{Entry, items, said, asks, since, is_over, made_of, put_aside}
+use Rattle.conn_log.specs.Entries.{Entry, items, said, asks, since, is_over, made_of, put_aside, calls_of, has_taken}
 use Rattle.conn_log.specs.Entries.Entry.{Of, Says, Made, Asks, Calls}
 use Rattle.conn_log.specs.Turns.{turn, AreInTurn}
-use Rattle.conn_log.specs.Due.{AllDue, IsAskedAnew, told_reset, was_reset, told_end, end_was_told}
+use Rattle.conn_log.specs.Due.{AllDue, is_asked_anew, told_reset, was_reset, told_end, end_was_told}
 use Rattle.conn_log.specs.Held.{IsHeld, IsAtRest, AreLeft, earlier_of}
 use Rattle.conn_log.specs.Rests.{AreAtRest, AreRested}
 use Rattle.conn_log.specs.Routes.{IsStill, IsNoOpening, IsNoData, IsNoCredit, EndsLast, set_aside, KeepsTurn, Resets}
@@ -154,7 +154,8 @@ module _ {P H : Type 0} (step : H → HandlerCall → H → Type 0) (fails : H �
     pub moves : (log : List (Entry H)) (n : ℕ) (view : Seen) (rest : List Told) (stream : Streaming H)
         (held : IsHeld step is_closed is_finished names role log n view.came view.ended stream)
         → has_finished is_finished stream.stage ≡ false → (view.live ≡ false → view.ended ≡ true)
-        → AllByRecursion IsNoCredit rest ⊎ ((is_talking stream.stage ≡ true) ⊎ IsAskedAnew log)
+        → AllByRecursion IsNoCredit rest ⊎ ((is_talking stream.stage ≡ true) ⊎ (is_asked_anew role log n ≡ true))
+        → (kind_of stream.stage ≡ Served → has_taken (calls_of role log n) ≡ true)
         → (AllByRecursion (IsQuiet n) rest → is_live role (items log) n ≡ true
         → IsSettled step is_closed is_finished role (items log) n held.so_far.left stream)
         → is_moving log n view rest stream
@@ -162,7 +163,8 @@ module _ {P H : Type 0} (step : H → HandlerCall → H → Type 0) (fails : H �
         → is_moving log n view rest stream
         → (held : IsHeld step is_closed is_finished names role log n view.came view.ended stream)
         × (has_finished is_finished stream.stage ≡ false) × (view.live ≡ false → view.ended ≡ true)
-        × (AllByRecursion IsNoCredit rest ⊎ ((is_talking stream.stage ≡ true) ⊎ IsAskedAnew log))
+        × (AllByRecursion IsNoCredit rest ⊎ ((is_talking stream.stage ≡ true) ⊎ (is_asked_anew role log n ≡ true)))
+        × (kind_of stream.stage ≡ Served → has_taken (calls_of role log n) ≡ true)
         × (AllByRecursion (IsQuiet n) rest → is_live role (items log) n ≡ true
         → IsSettled step is_closed is_finished role (items log) n held.so_far.left stream)
     pub served : (log : List (Entry H)) (n : ℕ) (view : Seen) (rest : List Told) (stream : Streaming H)
@@ -170,7 +172,9 @@ module _ {P H : Type 0} (step : H → HandlerCall → H → Type 0) (fails : H �
         ↔ (IsHeld step is_closed is_finished names role log n view.came view.ended stream
         × (view.live ≡ false → view.ended ≡ true)
         × (AllByRecursion IsNoCredit rest ⊎ (is_talking stream.stage ≡ true))
-        × (is_open is_closed stream.stage ≡ true → (is_talking stream.stage ≡ true) ⊎ IsAskedAnew log))
+        × (is_open is_closed stream.stage ≡ true
+        → (is_talking stream.stage ≡ true) ⊎ (is_asked_anew role log n ≡ true))
+        × (kind_of stream.stage ≡ Served → has_taken (calls_of role log n) ≡ true))
     pub others : (log : List (Entry H)) (fed sent : List ℕ) (session : State) (streams : ℕ → Option (Streaming H))
         (past : List (Earlier H)) (n : ℕ) (view : Seen) (rest : List Told)
         → around log fed sent session streams past n view rest ↔ (SessionStands role (items log) fed sent session

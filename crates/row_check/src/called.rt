@@ -7,6 +7,7 @@ ghost use Rattle.upgrade.specs.Laws as upgrade;
 ghost use Rattle.streams.specs.Streams.{Past};
 ghost use Rattle.streams.specs.Laws as stream;
 ghost use Rattle.held_order.specs.Laws.{LetsGo, Arranges};
+ghost use Rattle.held_order.specs.HeldLaws.{NamesEachHeld};
 ghost use Rattle.conn_core.specs.Promises.{AreServing, AreEarly, LiveAreHeld, UpIsSplit};
 ghost use Rattle.conn_core.specs.Promises.{ListedAreHeld, EachIsAnswered, AllIsCounted};
 
@@ -14,7 +15,7 @@ use conn_core::laws::{
     counted, each_is_answered, early, handed, listed_are_held, live_are_held, split,
 };
 use handlers::{Handler, Protocols};
-use held_order::laws::{all_in_order, newest_goes};
+use held_order::laws::{all_in_order, names_each_held, newest_goes};
 use streams::laws::{answer_stays, cut_anywhere, one_answer, one_split};
 use talks::laws::{
     answers_as_defined, asked_all, both_agree, decision_stays, fault_stays, none_agrees,
@@ -74,6 +75,7 @@ pub fn stream_laws<H: Handler>()
     ensures split { (past : Past H) → stream.OneSplit past }
     ensures goes { LetsGo }
     ensures order { Arranges H }
+    ensures names { NamesEachHeld H }
 {
     one_answer();
     answer_stays();
@@ -81,6 +83,7 @@ pub fn stream_laws<H: Handler>()
     one_split::<H>();
     newest_goes();
     all_in_order::<H>();
+    names_each_held::<H>();
 }
 
 /// The laws of an end of a connection, for each role and key, and for whichever protocols it began with.

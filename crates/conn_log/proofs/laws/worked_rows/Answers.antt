@@ -1,7 +1,7 @@
 use Rattle.conn_log.proofs.MadeRows.{making_rows}
 use Rattle.conn_log.proofs.ListRows.{list_rows, since_rows, agreed_rows, over_rows, handler_rows, call_rows, left_rows, aside_rows, asked_for_rows, direction_rows, reset_rows, end_rows, just_agreed_rows, given_up_rows, may_be_made_rows, refused_as_rows, early_rows, told_of_rows, made_early_rows, broken_of_rows}
 use Rattle.conn_log.proofs.TurnRows.{turn_rows, about_rows, in_turn_rows, rested_rows}
-use Rattle.conn_log.proofs.Placed.{talk_place_rows, last_place_rows, act_place_rows, call_place_rows, anew_rows}
+use Rattle.conn_log.proofs.Placed.{talk_place_rows, last_place_rows, act_place_rows, call_place_rows, anew_rows, taken_rows}
 use Rattle.conn_log.proofs.laws.worked_rows.Goals as goal
 
 pub returns-clause-making : goal.returns-clause-making
@@ -81,6 +81,9 @@ returns-clause-call_places c = call_place_rows
 
 pub returns-clause-anew : goal.returns-clause-anew
 returns-clause-anew c = anew_rows
+
+pub returns-clause-taken : goal.returns-clause-taken
+returns-clause-taken c = taken_rows
 
 pub returns-clause-turns : goal.returns-clause-turns
 returns-clause-turns c = turn_rows

@@ -17,3 +17,6 @@ returns-clause-goes g c = c.newest_goes.ensures
 
 pub returns-clause-order : goal.returns-clause-order
 returns-clause-order g c = c.all_in_order.ensures
+
+pub returns-clause-names : goal.returns-clause-names
+returns-clause-names g c = c.names_each_held.ensures

@@ -48,7 +48,7 @@ returns-clause-routes g c = λ log fed sent view rest r.
     c.acts_tell.ensures.seen c.acts_tell.ensures.windows log fed sent c.args.session.now c.deliver_end.new.session old _ board.past.items n view rest c.in-Some.stream.now c.deliver_end.new.stream
     around moving.held going moving.unfinished (moving.settled (tt, quiet_behind n rest around.opens_none around.ends_last r.around.ends_last.2))
     (end_is_told H.steps H.fails H.is_closed H.is_finished makes.makes_inbound makes.makes_outbound (makes.is_eager board.protocols) (makes.listed board.protocols) board.peer board.role log
-    fed sent c.args.session.now old board.past.items n view rest r.around) r.around.ends_last.2 (elsewhere old _ n (Some c.deliver_end.new.stream) updates.0) (here old _ n (Some c.deliver_end.new.stream) updates.0)
+    fed sent c.args.session.now old board.past.items n view rest r.around) r.around.ends_last.2 moving.handed (elsewhere old _ n (Some c.deliver_end.new.stream) updates.0) (here old _ n (Some c.deliver_end.new.stream) updates.0)
     c.in_ok-outcome.outcome ends in
     on_ok c.settle.result
     (λ routed. routed_on H.steps H.fails H.is_closed H.is_finished makes.makes_inbound makes.makes_outbound (makes.is_eager board.protocols) (makes.listed board.protocols) board.peer board.role log

@@ -1,4 +1,4 @@
-use Rattle.std.proofs.Common.{inl, inr, ◌≡◌, Option, Some, IsSome, refl, sym, ◌∙◌, subst}
+use Rattle.std.proofs.Common.{inl, inr, ◌≡◌, Option, Some, IsSome, refl, sym, ◌∙◌, subst, true, false}
 use Rattle.std.specs.Prelude.{IfSome}
 use Rattle.std.specs.Ordering.{nat_cmp}
 use Rattle.std.specs.BTreeMap as tree
@@ -6,6 +6,7 @@ use Rattle.yamux_session.specs.Seen.{just_opened}
 use Rattle.streams.specs.State.{Streaming}
 use Rattle.conn_log.specs.Routes.{MayBeServed}
 use Rattle.conn_log.proofs.Opening.{put_aside, is_fresh}
+use Rattle.serving.proofs.StageKinds.{served_talking}
 use Rattle.board.proofs.Tables.{elsewhere, here}
 use Rattle.board.proofs.board.Board.open.Goals as goal
 
@@ -28,7 +29,7 @@ returns-clause-routes g c = λ log fed sent rest a no_data none theirs.
     let placed : now n ≡ Some stream = here middle now n (Some stream) updates in
     c.serve.ensures.serves log fed sent just_opened rest around no_data
     (subst (λ (t : Option (Streaming _)). IfSome t (MayBeServed H.steps H.fails H.is_closed H.is_finished makes.makes_inbound makes.makes_outbound (makes.is_eager board.protocols) (makes.listed board.protocols) board.peer board.role log n just_opened rest)) (sym placed)
-    (record { held = fresh_one; over_by_end = λ off. absurd (cc off); last = inr c.in-Ok.ensures.talks.0; anew = λ open_still. inl c.in-Ok.ensures.talks.0 }))
+    (record { held = fresh_one; over_by_end = λ off. absurd (cc off); last = inr c.in-Ok.ensures.talks.0; anew = λ open_still. inl c.in-Ok.ensures.talks.0; handed = λ serves. absurd (let e : true ≡ false = sym c.in-Ok.ensures.talks.0 ∙ served_talking _ serves in cc e) }))
     (λ live. subst (λ (t : Option (Streaming _)). IsSome t) (sym placed) refl)
     (λ made going. subst (λ (t : Option (Streaming _)). IsSome t) (sym placed) refl)
     (λ reset going. subst (λ (t : Option (Streaming _)). IsSome t) (sym placed) refl)
