@@ -62,7 +62,7 @@ pub answered_anew : {H : Type 0} {told : HandlerCall} (role : Role) (n : ℕ) (c
 answered_anew role n call is tells log = ap (λ b. cond b (not (is_give call)) (is_asked_anew role log n)) (same n) ∙ ap (λ c. not (is_give c)) is ∙ ap not tells
 
 -- what was handed stays so
-pub taken_still : (calls : List HandlerCall) (call : HandlerCall) → has_taken calls ≡ true → has_taken (calls ++ call ∷ []) ≡ true
+taken_still : (calls : List HandlerCall) (call : HandlerCall) → has_taken calls ≡ true → has_taken (calls ++ call ∷ []) ≡ true
 taken_still [] call taken = absurd (cc taken)
 taken_still (Take bytes ∷ calls) call taken = refl
 taken_still (Give room bytes ∷ calls) call taken = taken_still calls call taken
@@ -74,7 +74,7 @@ taken_by (Take some ∷ calls) bytes = refl
 taken_by (Give room some ∷ calls) bytes = taken_by calls bytes
 taken_by (End ∷ calls) bytes = taken_by calls bytes
 
-pub taken_last : (calls : List HandlerCall) (call : HandlerCall) (bytes : List ℕ) → call ≡ Take bytes → has_taken (calls ++ call ∷ []) ≡ true
+taken_last : (calls : List HandlerCall) (call : HandlerCall) (bytes : List ℕ) → call ≡ Take bytes → has_taken (calls ++ call ∷ []) ≡ true
 taken_last calls call bytes is = ap (λ c. has_taken (calls ++ c ∷ [])) is ∙ taken_by calls bytes
 
 -- one that serves answers each call
@@ -126,10 +126,18 @@ module _ {P H : Type 0} (step : H → HandlerCall → H → Type 0) (fails : H �
       (is_due, a.due) (λ m apart. same_by_call role log n m call apart) a.session_stands (λ m apart. refl) a.heard refl (λ m. refl) (λ m. refl) refl (λ m over. over) (refl, tt)
 
   -- the call is the last of those that the list has
-  pub call_is_last : (log : List (Entry H)) (n : ℕ) (call : HandlerCall) (calls : List HandlerCall) → calls ≡ calls_of role log n
+  call_is_last : (log : List (Entry H)) (n : ℕ) (call : HandlerCall) (calls : List HandlerCall) → calls ≡ calls_of role log n
       → calls ++ call ∷ [] ≡ calls_of role (Calls n call ∷ log) n
   call_is_last log n call calls is =
       ap (λ t. t ++ call ∷ []) is ∙ sym (ap (λ b. cond b (calls_of role log n ++ call ∷ []) (calls_of role log n)) (same n))
+
+  -- so its handler was handed something where it was before
+  pub handed_still : (log : List (Entry H)) (n : ℕ) (call : HandlerCall) → has_taken (calls_of role log n) ≡ true → has_taken (calls_of role (Calls n call ∷ log) n) ≡ true
+  handed_still log n call taken = ap has_taken (sym (call_is_last log n call (calls_of role log n) refl)) ∙ taken_still (calls_of role log n) call taken
+
+  -- or where the call takes
+  pub handed_by : (log : List (Entry H)) (n : ℕ) (call : HandlerCall) (bytes : List ℕ) → call ≡ Take bytes → has_taken (calls_of role (Calls n call ∷ log) n) ≡ true
+  handed_by log n call bytes is = ap has_taken (sym (call_is_last log n call (calls_of role log n) refl)) ∙ taken_last (calls_of role log n) call bytes is
 
   -- What serving a stream came to.
   pub record Went (log : List (Entry H)) (fed sent : List ℕ) (session : State) (streams : ℕ → Option (Streaming H)) (past : List (Earlier H)) (n : ℕ) (rest : List Told)
@@ -418,9 +426,13 @@ module _ {P H : Type 0} (step : H → HandlerCall → H → Type 0) (fails : H �
     held_open None e = absurd (cc e)
     held_open (Some handler) e = (handler, refl, not_true (is_closed handler) e)
 
-    call_due : (call : HandlerCall) → StreamMayBeAsked is_closed role (items log) n old call
+    call_due : (call : HandlerCall) → StreamMayBeAsked step is_closed role (items log) n old call
         → IsDue step fails is_closed is_finished inbound_makes outbound_makes eager names peer role log (Calls n call)
-    call_due (Give room bytes) may = let it = held_open (handler_of old.stage) may.2 in may_give it.0 room it.1 it.2 may.2 may.0 may.1 may.3
+    unfolding may_give
+    call_due (Give room bytes) may =
+        let it = held_open (handler_of old.stage) may.2 in
+        let answered = may.4 it.0 it.1 in
+        record { asked = may_give it.0 room it.1 it.2 may.2 may.0 may.1 may.3; after = answered.0; answers = answered.1 }
     call_due (Take bytes) may = absurd may
     call_due End may = absurd may
 
@@ -448,10 +460,6 @@ module _ {P H : Type 0} (step : H → HandlerCall → H → Type 0) (fails : H �
             fails_by = failed;
           })
 
-    -- and it was handed something still
-    handed_still : (call : HandlerCall) → kind_of old.stage ≡ Served → has_taken (calls_of role (Calls n call ∷ log) n) ≡ true
-    handed_still call serves = ap has_taken (sym (call_is_last log n call (calls_of role log n) refl)) ∙ taken_still (calls_of role log n) call (served.handed serves)
-
     -- by at most one call
     pub went : (outcome : Outcome H) → Came step fails is_closed is_finished role (items log) fed sent n served.held.so_far old before outcome after new
         → Went log fed sent after now past n rest outcome
@@ -461,13 +469,13 @@ module _ {P H : Type 0} (step : H → HandlerCall → H → Type 0) (fails : H �
         went_behind log fed sent after now past n rest outcomes.Going call
         (served_on acts_do acts_move (Calls n call ∷ log) fed sent before after streams now past n view rest (with_call served.held.so_far (Some call)) old new
         (around_call log fed sent before streams past n view rest call (call_due call may) a) no_more (listed_behind log n view.came view.ended served.held.so_far old call (listed log n view.came view.ended old served.held))
-        served.over_by_end served.last (handed_still call) elsewhere here s kind)
+        served.over_by_end served.last (λ serves. handed_still log n call (served.handed serves)) elsewhere here s kind)
     went (outcomes.Done handler) ((None, may, s), kind) =
         done_with acts_do acts_move log fed sent before after streams now past n view rest served.held.so_far old new a no_more (listed log n view.came view.ended old served.held) served.over_by_end served.last served.handed elsewhere here handler s kind
     went (outcomes.Done handler) ((Some call, may, s), kind) =
         went_behind log fed sent after now past n rest (outcomes.Done handler) call
         (done_with acts_do acts_move (Calls n call ∷ log) fed sent before after streams now past n view rest (with_call served.held.so_far (Some call)) old new
         (around_call log fed sent before streams past n view rest call (call_due call may) a) no_more (listed_behind log n view.came view.ended served.held.so_far old call (listed log n view.came view.ended old served.held))
-        served.over_by_end served.last (handed_still call) elsewhere here handler s kind)
+        served.over_by_end served.last (λ serves. handed_still log n call (served.handed serves)) elsewhere here handler s kind)
     went outcomes.Refused c = absurd c
     went (outcomes.Broken cause) c = record { newer = []; none_said = refl; untold = refl; same_turn = tt; unmade = tt; seen_now = view; comes = is_broken c.1.0 cause c.0 c.1.1 c.1.2 }

@@ -20,6 +20,7 @@ use Rattle.routing.specs.declared.delivered.Outcome.{Outcome}
 use Rattle.routing.specs.declared.delivered.Outcome.TheVariants as outcomes
 use Rattle.routing.specs.declared.delivered.Delivered.{Delivered}
 use Rattle.routing.specs.Routing.{Came, Takes, HasAgreed, Stops, InTalk, Delivers}
+use Rattle.serving.specs.Served.{AnswersCall}
 use Rattle.conn_log.specs.declared.earlier.Earlier.{Earlier}
 use Rattle.conn_log.specs.declared.event.ConnEvent.{ConnEvent}
 use Rattle.conn_log.specs.declared.event.ConnEvent.TheVariants as event
@@ -36,7 +37,7 @@ use Rattle.conn_log.proofs.Around.{grown, still}
 use Rattle.conn_log.proofs.Views.{same, came_front}
 use Rattle.serving.proofs.StageKinds.{same_talking, same_awaiting, same_handed, served_talking, served_handed, served_awaits, talking_kind, talking_awaits}
 use Rattle.conn_log.proofs.Settling.{said_append}
-use Rattle.conn_log.proofs.Comes.{Went as Served, went, went_behind, around_event, around_call, IsListed, listed, listed_behind, answered_by, answered_anew, only_talking, none_serves, taken_last, call_is_last}
+use Rattle.conn_log.proofs.Comes.{Went as Served, went, went_behind, around_event, around_call, IsListed, listed, listed_behind, answered_by, answered_anew, only_talking, none_serves, handed_by}
 
 -- what is seen of a stream of which these bytes came
 abbrev pub with_bytes : List ℕ → Seen → Seen
@@ -191,6 +192,17 @@ module _ {P H : Type 0} (step : H → HandlerCall → H → Type 0) (fails : H �
           going = h.over ∙ ap was_handed_out serves;
         }
 
+    -- and answers
+    take_due : (log : List (Entry H)) (bytes : List ℕ) (old : Streaming H) (got : List ℕ) → ((has_finished is_finished old.stage ≡ false) × (bytes ≢ [])) ⊎ HasJustAgreed n log
+        → (a : Around step fails is_closed is_finished inbound_makes outbound_makes eager names peer role log fed sent before streams past n view rest)
+        → view.came ≡ got ++ bytes → view.ended ≡ false → (h : IsHeld step is_closed is_finished names role log n got view.ended old)
+        → (handler : H) → old.stage ≡ stages.Serving handler → AnswersCall step old.stage (Take bytes)
+        → IsDue step fails is_closed is_finished inbound_makes outbound_makes eager names peer role log (Calls n (Take bytes))
+    unfolding may_take
+    take_due log bytes old got turn a came going h handler serves answers =
+        let it = answers handler (ap handler_of serves) in
+        record { asked = may_take log bytes old got turn a came going h handler serves; after = it.0; answers = it.1 }
+
     -- it stands by it then, and was served
     took : (log : List (Entry H)) (bytes : List ℕ) (so_far : Past H) (old middle : Streaming H) (got : List ℕ) (outcome : Outcome H)
         → (a : Around step fails is_closed is_finished inbound_makes outbound_makes eager names peer role log fed sent before streams past n view rest)
@@ -246,7 +258,7 @@ module _ {P H : Type 0} (step : H → HandlerCall → H → Type 0) (fails : H �
 
       came_to : (answer : Option HandlerCall) → answering old.stage (Take bytes) ≡ answer
           → Came step fails is_closed is_finished role (items log) fed sent n (with_call (record h.so_far { got = h.so_far.got ++ bytes; left = None }) answer) served.0 before outcome after new
-      came_to answer is = subst (λ (c : Option HandlerCall). Came step fails is_closed is_finished role (items log) fed sent n (with_call (record h.so_far { got = h.so_far.got ++ bytes; left = None }) c) served.0 before outcome after new) is served.3
+      came_to answer is = subst (λ (c : Option HandlerCall). Came step fails is_closed is_finished role (items log) fed sent n (with_call (record h.so_far { got = h.so_far.got ++ bytes; left = None }) c) served.0 before outcome after new) is served.4
 
       by_answer : (answer : Option HandlerCall) → answering old.stage (Take bytes) ≡ answer → Served step fails is_closed is_finished inbound_makes outbound_makes eager names peer role log fed sent after now past n rest outcome
       by_answer None is = took log bytes h.so_far old served.0 got outcome a came (listed step fails is_closed is_finished inbound_makes outbound_makes eager names peer role log n got view.ended old h)
@@ -256,13 +268,13 @@ module _ {P H : Type 0} (step : H → HandlerCall → H → Type 0) (fails : H �
           let serves = answered_by old.stage (Take bytes) call is in
           let may : IsDue step fails is_closed is_finished inbound_makes outbound_makes eager names peer role log (Calls n call) =
           subst (λ (c : HandlerCall). IsDue step fails is_closed is_finished inbound_makes outbound_makes eager names peer role log (Calls n c)) (sym serves.0)
-          (may_take log bytes old got turn a came going h serves.1.0 serves.1.1) in
+          (take_due log bytes old got turn a came going h serves.1.0 serves.1.1 served.3) in
           went_behind step fails is_closed is_finished inbound_makes outbound_makes eager names peer role log fed sent after now past n rest outcome call
           (took (Calls n call ∷ log) bytes (with_call h.so_far (Some call)) old served.0 got outcome
           (around_call step fails is_closed is_finished inbound_makes outbound_makes eager names peer role log fed sent before streams past n view rest call may a) came
           (listed_behind step fails is_closed is_finished inbound_makes outbound_makes eager names peer role log n got view.ended h.so_far old call (listed step fails is_closed is_finished inbound_makes outbound_makes eager names peer role log n got view.ended old h))
           (λ open_still. inr (answered_anew role n call serves.0 refl log))
-          (λ serving. ap has_taken (sym (call_is_last step fails is_closed is_finished inbound_makes outbound_makes eager names peer role log n call (calls_of role log n) refl)) ∙ taken_last (calls_of role log n) call bytes serves.0)
+          (λ serving. handed_by step fails is_closed is_finished inbound_makes outbound_makes eager names peer role log n call bytes serves.0)
           (stands (Some call) is) served.2 (came_to (Some call) is))
     takes making log keeps bytes old got outcome turn a came going h (inr f) =
         stopped making log keeps outcome (event.Broken n (causes.Handler f.1.1)) f.0 a

@@ -16,7 +16,7 @@ use Rattle.streams.specs.declared.stage.Stage.{Stage}
 use Rattle.streams.specs.declared.stage.Stage.TheVariants as stages
 use Rattle.streams.specs.Streams.{Past, with_call}
 use Rattle.streams.specs.State.{Streaming, Stands, StandsAt, is_talking, handler_of, is_open as asks_open, has_finished, was_handed_out, answering, kind_of, Served}
-use Rattle.serving.specs.Served.{IsSettled}
+use Rattle.serving.specs.Served.{AnswersCall, IsSettled}
 use Rattle.streams.proofs.Hearing.{open_before}
 use Rattle.routing.specs.declared.delivered.Outcome.{Outcome}
 use Rattle.routing.specs.declared.delivered.Outcome.TheVariants as outcomes
@@ -32,7 +32,7 @@ use Rattle.conn_log.proofs.Around.{still}
 use Rattle.conn_log.proofs.Views.{same, none_behind}
 use Rattle.serving.proofs.StageKinds.{same_talking, same_awaiting, same_handed}
 use Rattle.conn_log.proofs.Served.{ended_stays}
-use Rattle.conn_log.proofs.Comes.{Went, went, went_behind, around_event, around_call, IsListed, listed, listed_behind, answered_by, answered_anew, only_talking, taken_still, call_is_last, or_on}
+use Rattle.conn_log.proofs.Comes.{Went, went, went_behind, around_event, around_call, IsListed, listed, listed_behind, answered_by, answered_anew, only_talking, handed_still, or_on}
 
 -- what is seen of a stream that has ended
 abbrev pub ended_view : Seen → Seen
@@ -134,6 +134,14 @@ module _ {P H : Type 0} (step : H → HandlerCall → H → Type 0) (fails : H �
       going = h.over ∙ ap was_handed_out serves;
     }
 
+    -- and answers
+    end_due : (handler : H) → old.stage ≡ stages.Serving handler → AnswersCall step old.stage End
+        → IsDue step fails is_closed is_finished inbound_makes outbound_makes eager names peer role log (Calls n End)
+    unfolding may_end
+    end_due handler serves answers =
+        let it = answers handler (ap handler_of serves) in
+        record { asked = may_end handler serves; after = it.0; answers = it.1 }
+
     -- and the stream was served then
     heard : (then : List (Entry H)) (outcome : Outcome H) (so_far : Past H) (middle : Streaming H)
         → (around : Around step fails is_closed is_finished inbound_makes outbound_makes eager names peer role then fed sent before streams past n (ended_view view) rest)
@@ -221,21 +229,21 @@ module _ {P H : Type 0} (step : H → HandlerCall → H → Type 0) (fails : H �
         → Went step fails is_closed is_finished inbound_makes outbound_makes eager names peer role log fed sent after now past n rest outcome
     has_ended outcome ends = by_talk (is_talking old.stage) refl where
       by_hands : (answer : Option HandlerCall) → answering old.stage End ≡ answer
-          → Hands step fails is_closed is_finished role (items log) fed sent n ToEnd (with_call (record h.so_far { ended = true; left = None }) answer) old before outcome after new
+          → Hands step fails is_closed is_finished role (items log) fed sent n End ToEnd (with_call (record h.so_far { ended = true; left = None }) answer) old before outcome after new
           → Went step fails is_closed is_finished inbound_makes outbound_makes eager names peer role log fed sent after now past n rest outcome
       by_hands None is (inl served) =
           heard log outcome h.so_far served.0 a (listed step fails is_closed is_finished inbound_makes outbound_makes eager names peer role log n view.came view.ended old h)
-          (only_talking is_closed old.stage served.0.stage End is served.2) handed served.1 served.2 served.3
+          (only_talking is_closed old.stage served.0.stage End is served.2) handed served.1 served.2 served.4
       by_hands (Some call) is (inl served) =
           let serves = answered_by old.stage End call is in
           let may : IsDue step fails is_closed is_finished inbound_makes outbound_makes eager names peer role log (Calls n call) =
-          subst (λ (c : HandlerCall). IsDue step fails is_closed is_finished inbound_makes outbound_makes eager names peer role log (Calls n c)) (sym serves.0) (may_end serves.1.0 serves.1.1) in
+          subst (λ (c : HandlerCall). IsDue step fails is_closed is_finished inbound_makes outbound_makes eager names peer role log (Calls n c)) (sym serves.0) (end_due serves.1.0 serves.1.1 served.3) in
           went_behind step fails is_closed is_finished inbound_makes outbound_makes eager names peer role log fed sent after now past n rest outcome call
           (heard (Calls n call ∷ log) outcome (with_call h.so_far (Some call)) served.0
           (around_call step fails is_closed is_finished inbound_makes outbound_makes eager names peer role log fed sent before streams past n (ended_view view) rest call may a)
           (listed_behind step fails is_closed is_finished inbound_makes outbound_makes eager names peer role log n view.came view.ended h.so_far old call
           (listed step fails is_closed is_finished inbound_makes outbound_makes eager names peer role log n view.came view.ended old h)) (λ open_still. inr (answered_anew role n call serves.0 refl log))
-          (λ serving. ap has_taken (sym (call_is_last step fails is_closed is_finished inbound_makes outbound_makes eager names peer role log n call (calls_of role log n) refl)) ∙ taken_still (calls_of role log n) call (handed serving)) served.1 served.2 served.3)
+          (λ serving. handed_still step fails is_closed is_finished inbound_makes outbound_makes eager names peer role log n call (handed serving)) served.1 served.2 served.4)
       by_hands answer is (inr f) = failed outcome f.1.0 f.1.1 f.1.2 f.1.3 f.1.4 f.0
 
       by_talk : (b : Bool) → is_talking old.stage ≡ b → Went step fails is_closed is_finished inbound_makes outbound_makes eager names peer role log fed sent after now past n rest outcome

@@ -1,6 +1,7 @@
 -- The worked rows of which entries may stand where.
 use Rattle.std.proofs.Common.{◌≡◌, ◌≢◌, ◌⊎◌, inl, inr, ℕ, ◌==◌, ◌||◌, true, false, List, [], ◌∷◌, ◌++◌, Some, None, Result, Ok, refl, sym, ap, ◌∙◌, subst, arith}
 use Rattle.std.proofs.lemmas.Bool.Decides.{eqb_tells}
+use Rattle.handlers.specs.Calls.{ToGive}
 use Rattle.ms_select.specs.declared.answer.Answer.{Answer}
 use Rattle.ms_select.specs.declared.answer.Answer.TheVariants.{Going, Agreed, NoneLeft}
 use Rattle.ms_select.specs.declared.fault.SelectFault.{SelectFault}
@@ -127,8 +128,8 @@ act_place_rows = record {
   oldest_not = λ h. omega (arith, h.1.0);
 }
 
-asked_for_all : is_due rows.served (rows.give_all)
-asked_for_all = record {
+may_ask_for_all : rows.may_be_asked rows.served (ToGive rows.all_room)
+may_ask_for_all = record {
   there = record {
     so_far = record { side = answers; got = header_bytes ++ y_bytes; ended = false; sent = []; made = Some 51; calls = []; left = None };
     stream = record { waiting = header_bytes ++ y_bytes; stage = stages.Serving 51 };
@@ -152,21 +153,26 @@ asked_for_all = record {
   going = refl;
 }
 
+asked_for_all : is_due rows.served (rows.give_all)
+unfolding may_ask_for_all
+asked_for_all = record { asked = may_ask_for_all; after = 51; answers = refl }
+
 pub call_place_rows : CallPlaceRows
 call_place_rows = record {
   asks_for = λ bytes room. (refl, refl, refl);
   asked = asked_for_all;
-  when_over = λ call h. on_is_off h.going;
-  early_when_over = λ call h. on_is_off h.going;
-  before_an_agreement = λ bytes h. h.agreed_on (ap is_talking h.in_turn.0) refl;
-  end_before_an_agreement = λ h. h.agreed_on (ap is_talking h.in_turn.0) refl;
-  handed_nothing = λ h. by_turn h.in_turn.2;
-  end_that_did_not_come = λ h. off_is_on h.asked_for.1;
-  end_with_a_reset = λ h. off_is_on h.asked_for.1;
-  asked_behind_a_reset = λ room h. off_is_on h.in_turn.0;
-  asked_when_closed = λ room h. on_is_off h.in_turn.1;
-  asked_twice = λ room h. by_talk h.in_turn.3 (λ talks. some_is_none 1 (h.talking talks));
-  asked_by_a_frame = λ room h. by_talk h.in_turn.3 (λ talks. some_is_none 1 (h.talking talks));
+  unanswered = λ h. h.answers;
+  when_over = λ call h. on_is_off h.asked.going;
+  early_when_over = λ call h. on_is_off h.asked.going;
+  before_an_agreement = λ bytes h. h.asked.agreed_on (ap is_talking h.asked.in_turn.0) refl;
+  end_before_an_agreement = λ h. h.asked.agreed_on (ap is_talking h.asked.in_turn.0) refl;
+  handed_nothing = λ h. by_turn h.asked.in_turn.2;
+  end_that_did_not_come = λ h. off_is_on h.asked.asked_for.1;
+  end_with_a_reset = λ h. off_is_on h.asked.asked_for.1;
+  asked_behind_a_reset = λ room h. off_is_on h.asked.in_turn.0;
+  asked_when_closed = λ room h. on_is_off h.asked.in_turn.1;
+  asked_twice = λ room h. by_talk h.asked.in_turn.3 (λ talks. some_is_none 1 (h.asked.talking talks));
+  asked_by_a_frame = λ room h. by_talk h.asked.in_turn.3 (λ talks. some_is_none 1 (h.asked.talking talks));
 } where
   by_turn : {A : Type 0} → (A × (no_bytes ≢ [])) ⊎ ⊥ → ⊥
   by_turn (inl handed) = handed.1 refl

@@ -181,6 +181,12 @@ module _ {P H : Type 0} (step : H → HandlerCall → H → Type 0) (fails : H �
     pub asked : MayBeAsked log n request
     pub fails_by : fails asked.handler request number
 
+  -- its handler was asked for what it answers by this call
+  pub record HandlerAnswers (log : List (Entry H)) (n : ℕ) (call : HandlerCall) : Type 0 where
+    pub asked : MayBeAsked log n (asks_for call)
+    pub after : H
+    pub answers : step asked.handler call after
+
   -- A stream stands by all of its data, and by its end where that was told: its talk and its handler were handed what
   -- came, and what they led to was told.
   pub record HasHeard (log : List (Entry H)) (n : ℕ) : Type 0 where
@@ -269,7 +275,7 @@ module _ {P H : Type 0} (step : H → HandlerCall → H → Type 0) (fails : H �
   IsDue log (Says event.Shut) = ⊥
   IsDue log (Made n handler) = MayBeMade log n handler
   IsDue log (Asks n index) = index < length names
-  IsDue log (Calls n call) = MayBeAsked log n (asks_for call)
+  IsDue log (Calls n call) = HandlerAnswers log n call
 
   abbrev pub AllDue : List (Entry H) → Type 0
   AllDue [] = Unit {0}

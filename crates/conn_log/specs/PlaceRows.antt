@@ -63,9 +63,13 @@ abbrev pub served : List (Entry ℕ)
 served = makes 2 51 ∷ agrees 2 1 ∷ Of (Came Tail) ∷ came_on (header_bytes ++ y_bytes)
     (Of (Came (header Payload 0 2 (length (header_bytes ++ y_bytes)))) ∷ opened 2)
 
--- it gives a byte, and is asked for as many as there is credit behind what the talk wrote
+-- as many bytes as there is credit behind what the talk wrote
+abbrev pub all_room : ℕ
+all_room = 262144 - length (header_bytes ++ y_bytes)
+
+-- it is asked for them, and gives one
 abbrev pub give_all : Entry ℕ
-give_all = answers 2 (Give (262144 - length (header_bytes ++ y_bytes)) (9 ∷ []))
+give_all = answers 2 (Give all_room (9 ∷ []))
 
 -- this end has opened stream 1 for an eager protocol
 abbrev pub early : List (Entry ℕ)
@@ -138,6 +142,9 @@ pub record CallPlaceRows : Type 0 where
       × (asks_for (Give room bytes) ≡ ToGive room) × (asks_for End ≡ ToEnd)
   -- as many bytes as there is credit behind what the talk wrote
   pub asked : is_due served give_all
+  -- where it answers so
+  pub unanswered : ¬ IsDue (λ before call now. ⊥) (λ handler request number. ⊥) (λ handler. false) (λ handler. false)
+      inbound outbound is_1 (x ∷ y ∷ []) (9 ∷ []) Client served give_all
   -- behind its last event it is asked for nothing
   pub when_over : (call : HandlerCall) → ¬ is_due (done 2 51 ∷ served) (answers 2 call)
   pub early_when_over : (call : HandlerCall) → ¬ is_due (breaks 1 ∷ early) (answers 1 call)

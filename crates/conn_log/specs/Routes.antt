@@ -102,6 +102,7 @@ module _ {P H : Type 0} (step : H → HandlerCall → H → Type 0) (fails : H �
       pub over_by_end : view.live ≡ false → view.ended ≡ true
       -- by credit that is still to be routed its handler is asked anew
       pub anew : AllByRecursion IsNoCredit rest ⊎ ((is_talking stream.stage ≡ true) ⊎ (is_asked_anew role log n ≡ true))
+      -- a handler that serves it was handed what stood behind the talk
       pub handed : kind_of stream.stage ≡ Served → has_taken (calls_of role log n) ≡ true
       -- it was served by all that came but the rest, where that brings neither data nor credit
       pub settled : AllByRecursion (IsQuiet n) rest → is_live role (items log) n ≡ true
@@ -116,6 +117,7 @@ module _ {P H : Type 0} (step : H → HandlerCall → H → Type 0) (fails : H �
       pub last : AllByRecursion IsNoCredit rest ⊎ (is_talking stream.stage ≡ true)
       pub anew : is_open is_closed stream.stage ≡ true
           → (is_talking stream.stage ≡ true) ⊎ (is_asked_anew role log n ≡ true)
+      -- a handler that serves it was handed what stood behind the talk
       pub handed : kind_of stream.stage ≡ Served → has_taken (calls_of role log n) ≡ true
 
   -- All streams but the one that is named are at rest, and of that one so much was seen.

@@ -1,5 +1,5 @@
 -- What a stream came to, by the answers of the calls below.
-use Rattle.std.proofs.Common.{◌≡◌, ◌⊎◌, inl, inr, ℕ, Bool, true, false, List, Result, Ok, Err, refl, sym, ap, ◌∙◌, subst}
+use Rattle.std.proofs.Common.{◌≡◌, ◌⊎◌, inl, inr, ℕ, Bool, true, false, List, Some, Result, Ok, Err, refl, sym, ap, ◌∙◌, subst}
 use Rattle.std.specs.Prelude.{IfOk, OnErr}
 use Rattle.handlers.specs.Calls.{HandlerCall, Asked}
 use Rattle.handlers.specs.declared.handler.HandlerFault.{HandlerFault}
@@ -10,8 +10,9 @@ use Rattle.streams.specs.declared.stop.Stop.TheVariants as stops
 use Rattle.streams.specs.declared.stage.Stage.{Stage}
 use Rattle.streams.specs.declared.stage.Stage.TheVariants as stages
 use Rattle.streams.specs.Streams.{Past}
-use Rattle.streams.specs.State.{Streaming, Stands, StandsAt, is_talking, awaits_handler}
+use Rattle.streams.specs.State.{Streaming, Stands, StandsAt, is_talking, handler_of, awaits_handler}
 use Rattle.streams.specs.Stops.{FailsBy}
+use Rattle.serving.specs.Served.{AnswersCall}
 use Rattle.routing.specs.declared.delivered.Outcome.{Outcome}
 use Rattle.routing.specs.declared.delivered.Outcome.TheVariants as outcomes
 
@@ -55,6 +56,18 @@ module _ {H : Type 0} (step : H → HandlerCall → H → Type 0) where
   pub quiet : (x : Streaming H) (so_far : Past H) → Stands step x so_far → is_talking x.stage ≡ false → awaits_handler x.stage ≡ false
       → ((handler : H) × (x.stage ≡ stages.Serving handler)) ⊎ (x.stage ≡ stages.Done)
   quiet x so_far s talks awaits = quiet_at x.stage so_far x.waiting s talks awaits
+
+  serves_by : (stage : Stage H) → is_talking stage ≡ false → (handler : H) → handler_of stage ≡ Some handler → stage ≡ stages.Serving handler
+  serves_by (stages.Talking talk it) quiet handler held = absurd (cc quiet)
+  serves_by (stages.Agreed index) quiet handler held = absurd (cc held)
+  serves_by (stages.Serving it) quiet handler held = cc held
+  serves_by stages.Done quiet handler held = absurd (cc held)
+  serves_by stages.Over quiet handler held = absurd (cc held)
+
+  -- and answers the call
+  pub answers_by : (call : HandlerCall) (old new : Stage H) → is_talking old ≡ false
+      → ((handler : H) → old ≡ stages.Serving handler → (after : H) × (new ≡ stages.Serving after) × step handler call after) → AnswersCall step old call
+  answers_by call old new talks steps handler held = let it = steps handler (serves_by old talks handler held) in (it.0, it.2)
 
 abbrev broken_by : {H : Type 0} → Cause → Outcome H
 broken_by why = outcomes.Broken why

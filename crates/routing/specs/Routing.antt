@@ -15,7 +15,7 @@ use Rattle.streams.specs.declared.stop.Stop.TheVariants as stops
 use Rattle.streams.specs.declared.stage.Stage.TheVariants as stages
 use Rattle.streams.specs.Streams.{Past, with_call}
 use Rattle.streams.specs.State.{Streaming, Stands, is_talking, was_handed_out, answering, kind_of, Served}
-use Rattle.serving.specs.Served.{Asking, Serves, GivesUp}
+use Rattle.serving.specs.Served.{AnswersCall, Asking, Serves, GivesUp}
 use Rattle.dispatch.specs.Dispatch.{AgreesBy, IsMade}
 use Rattle.routing.specs.declared.delivered.Delivered.{Delivered}
 use Rattle.routing.specs.declared.delivered.Outcome.{Outcome}
@@ -27,12 +27,12 @@ module _ {H : Type 0} (step : H → HandlerCall → H → Type 0) (fails : H →
   -- and nothing was done.
   abbrev pub Came : Past H → Streaming H → State → Outcome H → State → Streaming H → Type 0
   Came so_far old before Going session stream =
-      Asking is_closed role past n old so_far (λ now. Serves step is_closed is_finished (was_handed_out old.stage) role
-      past fed sent n now None session stream)
+      Asking step is_closed role past n old so_far (λ now. Serves step is_closed is_finished (was_handed_out old.stage)
+      role past fed sent n now None session stream)
       × (kind_of stream.stage ≡ kind_of old.stage)
   Came so_far old before (Done handler) session stream =
-      Asking is_closed role past n old so_far (λ now. Serves step is_closed is_finished (was_handed_out old.stage) role
-      past fed sent n now (Some handler) session stream)
+      Asking step is_closed role past n old so_far (λ now. Serves step is_closed is_finished (was_handed_out old.stage)
+      role past fed sent n now (Some handler) session stream)
       × (kind_of old.stage ≡ Served)
   Came so_far old before Refused session stream = ⊥
   Came so_far old before (Broken cause) session stream =
@@ -45,17 +45,17 @@ module _ {H : Type 0} (step : H → HandlerCall → H → Type 0) (fails : H →
       (session ≡ before) × ((handler : H) × (fault : HandlerFault) × (old.stage ≡ stages.Serving handler)
       × fails handler asked fault.number × (outcome ≡ Broken (causes.Handler fault)))
 
-  -- The handler was told this, or it was dropped, and the stream was served: so far this came then. Or the handler
-  -- failed at it.
-  abbrev pub Hands : Asked → Past H → Streaming H → State → Outcome H → State → Streaming H → Type 0
-  Hands asked so_far old before outcome session stream =
+  -- The handler answered this call, or it was dropped, and the stream was served: so far this came then. Or the handler
+  -- failed at what it was asked for.
+  abbrev pub Hands : HandlerCall → Asked → Past H → Streaming H → State → Outcome H → State → Streaming H → Type 0
+  Hands call asked so_far old before outcome session stream =
       ((middle : Streaming H) × Stands step middle so_far × (kind_of middle.stage ≡ kind_of old.stage)
-      × Came so_far middle before outcome session stream)
+      × AnswersCall step old.stage call × Came so_far middle before outcome session stream)
       ⊎ Fails asked old before outcome session
 
   -- data behind the talk
   abbrev pub Takes : Past H → List ℕ → Streaming H → State → Outcome H → State → Streaming H → Type 0
-  Takes so_far bytes old = Hands (ToTake bytes)
+  Takes so_far bytes old = Hands (Take bytes) (ToTake bytes)
       (with_call (record so_far { got = so_far.got ++ bytes; left = None }) (answering old.stage (Take bytes))) old
 
   -- What came of the end: an end within the talk breaks the stream, and nothing is done.
@@ -63,7 +63,7 @@ module _ {H : Type 0} (step : H → HandlerCall → H → Type 0) (fails : H →
   Ends so_far old before outcome session stream =
       (is_talking old.stage ≡ true → (outcome ≡ Broken causes.Ended) × (session ≡ before))
       × (is_talking old.stage ≡ false
-      → Hands ToEnd (with_call (record so_far { ended = true; left = None }) (answering old.stage End)) old before
+      → Hands End ToEnd (with_call (record so_far { ended = true; left = None }) (answering old.stage End)) old before
       outcome session stream)
 
   module _ (makes : ℕ → H → Type 0) (none_made : Type 0) where

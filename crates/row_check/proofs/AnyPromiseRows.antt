@@ -61,6 +61,7 @@ module _ {P H : Type 0} (step : H → HandlerCall → H → Type 0) (fails : H �
     (inbound_leads outbound_leads : P → ℕ → List ℕ → H → P → Type 0) (start : P) (role : ConnRole) (own : Key) where
   pub any_promises : AnyPromiseRows step fails is_closed is_finished inbound_makes outbound_makes listed is_eager inbound_leads outbound_leads start role own
   any_promises = record {
+    due_is_once = λ law. law;
     serving_is = λ end log n stream handler s. (
       s.side,
       s.index,

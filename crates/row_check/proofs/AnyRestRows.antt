@@ -172,7 +172,11 @@ module _ {P H : Type 0} (step : H → HandlerCall → H → Type 0) (fails : H �
     of_no_stream = λ log key fault. (λ h. h, λ h. h, λ h. h);
     made = λ log n handler. (λ h. h, λ h. h);
     asked_for = λ log n index. (λ h. h, λ h. h);
-    answered = λ log n room bytes. ((λ h. h, λ h. h), (λ h. h, λ h. h), (λ h. h, λ h. h));
+    answered = λ log n room bytes. (
+      (λ h. (h.asked, h.after, h.answers), λ h. record { asked = h.0; after = h.1; answers = h.2 }),
+      (λ h. (h.asked, h.after, h.answers), λ h. record { asked = h.0; after = h.1; answers = h.2 }),
+      (λ h. (h.asked, h.after, h.answers), λ h. record { asked = h.0; after = h.1; answers = h.2 }),
+    );
     made_inbound = λ log n m index handler e. rw e (λ h. h, λ h. h);
     made_outbound = λ log n m index handler e. rw e (λ h. h, λ h. h);
     made_early = λ log n m index handler e. rw e (λ h. h, λ h. h);

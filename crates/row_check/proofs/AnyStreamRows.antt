@@ -119,14 +119,14 @@ module _ {H : Type 0} (step : H → HandlerCall → H → Type 0) where
 
 module _ {H : Type 0} (step : H → HandlerCall → H → Type 0) (fails : H → Asked → ℕ → Type 0) (is_closed is_finished : H → Bool) where
   asked_once : (role : Role) (past : List Item) (n : ℕ) (stream : Streaming H) (so_far : Past H) (came : Past H → Bool) (call : Option HandlerCall)
-      → IfSome call (MayBeAsked is_closed role past n stream) → came (with_call so_far call) ≡ true
-      → (came so_far ≡ true) ⊎ ((one : HandlerCall) × MayBeAsked is_closed role past n stream one × (came (record so_far { calls = so_far.calls ++ one ∷ [] }) ≡ true))
+      → IfSome call (MayBeAsked step is_closed role past n stream) → came (with_call so_far call) ≡ true
+      → (came so_far ≡ true) ⊎ ((one : HandlerCall) × MayBeAsked step is_closed role past n stream one × (came (record so_far { calls = so_far.calls ++ one ∷ [] }) ≡ true))
   asked_once role past n stream so_far came None may e = inl e
   asked_once role past n stream so_far came (Some one) may e = inr (one, may, e)
 
   asks_so : (role : Role) (past : List Item) (n : ℕ) (stream : Streaming H) (so_far : Past H) (came : Past H → Bool)
-      → (came so_far ≡ true) ⊎ ((one : HandlerCall) × MayBeAsked is_closed role past n stream one × (came (record so_far { calls = so_far.calls ++ one ∷ [] }) ≡ true))
-      → Asking is_closed role past n stream so_far (λ now. came now ≡ true)
+      → (came so_far ≡ true) ⊎ ((one : HandlerCall) × MayBeAsked step is_closed role past n stream one × (came (record so_far { calls = so_far.calls ++ one ∷ [] }) ≡ true))
+      → Asking step is_closed role past n stream so_far (λ now. came now ≡ true)
   asks_so role past n stream so_far came (inl e) = (None, tt, e)
   asks_so role past n stream so_far came (inr h) = (Some h.0, h.1, h.2)
 
@@ -223,7 +223,7 @@ module _ {H : Type 0} (step : H → HandlerCall → H → Type 0) (fails : H →
     came_refused = λ so_far old stream before session h. h;
     came_broken = λ so_far old stream before session cause. (λ h. h, λ h. h);
     failed = λ asked old before session outcome. (λ h. h, λ h. h);
-    handed = λ asked so_far old stream before session outcome. (λ h. h, λ h. h);
+    handed = λ call asked so_far old stream before session outcome. (λ h. h, λ h. h);
     takes = λ so_far bytes old stream before session outcome. (λ h. h, λ h. h);
     ended_in_talk = λ so_far old stream before session outcome e. one_counts (is_talking old.stage) e;
     ended = λ so_far old stream before session outcome e. other_counts (is_talking old.stage) e;

@@ -30,11 +30,12 @@ use Rattle.conn_log.specs.declared.event.ConnEvent.{ConnEvent}
 use Rattle.conn_log.specs.declared.event.ConnEvent.TheVariants as event
 use Rattle.conn_log.specs.Entries.{Entry, items, said, agreed, is_over, was_done, made_of, calls_of, is_kept}
 use Rattle.conn_log.specs.Entries.{left_behind}
+use Rattle.conn_log.specs.Due.{AllDue}
 use Rattle.conn_log.specs.Held.{IsSide}
 use Rattle.conn_log.specs.Entries.Entry.{Of, Says, Made, Asks, Calls}
 use Rattle.held_order.specs.Orders.{without, with_if, without_if, lets_go, heard, newest_held, arranged}
 use Rattle.held_order.specs.Laws.{LetsGo, Arranges, times, numbers, of_number}
-use Rattle.held_order.specs.HeldLaws.{IsOnce, ToldOnce, NamesEachHeld}
+use Rattle.held_order.specs.HeldLaws.{IsOnce, ToldOnce, NamesEachHeld, DueIsOnce}
 use Rattle.conn_core.specs.declared.calls.ConnAct.{ConnAct}
 use Rattle.conn_core.specs.declared.calls.ConnAnswer.{ConnAnswer}
 use Rattle.conn_core.specs.Connects.{session_role}
@@ -140,6 +141,11 @@ module _ {P H : Type 0} (step : H → HandlerCall → H → Type 0) (fails : H �
       → stream.waiting ≡ [])
 
   pub record AnyPromiseRows : Type 0 where
+    -- in a list whose entries are due each last event was told once
+    pub due_is_once : DueIsOnce step fails is_closed is_finished inbound_makes outbound_makes → (eager : ℕ → Bool)
+        (names : List (List ℕ)) (peer : List ℕ) (end : Role) (log : List (Entry H))
+        → AllDue step fails is_closed is_finished inbound_makes outbound_makes eager names peer end log
+        → AreAnswered end (items log) → ToldOnce end log
     pub serving_is : (end : Role) (log : List (Entry H)) (n : ℕ) (stream : Streaming H) (handler : H)
         → IsServing step is_closed is_finished (listed start) end log n stream handler
         → (side : Side) × (index : ℕ) × (first rest output gave : List ℕ) × (made : H) × (left : Option ℕ)

@@ -316,11 +316,13 @@ module _ {P H : Type 0} (step : H → HandlerCall → H → Type 0) (fails : H �
         × ¬ is_due log (Says event.Shut)
     pub made : (log : List (Entry H)) (n : ℕ) (handler : H) → is_due log (Made n handler) ↔ may_be_made log n handler
     pub asked_for : (log : List (Entry H)) (n index : ℕ) → is_due log (Asks n index) ↔ (index < length names)
-    -- a call may stand there where its handler may be asked for it
+    -- a call may stand there where its handler may be asked for it, and answers so
     pub answered : (log : List (Entry H)) (n room : ℕ) (bytes : List ℕ)
-        → (is_due log (Calls n (Take bytes)) ↔ may_be_asked log n (ToTake bytes))
-        × (is_due log (Calls n (Give room bytes)) ↔ may_be_asked log n (ToGive room))
-        × (is_due log (Calls n End) ↔ may_be_asked log n ToEnd)
+        → (is_due log (Calls n (Take bytes))
+        ↔ ((asked : may_be_asked log n (ToTake bytes)) × (after : H) × step asked.handler (Take bytes) after))
+        × (is_due log (Calls n (Give room bytes))
+        ↔ ((asked : may_be_asked log n (ToGive room)) × (after : H) × step asked.handler (Give room bytes) after))
+        × (is_due log (Calls n End) ↔ ((asked : may_be_asked log n ToEnd) × (after : H) × step asked.handler End after))
     -- a handler may be made where its stream has just agreed, or was just opened for an eager protocol
     pub made_inbound : (log : List (Entry H)) (n m index : ℕ) (handler : H) → is_own role n ≡ false
         → may_be_made (Says (event.Agreed m index) ∷ log) n handler

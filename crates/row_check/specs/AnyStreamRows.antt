@@ -232,17 +232,19 @@ module _ {H : Type 0} (step : H → HandlerCall → H → Type 0) (fails : H →
 
   -- Serving a stream: these facts, and no others
   pub record AnyServingRows (was_done : Bool) : Type 0 where
-    -- its handler may be asked to give, and for nothing else
+    -- its handler may be asked to give, where it answers so, and for nothing else
     pub asks_to_give : (role : Role) (past : List Item) (n room : ℕ) (stream : Streaming H) (bytes : List ℕ)
-        → MayBeAsked is_closed role past n stream (Give room bytes)
+        → MayBeAsked step is_closed role past n stream (Give room bytes)
         ↔ ((is_live role past n ≡ true) × (closed role past n ≡ false) × (is_open is_closed stream.stage ≡ true)
-        × (room ≡ credit role past n - length stream.waiting))
+        × (room ≡ credit role past n - length stream.waiting)
+        × ((handler : H) → handler_of stream.stage ≡ Some handler → (after : H) × step handler (Give room bytes) after))
     pub asks_nothing_else : (role : Role) (past : List Item) (n : ℕ) (stream : Streaming H) (bytes : List ℕ)
-        → ¬ MayBeAsked is_closed role past n stream (Take bytes) × ¬ MayBeAsked is_closed role past n stream End
+        → ¬ MayBeAsked step is_closed role past n stream (Take bytes)
+        × ¬ MayBeAsked step is_closed role past n stream End
     -- at most once, and that call stands in its list then
     pub asking : (role : Role) (past : List Item) (n : ℕ) (stream : Streaming H) (so_far : Past H)
-        (came : Past H → Bool) → Asking is_closed role past n stream so_far (λ now. came now ≡ true)
-        ↔ ((came so_far ≡ true) ⊎ ((call : HandlerCall) × MayBeAsked is_closed role past n stream call
+        (came : Past H → Bool) → Asking step is_closed role past n stream so_far (λ now. came now ≡ true)
+        ↔ ((came so_far ≡ true) ⊎ ((call : HandlerCall) × MayBeAsked step is_closed role past n stream call
         × (came (record so_far { calls = so_far.calls ++ call ∷ [] }) ≡ true)))
     pub sent : (role : Role) (past : List Item) (n : ℕ) (so_far : Past H) (left : Option ℕ)
         → with_sent role past n so_far left ≡ record {
@@ -363,12 +365,12 @@ module _ {H : Type 0} (step : H → HandlerCall → H → Type 0) (fails : H →
   -- its handler was called at most once, and so far this came then
   abbrev pub asked_so : Streaming H → Past H → (Past H → Type 0) → Type 0
   asked_so stream so_far fact = (call : Option HandlerCall)
-      × IfSome call (MayBeAsked is_closed role past n stream) × fact (with_call so_far call)
+      × IfSome call (MayBeAsked step is_closed role past n stream) × fact (with_call so_far call)
 
   abbrev pub came_to : Past H → Streaming H → State → Outcome H → State → Streaming H → Type 0
   came_to = Came step fails is_closed is_finished role past fed sent n
 
-  abbrev pub hands : Asked → Past H → Streaming H → State → Outcome H → State → Streaming H → Type 0
+  abbrev pub hands : HandlerCall → Asked → Past H → Streaming H → State → Outcome H → State → Streaming H → Type 0
   hands = Hands step fails is_closed is_finished role past fed sent n
 
   abbrev pub fails_at : Asked → Streaming H → State → Outcome H → State → Type 0
@@ -438,14 +440,16 @@ module _ {H : Type 0} (step : H → HandlerCall → H → Type 0) (fails : H →
         → fails_at asked old before outcome session
         ↔ ((session ≡ before) × ((handler : H) × (fault : HandlerFault) × (old.stage ≡ stages.Serving handler)
         × fails handler asked fault.number × (outcome ≡ outcomes.Broken (causes.Handler fault))))
-    pub handed : (asked : Asked) (so_far : Past H) (old stream : Streaming H) (before session : State)
-        (outcome : Outcome H) → hands asked so_far old before outcome session stream
+    -- its handler answers the call, or fails at what it was asked for
+    pub handed : (call : HandlerCall) (asked : Asked) (so_far : Past H) (old stream : Streaming H)
+        (before session : State) (outcome : Outcome H) → hands call asked so_far old before outcome session stream
         ↔ (((middle : Streaming H) × Stands step middle so_far × (kind_of middle.stage ≡ kind_of old.stage)
+        × ((handler : H) → handler_of old.stage ≡ Some handler → (after : H) × step handler call after)
         × came_to so_far middle before outcome session stream) ⊎ fails_at asked old before outcome session)
     pub takes : (so_far : Past H) (bytes : List ℕ) (old stream : Streaming H) (before session : State)
         (outcome : Outcome H)
         → Takes step fails is_closed is_finished role past fed sent n so_far bytes old before outcome session stream
-        ↔ hands (ToTake bytes)
+        ↔ hands (Take bytes) (ToTake bytes)
         (with_call (record so_far { got = so_far.got ++ bytes; left = None }) (answering old.stage (Take bytes))) old
         before outcome session stream
     pub ended_in_talk : (so_far : Past H) (old stream : Streaming H) (before session : State) (outcome : Outcome H)
@@ -455,8 +459,8 @@ module _ {H : Type 0} (step : H → HandlerCall → H → Type 0) (fails : H →
     pub ended : (so_far : Past H) (old stream : Streaming H) (before session : State) (outcome : Outcome H)
         → is_talking old.stage ≡ false
         → Ends step fails is_closed is_finished role past fed sent n so_far old before outcome session stream
-        ↔ hands ToEnd (with_call (record so_far { ended = true; left = None }) (answering old.stage End)) old before
-        outcome session stream
+        ↔ hands End ToEnd (with_call (record so_far { ended = true; left = None }) (answering old.stage End)) old
+        before outcome session stream
     -- both ends agree within the data, and the stream talks on or stops
     pub has_agreed : (so_far : Past H) (bytes : List ℕ) (index : ℕ) (front rest : List ℕ) (middle : Streaming H)
         (made : H) → AgreesBy so_far bytes index front rest → IsMade makes none_made so_far index made

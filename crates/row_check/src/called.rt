@@ -7,7 +7,7 @@ ghost use Rattle.upgrade.specs.Laws as upgrade;
 ghost use Rattle.streams.specs.Streams.{Past};
 ghost use Rattle.streams.specs.Laws as stream;
 ghost use Rattle.held_order.specs.Laws.{LetsGo, Arranges};
-ghost use Rattle.held_order.specs.HeldLaws.{NamesEachHeld};
+ghost use Rattle.held_order.specs.HeldLaws.{NamesEachHeld, DueIsOnce};
 ghost use Rattle.conn_core.specs.Promises.{AreServing, AreEarly, LiveAreHeld, UpIsSplit};
 ghost use Rattle.conn_core.specs.Promises.{ListedAreHeld, EachIsAnswered, AllIsCounted};
 
@@ -15,7 +15,7 @@ use conn_core::laws::{
     counted, each_is_answered, early, handed, listed_are_held, live_are_held, split,
 };
 use handlers::{Handler, Protocols};
-use held_order::laws::{all_in_order, names_each_held, newest_goes};
+use held_order::laws::{all_in_order, each_told_once, names_each_held, newest_goes};
 use streams::laws::{answer_stays, cut_anywhere, one_answer, one_split};
 use talks::laws::{
     answers_as_defined, asked_all, both_agree, decision_stays, fault_stays, none_agrees,
@@ -107,6 +107,7 @@ pub fn conn_laws<P: Protocols>()
         → AllIsCounted P.H.steps P.H.fails P.H.is_closed P.H.is_finished P.makes_inbound P.makes_outbound P.listed
         P.is_eager P.leads_inbound P.leads_outbound start role own }
     ensures listed { ListedAreHeld P.H }
+    ensures once { DueIsOnce P.H.steps P.H.fails P.H.is_closed P.H.is_finished P.makes_inbound P.makes_outbound }
 {
     handed::<P>();
     early::<P>();
@@ -115,4 +116,5 @@ pub fn conn_laws<P: Protocols>()
     each_is_answered::<P>();
     counted::<P>();
     listed_are_held::<P::H>();
+    each_told_once::<P>();
 }

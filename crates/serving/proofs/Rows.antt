@@ -327,8 +327,8 @@ settled_rows = record {
 
 pub ask_rows : AskRows
 ask_rows = record {
-  all = (refl, refl, refl, refl);
-  behind_what_waits = (refl, refl, refl, refl);
+  all = (refl, refl, refl, refl, λ handler held. (handler, refl));
+  behind_what_waits = (refl, refl, refl, refl, λ handler held. (handler, refl));
   less = λ m. let e = m.3 in let all : credit Server two_bytes 1 ≡ 262144 = refl in omega (arith, e, all);
   closed = λ m. absurd (let e = m.2 in cc e);
   done = λ m. absurd (let e = m.2 in cc e);
@@ -336,6 +336,7 @@ ask_rows = record {
   reset = λ room m. absurd (let e = m.0 in cc e);
   taken = λ bytes m. m;
   ended = λ m. m;
+  unanswered = λ m. (m.4 false refl).1;
 }
 
 -- ---- refusals

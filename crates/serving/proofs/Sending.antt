@@ -1,8 +1,8 @@
 -- What a stream gave was written.
-use Rattle.std.proofs.Common.{◌≡◌, ◌≢◌, ℕ, ◌≤◌, ◌-◌, min, Bool, true, false, List, [], ◌∷◌, ◌++◌, length, map, take, ◌⊎◌, inl, inr, Some, None, Result, Ok, Err, refl, sym, ap, ◌∙◌, subst, arith}
+use Rattle.std.proofs.Common.{◌≡◌, ◌≢◌, ℕ, ◌≤◌, ◌-◌, min, Bool, true, false, not, Option, List, [], ◌∷◌, ◌++◌, length, map, take, ◌⊎◌, inl, inr, Some, None, Result, Ok, Err, refl, sym, ap, ◌∙◌, subst, arith}
 use Rattle.std.specs.Prelude.{OnOk}
 use Rattle.std.specs.List.{concat}
-use Rattle.std.proofs.lemmas.List.{take_all}
+use Rattle.std.proofs.lemmas.List.{take_all, append_cancel_left}
 use Rattle.handlers.specs.Calls.{HandlerCall, Give}
 use Rattle.yamux_session.specs.declared.event.Role.{Role}
 use Rattle.yamux_session.specs.History.{Item, Act}
@@ -11,8 +11,8 @@ use Rattle.yamux_session.specs.History.Act.{Write}
 use Rattle.yamux_session.specs.State.{State, Stands as SessionStands}
 use Rattle.yamux_session.specs.Acts.{open_credit}
 use Rattle.streams.specs.Streams.{Past, with_call}
-use Rattle.streams.specs.State.{Streaming, Stands, is_open}
-use Rattle.serving.specs.Served.{Asking}
+use Rattle.streams.specs.State.{Streaming, Stands, is_talking, handler_of, holds, is_open}
+use Rattle.serving.specs.Served.{AnswersCall, Asking}
 use Rattle.serving.specs.Steps.{Sends}
 use Rattle.serving.proofs.Refusals.{open_with}
 
@@ -30,11 +30,35 @@ pub none_of : (xs : List ℕ) → length xs ≡ 0 → xs ≡ []
 none_of [] e = refl
 none_of (x ∷ xs) e = absurd (cc e)
 
+-- a handler that is held open isn't closed
+pub unclosed_one : {H : Type 0} (closed : H → Bool) (held : Option H) (handler : H) → holds (λ it. not (closed it)) held ≡ true → held ≡ Some handler
+    → closed handler ≡ false
+unclosed_one closed None handler asked is = absurd (cc is)
+unclosed_one closed (Some it) handler asked is =
+    let same : it ≡ handler = cc is in
+    ap closed (sym same) ∙ by_not (closed it) asked where
+      by_not : (b : Bool) → not b ≡ true → b ≡ false
+      by_not true e = absurd (cc e)
+      by_not false e = refl
+
 module _ {H : Type 0} (step : H → HandlerCall → H → Type 0) (closed : H → Bool) where
+  -- the handler that was asked answers
+  pub answers_on : (amount : ℕ) (old new : Streaming H) (bytes : List ℕ)
+      → ((handler : H) → handler_of old.stage ≡ Some handler → closed handler ≡ false → (after : H) × (more : List ℕ) × (handler_of new.stage ≡ Some after)
+      × (is_talking new.stage ≡ is_talking old.stage) × (bytes ≡ take amount old.waiting ++ more) × step handler (Give (amount - length old.waiting) more) after)
+      → is_open closed old.stage ≡ true → (more : List ℕ) → bytes ≡ take amount old.waiting ++ more → AnswersCall step old.stage (Give (amount - length old.waiting) more)
+  answers_on amount old new bytes steps asked more is handler held =
+      let it = steps handler held (unclosed_one closed (handler_of old.stage) handler asked held) in
+      let same : it.1 ≡ more = append_cancel_left (take amount old.waiting) it.1 more (sym it.4 ∙ is) in
+      (it.0, subst (λ t. step handler (Give (amount - length old.waiting) t) it.0) same it.5)
+
   -- where the stream stands behind what it gave
   pub record Given (so_far : Past H) (amount : ℕ) (old new : Streaming H) (bytes : List ℕ) : Type 0 where
     pub asked : is_open closed old.stage ≡ true → (more : List ℕ) × (bytes ≡ take amount old.waiting ++ more)
         × Stands step new (with_call (record so_far { sent = so_far.sent ++ bytes; left = Some (amount - length bytes) }) (Some (Give (amount - length old.waiting) more)))
+    -- its handler answers the call
+    pub answers : is_open closed old.stage ≡ true → (more : List ℕ) → bytes ≡ take amount old.waiting ++ more
+        → AnswersCall step old.stage (Give (amount - length old.waiting) more)
     pub not_asked : is_open closed old.stage ≡ false → Stands step new (record so_far { sent = so_far.sent ++ bytes })
     pub same : is_open closed old.stage ≡ false → new.stage ≡ old.stage
     pub full : new.waiting ≢ [] → length bytes ≡ amount
@@ -42,12 +66,12 @@ module _ {H : Type 0} (step : H → HandlerCall → H → Type 0) (closed : H �
   gave_by : (role : Role) (past : List Item) (fed sent : List ℕ) (n amount : ℕ) (so_far : Past H) (session : State) (old new : Streaming H) (pieces : List (List ℕ)) (acts : List Act)
       → (acts ≡ Write n pieces ∷ []) ⊎ ((acts ≡ []) × (pieces ≡ [])) → SessionStands role (map Did acts ++ past) fed sent session → Given so_far amount old new (concat pieces)
       → open_credit role past n ≡ Some amount → (b : Bool) → is_open closed old.stage ≡ b
-      → Asking closed role past n old so_far (λ now. Sends step closed role past fed sent n amount now session new)
+      → Asking step closed role past n old so_far (λ now. Sends step closed role past fed sent n amount now session new)
   gave_by role past fed sent n amount so_far session old new pieces acts are at g some true e =
       let it = open_with role past n amount some in
       let call = Give (amount - length old.waiting) (g.asked e).0 in (
         Some call,
-        (it.is_live, it.unclosed, e, ap (λ k. k - length old.waiting) (sym it.credit_is)),
+        (it.is_live, it.unclosed, e, ap (λ k. k - length old.waiting) (sym it.credit_is), g.answers e (g.asked e).0 (g.asked e).1),
         record {
           pieces = pieces;
           acts = acts;
@@ -76,13 +100,13 @@ module _ {H : Type 0} (step : H → HandlerCall → H → Type 0) (closed : H �
 
   pub gave : (role : Role) (past : List Item) (fed sent : List ℕ) (n amount : ℕ) (so_far : Past H) (session : State) (old new : Streaming H) (bytes : List ℕ) (pieces : List (List ℕ))
       → concat pieces ≡ bytes → SessionStands role (Did (Write n pieces) ∷ past) fed sent session → Given so_far amount old new bytes
-      → open_credit role past n ≡ Some amount → Asking closed role past n old so_far (λ now. Sends step closed role past fed sent n amount now session new)
+      → open_credit role past n ≡ Some amount → Asking step closed role past n old so_far (λ now. Sends step closed role past fed sent n amount now session new)
   gave role past fed sent n amount so_far session old new bytes pieces e at g some =
       gave_by role past fed sent n amount so_far session old new pieces (Write n pieces ∷ []) (inl refl) at (subst (λ t. Given so_far amount old new t) (sym e) g) some (is_open closed old.stage) refl
 
   -- one that gave nothing
   pub gave_none : (role : Role) (past : List Item) (fed sent : List ℕ) (n amount : ℕ) (so_far : Past H) (session : State) (old new : Streaming H) (bytes : List ℕ)
       → bytes ≡ [] → SessionStands role past fed sent session → Given so_far amount old new bytes
-      → open_credit role past n ≡ Some amount → Asking closed role past n old so_far (λ now. Sends step closed role past fed sent n amount now session new)
+      → open_credit role past n ≡ Some amount → Asking step closed role past n old so_far (λ now. Sends step closed role past fed sent n amount now session new)
   gave_none role past fed sent n amount so_far session old new bytes e at g some =
       gave_by role past fed sent n amount so_far session old new [] [] (inr (refl, refl)) at (subst (λ t. Given so_far amount old new t) e g) some (is_open closed old.stage) refl

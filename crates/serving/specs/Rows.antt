@@ -155,10 +155,10 @@ pub record SettledRows : Type 0 where
   pub done_with_output : Settled Client all_written None (done_with (7 ∷ []))
 
 abbrev pub MayAsk : Role → List Item → Streaming Bool → HandlerCall → Type 0
-MayAsk role past stream call = MayBeAsked itself role past 1 stream call
+MayAsk role past stream call = MayBeAsked (λ before call now. now ≡ before) itself role past 1 stream call
 
--- what a handler may be asked for: as many bytes as there is credit behind what waits, where it isn't closed, and this
--- direction of a live stream is open
+-- what a handler may be asked for: as many bytes as there is credit behind what waits, where it isn't closed, this
+-- direction of a live stream is open, and it answers so
 pub record AskRows : Type 0 where
   pub all : MayAsk Server two_bytes (serving_of [] false) (Give 262144 (7 ∷ []))
   pub behind_what_waits : MayAsk Server two_bytes (serving_of (1 ∷ 2 ∷ []) false) (Give 262142 [])
@@ -169,6 +169,7 @@ pub record AskRows : Type 0 where
   pub reset : (room : ℕ) → ¬ MayAsk Server (Did (Reset 1) ∷ two_bytes) (serving_of [] false) (Give room [])
   pub taken : (bytes : List ℕ) → ¬ MayAsk Server two_bytes (serving_of [] false) (Take bytes)
   pub ended : ¬ MayAsk Server two_bytes (serving_of [] false) End
+  pub unanswered : ¬ MayBeAsked (λ before call now. ⊥) itself Server two_bytes 1 (serving_of [] false) (Give 262144 [])
 
 -- a handler that fails by 3 where it is asked for 7 bytes
 abbrev pub Fails7 : Bool → Asked → ℕ → Type 0

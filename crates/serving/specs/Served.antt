@@ -12,6 +12,7 @@ use Rattle.yamux_session.specs.Openings.{is_live, closed}
 use Rattle.yamux_session.specs.Windows.{credit, untaken, given_back}
 use Rattle.yamux_session.specs.Data.{written}
 use Rattle.yamux_session.specs.State.{State, Stands as SessionStands}
+use Rattle.streams.specs.declared.stage.Stage.{Stage}
 use Rattle.streams.specs.declared.stage.Stage.TheVariants.{Done}
 use Rattle.streams.specs.declared.stop.Stop.{Stop}
 use Rattle.streams.specs.Streams.{Past, IsServed, with_call}
@@ -20,19 +21,24 @@ use Rattle.streams.specs.Stops.{FailsBy}
 
 -- ---- the call by which a stream is served
 
--- What may be asked for: while the stream is live, and this direction open, a handler that it holds, and that isn't
--- closed, is asked for as many bytes as there is credit behind what waits.
-abbrev pub MayBeAsked : {H : Type 0} → (H → Bool) → Role → List Item → ℕ → Streaming H → HandlerCall → Type 0
-MayBeAsked is_closed role past n stream (Give room bytes) =
-    (is_live role past n ≡ true) × (closed role past n ≡ false) × (is_open is_closed stream.stage ≡ true)
-    × (room ≡ credit role past n - length stream.waiting)
-MayBeAsked is_closed role past n stream (Take bytes) = ⊥
-MayBeAsked is_closed role past n stream End = ⊥
+module _ {H : Type 0} (step : H → HandlerCall → H → Type 0) where
+  -- the handler that a stream holds, where it holds one, answers this call
+  abbrev pub AnswersCall : Stage H → HandlerCall → Type 0
+  AnswersCall stage call = (handler : H) → handler_of stage ≡ Some handler → (after : H) × step handler call after
 
--- The stream's handler was called at most once, for what it may be asked for, and so far this came then.
-abbrev pub Asking : {H : Type 0} → (H → Bool) → Role → List Item → ℕ → Streaming H → Past H → (Past H → Type 0) → Type 0
-Asking is_closed role past n stream so_far Came = (gave : Option HandlerCall)
-    × IfSome gave (MayBeAsked is_closed role past n stream) × Came (with_call so_far gave)
+  -- What may be asked for: while the stream is live, and this direction open, a handler that it holds, and that isn't
+  -- closed, is asked for as many bytes as there is credit behind what waits, and answers.
+  abbrev pub MayBeAsked : (H → Bool) → Role → List Item → ℕ → Streaming H → HandlerCall → Type 0
+  MayBeAsked is_closed role past n stream (Give room bytes) =
+      (is_live role past n ≡ true) × (closed role past n ≡ false) × (is_open is_closed stream.stage ≡ true)
+      × (room ≡ credit role past n - length stream.waiting) × AnswersCall stream.stage (Give room bytes)
+  MayBeAsked is_closed role past n stream (Take bytes) = ⊥
+  MayBeAsked is_closed role past n stream End = ⊥
+
+  -- The stream's handler was called at most once, for what it may be asked for, and so far this came then.
+  abbrev pub Asking : (H → Bool) → Role → List Item → ℕ → Streaming H → Past H → (Past H → Type 0) → Type 0
+  Asking is_closed role past n stream so_far Came = (gave : Option HandlerCall)
+      × IfSome gave (MayBeAsked is_closed role past n stream) × Came (with_call so_far gave)
 
 -- ---- what is done then
 

@@ -4,7 +4,7 @@ use Rattle.streams.specs.Streams.{with_call}
 use Rattle.streams.specs.State.{answering}
 use Rattle.routing.specs.declared.delivered.Outcome.TheVariants as outcomes
 use Rattle.routing.specs.Routing.{Came, Ends}
-use Rattle.routing.proofs.Delivering.{answered, broken, quiet, handler_failed, keeps_memory, ran_out, same_stop, stop_is, same_cause}
+use Rattle.routing.proofs.Delivering.{answered, answers_by, broken, quiet, handler_failed, keeps_memory, ran_out, same_stop, stop_is, same_cause}
 use Rattle.routing.proofs.delivery.deliver_end.Goals as goal
 
 pub returns-in-Ok-clause-ends : goal.returns-in-Ok-clause-ends
@@ -18,7 +18,7 @@ returns-in-Ok-clause-ends g c = λ role past fed sent so_far at stands going awa
     c.deliver_credit.result
     (λ outcome came. (
       λ talks. absurd (let no = (c.in-Ok.ensures.in_talk talks).0 in cc no),
-      λ talks. inl (c.end.new.self, there, c.in-Ok.ensures.kind, came),
+      λ talks. inl (c.end.new.self, there, c.in-Ok.ensures.kind, answers_by H.steps End c.args.stream.now.stage c.end.new.self.stage talks c.in-Ok.ensures.step, came),
     ))
     (c.deliver_credit.ensures.came role past fed sent now at there e)
 

@@ -3,7 +3,7 @@ use Rattle.handlers.specs.Calls.{Take, ToTake}
 use Rattle.streams.specs.Streams.{with_call}
 use Rattle.streams.specs.State.{answering}
 use Rattle.routing.specs.Routing.{Came, Takes}
-use Rattle.routing.proofs.Delivering.{answered, broken, quiet, handler_failed, keeps_memory, ran_out, same_stop}
+use Rattle.routing.proofs.Delivering.{answered, answers_by, broken, quiet, handler_failed, keeps_memory, ran_out, same_stop}
 use Rattle.routing.proofs.delivery.taken.Goals as goal
 
 pub returns-in-Ok-clause-takes : goal.returns-in-Ok-clause-takes
@@ -15,7 +15,7 @@ returns-in-Ok-clause-takes g c = λ role past fed sent so_far at stands going ta
     (λ outcome. Came H.steps H.fails H.is_closed H.is_finished role past fed sent c.args.number now c.take.new.self c.args.session.now outcome c.deliver_credit.new.session c.deliver_credit.new.stream)
     (λ outcome. Takes H.steps H.fails H.is_closed H.is_finished role past fed sent c.args.number so_far c.args.bytes.now c.args.stream.now c.args.session.now outcome c.deliver_credit.new.session c.deliver_credit.new.stream)
     c.deliver_credit.result
-    (λ outcome came. inl (c.take.new.self, there, c.in-Ok.ensures.kind, came))
+    (λ outcome came. inl (c.take.new.self, there, c.in-Ok.ensures.kind, answers_by H.steps (Take c.args.bytes.now) c.args.stream.now.stage c.take.new.self.stage talks c.in-Ok.ensures.step, came))
     (c.deliver_credit.ensures.came role past fed sent now at there e)
 
 pub returns-in-Err-clause-takes : goal.returns-in-Err-clause-takes

@@ -1,6 +1,6 @@
 use Rattle.std.proofs.Common.{◌≡◌, [], sym, ◌∙◌}
 use Rattle.std.proofs.lemmas.Bool.{eqb-true}
-use Rattle.serving.proofs.Sending.{whole, gave, gave_none, none_of}
+use Rattle.serving.proofs.Sending.{whole, answers_on, gave, gave_none, none_of}
 use Rattle.serving.proofs.Refusals.{open_with}
 use Rattle.serving.proofs.serving.send.Goals as goal
 
@@ -12,6 +12,7 @@ returns-in-Ok-clause-sends g c = λ role past fed sent so_far at is_open stands.
     gave g.H.Handler.steps g.H.Handler.is_closed role past fed sent c.args.number c.args.credit so_far c.write.new.self c.args.stream.now c.give.new.self c.in_ok-bytes.bytes.items it.0
     (it.1 ∙ all) it.2 (record {
       asked = c.in_ok-bytes.ensures.asked so_far stands;
+      answers = answers_on g.H.Handler.steps g.H.Handler.is_closed c.args.credit c.args.stream.now c.give.new.self c.in_ok-bytes.bytes.items c.in_ok-bytes.ensures.step;
       not_asked = c.in_ok-bytes.ensures.not_asked so_far stands;
       same = λ shut. (c.in_ok-bytes.ensures.same shut).0;
       full = c.in_ok-bytes.ensures.full;
@@ -24,6 +25,7 @@ returns-then-is_empty-clause-sends g c = λ role past fed sent so_far at is_open
     gave_none g.H.Handler.steps g.H.Handler.is_closed role past fed sent c.args.number c.args.credit so_far c.args.session.now c.args.stream.now c.give.new.self c.in_ok-bytes.bytes.items
     none at (record {
       asked = c.in_ok-bytes.ensures.asked so_far stands;
+      answers = answers_on g.H.Handler.steps g.H.Handler.is_closed c.args.credit c.args.stream.now c.give.new.self c.in_ok-bytes.bytes.items c.in_ok-bytes.ensures.step;
       not_asked = c.in_ok-bytes.ensures.not_asked so_far stands;
       same = λ shut. (c.in_ok-bytes.ensures.same shut).0;
       full = c.in_ok-bytes.ensures.full;
