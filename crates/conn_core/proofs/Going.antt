@@ -90,13 +90,13 @@ module _ {P H : Type 0} (step : H → HandlerCall → H → Type 0) (fails : H �
   -- a fault was met by what was fed
   pub up_faults : (input piece : List ℕ) (asked : List (ℕ × ℕ)) (before old new all : List (ConnEvent H)) (written pending : List ℕ) (session : State) (streams : ℕ → Option (Streaming H)) (past : List (Earlier H))
       (up : IsUp step fails is_closed is_finished inbound_makes outbound_makes listed is_eager inbound_leads outbound_leads start role own input asked (before ++ old) written session streams past)
-      (behind : P)
+      (behind : P) (then : ℕ → Option (Streaming H)) (later : List (Earlier H))
       → Faults step fails is_closed is_finished inbound_makes outbound_makes (is_eager start) (listed start) (id_of up.key) (session_role role)
       (MakesOn inbound_leads outbound_leads (id_of up.key) (session_role role) up.now behind) up.log [] old new up.rest piece
-      (output (session_role role) (items up.log)) pending
+      (output (session_role role) (items up.log)) pending then later
       → all ≡ new ++ event.Fault fault.Mux ∷ []
       → IsFaulty step fails is_closed is_finished inbound_makes outbound_makes listed is_eager inbound_leads outbound_leads start role own (input ++ piece) asked (before ++ all) (written ++ pending)
-  up_faults input piece asked before old new all written pending session streams past up behind f all_is =
+  up_faults input piece asked before old new all written pending session streams past up behind then later f all_is =
       let now = f.newer ++ up.log in
       let sent = output (session_role role) (items up.log) in
       let logs : now ≡ now ++ [] = sym (append-nil now) in
@@ -107,6 +107,8 @@ module _ {P H : Type 0} (step : H → HandlerCall → H → Type 0) (fails : H �
         greeting = up.greeting;
         sent = sent;
         pending = pending;
+        streams = then;
+        past = later;
         before = before ++ new;
         now = behind;
         input_is = ap (λ t. t ++ piece) up.input_is ∙ append_assoc up.first up.rest piece;
@@ -122,9 +124,7 @@ module _ {P H : Type 0} (step : H → HandlerCall → H → Type 0) (fails : H �
           rest = f.rest;
           bytes_are = ap (λ t. up.rest ++ t) f.bytes_are ∙ sym (append_assoc up.rest f.front f.rest);
           session = f.session;
-          streams = f.streams;
-          past = f.past;
-          at_rest = subst (λ t. AreAtRest step fails is_closed is_finished inbound_makes outbound_makes (is_eager start) (listed start) (id_of up.key) (session_role role) t (up.rest ++ f.front) sent f.session f.streams f.past) logs f.at_rest;
+          at_rest = subst (λ t. AreAtRest step fails is_closed is_finished inbound_makes outbound_makes (is_eager start) (listed start) (id_of up.key) (session_role role) t (up.rest ++ f.front) sent f.session then later) logs f.at_rest;
           now = f.now;
           came = (f.came.0, f.came.1 ∙ ap (λ t. map Came f.came.0 ++ items t) logs);
           fault = f.fault;
@@ -142,7 +142,7 @@ module _ {P H : Type 0} (step : H → HandlerCall → H → Type 0) (fails : H �
       → IsUpWith step fails is_closed is_finished inbound_makes outbound_makes listed is_eager inbound_leads outbound_leads start role own input asked (before ++ old) (taken ++ waiting) mux
       → ((log : List (Entry H)) (fed sent : List ℕ) → AreAtRest step fails is_closed is_finished inbound_makes outbound_makes (is_eager mux.board.protocols) (listed mux.board.protocols) mux.board.peer mux.board.role log fed sent mux.session (tree.get nat_cmp mux.board.streams) mux.board.past.items
       → after.session.failed ≡ true
-      → Faults step fails is_closed is_finished inbound_makes outbound_makes (is_eager mux.board.protocols) (listed mux.board.protocols) mux.board.peer mux.board.role (MakesOnBoard inbound_leads outbound_leads mux.board after.board) log [] old new fed piece sent after.session.pending)
+      → Faults step fails is_closed is_finished inbound_makes outbound_makes (is_eager mux.board.protocols) (listed mux.board.protocols) mux.board.peer mux.board.role (MakesOnBoard inbound_leads outbound_leads mux.board after.board) log [] old new fed piece sent after.session.pending (tree.get nat_cmp after.board.streams) after.board.past.items)
       → after.session.failed ≡ true → moved ≡ waiting ++ after.session.pending
       → IsFaulty step fails is_closed is_finished inbound_makes outbound_makes listed is_eager inbound_leads outbound_leads start role own (input ++ piece) asked (before ++ (new ++ event.Fault fault.Mux ∷ [])) (taken ++ moved)
   up_breaks input piece taken waiting moved asked before old new mux after upw faults_by failed moved_is =
@@ -150,16 +150,18 @@ module _ {P H : Type 0} (step : H → HandlerCall → H → Type 0) (fails : H �
       let up = upw.3.0 in
       let sent = output (session_role role) (items up.log) in
       let streams = tree.get nat_cmp board.streams in
+      let then = tree.get nat_cmp after.board.streams in
+      let later = after.board.past.items in
       let faults = as_known (is_eager board.protocols) (is_eager start) (listed board.protocols) (listed start) board.peer (id_of up.key) board.role (session_role role) upw.1 upw.0 upw.3.1 upw.2
       (λ e n p r. AreAtRest step fails is_closed is_finished inbound_makes outbound_makes e n p r up.log up.rest sent mux.session streams board.past.items
       → after.session.failed ≡ true
-      → Faults step fails is_closed is_finished inbound_makes outbound_makes e n p r (MakesInOrder inbound_leads outbound_leads p r board.protocols after.board.protocols board.order after.board.order) up.log [] old new up.rest piece sent after.session.pending)
+      → Faults step fails is_closed is_finished inbound_makes outbound_makes e n p r (MakesInOrder inbound_leads outbound_leads p r board.protocols after.board.protocols board.order after.board.order) up.log [] old new up.rest piece sent after.session.pending then later)
       (faults_by up.log up.rest sent) up.at_rest failed in
       let made = faults_made step fails is_closed is_finished inbound_makes outbound_makes (is_eager start) (listed start) (id_of up.key) (session_role role)
       (MakesInOrder inbound_leads outbound_leads (id_of up.key) (session_role role) board.protocols after.board.protocols board.order after.board.order)
-      (MakesOn inbound_leads outbound_leads (id_of up.key) (session_role role) board.protocols after.board.protocols) up.log [] old new up.rest piece sent after.session.pending (λ longer both. both.0) faults in
+      (MakesOn inbound_leads outbound_leads (id_of up.key) (session_role role) board.protocols after.board.protocols) up.log [] old new up.rest piece sent after.session.pending then later (λ longer both. both.0) faults in
       let from_now = subst (λ q. Faults step fails is_closed is_finished inbound_makes outbound_makes (is_eager start) (listed start) (id_of up.key) (session_role role)
-      (MakesOn inbound_leads outbound_leads (id_of up.key) (session_role role) q after.board.protocols) up.log [] old new up.rest piece sent after.session.pending) upw.3.2 made in
-      let it = up_faults input piece asked before old new (new ++ event.Fault fault.Mux ∷ []) (taken ++ waiting) after.session.pending mux.session streams board.past.items up after.board.protocols from_now refl in
+      (MakesOn inbound_leads outbound_leads (id_of up.key) (session_role role) q after.board.protocols) up.log [] old new up.rest piece sent after.session.pending then later) upw.3.2 made in
+      let it = up_faults input piece asked before old new (new ++ event.Fault fault.Mux ∷ []) (taken ++ waiting) after.session.pending mux.session streams board.past.items up after.board.protocols then later from_now refl in
       let written : (taken ++ waiting) ++ after.session.pending ≡ taken ++ moved = append_assoc taken waiting after.session.pending ∙ ap (λ (t : List ℕ). taken ++ t) (sym moved_is) in
       subst (λ (t : List ℕ). IsFaulty step fails is_closed is_finished inbound_makes outbound_makes listed is_eager inbound_leads outbound_leads start role own (input ++ piece) asked (before ++ (new ++ event.Fault fault.Mux ∷ [])) t) written it

@@ -104,6 +104,8 @@ module _ {P H : Type 0} (step : H → HandlerCall → H → Type 0) (fails : H �
       pub greeting : List ℕ
       pub sent : List ℕ
       pub pending : List ℕ
+      pub streams : ℕ → Option (Streaming H)
+      pub past : List (Earlier H)
       pub before : List (ConnEvent H)
       pub now : P
       pub input_is : input ≡ first ++ rest
@@ -111,7 +113,7 @@ module _ {P H : Type 0} (step : H → HandlerCall → H → Type 0) (fails : H �
       pub faults : Faults step fails is_closed is_finished inbound_makes outbound_makes (is_eager start) (listed start)
           (id_of key) (session_role role)
           (MakesOn inbound_leads outbound_leads (id_of key) (session_role role) start now) [] asked
-          (event.Upgraded key ∷ []) before [] rest sent pending
+          (event.Upgraded key ∷ []) before [] rest sent pending streams past
       pub early : AreMadeEarly (is_eager start) faults.newer
       pub told_is : told ≡ before ++ event.Fault fault.Mux ∷ []
       pub written_is : written ≡ greeting ++ (sent ++ pending)

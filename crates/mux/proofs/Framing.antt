@@ -75,7 +75,7 @@ module _ {P H : Type 0} (step : H → HandlerCall → H → Type 0) (fails : H �
         }
 
     pub faulted : (making : List (Entry H) → List (Entry H) → Type 0) → making log log → (telling : List (ConnEvent H)) → session.failed ≡ true → (fault : Fault) × (told ≡ event.Fault fault ∷ [])
-        → Faults step fails is_closed is_finished inbound_makes outbound_makes eager names peer role making log [] telling telling fed bytes sent session.pending
+        → Faults step fails is_closed is_finished inbound_makes outbound_makes eager names peer role making log [] telling telling fed bytes sent session.pending streams past
     faulted making kept telling failed alone =
         let f = led.fails failed in
         let fed_is : fed ++ [] ≡ fed = append-nil fed in
@@ -89,8 +89,6 @@ module _ {P H : Type 0} (step : H → HandlerCall → H → Type 0) (fails : H �
           rest = bytes;
           bytes_are = refl;
           session = before;
-          streams = streams;
-          past = past;
           at_rest = subst (λ (t : List ℕ). AreAtRest step fails is_closed is_finished inbound_makes outbound_makes eager names peer role log t sent before streams past) (sym fed_is) rests;
           now = now;
           came = led.came;
@@ -146,12 +144,12 @@ module _ {P H : Type 0} (step : H → HandlerCall → H → Type 0) (fails : H �
   }
 
   -- the fault came behind what had come before
-  pub faults_behind : (log : List (Entry H)) (before middle after : List (ConnEvent H)) (fed first second sent pending : List ℕ) (between : State) (then : ℕ → Option (Streaming H)) (past : List (Earlier H))
+  pub faults_behind : (log : List (Entry H)) (before middle after : List (ConnEvent H)) (fed first second sent pending : List ℕ) (between : State) (then streams : ℕ → Option (Streaming H)) (past later : List (Earlier H))
       (making so_far one : List (Entry H) → List (Entry H) → Type 0) (joins : (longer last : List (Entry H)) → so_far log longer → one longer last → making log last)
       (g : Grows step fails is_closed is_finished inbound_makes outbound_makes eager names peer role so_far log before middle (fed ++ first) sent between then past)
-      → Faults step fails is_closed is_finished inbound_makes outbound_makes eager names peer role one (g.newer ++ log) [] middle after (fed ++ first) second sent pending
-      → Faults step fails is_closed is_finished inbound_makes outbound_makes eager names peer role making log [] before after fed (first ++ second) sent pending
-  faults_behind log before middle after fed first second sent pending between then past making so_far one joins g f =
+      → Faults step fails is_closed is_finished inbound_makes outbound_makes eager names peer role one (g.newer ++ log) [] middle after (fed ++ first) second sent pending streams later
+      → Faults step fails is_closed is_finished inbound_makes outbound_makes eager names peer role making log [] before after fed (first ++ second) sent pending streams later
+  faults_behind log before middle after fed first second sent pending between then streams past later making so_far one joins g f =
       let logs : f.newer ++ (g.newer ++ log) ≡ (f.newer ++ g.newer) ++ log = sym (append_assoc f.newer g.newer log) in
       let fronts : (fed ++ first) ++ f.front ≡ fed ++ (first ++ f.front) = append_assoc fed first f.front in
       record {
@@ -164,10 +162,8 @@ module _ {P H : Type 0} (step : H → HandlerCall → H → Type 0) (fails : H �
         rest = f.rest;
         bytes_are = ap (λ t. first ++ t) f.bytes_are ∙ sym (append_assoc first f.front f.rest);
         session = f.session;
-        streams = f.streams;
-        past = f.past;
-        at_rest = subst (λ t. AreAtRest step fails is_closed is_finished inbound_makes outbound_makes eager names peer role t (fed ++ (first ++ f.front)) sent f.session f.streams f.past) logs
-            (subst (λ (t : List ℕ). AreAtRest step fails is_closed is_finished inbound_makes outbound_makes eager names peer role (f.newer ++ (g.newer ++ log)) t sent f.session f.streams f.past) fronts f.at_rest);
+        at_rest = subst (λ t. AreAtRest step fails is_closed is_finished inbound_makes outbound_makes eager names peer role t (fed ++ (first ++ f.front)) sent f.session streams later) logs
+            (subst (λ (t : List ℕ). AreAtRest step fails is_closed is_finished inbound_makes outbound_makes eager names peer role (f.newer ++ (g.newer ++ log)) t sent f.session streams later) fronts f.at_rest);
         now = f.now;
         came = (f.came.0, f.came.1 ∙ ap (λ t. map Came f.came.0 ++ items t) logs);
         fault = f.fault;
@@ -177,10 +173,10 @@ module _ {P H : Type 0} (step : H → HandlerCall → H → Type 0) (fails : H �
       }
 
   -- what follows the fault isn't read
-  pub faults_before : (making : List (Entry H) → List (Entry H) → Type 0) (log : List (Entry H)) (before after : List (ConnEvent H)) (fed bytes more sent pending : List ℕ)
-      → Faults step fails is_closed is_finished inbound_makes outbound_makes eager names peer role making log [] before after fed bytes sent pending
-      → Faults step fails is_closed is_finished inbound_makes outbound_makes eager names peer role making log [] before after fed (bytes ++ more) sent pending
-  faults_before making log before after fed bytes more sent pending f = record {
+  pub faults_before : (making : List (Entry H) → List (Entry H) → Type 0) (log : List (Entry H)) (before after : List (ConnEvent H)) (fed bytes more sent pending : List ℕ) (streams : ℕ → Option (Streaming H)) (past : List (Earlier H))
+      → Faults step fails is_closed is_finished inbound_makes outbound_makes eager names peer role making log [] before after fed bytes sent pending streams past
+      → Faults step fails is_closed is_finished inbound_makes outbound_makes eager names peer role making log [] before after fed (bytes ++ more) sent pending streams past
+  faults_before making log before after fed bytes more sent pending streams past f = record {
     newer = f.newer;
     told_is = f.told_is;
     asks_are = f.asks_are;
@@ -190,8 +186,6 @@ module _ {P H : Type 0} (step : H → HandlerCall → H → Type 0) (fails : H �
     rest = f.rest ++ more;
     bytes_are = ap (λ t. t ++ more) f.bytes_are ∙ append_assoc f.front f.rest more;
     session = f.session;
-    streams = f.streams;
-    past = f.past;
     at_rest = f.at_rest;
     now = f.now;
     came = f.came;
@@ -206,11 +200,11 @@ module _ {P H : Type 0} (step : H → HandlerCall → H → Type 0) (fails : H �
   }
 
   -- what was made so was made as this says, too
-  pub faults_made : (making other : List (Entry H) → List (Entry H) → Type 0) (log : List (Entry H)) (asked : List (ℕ × ℕ)) (before after : List (ConnEvent H)) (fed bytes sent pending : List ℕ)
+  pub faults_made : (making other : List (Entry H) → List (Entry H) → Type 0) (log : List (Entry H)) (asked : List (ℕ × ℕ)) (before after : List (ConnEvent H)) (fed bytes sent pending : List ℕ) (streams : ℕ → Option (Streaming H)) (past : List (Earlier H))
       → ((longer : List (Entry H)) → making log longer → other log longer)
-      → Faults step fails is_closed is_finished inbound_makes outbound_makes eager names peer role making log asked before after fed bytes sent pending
-      → Faults step fails is_closed is_finished inbound_makes outbound_makes eager names peer role other log asked before after fed bytes sent pending
-  faults_made making other log asked before after fed bytes sent pending so f = record {
+      → Faults step fails is_closed is_finished inbound_makes outbound_makes eager names peer role making log asked before after fed bytes sent pending streams past
+      → Faults step fails is_closed is_finished inbound_makes outbound_makes eager names peer role other log asked before after fed bytes sent pending streams past
+  faults_made making other log asked before after fed bytes sent pending streams past so f = record {
     newer = f.newer;
     told_is = f.told_is;
     asks_are = f.asks_are;
@@ -220,8 +214,6 @@ module _ {P H : Type 0} (step : H → HandlerCall → H → Type 0) (fails : H �
     rest = f.rest;
     bytes_are = f.bytes_are;
     session = f.session;
-    streams = f.streams;
-    past = f.past;
     at_rest = f.at_rest;
     now = f.now;
     came = f.came;

@@ -18,12 +18,14 @@ use Rattle.conn_log.specs.Rests.{AreAtRest, AreRested}
 
 -- The first fault was met behind a list at whose end all streams are at rest: by a front of these bytes, and by what
 -- this end was asked for, the list grew, what it says was told, and its handlers were made so; by what follows them
--- the other end broke the rules of the session. The output is that of the list up to the fault, with its GoAway.
+-- the other end broke the rules of the session. The output is that of the list up to the fault, with its GoAway. The
+-- streams are held as the list left them.
 pub record Faults {P H : Type 0} (step : H → HandlerCall → H → Type 0) (fails : H → Asked → ℕ → Type 0)
     (is_closed is_finished : H → Bool) (inbound_makes outbound_makes : P → ℕ → List ℕ → H → Type 0)
     (eager : ℕ → Bool) (names : List (List ℕ)) (peer : List ℕ) (role : Role)
     (making : List (Entry H) → List (Entry H) → Type 0) (log : List (Entry H)) (asked : List (ℕ × ℕ))
-    (before after : List (ConnEvent H)) (fed bytes sent pending : List ℕ) : Type 0 where
+    (before after : List (ConnEvent H)) (fed bytes sent pending : List ℕ) (streams : ℕ → Option (Streaming H))
+    (past : List (Earlier H)) : Type 0 where
   pub newer : List (Entry H)
   pub told_is : after ≡ before ++ said newer
   pub asks_are : asks newer ≡ asked
@@ -35,8 +37,6 @@ pub record Faults {P H : Type 0} (step : H → HandlerCall → H → Type 0) (fa
   pub rest : List ℕ
   pub bytes_are : bytes ≡ front ++ rest
   pub session : State
-  pub streams : ℕ → Option (Streaming H)
-  pub past : List (Earlier H)
   pub at_rest : AreAtRest step fails is_closed is_finished inbound_makes outbound_makes eager names peer role
       (newer ++ log) (fed ++ front) sent session streams past
   pub now : List Item

@@ -91,7 +91,8 @@ impl<P: Protocols> Mux<P> {
             → Faults P.H.steps P.H.fails P.H.is_closed P.H.is_finished P.makes_inbound P.makes_outbound
             (P.is_eager self.old.board.protocols) (P.listed self.old.board.protocols) self.old.board.peer
             self.old.board.role (MakesOnBoard P.leads_inbound P.leads_outbound self.old.board self.new.board) log []
-            told.old.items told.new.items fed (take used (drop at piece.now)) sent self.new.session.pending) }
+            told.old.items told.new.items fed (take used (drop at piece.now)) sent self.new.session.pending
+            (tree.get nat_cmp self.new.board.streams) self.new.board.past.items) }
         ensures within { IfOk result (λ used. used ≤ length piece.now - at) }
         ensures goes_on { IfOk result (λ used. at < length piece.now → 0 < used) }
     {
@@ -135,7 +136,8 @@ impl<P: Protocols> Mux<P> {
             → Faults P.H.steps P.H.fails P.H.is_closed P.H.is_finished P.makes_inbound P.makes_outbound
             (P.is_eager self.old.board.protocols) (P.listed self.old.board.protocols) self.old.board.peer
             self.old.board.role (MakesOnBoard P.leads_inbound P.leads_outbound self.old.board self.new.board) log []
-            told.old.items told.new.items fed piece.now sent self.new.session.pending) }
+            told.old.items told.new.items fed piece.now sent self.new.session.pending
+            (tree.get nat_cmp self.new.board.streams) self.new.board.past.items) }
         ensures failed { self.old.session.failed ≡ true
             → (result ≡ Ok tt) × (self.new ≡ self.old) × (told.new ≡ told.old) }
     {

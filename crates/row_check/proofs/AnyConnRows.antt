@@ -180,13 +180,15 @@ module _ {P H : Type 0} (step : H → HandlerCall → H → Type 0) (fails : H �
         (u.key, u.first, u.rest, u.greeting, u.log, u.now, u.input_is, u.upgraded, u.at_rest, u.rested, u.asks_are, u.early, u.makes, u.told_is, u.written_is);
     up_by_name = λ input written asked told session streams past u.
         (u.input_is, u.upgraded, u.at_rest, u.rested, u.asks_are, u.early, u.makes, u.told_is, u.written_is);
-    faulty = λ first rest greeting sent pending key asked before now u f e. record {
+    faulty = λ first rest greeting sent pending key asked before now streams past u f e. record {
       key = key;
       first = first;
       rest = rest;
       greeting = greeting;
       sent = sent;
       pending = pending;
+      streams = streams;
+      past = past;
       before = before;
       now = now;
       input_is = refl;
@@ -197,7 +199,7 @@ module _ {P H : Type 0} (step : H → HandlerCall → H → Type 0) (fails : H �
       written_is = refl;
     };
     faulty_is = λ input written asked told f.
-        (f.key, f.first, f.rest, f.greeting, f.sent, f.pending, f.before, f.now, f.input_is, f.upgraded, f.faults, f.early, f.told_is, f.written_is);
+        (f.key, f.first, f.rest, f.greeting, f.sent, f.pending, f.before, f.now, f.streams, f.past, f.input_is, f.upgraded, f.faults, f.early, f.told_is, f.written_is);
     upgrade_ends = λ input first written ended reason named is comes. Upgrade reason named first is comes refl refl;
     session_ends = λ input written ended asked told f. Session f;
     ends_early = λ input written u. Early refl u refl refl;
@@ -220,8 +222,6 @@ module _ {P H : Type 0} (step : H → HandlerCall → H → Type 0) (fails : H �
       rest = rest;
       bytes_are = refl;
       session = session;
-      streams = streams;
-      past = past;
       at_rest = at_rest;
       now = map Came more ++ items (newer ++ []);
       came = (more, refl);
@@ -230,13 +230,11 @@ module _ {P H : Type 0} (step : H → HandlerCall → H → Type 0) (fails : H �
       frames = (used, le, whole);
       output_is = out;
     };
-    breaks_is = λ peer now asked told before bytes sent pending f. (
+    breaks_is = λ peer now asked told before bytes sent pending streams past f. (
       f.newer,
       f.front,
       f.rest,
       f.session,
-      f.streams,
-      f.past,
       f.came.0,
       f.alone.0,
       f.frames.0,
@@ -252,7 +250,7 @@ module _ {P H : Type 0} (step : H → HandlerCall → H → Type 0) (fails : H �
       subst (λ (l : List Item). EndsWith (f.front ++ take f.frames.0 f.rest) (arrivals l)) f.came.1 f.frames.2,
       subst (λ (l : List Item). sent ++ pending ≡ output (session_role role) l) f.came.1 f.output_is,
     );
-    breaks_by_name = λ peer now asked told before bytes sent pending f. (f.told_is, f.asks_are, f.makes, f.bytes_are, f.at_rest, f.rested, f.came, f.fault, f.alone, f.frames, f.output_is);
+    breaks_by_name = λ peer now asked told before bytes sent pending streams past f. (f.told_is, f.asks_are, f.makes, f.bytes_are, f.at_rest, f.rested, f.came, f.fault, f.alone, f.frames, f.output_is);
   }
 
   -- ---- calls and runs

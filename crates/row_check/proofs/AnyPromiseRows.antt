@@ -49,6 +49,7 @@ any_orders = record {
   told_once = λ role log entry. (λ h. h, λ h. h);
   once = λ role log x n index handler call. (tt, tt, (λ h. h, λ h. h), (λ h. h, λ h. h));
   once_told = λ role log n handler cause. ((λ h. h, λ h. h), (λ h. h, λ h. h), (λ h. h, λ h. h));
+  once_told_else = λ role log n index key fault. (tt, tt, tt, tt);
   lets_go = λ law n newest. law n newest;
   arranges = λ law. law.all;
   follows = λ law. law.follows;

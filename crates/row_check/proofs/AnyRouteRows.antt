@@ -146,14 +146,12 @@ module _ {P H : Type 0} (step : H → HandlerCall → H → Type 0) (fails : H �
       λ u. (u.newer, u.told_is, u.untold, u.same_turn, u.makes, u.awaits),
       λ h. record { newer = h.0; told_is = h.1; untold = h.2; same_turn = h.3; makes = h.4; awaits = h.5 },
     );
-    breaks = λ making log asked before after fed bytes sent pending. (
+    breaks = λ making log asked before after fed bytes sent pending streams past. (
       λ f. (
         f.newer,
         f.front,
         f.rest,
         f.session,
-        f.streams,
-        f.past,
         f.now,
         f.told_is,
         f.asks_are,
@@ -172,20 +170,18 @@ module _ {P H : Type 0} (step : H → HandlerCall → H → Type 0) (fails : H �
         front = h.1;
         rest = h.2;
         session = h.3;
-        streams = h.4;
-        past = h.5;
-        now = h.6;
-        told_is = h.7;
-        asks_are = h.8;
-        makes = h.9;
-        rested = h.10;
-        bytes_are = h.11;
-        at_rest = h.12;
-        came = h.13;
-        fault = h.14;
-        alone = h.15;
-        frames = h.16;
-        output_is = h.17;
+        now = h.4;
+        told_is = h.5;
+        asks_are = h.6;
+        makes = h.7;
+        rested = h.8;
+        bytes_are = h.9;
+        at_rest = h.10;
+        came = h.11;
+        fault = h.12;
+        alone = h.13;
+        frames = h.14;
+        output_is = h.15;
       },
     );
   }

@@ -219,10 +219,10 @@ module _ {P H : Type 0} (step : H → HandlerCall → H → Type 0) (fails : H �
 
   -- how the session of an end faults, from its first byte on
   abbrev pub faults : List ℕ → P → List (ℕ × ℕ) → List (ConnEvent H) → List (ConnEvent H) → List ℕ → List ℕ → List ℕ
-      → Type 0
-  faults peer now asked told before bytes sent pending = Faults step fails is_closed is_finished inbound_makes
-      outbound_makes (is_eager start) (listed start) peer (session_role role) (makes_on peer now) [] asked told before
-      [] bytes sent pending
+      → (ℕ → Option (Streaming H)) → List (Earlier H) → Type 0
+  faults peer now asked told before bytes sent pending streams past = Faults step fails is_closed is_finished
+      inbound_makes outbound_makes (is_eager start) (listed start) peer (session_role role) (makes_on peer now) [] asked
+      told before [] bytes sent pending streams past
 
   -- Where an end stands: these facts, and no others
   pub record AnyConnEndRows : Type 0 where
@@ -260,15 +260,16 @@ module _ {P H : Type 0} (step : H → HandlerCall → H → Type 0) (fails : H �
         × (told ≡ event.Upgraded u.key ∷ said u.log)
         × (written ≡ u.greeting ++ output (session_role role) (items u.log))
     pub faulty : (first rest greeting sent pending : List ℕ) (key : Key) (asked : List (ℕ × ℕ))
-        (before : List (ConnEvent H)) (now : P) → Upgrades role own first (Ok (Some key)) greeting
-        → (f : faults (id_of key) now asked (event.Upgraded key ∷ []) before rest sent pending)
+        (before : List (ConnEvent H)) (now : P) (streams : ℕ → Option (Streaming H)) (past : List (Earlier H))
+        → Upgrades role own first (Ok (Some key)) greeting
+        → (f : faults (id_of key) now asked (event.Upgraded key ∷ []) before rest sent pending streams past)
         → AreMadeEarly (is_eager start) f.newer
         → is_faulty (first ++ rest) asked (before ++ event.Fault fault.Mux ∷ []) (greeting ++ (sent ++ pending))
     pub faulty_is : (input written : List ℕ) (asked : List (ℕ × ℕ)) (told : List (ConnEvent H))
         → is_faulty input asked told written → (key : Key) × (first rest greeting sent pending : List ℕ)
-        × (before : List (ConnEvent H)) × (now : P) × (input ≡ first ++ rest)
-        × Upgrades role own first (Ok (Some key)) greeting
-        × (f : faults (id_of key) now asked (event.Upgraded key ∷ []) before rest sent pending)
+        × (before : List (ConnEvent H)) × (now : P) × (streams : ℕ → Option (Streaming H)) × (past : List (Earlier H))
+        × (input ≡ first ++ rest) × Upgrades role own first (Ok (Some key)) greeting
+        × (f : faults (id_of key) now asked (event.Upgraded key ∷ []) before rest sent pending streams past)
         × AreMadeEarly (is_eager start) f.newer × (told ≡ before ++ event.Fault fault.Mux ∷ [])
         × (written ≡ greeting ++ (sent ++ pending))
     -- the five ends
@@ -331,13 +332,14 @@ module _ {P H : Type 0} (step : H → HandlerCall → H → Type 0) (fails : H �
         ≡ events (session_role role) (items (newer ++ [])) ++ Told.Fault why ∷ [] → used ≤ length rest
         → EndsWith (front ++ take used rest) (arrivals (map Came more ++ items (newer ++ [])))
         → sent ++ pending ≡ output (session_role role) (map Came more ++ items (newer ++ []))
-        → faults peer now asked told (told ++ said newer) (front ++ rest) sent pending
+        → faults peer now asked told (told ++ said newer) (front ++ rest) sent pending streams past
     pub breaks_is : (peer : List ℕ) (now : P) (asked : List (ℕ × ℕ)) (told before : List (ConnEvent H))
-        (bytes sent pending : List ℕ) → faults peer now asked told before bytes sent pending
-        → (newer : List (Entry H)) × (front rest : List ℕ) × (session : State) × (streams : ℕ → Option (Streaming H))
-        × (past : List (Earlier H)) × (more : List Arrival) × (why : Fault) × (used : ℕ)
-        × (before ≡ told ++ said newer) × (asks newer ≡ asked) × makes_on peer now [] (newer ++ [])
-        × (streams_rested peer [] → streams_rested peer (newer ++ [])) × (bytes ≡ front ++ rest)
+        (bytes sent pending : List ℕ) (streams : ℕ → Option (Streaming H)) (past : List (Earlier H))
+        → faults peer now asked told before bytes sent pending streams past
+        → (newer : List (Entry H)) × (front rest : List ℕ) × (session : State) × (more : List Arrival)
+        × (why : Fault) × (used : ℕ) × (before ≡ told ++ said newer) × (asks newer ≡ asked)
+        × makes_on peer now [] (newer ++ []) × (streams_rested peer [] → streams_rested peer (newer ++ []))
+        × (bytes ≡ front ++ rest)
         × streams_rest peer (newer ++ []) front sent session streams past
         × FirstFaults (session_role role) (map Came more ++ items (newer ++ []))
         × (events (session_role role) (map Came more ++ items (newer ++ []))
@@ -346,9 +348,10 @@ module _ {P H : Type 0} (step : H → HandlerCall → H → Type 0) (fails : H �
         × (sent ++ pending ≡ output (session_role role) (map Came more ++ items (newer ++ [])))
     -- the list that it names, of which the eager handlers were made
     pub breaks_by_name : (peer : List ℕ) (now : P) (asked : List (ℕ × ℕ)) (told before : List (ConnEvent H))
-        (bytes sent pending : List ℕ) (f : faults peer now asked told before bytes sent pending)
+        (bytes sent pending : List ℕ) (streams : ℕ → Option (Streaming H)) (past : List (Earlier H))
+        (f : faults peer now asked told before bytes sent pending streams past)
         → (before ≡ told ++ said f.newer) × (asks f.newer ≡ asked) × makes_on peer now [] (f.newer ++ [])
-        × (bytes ≡ f.front ++ f.rest) × streams_rest peer (f.newer ++ []) f.front sent f.session f.streams f.past
+        × (bytes ≡ f.front ++ f.rest) × streams_rest peer (f.newer ++ []) f.front sent f.session streams past
         × (streams_rested peer [] → streams_rested peer (f.newer ++ []))
         × ((more : List Arrival) × (f.now ≡ map Came more ++ items (f.newer ++ [])))
         × FirstFaults (session_role role) f.now

@@ -241,6 +241,7 @@ pub record AnyEndingRows (H : Type 0) : Type 0 where
   pub a_fault : (n : ℕ) (fault : Fault) (told : List Told)
       → (told_reset n (Told.Fault fault ∷ told) ≡ told_reset n told)
       × (told_end n (Told.Fault fault ∷ told) ≡ told_end n told)
+      × (told_credit n (Told.Fault fault ∷ told) ≡ told_credit n told)
   pub at_first : (role : Role) (n : ℕ) → (was_reset role [] n ≡ false) × (end_was_told role [] n ≡ false)
   pub opened : (role : Role) (x : Item) (past : List Item) (n : ℕ) → opens role past x n ≡ true
       → (was_reset role (x ∷ past) n ≡ false) × (end_was_told role (x ∷ past) n ≡ false)

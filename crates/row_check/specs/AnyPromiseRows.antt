@@ -27,6 +27,7 @@ use Rattle.streams.specs.Handled.{Handled}
 use Rattle.streams.specs.State.{Streaming, handler_of, was_handed_out}
 use Rattle.conn_log.specs.declared.earlier.Earlier.{Earlier}
 use Rattle.conn_log.specs.declared.event.ConnEvent.{ConnEvent}
+use Rattle.conn_log.specs.declared.event.ConnFault.{ConnFault}
 use Rattle.conn_log.specs.declared.event.ConnEvent.TheVariants as event
 use Rattle.conn_log.specs.Entries.{Entry, items, said, agreed, is_over, was_done, made_of, calls_of, is_kept}
 use Rattle.conn_log.specs.Entries.{left_behind}
@@ -104,6 +105,9 @@ pub record AnyOrderRows (H : Type 0) : Type 0 where
       → (IsOnce role log (Says (event.Refused n)) ↔ (is_over role log n ≡ false))
       × (IsOnce role log (Says (event.Done n handler)) ↔ (is_over role log n ≡ false))
       × (IsOnce role log (Says (event.Broken n cause)) ↔ (is_over role log n ≡ false))
+  pub once_told_else : (role : Role) (log : List (Entry H)) (n index : ℕ) (key : Key) (fault : ConnFault)
+      → IsOnce {H = H} role log (Says (event.Agreed n index)) × IsOnce {H = H} role log (Says (event.Upgraded key))
+      × IsOnce {H = H} role log (Says (event.Fault fault)) × IsOnce {H = H} role log (Says event.Shut)
   pub lets_go : LetsGo → (n : ℕ) (newest : List ℕ)
       → ((newer older : List ℕ) × (newest ≡ newer ++ n ∷ older) × (times n newer ≡ 0)
       × (without n newest ≡ newer ++ older)) ⊎ ((times n newest ≡ 0) × (without n newest ≡ newest))

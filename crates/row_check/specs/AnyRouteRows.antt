@@ -251,11 +251,11 @@ module _ {P H : Type 0} (step : H → HandlerCall → H → Type 0) (fails : H �
         × (making log (newer ++ log) ≡ true) × awaits (newer ++ log) fed sent session streams past n rest)
     -- how the other end breaks the rules of the session: behind any list, whatever came and was told before
     pub breaks : (making : List (Entry H) → List (Entry H) → Bool) (log : List (Entry H)) (asked : List (ℕ × ℕ))
-        (before after : List (ConnEvent H)) (fed bytes sent pending : List ℕ)
+        (before after : List (ConnEvent H)) (fed bytes sent pending : List ℕ) (streams : ℕ → Option (Streaming H))
+        (past : List (Earlier H))
         → Faults step fails is_closed is_finished inbound_makes outbound_makes eager names peer role
-        (λ old new. making old new ≡ true) log asked before after fed bytes sent pending
-        ↔ ((newer : List (Entry H)) × (front rest : List ℕ) × (session : State)
-        × (streams : ℕ → Option (Streaming H)) × (past : List (Earlier H)) × (now : List Item)
+        (λ old new. making old new ≡ true) log asked before after fed bytes sent pending streams past
+        ↔ ((newer : List (Entry H)) × (front rest : List ℕ) × (session : State) × (now : List Item)
         × (after ≡ before ++ said newer) × (asks newer ≡ asked) × (making log (newer ++ log) ≡ true)
         × (AreRested step fails is_closed is_finished inbound_makes outbound_makes eager names peer role log
         → AreRested step fails is_closed is_finished inbound_makes outbound_makes eager names peer role (newer ++ log))

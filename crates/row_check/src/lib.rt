@@ -3,6 +3,7 @@
 #![tactic(auto)]
 
 pub mod called;
+pub mod clients;
 pub mod defined_codecs;
 pub mod defined_cores;
 pub mod defined_handlers;

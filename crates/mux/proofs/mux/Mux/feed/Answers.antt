@@ -67,13 +67,13 @@ loop-at-preserved g c =
           c.loop-at.self.session (tree.get nat_cmp c.loop-at.self.board.streams) c.loop-at.self.board.past.items → c.feed_frame.new.self.session.failed ≡ true
           → Faults H.steps H.fails H.is_closed H.is_finished makes.makes_inbound makes.makes_outbound eager names peer role
           (MakesInOrder makes.leads_inbound makes.leads_outbound peer role c.loop-at.self.board.protocols c.feed_frame.new.self.board.protocols c.loop-at.self.board.order c.feed_frame.new.self.board.order) (before.newer ++ log) [] c.loop-at.told.items c.feed_frame.new.told.items
-          (fed ++ take at piece) more sent c.feed_frame.new.self.session.pending)
+          (fed ++ take at piece) more sent c.feed_frame.new.self.session.pending (tree.get nat_cmp c.feed_frame.new.self.board.streams) c.feed_frame.new.self.board.past.items)
           (c.in_ok-at.ensures.faults (before.newer ++ log) (fed ++ take at piece) sent) in
           subst (λ (t : List ℕ). Faults H.steps H.fails H.is_closed H.is_finished makes.makes_inbound makes.makes_outbound (makes.is_eager board.protocols) (makes.listed board.protocols) board.peer
-          board.role (MakesOnBoard makes.leads_inbound makes.leads_outbound board c.feed_frame.new.self.board) log [] c.args.told.now.items c.feed_frame.new.told.items fed t sent c.feed_frame.new.self.session.pending) bytes
+          board.role (MakesOnBoard makes.leads_inbound makes.leads_outbound board c.feed_frame.new.self.board) log [] c.args.told.now.items c.feed_frame.new.told.items fed t sent c.feed_frame.new.self.session.pending (tree.get nat_cmp c.feed_frame.new.self.board.streams) c.feed_frame.new.self.board.past.items) bytes
           (faults_behind H.steps H.fails H.is_closed H.is_finished makes.makes_inbound makes.makes_outbound (makes.is_eager board.protocols) (makes.listed board.protocols) board.peer board.role
           log c.args.told.now.items c.loop-at.told.items c.feed_frame.new.told.items fed (take at piece) more sent c.feed_frame.new.self.session.pending c.loop-at.self.session
-          (tree.get nat_cmp c.loop-at.self.board.streams) c.loop-at.self.board.past.items
+          (tree.get nat_cmp c.loop-at.self.board.streams) (tree.get nat_cmp c.feed_frame.new.self.board.streams) c.loop-at.self.board.past.items c.feed_frame.new.self.board.past.items
           (MakesOnBoard makes.leads_inbound makes.leads_outbound board c.feed_frame.new.self.board) (MakesOnBoard makes.leads_inbound makes.leads_outbound board c.loop-at.self.board)
           (MakesInOrder makes.leads_inbound makes.leads_outbound board.peer board.role c.loop-at.self.board.protocols c.feed_frame.new.self.board.protocols c.loop-at.self.board.order c.feed_frame.new.self.board.order) (λ longer last made one. in_order_then makes.leads_inbound makes.leads_outbound board.peer board.role board.protocols c.loop-at.self.board.protocols c.feed_frame.new.self.board.protocols board.order c.loop-at.self.board.order c.feed_frame.new.self.board.order log longer last made one) before (frame before.at_rest failed));
     }
@@ -85,9 +85,9 @@ returns-clause-faults g c = λ log fed sent rests failed.
     let board = c.args.self.now.board in
     let piece = c.args.piece.now in
     subst (λ (t : List ℕ). Faults H.steps H.fails H.is_closed H.is_finished makes.makes_inbound makes.makes_outbound (makes.is_eager board.protocols) (makes.listed board.protocols) board.peer
-    board.role (MakesOnBoard makes.leads_inbound makes.leads_outbound board c.loop-at.self.board) log [] c.args.told.now.items c.loop-at.told.items fed t sent c.loop-at.self.session.pending) (take-append-drop c.loop-at.at piece)
+    board.role (MakesOnBoard makes.leads_inbound makes.leads_outbound board c.loop-at.self.board) log [] c.args.told.now.items c.loop-at.told.items fed t sent c.loop-at.self.session.pending (tree.get nat_cmp c.loop-at.self.board.streams) c.loop-at.self.board.past.items) (take-append-drop c.loop-at.at piece)
     (faults_before H.steps H.fails H.is_closed H.is_finished makes.makes_inbound makes.makes_outbound (makes.is_eager board.protocols) (makes.listed board.protocols) board.peer board.role
-    (MakesOnBoard makes.leads_inbound makes.leads_outbound board c.loop-at.self.board) log c.args.told.now.items c.loop-at.told.items fed (take c.loop-at.at piece) (drop c.loop-at.at piece) sent c.loop-at.self.session.pending
+    (MakesOnBoard makes.leads_inbound makes.leads_outbound board c.loop-at.self.board) log c.args.told.now.items c.loop-at.told.items fed (take c.loop-at.at piece) (drop c.loop-at.at piece) sent c.loop-at.self.session.pending (tree.get nat_cmp c.loop-at.self.board.streams) c.loop-at.self.board.past.items
     (c.loop-at.invariant.faults log fed sent rests failed))
 
 -- a loop that ended in no fault has read the whole piece

@@ -24,7 +24,7 @@ invariant-loop-at g l =
           → AreAtRest H.steps H.fails H.is_closed H.is_finished makes.makes_inbound makes.makes_outbound (makes.is_eager board.protocols) (makes.listed board.protocols) board.peer board.role
           log fed sent l.fn.self.session (tree.get nat_cmp board.streams) board.past.items → l.self.session.failed ≡ true
           → Faults H.steps H.fails H.is_closed H.is_finished makes.makes_inbound makes.makes_outbound (makes.is_eager board.protocols) (makes.listed board.protocols) board.peer board.role
-          (MakesOnBoard makes.leads_inbound makes.leads_outbound board l.self.board) log [] l.fn.told.items l.told.items fed (take l.at l.fn.piece) sent l.self.session.pending;
+          (MakesOnBoard makes.leads_inbound makes.leads_outbound board l.self.board) log [] l.fn.told.items l.told.items fed (take l.at l.fn.piece) sent l.self.session.pending (tree.get nat_cmp l.self.board.streams) l.self.board.past.items;
       failed : l.fn.self.session.failed ≡ true → (l.self ≡ l.fn.self) × (l.told ≡ l.fn.told);
     }
 
