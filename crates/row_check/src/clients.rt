@@ -1,7 +1,8 @@
 //! What calls of a connection's layers promise beyond what their own callers rest on, each by a call of it: one whose
 //! clause comes to say less no longer answers this.
 
-ghost use Rattle.std.specs.Prelude.{◌≡◌, ◌≢◌, ◌⊎◌, ◌↔◌, ℕ, ◌<◌, ◌++◌, true, false, List, [], ◌∷◌, length, drop};
+ghost use Rattle.std.specs.Prelude.{◌≡◌, ◌≢◌, ◌⊎◌, ◌↔◌, ℕ, ◌<◌, ◌-◌, ◌++◌, true, false, nat_lt, List, [], ◌∷◌};
+ghost use Rattle.std.specs.Prelude.{length, take, drop};
 ghost use Rattle.std.specs.Prelude.{Some, None, Ok, Err, OnOk, IfOk, IfErr, OnErr};
 ghost use Rattle.std.specs.List.{All};
 ghost use Rattle.std.specs.Ordering.{nat_cmp};
@@ -10,14 +11,19 @@ ghost use Rattle.ms_select.specs.Listening.{IsName};
 ghost use Rattle.ms_select.specs.Messages.{header, spelled};
 ghost use Rattle.yamux_session.specs.Acts.{open_credit};
 ghost use Rattle.yamux_session.specs.State.{Whenever};
-ghost use Rattle.streams.specs.declared.stage.Stage.TheVariants.{Over};
-ghost use Rattle.streams.specs.State.{is_talking};
-ghost use Rattle.streams.specs.Stops.{not_now};
+ghost use Rattle.handlers.specs.Calls.{Take, End, Give, ToTake, ToEnd};
+ghost use Rattle.streams.specs.declared.stage.Stage.TheVariants.{Serving, Over};
+ghost use Rattle.streams.specs.Streams.{Past};
+ghost use Rattle.streams.specs.State.{Stands, is_talking, awaits_handler, handler_of, is_open, has_finished};
+ghost use Rattle.streams.specs.Hearing.{HasHeard, Moves};
+ghost use Rattle.streams.specs.Stops.{FailsBy, not_now};
 ghost use Rattle.serving.specs.Served.{GivesUp};
 ghost use Rattle.conn_log.specs.Entries.{Entry};
 ghost use Rattle.conn_log.specs.Rests.{AreAtRest};
 ghost use Rattle.conn_log.specs.Routes.{set_aside};
+ghost use Rattle.board.specs.Boards.{MakesOnBoard};
 ghost use Rattle.board.specs.Resets.{told_of_reset};
+ghost use Rattle.mux.specs.Faults.{Faults};
 ghost use Rattle.conn_core.specs.Connects.{waiting_in};
 ghost use Rattle.conn_core.specs.Runs.{Runs};
 
@@ -64,32 +70,68 @@ pub fn answers<H: Handler>(alloc: Global, names: &[&str]) -> Result<Stream<H>, S
     Stream::answer(alloc, names)
 }
 
-/// A stream that was decided hears nothing.
+/// What a stream hears: what it comes to, and what waits then. One that was decided hears nothing.
 pub fn hears<H: Handler>(stream: &mut Stream<H>, bytes: &[u8]) -> Result<Heard, Stop>
     ensures out_of_turn { is_talking stream.old.stage ≡ false → (result ≡ Err not_now) × (stream.new ≡ stream.old) }
+    ensures stage { is_talking stream.old.stage ≡ true → Moves stream.old.stage result stream.new.stage }
+    ensures hears { (past : Past H) → Stands H.steps stream.old past → is_talking stream.old.stage ≡ true
+        → result ≢ Err Stop.OutOfMemory
+        → HasHeard H.steps past (handler_of stream.old.stage) bytes.now result stream.new.waiting }
+    ensures kept { (more : List ℕ) × (stream.new.waiting ≡ stream.old.waiting ++ more) }
 {
     stream.hear(bytes)
 }
 
-/// What waits of a stream stays, whatever its handler takes.
+/// The handler that answers is the one that is held on, and what waits of a stream stays. One that fails is held no
+/// more.
 pub fn takes<H: Handler>(stream: &mut Stream<H>, bytes: &[u8]) -> Result<(), Stop>
     ensures kept { stream.new.waiting ≡ stream.old.waiting }
+    ensures step { (handler : H) → stream.old.stage ≡ Serving handler → OnOk result ((after : H)
+        × (stream.new.stage ≡ Serving after) × H.steps handler (Take bytes.now) after) }
+    ensures fault { (handler : H) → stream.old.stage ≡ Serving handler → IfErr result (λ stop.
+        (stream.new.stage ≡ Over) × FailsBy H.fails handler (ToTake bytes.now) stop) }
+    ensures out_of_turn { (is_talking stream.old.stage ≡ true) ⊎ ((awaits_handler stream.old.stage ≡ true)
+        ⊎ (stream.old.stage ≡ Over)) → (result ≡ Err not_now) × (stream.new ≡ stream.old) }
 {
     stream.take(bytes)
 }
 
-/// And where its end is said.
+/// So where its end is said, which breaks a talk.
 pub fn is_told_the_end<H: Handler>(stream: &mut Stream<H>) -> Result<(), Stop>
     ensures kept { stream.new.waiting ≡ stream.old.waiting }
+    ensures step { (handler : H) → stream.old.stage ≡ Serving handler → OnOk result ((after : H)
+        × (stream.new.stage ≡ Serving after) × H.steps handler End after) }
+    ensures fault { (handler : H) → stream.old.stage ≡ Serving handler → IfErr result (λ stop.
+        (stream.new.stage ≡ Over) × FailsBy H.fails handler ToEnd stop) }
+    ensures in_talk { is_talking stream.old.stage ≡ true
+        → (result ≡ Err (Stop.Broken Cause.Ended)) × (stream.new.stage ≡ Over) }
+    ensures out_of_turn { (awaits_handler stream.old.stage ≡ true) ⊎ (stream.old.stage ≡ Over)
+        → (result ≡ Err not_now) × (stream.new ≡ stream.old) }
 {
     stream.end()
 }
 
-/// What a stream gives is waited for no more.
+/// What a stream gives waits no more, and the handler that gave is the one that is held on.
 pub fn gives<H: Handler>(stream: &mut Stream<H>, room: usize) -> Result<Vec<u8>, Stop>
     ensures waits { OnOk result (stream.new.waiting ≡ drop room stream.old.waiting) }
+    ensures step { (handler : H) → handler_of stream.old.stage ≡ Some handler → H.is_closed handler ≡ false
+        → IfOk result (λ bytes. (after : H) × (more : List ℕ) × (handler_of stream.new.stage ≡ Some after)
+        × (is_talking stream.new.stage ≡ is_talking stream.old.stage)
+        × (bytes.items ≡ take room stream.old.waiting ++ more)
+        × H.steps handler (Give (room - length stream.old.waiting) more) after) }
+    ensures same { is_open H.is_closed stream.old.stage ≡ false
+        → IfOk result (λ bytes. (stream.new.stage ≡ stream.old.stage)
+        × (bytes.items ++ stream.new.waiting ≡ stream.old.waiting)) }
 {
     stream.give(room)
+}
+
+/// Whether a stream has output that waits, and whether its handler has finished.
+pub fn waits_and_has_finished<H: Handler>(stream: &Stream<H>) -> (bool, bool)
+    ensures waits { result.0 ≡ nat_lt 0 (length stream.now.waiting) }
+    ensures finished { result.1 ≡ has_finished H.is_finished stream.now.stage }
+{
+    (stream.waits(), stream.finished())
 }
 
 /// A stream that was turned down is over, and one that was decided changes nothing.
@@ -216,6 +258,16 @@ pub fn mux_feeds<P: Protocols>(
 ) -> Result<(), AllocError>
     ensures failed { mux.old.session.failed ≡ true
         → (result ≡ Ok tt) × (mux.new ≡ mux.old) × (told.new ≡ told.old) }
+    // where it fails the streams are held as the list left them
+    ensures faults { (log : List (Entry P.H)) (fed sent : List ℕ)
+        → AreAtRest P.H.steps P.H.fails P.H.is_closed P.H.is_finished P.makes_inbound P.makes_outbound
+        (P.is_eager mux.old.board.protocols) (P.listed mux.old.board.protocols) mux.old.board.peer mux.old.board.role
+        log fed sent mux.old.session (tree.get nat_cmp mux.old.board.streams) mux.old.board.past.items
+        → OnOk result (mux.new.session.failed ≡ true → Faults P.H.steps P.H.fails P.H.is_closed P.H.is_finished
+        P.makes_inbound P.makes_outbound (P.is_eager mux.old.board.protocols) (P.listed mux.old.board.protocols)
+        mux.old.board.peer mux.old.board.role
+        (MakesOnBoard P.leads_inbound P.leads_outbound mux.old.board mux.new.board) log [] told.old.items told.new.items
+        fed piece.now sent mux.new.session.pending (tree.get nat_cmp mux.new.board.streams) mux.new.board.past.items) }
 {
     mux.feed(piece, told)
 }
