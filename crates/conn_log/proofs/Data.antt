@@ -323,7 +323,7 @@ module _ {P H : Type 0} (step : H → HandlerCall → H → Type 0) (fails : H �
       not_done talks = h.done ∙ talking_kind old.stage talks
 
       decided : (outcome : Outcome H) → is_talking old.stage ≡ true → after ≡ before
-          → Stops step fails is_closed is_finished role (items log) fed sent n makes none_made h.so_far bytes outcome → Went making log [] fed sent after now past n rest outcome
+          → Stops step fails is_closed is_finished role (items log) fed sent n makes none_made h.so_far bytes outcome new → Went making log [] fed sent after now past n rest outcome
       decided outcomes.Refused talks same_session s =
           stopped making log (keeps s.5) outcomes.Refused (event.Refused n) same_session a (λ around. around) refl (
             h.talking talks,

@@ -187,6 +187,13 @@ module _ {P H : Type 0} (step : H → HandlerCall → H → Type 0) (fails : H �
               data_is = all_came ∙ sym (append-nil h.so_far.got);
               comes_to = (sym all_came, open_so_far.1);
             },
+            record {
+              there = record { so_far = h.so_far; stream = old; come = had_come; stands = h.stands };
+              all_came = all_came;
+              talks = talks;
+              asked = λ live. (settled live).asked;
+              none_waits = λ live. (settled live).none_waits;
+            },
           ),
         ) in
         record {

@@ -15,14 +15,18 @@ use Rattle.yamux_session.specs.declared.event.Role.TheVariants.{Client}
 use Rattle.yamux_session.specs.History.Item.{Came, Did}
 use Rattle.yamux_session.specs.History.Act.{Taken, Close}
 use Rattle.yamux_session.specs.Rows.{header}
+use Rattle.yamux_session.specs.Windows.{credit}
 use Rattle.yamux_session.proofs.Hearing.{or_none}
 use Rattle.streams.specs.declared.stage.Stage.TheVariants as stages
-use Rattle.streams.specs.State.{is_talking}
+use Rattle.streams.specs.declared.stage.Stage.{Stage}
+use Rattle.streams.specs.Streams.{Past}
+use Rattle.streams.specs.State.{StandsAt, is_talking}
+use Rattle.streams.proofs.Hearing.{open_before}
 use Rattle.conn_log.specs.Entries.{items, since, agreed, over_in}
 use Rattle.conn_log.specs.Entries.Entry.{Of}
 use Rattle.conn_log.specs.Due.{was_reset}
 use Rattle.conn_log.specs.Held.{IsSide}
-use Rattle.conn_log.specs.EntryRows.{opened, agrees, refuses}
+use Rattle.conn_log.specs.EntryRows.{frame, opened, agrees, refuses, breaks}
 use Rattle.conn_log.specs.PlaceRows as rows
 use Rattle.conn_log.specs.PlaceRows.{TalkPlaceRows, LastPlaceRows, ActPlaceRows, CallPlaceRows, AnewRows, TakenRows, is_due}
 
@@ -56,6 +60,35 @@ refused_by_nothing h =
     undecided it.side it.side_is (Ok NoneLeft) it.output (subst (λ (t : List ℕ). Talks it.side t (Ok NoneLeft) it.output) none it.comes_to) in
     absurd (cc e)
 
+-- what the talk writes at once waits
+unserved : (side : Side) → IsSide Client (x ∷ y ∷ []) (frame 4 2 ++ opened 2) 2 side → (output gave : List ℕ) → Talks side [] (Ok Going) output → no_bytes ≡ output ++ gave → ⊥
+unserved (Asks name index) s output gave talks e = absurd (let e : false ≡ true = s.0 in cc e)
+unserved (Answers known) s output gave talks e =
+    let talks_so : Talks answers [] (Ok Going) output = subst (λ (t : List (List ℕ)). Talks (Answers t) [] (Ok Going) output) s.1 talks in
+    let same : output ≡ header_bytes =
+    (one_outcome answers [] [] [] (Ok Going) (Ok Going) output header_bytes (by_all answers [] (Ok Going) output talks_so) (by_all answers [] (Ok Going) header_bytes answer_rows.at_once)).2 in
+    let none : header_bytes ≡ [] = sym same ∙ front_nil output gave e in
+    absurd (cc none)
+
+talks_unsent : (so_far : Past ℕ) (stage : Stage ℕ) (waiting : List ℕ) → IsSide Client (x ∷ y ∷ []) (frame 4 2 ++ opened 2) 2 so_far.side → no_bytes ≡ so_far.got → so_far.sent ≡ no_bytes
+    → waiting ≡ [] → StandsAt (λ before call now. now ≡ before) stage so_far waiting → is_talking stage ≡ true → ⊥
+talks_unsent so_far (stages.Talking talk handler) waiting side none_came none_sent none_waits s talks =
+    unserved so_far.side side s.output s.gave
+    (subst (λ (t : List ℕ). Talks so_far.side t (Ok Going) s.output) (sym none_came) (open_before so_far.side talk so_far.got s.output s.going))
+    (sym none_waits ∙ sym (ap (λ (t : List ℕ). t ++ waiting) none_sent) ∙ s.sent_is)
+talks_unsent so_far (stages.Agreed index) waiting side none_came none_sent none_waits s talks = absurd (cc talks)
+talks_unsent so_far (stages.Serving handler) waiting side none_came none_sent none_waits s talks = absurd (cc talks)
+talks_unsent so_far stages.Done waiting side none_came none_sent none_waits s talks = absurd (cc talks)
+talks_unsent so_far stages.Over waiting side none_came none_sent none_waits s talks = absurd (cc talks)
+
+ended_unserved : ¬ is_due (frame 4 2 ++ opened 2) (breaks 2)
+ended_unserved h =
+    let cut = h.1.3 in
+    let there = cut.there in
+    let room : credit Client (items (frame 4 2 ++ opened 2)) 2 ≡ 262144 = refl in
+    talks_unsent there.so_far there.stream.stage there.stream.waiting there.come.side_is cut.all_came there.come.sent_is
+    (cut.none_waits refl refl (omega (arith, room))) there.stands cut.talks
+
 on_is_off : true ≡ false → ⊥
 on_is_off e = cc e
 
@@ -83,9 +116,11 @@ last_place_rows = record {
   not_reset = λ h. off_is_on h.1.0;
   not_ended = λ h. off_is_on h.1.0;
   ended_behind_an_agreement = λ h. some_is_none 1 h.1.1;
+  ended_unserved = ended_unserved;
   reset_behind_data = λ h. h.held.got_is;
   reset_behind_its_end = λ h. h.held.ended_is;
   reset_with_its_end = λ h. h.held.ended_is;
+  reset_untaken = λ h serves. off_is_on (h.handed serves);
   fault_of_memory = λ h. h.1.0 refl;
   fault_behind_an_agreement = λ h. some_is_none 1 h.1.1;
   of_none = λ key. (λ h. h, λ h. h, λ h. h);

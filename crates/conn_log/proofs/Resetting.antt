@@ -107,6 +107,7 @@ module _ {P H : Type 0} (step : H → HandlerCall → H → Type 0) (fails : H �
         held = subst (λ (b : Bool). IsHeld step is_closed is_finished names role log n (inbound role (items log) n) b old) end_seen
             (subst (λ (t : List ℕ). IsHeld step is_closed is_finished names role log n t view.ended old) (sym all_came) moving.held);
         unfinished = moving.unfinished;
+        handed = moving.handed;
       },
     ),
   )

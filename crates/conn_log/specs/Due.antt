@@ -20,7 +20,7 @@ use Rattle.streams.specs.declared.stage.Stage.{Stage}
 use Rattle.streams.specs.declared.stage.Stage.TheVariants.{Serving}
 use Rattle.streams.specs.Streams.{Past, IsServed}
 use Rattle.streams.specs.State.{Streaming, Stands, is_talking, handler_of, is_open, has_closed, has_finished}
-use Rattle.streams.specs.State.{was_handed_out}
+use Rattle.streams.specs.State.{was_handed_out, Served, kind_of}
 use Rattle.dispatch.specs.declared.direction.Direction.{Direction}
 use Rattle.dispatch.specs.declared.direction.Direction.TheVariants.{Inbound, Outbound}
 use Rattle.dispatch.specs.Dispatch.{made_by}
@@ -194,8 +194,22 @@ module _ {P H : Type 0} (step : H → HandlerCall → H → Type 0) (fails : H �
     pub held : IsHeld step is_closed is_finished names role log n (inbound role (items log) n)
         (end_was_told role (items log) n) stream
     pub unfinished : has_finished is_finished stream.stage ≡ false
+    -- a handler that serves it was handed what stood behind the talk
+    pub handed : kind_of stream.stage ≡ Served → has_taken (calls_of role log n) ≡ true
 
-  -- why a stream is given up; one that was reset stood by all that came before
+  -- The talk of a stream goes on behind all of its data, and the stream gave what it has: while this direction of a live
+  -- one is open, what was written waits only where no credit is left, and an eager handler was asked last, with all the
+  -- credit, unless it is closed.
+  pub record IsCutOff (log : List (Entry H)) (n : ℕ) : Type 0 where
+    pub there : IsThere log n
+    pub all_came : inbound role (items log) n ≡ there.so_far.got
+    pub talks : is_talking there.stream.stage ≡ true
+    pub asked : is_live role (items log) n ≡ true → closed role (items log) n ≡ false
+        → is_open is_closed there.stream.stage ≡ true → there.so_far.left ≡ Some (credit role (items log) n)
+    pub none_waits : is_live role (items log) n ≡ true → closed role (items log) n ≡ false
+        → 0 < credit role (items log) n → there.stream.waiting ≡ []
+
+  -- why a stream is given up; one that was reset stood by all that came before, and one that ended within its talk, too
   abbrev pub IsBroken : List (Entry H) → ℕ → Cause → Type 0
   IsBroken log n (causes.Select fault) = (fault ≢ select_faults.OutOfMemory) × (agreed role log n ≡ None)
       × ComesTo log n (λ side first output. Faults side first fault output)
@@ -203,6 +217,7 @@ module _ {P H : Type 0} (step : H → HandlerCall → H → Type 0) (fails : H �
   IsBroken log n causes.Reset = (was_reset role (items log) n ≡ true) × HasHeard log n
   IsBroken log n causes.Ended = (end_was_told role (items log) n ≡ true) × (agreed role log n ≡ None)
       × ComesTo log n (λ side first output. (first ≡ inbound role (items log) n) × IsOpen side first output)
+      × IsCutOff log n
 
   -- ---- each entry where it stands
 

@@ -1,7 +1,7 @@
 -- Worked rows of which entries may stand where (multistream-select 1.0, "Protocol Negotiation"; hashicorp yamux, "Flag
 -- Field"; what a connection tells is this project's profile): of a client's connection whose protocols are called x and
 -- y, and on which the other end has opened stream 2. Lists have the newest first.
-use Rattle.std.specs.Prelude.{◌≡◌, ◌↔◌, ℕ, ◌-◌, true, false, List, [], ◌∷◌, ◌++◌, length}
+use Rattle.std.specs.Prelude.{◌≡◌, ◌≢◌, ◌↔◌, ℕ, ◌-◌, true, false, List, [], ◌∷◌, ◌++◌, length}
 use Rattle.peer_ids.specs.Key.{Key}
 use Rattle.handlers.specs.Calls.{HandlerCall, Take, Give, End, Asked, ToTake, ToGive, ToEnd}
 use Rattle.ms_select.specs.declared.fault.SelectFault.TheVariants.{NotProposed, OutOfMemory}
@@ -14,6 +14,7 @@ use Rattle.yamux_session.specs.History.Item.{Came, Did}
 use Rattle.yamux_session.specs.History.Act.{Start, Taken, Close, Reset}
 use Rattle.yamux_session.specs.Rows.{header}
 use Rattle.streams.specs.declared.stop.Cause.TheVariants as causes
+use Rattle.streams.specs.State.{Served, kind_of}
 use Rattle.conn_log.specs.declared.event.ConnFault.TheVariants as faults
 use Rattle.conn_log.specs.declared.event.ConnEvent.TheVariants as event
 use Rattle.conn_log.specs.Entries.{Entry, has_taken}
@@ -100,10 +101,14 @@ pub record LastPlaceRows : Type 0 where
   pub not_reset : ¬ is_due (frame 4 2 ++ opened 2) (Says (event.Broken 2 causes.Reset))
   pub not_ended : ¬ is_due (opened 2) (breaks 2)
   pub ended_behind_an_agreement : ¬ is_due (frame 4 2 ++ agrees 2 1 ∷ opened 2) (breaks 2)
+  -- nor was it served yet, whose header waits
+  pub ended_unserved : ¬ is_due (frame 4 2 ++ opened 2) (breaks 2)
   -- one that was reset stood by its data, and by its end where that was told, which isn't where both came in one frame
   pub reset_behind_data : (h : has_heard (frame 8 2 ++ has_come)) → h.held.so_far.got ≡ 99 ∷ []
   pub reset_behind_its_end : (h : has_heard (frame 8 2 ++ frame 4 2 ++ opened 2)) → h.held.so_far.ended ≡ true
   pub reset_with_its_end : (h : has_heard (frame 12 2 ++ opened 2)) → h.held.so_far.ended ≡ false
+  -- and its handler was handed what stood behind the talk
+  pub reset_untaken : (h : has_heard (frame 8 2 ++ served)) → kind_of h.stream.stage ≢ Served
   -- want of memory breaks no stream, and behind an agreement no talk does
   pub fault_of_memory : ¬ is_due (opened 2) (Says (event.Broken 2 (causes.Select OutOfMemory)))
   pub fault_behind_an_agreement : ¬ is_due (agrees 2 1 ∷ opened 2) (Says (event.Broken 2 (causes.Select NotProposed)))

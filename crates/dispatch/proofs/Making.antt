@@ -127,4 +127,4 @@ module _ {H : Type 0} (step : H → HandlerCall → H → Type 0) (makes : ℕ �
   none_agreed so_far piece old new heards.Going h other kept = (h.stands (λ e. cc e), h.moves.0, kept)
   none_agreed so_far piece old new (heards.Agreed index used) h other kept = absurd (other index used refl)
   none_agreed so_far piece old new heards.Refused h other kept =
-      let down = h.has_heard.hears in (down.0, down.1, h.has_heard.output, down.2, down.3, kept)
+      let down = h.has_heard.hears in (down.0, down.1, h.has_heard.output, down.2, down.3, kept, h.moves)

@@ -9,7 +9,7 @@ use Rattle.ms_select.specs.declared.fault.SelectFault.TheVariants as select_faul
 use Rattle.talks.specs.Talks.{Side, Asks, Answers, Agrees, IsTurnedDown, Faults}
 use Rattle.streams.specs.declared.heard.Heard.{Heard}
 use Rattle.streams.specs.declared.heard.Heard.TheVariants.{Going, Agreed, Refused}
-use Rattle.streams.specs.declared.stage.Stage.TheVariants.{Serving}
+use Rattle.streams.specs.declared.stage.Stage.TheVariants.{Serving, Over}
 use Rattle.streams.specs.declared.stop.Cause.TheVariants.{Select, Handler, Reset, Ended}
 use Rattle.streams.specs.declared.stop.Stop.{Stop}
 use Rattle.streams.specs.declared.stop.Stop.TheVariants.{Broken, OutOfMemory}
@@ -69,13 +69,13 @@ module _ {H : Type 0} (step : H → HandlerCall → H → Type 0) (makes : ℕ �
       × ((made : H) × IsMade makes none_made so_far index made
       × Stands step stream (record so_far { got = so_far.got ++ take used bytes; made = Some made }))
       × ((handler : H) × (stream.stage ≡ Serving handler))
-  -- the other end doesn't know the protocol
+  -- the other end doesn't know the protocol: the stream is over
   Negotiates so_far bytes (Ok Refused) stream =
       (front : List ℕ) × (rest : List ℕ) × (output : List ℕ) × (bytes ≡ front ++ rest)
-      × IsTurnedDown so_far.side (so_far.got ++ front) output × none_made
+      × IsTurnedDown so_far.side (so_far.got ++ front) output × none_made × (stream.stage ≡ Over)
   Negotiates so_far bytes (Err (Broken (Select fault))) stream =
       (fault ≢ select_faults.OutOfMemory) × ((output : List ℕ) × Faults so_far.side (so_far.got ++ bytes) fault output)
-      × none_made
+      × none_made × (stream.stage ≡ Over)
   Negotiates so_far bytes (Err (Broken (Handler fault))) stream = ⊥
   Negotiates so_far bytes (Err (Broken Reset)) stream = ⊥
   Negotiates so_far bytes (Err (Broken Ended)) stream = ⊥

@@ -82,6 +82,12 @@ handler_failed fails asked old stop why is by_handler not_done (inl serves) =
     (serves.0, f.0, serves.1, f.2, ap outcomes.Broken (same_cause (sym is ∙ f.1)))
 handler_failed fails asked old stop why is by_handler not_done (inr done) = absurd (not_done done)
 
+-- a stream whose handler served it, or was handed out, is over where its handler failed
+pub over_by : {H : Type 0} (old new : Stage H) → ((handler : H) → old ≡ stages.Serving handler → new ≡ stages.Over) → (old ≡ stages.Done → ⊥)
+    → ((handler : H) × (old ≡ stages.Serving handler)) ⊎ (old ≡ stages.Done) → new ≡ stages.Over
+over_by old new by_handler not_done (inl serves) = by_handler serves.0 serves.1
+over_by old new by_handler not_done (inr done) = absurd (not_done done)
+
 -- an answer that names a cause
 abbrev stopping : {A : Type 0} → Stop → Result A Stop
 stopping stop = Err stop

@@ -24,7 +24,7 @@ use Rattle.routing.specs.declared.delivered.Outcome.TheVariants.{Going, Done, Re
 module _ {H : Type 0} (step : H → HandlerCall → H → Type 0) (fails : H → Asked → ℕ → Type 0)
     (is_closed is_finished : H → Bool) (role : Role) (past : List Item) (fed sent : List ℕ) (n : ℕ) where
   -- What serving the stream came to, which stood so: it was served, or its handler gave up when it was asked for bytes,
-  -- and nothing was done.
+  -- nothing was done, and the stream is over.
   abbrev pub Came : Past H → Streaming H → State → Outcome H → State → Streaming H → Type 0
   Came so_far old before Going session stream =
       Asking step is_closed role past n old so_far (λ now. Serves step is_closed is_finished (was_handed_out old.stage)
@@ -37,13 +37,14 @@ module _ {H : Type 0} (step : H → HandlerCall → H → Type 0) (fails : H →
   Came so_far old before Refused session stream = ⊥
   Came so_far old before (Broken cause) session stream =
       (session ≡ before) × ((credit : ℕ) × (open_credit role past n ≡ Some credit)
-      × GivesUp fails is_closed old credit (stops.Broken cause))
+      × GivesUp fails is_closed old credit (stops.Broken cause)) × (stream ≡ record old { stage = stages.Over })
 
-  -- the handler that serves the stream fails at this, and nothing was done
-  abbrev pub Fails : Asked → Streaming H → State → Outcome H → State → Type 0
-  Fails asked old before outcome session =
+  -- the handler that serves the stream fails at this, nothing was done, and the stream is over
+  abbrev pub Fails : Asked → Streaming H → State → Outcome H → State → Streaming H → Type 0
+  Fails asked old before outcome session stream =
       (session ≡ before) × ((handler : H) × (fault : HandlerFault) × (old.stage ≡ stages.Serving handler)
       × fails handler asked fault.number × (outcome ≡ Broken (causes.Handler fault)))
+      × (stream.stage ≡ stages.Over) × (stream.waiting ≡ old.waiting)
 
   -- The handler answered this call, or it was dropped, and the stream was served: so far this came then. Or the handler
   -- failed at what it was asked for.
@@ -51,17 +52,19 @@ module _ {H : Type 0} (step : H → HandlerCall → H → Type 0) (fails : H →
   Hands call asked so_far old before outcome session stream =
       ((middle : Streaming H) × Stands step middle so_far × (kind_of middle.stage ≡ kind_of old.stage)
       × AnswersCall step old.stage call × Came so_far middle before outcome session stream)
-      ⊎ Fails asked old before outcome session
+      ⊎ Fails asked old before outcome session stream
 
   -- data behind the talk
   abbrev pub Takes : Past H → List ℕ → Streaming H → State → Outcome H → State → Streaming H → Type 0
   Takes so_far bytes old = Hands (Take bytes) (ToTake bytes)
       (with_call (record so_far { got = so_far.got ++ bytes; left = None }) (answering old.stage (Take bytes))) old
 
-  -- What came of the end: an end within the talk breaks the stream, and nothing is done.
+  -- What came of the end: an end within the talk breaks the stream, which is over then, and nothing is done.
   abbrev pub Ends : Past H → Streaming H → State → Outcome H → State → Streaming H → Type 0
   Ends so_far old before outcome session stream =
-      (is_talking old.stage ≡ true → (outcome ≡ Broken causes.Ended) × (session ≡ before))
+      (is_talking old.stage ≡ true
+      → (outcome ≡ Broken causes.Ended) × (session ≡ before) × (stream.stage ≡ stages.Over)
+      × (stream.waiting ≡ old.waiting))
       × (is_talking old.stage ≡ false
       → Hands End ToEnd (with_call (record so_far { ended = true; left = None }) (answering old.stage End)) old before
       outcome session stream)
@@ -77,19 +80,20 @@ module _ {H : Type 0} (step : H → HandlerCall → H → Type 0) (fails : H →
       pub stands : Stands step middle (record so_far { got = so_far.got ++ front; made = Some made })
       pub serving : kind_of middle.stage ≡ Served
 
-    -- Why the stream is done with before it was served: nothing was done or made then.
-    abbrev pub Stops : Past H → List ℕ → Outcome H → Type 0
-    Stops so_far bytes Refused =
+    -- Why the stream is done with before it was served: nothing was done or made then, and it is over.
+    abbrev pub Stops : Past H → List ℕ → Outcome H → Streaming H → Type 0
+    Stops so_far bytes Refused stream =
         (front : List ℕ) × (rest : List ℕ) × (output : List ℕ) × (bytes ≡ front ++ rest)
-        × IsTurnedDown so_far.side (so_far.got ++ front) output × none_made
-    Stops so_far bytes (Broken (causes.Select fault)) =
+        × IsTurnedDown so_far.side (so_far.got ++ front) output × none_made × (stream.stage ≡ stages.Over)
+    Stops so_far bytes (Broken (causes.Select fault)) stream =
         (fault ≢ select_faults.OutOfMemory)
         × ((output : List ℕ) × Faults so_far.side (so_far.got ++ bytes) fault output) × none_made
-    Stops so_far bytes (Broken (causes.Handler fault)) = ⊥
-    Stops so_far bytes (Broken causes.Reset) = ⊥
-    Stops so_far bytes (Broken causes.Ended) = ⊥
-    Stops so_far bytes Going = ⊥
-    Stops so_far bytes (Done handler) = ⊥
+        × (stream.stage ≡ stages.Over)
+    Stops so_far bytes (Broken (causes.Handler fault)) stream = ⊥
+    Stops so_far bytes (Broken causes.Reset) stream = ⊥
+    Stops so_far bytes (Broken causes.Ended) stream = ⊥
+    Stops so_far bytes Going stream = ⊥
+    Stops so_far bytes (Done handler) stream = ⊥
 
     -- while it talks: nothing is decided, or both ends agree, or it stops
     abbrev pub InTalk : Past H → List ℕ → State → Option ℕ → Outcome H → State → Streaming H → Type 0
@@ -97,7 +101,7 @@ module _ {H : Type 0} (step : H → HandlerCall → H → Type 0) (fails : H →
         ((middle : Streaming H) × Stands step middle (record so_far { got = so_far.got ++ bytes })
         × (is_talking middle.stage ≡ true) × none_made
         × Came (record so_far { got = so_far.got ++ bytes }) middle before outcome session stream)
-        ⊎ ((session ≡ before) × Stops so_far bytes outcome)
+        ⊎ ((session ≡ before) × Stops so_far bytes outcome stream)
     InTalk so_far bytes before (Some index) outcome session stream =
         (front : List ℕ) × (rest : List ℕ) × (middle : Streaming H)
         × ((has : HasAgreed so_far bytes index front rest middle)

@@ -94,8 +94,8 @@ module _ {P H : Type 0} (step : H → HandlerCall → H → Type 0) (fails : H �
     takes_in_turn = λ log n stage so_far handler bytes. (λ h. h, λ h. h);
     ends_in_turn = λ log n stage so_far handler. (λ h. h, λ h. h);
     gives_in_turn = λ log n stage so_far handler room. (λ h. h, λ h. h);
-    heard = λ log n stream held unfinished. record { stream = stream; held = held; unfinished = unfinished };
-    heard_is = λ log n h. (h.stream, h.held, h.unfinished);
+    heard = λ log n stream held unfinished handed. record { stream = stream; held = held; unfinished = unfinished; handed = handed };
+    heard_is = λ log n h. (h.stream, h.held, h.unfinished, h.handed);
     broken_in_talk = λ log n fault. (
       λ h. (h.0, h.1, (h.2.side, h.2.first, h.2.rest, h.2.output, (h.2.side_is, h.2.data_is), h.2.comes_to)),
       λ h. (h.0, h.1, record { side = h.2.0; first = h.2.1; rest = h.2.2; output = h.2.3; side_is = h.2.4.0; data_is = h.2.4.1; comes_to = h.2.5 }),
@@ -103,7 +103,7 @@ module _ {P H : Type 0} (step : H → HandlerCall → H → Type 0) (fails : H �
     broken_by_handler = λ log n fault. (λ h. h, λ h. h);
     broken_by_reset = λ log n. (λ h. h, λ h. h);
     broken_by_its_end = λ log n. (
-      λ h. (h.0, h.1, (h.2.side, h.2.output, h.2.side_is, subst (λ (t : List ℕ). IsOpen h.2.side t h.2.output) h.2.comes_to.0 h.2.comes_to.1)),
+      λ h. (h.0, h.1, (h.2.side, h.2.output, h.2.side_is, subst (λ (t : List ℕ). IsOpen h.2.side t h.2.output) h.2.comes_to.0 h.2.comes_to.1), h.3),
       λ h. (
         h.0,
         h.1,
@@ -116,8 +116,11 @@ module _ {P H : Type 0} (step : H → HandlerCall → H → Type 0) (fails : H �
           data_is = sym (append-nil (inbound role (items log) n));
           comes_to = (refl, h.2.3);
         },
+        h.3,
       ),
     );
+    cut_off = λ log n there came talks asked none. record { there = there; all_came = came; talks = talks; asked = asked; none_waits = none };
+    cut_off_is = λ log n c. (c.there, c.all_came, c.talks, c.asked, c.none_waits);
     done = λ log n handler so_far waiting come all served finished asked none handed.
         record { so_far = so_far; waiting = waiting; come = come; all_came = all; served = served; finished = finished; asked = asked; none_waits = none; handed = handed };
     done_is = λ log n handler d. (d.so_far, d.waiting, d.come, d.all_came, d.served, d.finished, d.asked, d.none_waits, d.handed);

@@ -222,7 +222,7 @@ module _ {H : Type 0} (step : H → HandlerCall → H → Type 0) (fails : H →
     came_done = λ so_far old stream before session handler. (λ h. h, λ h. h);
     came_refused = λ so_far old stream before session h. h;
     came_broken = λ so_far old stream before session cause. (λ h. h, λ h. h);
-    failed = λ asked old before session outcome. (λ h. h, λ h. h);
+    failed = λ asked old stream before session outcome. (λ h. h, λ h. h);
     handed = λ call asked so_far old stream before session outcome. (λ h. h, λ h. h);
     takes = λ so_far bytes old stream before session outcome. (λ h. h, λ h. h);
     ended_in_talk = λ so_far old stream before session outcome e. one_counts (is_talking old.stage) e;
@@ -231,9 +231,9 @@ module _ {H : Type 0} (step : H → HandlerCall → H → Type 0) (fails : H →
         record { agrees = agrees; made = made; is_made = is; stands = stands; serving = serving };
     has_agreed_is = λ so_far bytes index front rest middle h. (h.made, h.agrees, h.is_made, h.stands, h.serving);
     agreed_by_name = λ so_far bytes index front rest middle h. (h.is_made, h.stands);
-    stops_refused = λ so_far bytes. (λ h. h, λ h. h);
-    stops_broken = λ so_far bytes fault. (λ h. h, λ h. h);
-    stops_so_alone = λ so_far bytes fault handler. (λ h. h, λ h. h, λ h. h, λ h. h, λ h. h);
+    stops_refused = λ so_far bytes stream. (λ h. h, λ h. h);
+    stops_broken = λ so_far bytes fault stream. (λ h. h, λ h. h);
+    stops_so_alone = λ so_far bytes fault handler stream. (λ h. h, λ h. h, λ h. h, λ h. h, λ h. h);
     talks_on = λ so_far bytes before session outcome stream. (λ h. h, λ h. h);
     talk_agrees = λ so_far bytes before session index outcome stream. (λ h. h, λ h. h);
     delivers_in_talk = λ so_far bytes old stream before session delivered e. one_counts (is_talking old.stage) e;

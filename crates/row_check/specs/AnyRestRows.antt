@@ -41,7 +41,7 @@ use Rattle.conn_log.specs.Entries.Entry.{Of, Says, Made, Asks, Calls}
 use Rattle.conn_log.specs.Turns.{AreInTurn}
 use Rattle.conn_log.specs.Held.{IsSide, IsHeld, IsAtRest, IsPast, AreLeft, earlier_of}
 use Rattle.conn_log.specs.Due.{was_reset, end_was_told, HasJustAgreed, MayBeMade, HasCome, IsThere, IsAskedFor}
-use Rattle.conn_log.specs.Due.{is_asked_anew, MayBeAsked, HasHeard}
+use Rattle.conn_log.specs.Due.{is_asked_anew, MayBeAsked, HasHeard, IsCutOff}
 use Rattle.conn_log.specs.Due.{IsInTurn, HandlerFails, IsBroken, IsDone, GaveAll, HasGiven, IsDue, AllDue}
 use Rattle.conn_log.specs.Rests.{AreAtRest, IsRested, AreRested, Grows}
 use Rattle.conn_log.specs.Asked.{IsBrokenOf, Asked as AskedOf}
@@ -142,6 +142,9 @@ module _ {P H : Type 0} (step : H → HandlerCall → H → Type 0) (fails : H �
   abbrev pub has_heard : List (Entry H) → ℕ → Type 0
   has_heard = HasHeard step fails is_closed is_finished inbound_makes outbound_makes eager names peer role
 
+  abbrev pub is_cut_off : List (Entry H) → ℕ → Type 0
+  is_cut_off = IsCutOff step fails is_closed is_finished inbound_makes outbound_makes eager names peer role
+
   abbrev pub is_broken : List (Entry H) → ℕ → Cause → Type 0
   is_broken = IsBroken step fails is_closed is_finished inbound_makes outbound_makes eager names peer role
 
@@ -219,10 +222,12 @@ module _ {P H : Type 0} (step : H → HandlerCall → H → Type 0) (fails : H �
         × ((is_talking stage ≡ true) ⊎ (is_asked_anew role log n ≡ true)))
     pub heard : (log : List (Entry H)) (n : ℕ) (stream : Streaming H)
         → held_by step is_closed is_finished names role log n (inbound role (items log) n)
-        (end_was_told role (items log) n) stream → has_finished is_finished stream.stage ≡ false → has_heard log n
+        (end_was_told role (items log) n) stream → has_finished is_finished stream.stage ≡ false
+        → (kind_of stream.stage ≡ Served → has_taken (calls_of role log n) ≡ true) → has_heard log n
     pub heard_is : (log : List (Entry H)) (n : ℕ) → has_heard log n → (stream : Streaming H)
         × held_by step is_closed is_finished names role log n (inbound role (items log) n)
         (end_was_told role (items log) n) stream × (has_finished is_finished stream.stage ≡ false)
+        × (kind_of stream.stage ≡ Served → has_taken (calls_of role log n) ≡ true)
     pub broken_in_talk : (log : List (Entry H)) (n : ℕ) (fault : SelectFault) → is_broken log n (causes.Select fault)
         ↔ ((fault ≢ select_faults.OutOfMemory) × (agreed role log n ≡ None)
         × ((side : Side) × (first rest output : List ℕ) × Begins log n side first rest
@@ -234,7 +239,20 @@ module _ {P H : Type 0} (step : H → HandlerCall → H → Type 0) (fails : H �
     pub broken_by_its_end : (log : List (Entry H)) (n : ℕ) → is_broken log n causes.Ended
         ↔ ((end_was_told role (items log) n ≡ true) × (agreed role log n ≡ None)
         × ((side : Side) × (output : List ℕ) × IsSide role names log n side
-        × IsOpen side (inbound role (items log) n) output))
+        × IsOpen side (inbound role (items log) n) output) × is_cut_off log n)
+    -- the stream of an end within its talk was served by all that came before
+    pub cut_off : (log : List (Entry H)) (n : ℕ) (there : is_there log n)
+        → inbound role (items log) n ≡ there.so_far.got → is_talking there.stream.stage ≡ true
+        → (is_live role (items log) n ≡ true → closed role (items log) n ≡ false
+        → is_open is_closed there.stream.stage ≡ true → there.so_far.left ≡ Some (credit role (items log) n))
+        → (is_live role (items log) n ≡ true → closed role (items log) n ≡ false → 0 < credit role (items log) n
+        → there.stream.waiting ≡ []) → is_cut_off log n
+    pub cut_off_is : (log : List (Entry H)) (n : ℕ) → is_cut_off log n → (there : is_there log n)
+        × (inbound role (items log) n ≡ there.so_far.got) × (is_talking there.stream.stage ≡ true)
+        × (is_live role (items log) n ≡ true → closed role (items log) n ≡ false
+        → is_open is_closed there.stream.stage ≡ true → there.so_far.left ≡ Some (credit role (items log) n))
+        × (is_live role (items log) n ≡ true → closed role (items log) n ≡ false → 0 < credit role (items log) n
+        → there.stream.waiting ≡ [])
     pub done : (log : List (Entry H)) (n : ℕ) (handler : H) (so_far : Past H) (waiting : List ℕ)
         → has_come log n so_far → inbound role (items log) n ≡ so_far.got → IsServed step so_far handler waiting
         → is_finished handler ≡ true

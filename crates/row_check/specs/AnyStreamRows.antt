@@ -373,13 +373,13 @@ module _ {H : Type 0} (step : H → HandlerCall → H → Type 0) (fails : H →
   abbrev pub hands : HandlerCall → Asked → Past H → Streaming H → State → Outcome H → State → Streaming H → Type 0
   hands = Hands step fails is_closed is_finished role past fed sent n
 
-  abbrev pub fails_at : Asked → Streaming H → State → Outcome H → State → Type 0
+  abbrev pub fails_at : Asked → Streaming H → State → Outcome H → State → Streaming H → Type 0
   fails_at = Fails step fails is_closed is_finished role past fed sent n
 
   abbrev pub agreed_on : Past H → List ℕ → ℕ → List ℕ → List ℕ → Streaming H → Type 0
   agreed_on = HasAgreedOn step fails is_closed is_finished role past fed sent n makes none_made
 
-  abbrev pub stops_by : Past H → List ℕ → Outcome H → Type 0
+  abbrev pub stops_by : Past H → List ℕ → Outcome H → Streaming H → Type 0
   stops_by = Stops step fails is_closed is_finished role past fed sent n makes none_made
 
   abbrev pub in_talk : Past H → List ℕ → State → Option ℕ → Outcome H → State → Streaming H → Type 0
@@ -407,11 +407,12 @@ module _ {H : Type 0} (step : H → HandlerCall → H → Type 0) (fails : H →
     pub refused : (so_far : Past H) (bytes : List ℕ) (stream : Streaming H)
         → negotiates so_far bytes (Ok heard.Refused) stream
         ↔ ((front rest output : List ℕ) × (bytes ≡ front ++ rest)
-        × IsTurnedDown so_far.side (so_far.got ++ front) output × none_made)
+        × IsTurnedDown so_far.side (so_far.got ++ front) output × none_made × (stream.stage ≡ stages.Over))
     pub broken : (so_far : Past H) (bytes : List ℕ) (fault : SelectFault) (stream : Streaming H)
         → negotiates so_far bytes (Err (stops.Broken (causes.Select fault))) stream
         ↔ ((fault ≢ select_faults.OutOfMemory)
-        × ((output : List ℕ) × Faults so_far.side (so_far.got ++ bytes) fault output) × none_made)
+        × ((output : List ℕ) × Faults so_far.side (so_far.got ++ bytes) fault output) × none_made
+        × (stream.stage ≡ stages.Over))
     pub nothing_else : (so_far : Past H) (bytes : List ℕ) (fault : HandlerFault) (stream : Streaming H)
         → ¬ negotiates so_far bytes (Err (stops.Broken (causes.Handler fault))) stream
         × ¬ negotiates so_far bytes (Err (stops.Broken causes.Reset)) stream
@@ -435,17 +436,18 @@ module _ {H : Type 0} (step : H → HandlerCall → H → Type 0) (fails : H →
     pub came_broken : (so_far : Past H) (old stream : Streaming H) (before session : State) (cause : Cause)
         → came_to so_far old before (outcomes.Broken cause) session stream
         ↔ ((session ≡ before) × ((room : ℕ) × (open_credit role past n ≡ Some room)
-        × GivesUp fails is_closed old room (stops.Broken cause)))
-    pub failed : (asked : Asked) (old : Streaming H) (before session : State) (outcome : Outcome H)
-        → fails_at asked old before outcome session
+        × GivesUp fails is_closed old room (stops.Broken cause)) × (stream ≡ record old { stage = stages.Over }))
+    pub failed : (asked : Asked) (old stream : Streaming H) (before session : State) (outcome : Outcome H)
+        → fails_at asked old before outcome session stream
         ↔ ((session ≡ before) × ((handler : H) × (fault : HandlerFault) × (old.stage ≡ stages.Serving handler)
-        × fails handler asked fault.number × (outcome ≡ outcomes.Broken (causes.Handler fault))))
+        × fails handler asked fault.number × (outcome ≡ outcomes.Broken (causes.Handler fault)))
+        × (stream.stage ≡ stages.Over) × (stream.waiting ≡ old.waiting))
     -- its handler answers the call, or fails at what it was asked for
     pub handed : (call : HandlerCall) (asked : Asked) (so_far : Past H) (old stream : Streaming H)
         (before session : State) (outcome : Outcome H) → hands call asked so_far old before outcome session stream
         ↔ (((middle : Streaming H) × Stands step middle so_far × (kind_of middle.stage ≡ kind_of old.stage)
         × ((handler : H) → handler_of old.stage ≡ Some handler → (after : H) × step handler call after)
-        × came_to so_far middle before outcome session stream) ⊎ fails_at asked old before outcome session)
+        × came_to so_far middle before outcome session stream) ⊎ fails_at asked old before outcome session stream)
     pub takes : (so_far : Past H) (bytes : List ℕ) (old stream : Streaming H) (before session : State)
         (outcome : Outcome H)
         → Takes step fails is_closed is_finished role past fed sent n so_far bytes old before outcome session stream
@@ -455,7 +457,8 @@ module _ {H : Type 0} (step : H → HandlerCall → H → Type 0) (fails : H →
     pub ended_in_talk : (so_far : Past H) (old stream : Streaming H) (before session : State) (outcome : Outcome H)
         → is_talking old.stage ≡ true
         → Ends step fails is_closed is_finished role past fed sent n so_far old before outcome session stream
-        ↔ ((outcome ≡ outcomes.Broken causes.Ended) × (session ≡ before))
+        ↔ ((outcome ≡ outcomes.Broken causes.Ended) × (session ≡ before) × (stream.stage ≡ stages.Over)
+        × (stream.waiting ≡ old.waiting))
     pub ended : (so_far : Past H) (old stream : Streaming H) (before session : State) (outcome : Outcome H)
         → is_talking old.stage ≡ false
         → Ends step fails is_closed is_finished role past fed sent n so_far old before outcome session stream
@@ -474,24 +477,26 @@ module _ {H : Type 0} (step : H → HandlerCall → H → Type 0) (fails : H →
     pub agreed_by_name : (so_far : Past H) (bytes : List ℕ) (index : ℕ) (front rest : List ℕ) (middle : Streaming H)
         (h : agreed_on so_far bytes index front rest middle) → IsMade makes none_made so_far index h.made
         × Stands step middle (record so_far { got = so_far.got ++ front; made = Some h.made })
-    pub stops_refused : (so_far : Past H) (bytes : List ℕ) → stops_by so_far bytes outcomes.Refused
+    pub stops_refused : (so_far : Past H) (bytes : List ℕ) (stream : Streaming H)
+        → stops_by so_far bytes outcomes.Refused stream
         ↔ ((front rest output : List ℕ) × (bytes ≡ front ++ rest)
-        × IsTurnedDown so_far.side (so_far.got ++ front) output × none_made)
-    pub stops_broken : (so_far : Past H) (bytes : List ℕ) (fault : SelectFault)
-        → stops_by so_far bytes (outcomes.Broken (causes.Select fault))
+        × IsTurnedDown so_far.side (so_far.got ++ front) output × none_made × (stream.stage ≡ stages.Over))
+    pub stops_broken : (so_far : Past H) (bytes : List ℕ) (fault : SelectFault) (stream : Streaming H)
+        → stops_by so_far bytes (outcomes.Broken (causes.Select fault)) stream
         ↔ ((fault ≢ select_faults.OutOfMemory)
-        × ((output : List ℕ) × Faults so_far.side (so_far.got ++ bytes) fault output) × none_made)
-    pub stops_so_alone : (so_far : Past H) (bytes : List ℕ) (fault : HandlerFault) (handler : H)
-        → ¬ stops_by so_far bytes (outcomes.Broken (causes.Handler fault))
-        × ¬ stops_by so_far bytes (outcomes.Broken causes.Reset)
-        × ¬ stops_by so_far bytes (outcomes.Broken causes.Ended)
-        × ¬ stops_by so_far bytes outcomes.Going × ¬ stops_by so_far bytes (outcomes.Done handler)
+        × ((output : List ℕ) × Faults so_far.side (so_far.got ++ bytes) fault output) × none_made
+        × (stream.stage ≡ stages.Over))
+    pub stops_so_alone : (so_far : Past H) (bytes : List ℕ) (fault : HandlerFault) (handler : H) (stream : Streaming H)
+        → ¬ stops_by so_far bytes (outcomes.Broken (causes.Handler fault)) stream
+        × ¬ stops_by so_far bytes (outcomes.Broken causes.Reset) stream
+        × ¬ stops_by so_far bytes (outcomes.Broken causes.Ended) stream
+        × ¬ stops_by so_far bytes outcomes.Going stream × ¬ stops_by so_far bytes (outcomes.Done handler) stream
     pub talks_on : (so_far : Past H) (bytes : List ℕ) (before session : State) (outcome : Outcome H)
         (stream : Streaming H) → in_talk so_far bytes before None outcome session stream
         ↔ (((middle : Streaming H) × Stands step middle (record so_far { got = so_far.got ++ bytes })
         × (is_talking middle.stage ≡ true) × none_made
         × came_to (record so_far { got = so_far.got ++ bytes }) middle before outcome session stream)
-        ⊎ ((session ≡ before) × stops_by so_far bytes outcome))
+        ⊎ ((session ≡ before) × stops_by so_far bytes outcome stream))
     pub talk_agrees : (so_far : Past H) (bytes : List ℕ) (before session : State) (index : ℕ) (outcome : Outcome H)
         (stream : Streaming H) → in_talk so_far bytes before (Some index) outcome session stream
         ↔ ((front rest : List ℕ) × (middle : Streaming H) × ((has : agreed_on so_far bytes index front rest middle)

@@ -16,7 +16,7 @@ returns-in-Err-clause-came g c = λ role past fed sent so_far at stands e.
     (λ why is.
     let f = c.in-Err.ensures.fault (no_memory is) in
     let gave_up = f.1.1 role past fed sent at in
-    (f.0, (gave_up.0, gave_up.1, subst (λ (stop : Stop). GivesUp H.fails H.is_closed c.args.stream.now gave_up.0 stop) is gave_up.2)))
+    (f.0, (gave_up.0, gave_up.1, subst (λ (stop : Stop). GivesUp H.fails H.is_closed c.args.stream.now gave_up.0 stop) is gave_up.2), f.1.0))
 
 pub returns-in-Err-clause-memory : goal.returns-in-Err-clause-memory
 returns-in-Err-clause-memory g c = ran_out c.in-Err.stop c.stopped.result c.stopped.ensures.memory (λ is. c.in-Err.ensures.memory (ap Err is))

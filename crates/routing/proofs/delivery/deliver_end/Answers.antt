@@ -4,7 +4,7 @@ use Rattle.streams.specs.Streams.{with_call}
 use Rattle.streams.specs.State.{answering}
 use Rattle.routing.specs.declared.delivered.Outcome.TheVariants as outcomes
 use Rattle.routing.specs.Routing.{Came, Ends}
-use Rattle.routing.proofs.Delivering.{answered, answers_by, broken, quiet, handler_failed, keeps_memory, ran_out, same_stop, stop_is, same_cause}
+use Rattle.routing.proofs.Delivering.{answered, answers_by, broken, quiet, handler_failed, over_by, keeps_memory, ran_out, same_stop, stop_is, same_cause}
 use Rattle.routing.proofs.delivery.deliver_end.Goals as goal
 
 pub returns-in-Ok-clause-ends : goal.returns-in-Ok-clause-ends
@@ -29,12 +29,15 @@ returns-in-Err-clause-ends g c = λ role past fed sent so_far at stands going aw
     (λ outcome. Ends H.steps H.fails H.is_closed H.is_finished role past fed sent c.args.number so_far c.args.stream.now c.args.session.now outcome c.args.session.now c.end.new.self)
     c.stopped.result c.stopped.ensures.broken
     (λ why is. (
-      λ talks. (ap outcomes.Broken (same_cause (sym is ∙ stop_is (c.in-Err.ensures.in_talk talks).0)), refl),
+      λ talks. (ap outcomes.Broken (same_cause (sym is ∙ stop_is (c.in-Err.ensures.in_talk talks).0)), refl, (c.in-Err.ensures.in_talk talks).1, c.end.ensures.kept),
       λ talks. inr (
         refl,
         handler_failed H.fails ToEnd c.args.stream.now c.in-Err.stop why is
             (λ handler serves. (c.in-Err.ensures.fault handler serves).1) (λ done. absurd (let ok = (c.in-Err.ensures.done done).0 in cc ok))
             (quiet H.steps c.args.stream.now so_far stands talks awaits),
+        over_by c.args.stream.now.stage c.end.new.self.stage (λ handler serves. (c.in-Err.ensures.fault handler serves).0) (λ done. absurd (let ok = (c.in-Err.ensures.done done).0 in cc ok))
+            (quiet H.steps c.args.stream.now so_far stands talks awaits),
+        c.end.ensures.kept,
       ),
     ))
 

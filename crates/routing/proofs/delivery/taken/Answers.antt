@@ -3,7 +3,7 @@ use Rattle.handlers.specs.Calls.{Take, ToTake}
 use Rattle.streams.specs.Streams.{with_call}
 use Rattle.streams.specs.State.{answering}
 use Rattle.routing.specs.Routing.{Came, Takes}
-use Rattle.routing.proofs.Delivering.{answered, answers_by, broken, quiet, handler_failed, keeps_memory, ran_out, same_stop}
+use Rattle.routing.proofs.Delivering.{answered, answers_by, broken, quiet, handler_failed, over_by, keeps_memory, ran_out, same_stop}
 use Rattle.routing.proofs.delivery.taken.Goals as goal
 
 pub returns-in-Ok-clause-takes : goal.returns-in-Ok-clause-takes
@@ -29,6 +29,9 @@ returns-in-Err-clause-takes g c = λ role past fed sent so_far at stands going t
       handler_failed H.fails (ToTake c.args.bytes.now) c.args.stream.now c.in-Err.stop why is
           (λ handler serves. (c.in-Err.ensures.fault handler serves).1) (λ done. absurd (let ok = (c.in-Err.ensures.done done).0 in cc ok))
           (quiet H.steps c.args.stream.now so_far stands talks awaits),
+      over_by c.args.stream.now.stage c.take.new.self.stage (λ handler serves. (c.in-Err.ensures.fault handler serves).0) (λ done. absurd (let ok = (c.in-Err.ensures.done done).0 in cc ok))
+          (quiet H.steps c.args.stream.now so_far stands talks awaits),
+      c.take.ensures.kept,
     ))
 
 pub returns-in-Err-clause-memory : goal.returns-in-Err-clause-memory
