@@ -420,6 +420,7 @@ module _ {P H : Type 0} (step : H → HandlerCall → H → Type 0) (fails : H �
       talking = served.held.talking;
       agreed_on = served.held.agreed_on;
       going = served.held.over ∙ holding handler old.stage held;
+      settled = λ e. absurd (cc e);
     }
 
     held_open : (held : Option H) → holds (λ handler. not (is_closed handler)) held ≡ true → (handler : H) × (held ≡ Some handler) × (is_closed handler ≡ false)

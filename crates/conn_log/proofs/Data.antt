@@ -190,6 +190,7 @@ module _ {P H : Type 0} (step : H → HandlerCall → H → Type 0) (fails : H �
           talking = h.talking;
           agreed_on = h.agreed_on;
           going = h.over ∙ ap was_handed_out serves;
+          settled = λ e. absurd (cc e);
         }
 
     -- and answers

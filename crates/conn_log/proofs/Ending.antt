@@ -132,6 +132,7 @@ module _ {P H : Type 0} (step : H → HandlerCall → H → Type 0) (fails : H �
       talking = h.talking;
       agreed_on = h.agreed_on;
       going = h.over ∙ ap was_handed_out serves;
+      settled = λ _. settled;
     }
 
     -- and answers
@@ -191,8 +192,7 @@ module _ {P H : Type 0} (step : H → HandlerCall → H → Type 0) (fails : H �
               there = record { so_far = h.so_far; stream = old; come = had_come; stands = h.stands };
               all_came = all_came;
               talks = talks;
-              asked = λ live. (settled live).asked;
-              none_waits = λ live. (settled live).none_waits;
+              settled = settled;
             },
           ),
         ) in

@@ -87,7 +87,7 @@ ended_unserved h =
     let there = cut.there in
     let room : credit Client (items (frame 4 2 ++ opened 2)) 2 ≡ 262144 = refl in
     talks_unsent there.so_far there.stream.stage there.stream.waiting there.come.side_is cut.all_came there.come.sent_is
-    (cut.none_waits refl refl (omega (arith, room))) there.stands cut.talks
+    ((cut.settled refl).none_waits refl (omega (arith, room))) there.stands cut.talks
 
 on_is_off : true ≡ false → ⊥
 on_is_off e = cc e
@@ -186,6 +186,7 @@ may_ask_for_all = record {
   talking = λ e. absurd (off_is_on e);
   agreed_on = λ e none. some_is_none 1 none;
   going = refl;
+  settled = λ e. absurd (cc e);
 }
 
 asked_for_all : is_due rows.served (rows.give_all)

@@ -21,6 +21,7 @@ use Rattle.streams.specs.declared.stage.Stage.TheVariants.{Serving}
 use Rattle.streams.specs.Streams.{Past, IsServed}
 use Rattle.streams.specs.State.{Streaming, Stands, is_talking, handler_of, is_open, has_closed, has_finished}
 use Rattle.streams.specs.State.{was_handed_out, Served, kind_of}
+use Rattle.serving.specs.Served.{IsSettled}
 use Rattle.dispatch.specs.declared.direction.Direction.{Direction}
 use Rattle.dispatch.specs.declared.direction.Direction.TheVariants.{Inbound, Outbound}
 use Rattle.dispatch.specs.Dispatch.{made_by}
@@ -174,6 +175,9 @@ module _ {P H : Type 0} (step : H → HandlerCall → H → Type 0) (fails : H �
     pub talking : is_talking there.stream.stage ≡ true → agreed role log n ≡ None
     pub agreed_on : is_talking there.stream.stage ≡ false → agreed role log n ≢ None
     pub going : is_over role log n ≡ false
+    -- where it is told the end the stream was served by all that came before
+    pub settled : request ≡ ToEnd → is_live role (items log) n ≡ true
+        → IsSettled step is_closed is_finished role (items log) n there.so_far.left there.stream
 
   -- its handler was asked for something, and failed with this number
   pub record HandlerFails (log : List (Entry H)) (n : ℕ) (number : ℕ) : Type 0 where
@@ -197,17 +201,15 @@ module _ {P H : Type 0} (step : H → HandlerCall → H → Type 0) (fails : H �
     -- a handler that serves it was handed what stood behind the talk
     pub handed : kind_of stream.stage ≡ Served → has_taken (calls_of role log n) ≡ true
 
-  -- The talk of a stream goes on behind all of its data, and the stream gave what it has: while this direction of a live
-  -- one is open, what was written waits only where no credit is left, and an eager handler was asked last, with all the
-  -- credit, unless it is closed.
+  -- The talk of a stream goes on behind all of its data, and a live one was served by them: what was written waits only
+  -- where no credit is left, an eager handler was asked last, with all the credit, unless it is closed, and what came
+  -- was taken.
   pub record IsCutOff (log : List (Entry H)) (n : ℕ) : Type 0 where
     pub there : IsThere log n
     pub all_came : inbound role (items log) n ≡ there.so_far.got
     pub talks : is_talking there.stream.stage ≡ true
-    pub asked : is_live role (items log) n ≡ true → closed role (items log) n ≡ false
-        → is_open is_closed there.stream.stage ≡ true → there.so_far.left ≡ Some (credit role (items log) n)
-    pub none_waits : is_live role (items log) n ≡ true → closed role (items log) n ≡ false
-        → 0 < credit role (items log) n → there.stream.waiting ≡ []
+    pub settled : is_live role (items log) n ≡ true
+        → IsSettled step is_closed is_finished role (items log) n there.so_far.left there.stream
 
   -- why a stream is given up; one that was reset stood by all that came before, and one that ended within its talk, too
   abbrev pub IsBroken : List (Entry H) → ℕ → Cause → Type 0

@@ -138,6 +138,8 @@ module _ {P H : Type 0} (step : H → HandlerCall → H → Type 0) (fails : H �
       × in_turn log n there.stream.stage there.so_far handler request
       × (is_talking there.stream.stage ≡ true → agreed role log n ≡ None)
       × (is_talking there.stream.stage ≡ false → agreed role log n ≢ None) × (is_over role log n ≡ false)
+      × (request ≡ ToEnd → is_live role (items log) n ≡ true
+      → IsSettled step is_closed is_finished role (items log) n there.so_far.left there.stream)
 
   abbrev pub has_heard : List (Entry H) → ℕ → Type 0
   has_heard = HasHeard step fails is_closed is_finished inbound_makes outbound_makes eager names peer role
@@ -243,16 +245,12 @@ module _ {P H : Type 0} (step : H → HandlerCall → H → Type 0) (fails : H �
     -- the stream of an end within its talk was served by all that came before
     pub cut_off : (log : List (Entry H)) (n : ℕ) (there : is_there log n)
         → inbound role (items log) n ≡ there.so_far.got → is_talking there.stream.stage ≡ true
-        → (is_live role (items log) n ≡ true → closed role (items log) n ≡ false
-        → is_open is_closed there.stream.stage ≡ true → there.so_far.left ≡ Some (credit role (items log) n))
-        → (is_live role (items log) n ≡ true → closed role (items log) n ≡ false → 0 < credit role (items log) n
-        → there.stream.waiting ≡ []) → is_cut_off log n
+        → (is_live role (items log) n ≡ true
+        → IsSettled step is_closed is_finished role (items log) n there.so_far.left there.stream) → is_cut_off log n
     pub cut_off_is : (log : List (Entry H)) (n : ℕ) → is_cut_off log n → (there : is_there log n)
         × (inbound role (items log) n ≡ there.so_far.got) × (is_talking there.stream.stage ≡ true)
-        × (is_live role (items log) n ≡ true → closed role (items log) n ≡ false
-        → is_open is_closed there.stream.stage ≡ true → there.so_far.left ≡ Some (credit role (items log) n))
-        × (is_live role (items log) n ≡ true → closed role (items log) n ≡ false → 0 < credit role (items log) n
-        → there.stream.waiting ≡ [])
+        × (is_live role (items log) n ≡ true
+        → IsSettled step is_closed is_finished role (items log) n there.so_far.left there.stream)
     pub done : (log : List (Entry H)) (n : ℕ) (handler : H) (so_far : Past H) (waiting : List ℕ)
         → has_come log n so_far → inbound role (items log) n ≡ so_far.got → IsServed step so_far handler waiting
         → is_finished handler ≡ true
