@@ -1,10 +1,11 @@
-//! What readers make of streams, and what is written and sent.
+//! What readers make of streams, and what is sent.
 
+use crate::message_tests::{FRONT, is_own};
 use crate::said::*;
 use handlers::{Handler, HandlerFault};
 use identify_h::*;
 use peer_ids::{KeyType, PeerId};
-use std::alloc::{AllocError, Global};
+use std::alloc::Global;
 use std::test::*;
 
 // ---- what a reader makes of a stream
@@ -178,228 +179,132 @@ fn is_over(reader: &mut IdentifyIn) -> bool {
     reader.take(&[]) == FAILED && reader.take(&[0]) == FAILED && reader.end() == FAILED
 }
 
-/// Whether a reader stands at its end, gives nothing, and hands this message out.
-fn has_read(reader: IdentifyIn, message: &Identify) -> bool {
-    let mut reader = reader;
-    let is_over = is_over(&mut reader) && is_over(&mut reader);
-    let is_whole = reader.closed() && reader.finished();
-    let given = reader.give(1000).map(|bytes| bytes.len());
-    match reader.into_message() {
-        Ok(read) => is_over && is_whole && given == Ok(0) && is_same(&read, message),
+fn gives_nothing(reader: &mut IdentifyIn) -> bool {
+    match reader.give(1000) {
+        Ok(bytes) => bytes.is_empty(),
         Err(_) => false,
     }
 }
 
-/// Whether a reader has failed for good, and hands nothing out.
-fn has_failed(reader: IdentifyIn) -> bool {
-    let mut reader = reader;
-    let is_over = is_over(&mut reader);
-    let is_silent = matches!(reader.give(1), Err(HandlerFault { number: 1 }));
-    let is_closed = reader.closed() && !reader.finished();
-    reader.into_message().is_err() && is_over && is_silent && is_closed
+fn is_fresh(reader: &mut IdentifyIn) -> bool {
+    reader.take(&[]) == Ok(()) && reader.closed() && !reader.finished()
 }
 
-fn begin(alloc: Global, peer: PeerId) -> Option<IdentifyIn> {
-    let mut reader = IdentifyIn::new(alloc, peer);
-    if reader.take(&[]) == Ok(()) && reader.closed() && !reader.finished() {
-        Some(reader)
-    } else {
-        None
-    }
-}
-
-/// Whether the stream is read, in pieces of this size, and says what the message does.
-fn is_read(alloc: Global, stream: &[u8], size: usize, message: &Identify) -> bool {
-    let Some(mut reader) = begin(alloc, peer_of(message)) else {
-        return false;
-    };
-    let came = read(&mut reader, stream, size);
-    has_read(reader, message) && came == Ok(())
-}
-
-fn is_refused(alloc: Global, stream: &[u8], size: usize, fault: IdentifyFault) -> bool {
-    let Some(mut reader) = begin(alloc, PeerId::of_ed25519(&[1; 32])) else {
-        return false;
-    };
-    let came = read(&mut reader, stream, size);
-    let number = fault as u8;
-    has_failed(reader) && came == Err(HandlerFault { number })
-}
-
-fn reads(alloc: Global, input: &[u8], size: usize, said: &Said) -> Result<bool, Fail> {
-    Ok(is_read(alloc, input, size, &message(alloc, said)?))
-}
-
-fn comes_to(alloc: Global, stream: &Stream, size: usize) -> Result<bool, Fail> {
-    let input = joined(alloc, stream.input)?;
-    match &stream.outcome {
-        Ok(said) => reads(alloc, &input, size, said),
-        Err(fault) => Ok(is_refused(alloc, &input, size, *fault)),
-    }
-}
-
-#[test]
-fn streams_however_cut(rt: HostRuntime) -> Result<(), Fail> {
-    for (number, stream) in STREAMS.iter().enumerate() {
-        for size in [1, 3, 7, 64, 1000, 8194] {
-            let held = comes_to(rt.alloc(), stream, size)?;
-            assert!(rt; held, "row {number} in pieces of {size}");
-        }
-    }
-    Ok(())
-}
-
-// ---- bodies
-
-/// A body, what it says to the peer whose key it has, and how that is written.
-struct Body {
-    body: Parts<'static>,
-    said: Said<'static>,
-    written: Parts<'static>,
-}
-
-/// All that [`MOST`] says before its agent.
-const FRONT: &[u8] =
-    b"\x0a\x24\x08\x01\x12\x20\x07\x07\x07\x07\x07\x07\x07\x07\x07\x07\x07\x07\x07\x07\x07\x07\
-    \x07\x07\x07\x07\x07\x07\x07\x07\x07\x07\x07\x07\x07\x07\x07\x07\
-    \x12\x05\x04\x7f\x00\x00\x01\x12\x00\x1a\x10/ipfs/ping/1.0.0\x22\x03\x06\x00\x50";
-
-const NODE: Parts<'static> = &[(1, FRONT), (1, b"*\x0aipfs/0.1.0"), (1, b"2\x0anode/0.1.0")];
-
-const UNLIMITED: Parts<'static> = &[(1, FRONT), (1, &[0x32, 0xa0, 0x8d, 6]), (100_000, &[7])];
-
-/// More entries than a stream may bring.
-const ENTRIES: Parts<'static> = &[(20_000, &[0x12, 0]), (20_000, &[0x1a, 0])];
-
-static BODIES: [Body; 5] = [
-    Body {
-        body: &[],
-        said: NOTHING,
-        written: &[],
-    },
-    // The entries of each list keep their order.
-    Body {
-        body: &[(
-            1,
-            b"\x1a\x01c\x12\x01\x03\x1a\x01b\x12\x00\x1a\x01a\x12\x01\x01",
-        )],
-        said: Said {
-            listen: &[(1, &[3]), (1, &[]), (1, &[1])],
-            protocols: &[(1, b"c"), (1, b"b"), (1, b"a")],
-            ..NOTHING
-        },
-        written: &[(
-            1,
-            b"\x12\x01\x03\x12\x00\x12\x01\x01\x1a\x01c\x1a\x01b\x1a\x01a",
-        )],
-    },
-    Body {
-        body: NODE,
-        said: Said {
-            version: Some(&[(1, b"ipfs/0.1.0")]),
-            agent: Some(&[(1, b"node/0.1.0")]),
-            ..MOST
-        },
-        written: NODE,
-    },
-    // A message alone has no limit.
-    Body {
-        body: UNLIMITED,
-        said: Said {
-            agent: Some(&[(100_000, &[7])]),
-            ..MOST
-        },
-        written: UNLIMITED,
-    },
-    Body {
-        body: ENTRIES,
-        said: Said {
-            listen: &[(20_000, &[])],
-            protocols: &[(20_000, &[])],
-            ..NOTHING
-        },
-        written: ENTRIES,
-    },
-];
-
-/// Whether these bytes say what the message does.
-fn says(alloc: Global, bytes: &[u8], message: &Identify) -> bool {
-    match Identify::read(alloc, bytes, peer_of(message)) {
+/// Whether a reader hands this message out.
+fn holds(reader: IdentifyIn, message: &Identify) -> bool {
+    match reader.into_message() {
         Ok(read) => is_same(&read, message),
         Err(_) => false,
     }
 }
 
-/// Whether no other peer may say these bytes where they have a key: none whose key is another in its last byte.
-fn is_own(alloc: Global, bytes: &[u8], message: &Identify) -> bool {
-    let mut other = [7; 32];
-    other[31] = 8;
-    match Identify::read(alloc, bytes, PeerId::of_ed25519(&other)) {
-        Ok(_) => message.key.is_none(),
-        Err(fault) => fault == IdentifyFault::OtherKey && message.key.is_some(),
+/// Whether the stream is read, in pieces of this size, and says what the message does; and then the reader stands at
+/// its end and gives nothing.
+fn is_read(alloc: Global, stream: &[u8], size: usize, message: &Identify) -> bool {
+    let mut reader = IdentifyIn::new(alloc, peer_of(message));
+    let is_begun = is_fresh(&mut reader);
+    let came = read(&mut reader, stream, size);
+    let is_over = is_over(&mut reader) && is_over(&mut reader);
+    let is_whole = reader.closed() && reader.finished() && gives_nothing(&mut reader);
+    holds(reader, message) && is_begun && is_over && is_whole && came == Ok(())
+}
+
+fn is_silent(reader: &mut IdentifyIn) -> bool {
+    matches!(reader.give(1), Err(HandlerFault { number: 1 }))
+}
+
+/// Whether a reader has failed for good, and hands nothing out.
+fn has_failed(reader: IdentifyIn) -> bool {
+    let mut reader = reader;
+    let is_over = is_over(&mut reader) && reader.closed() && !reader.finished();
+    let is_silent = is_silent(&mut reader);
+    reader.into_message().is_err() && is_over && is_silent
+}
+
+fn is_refused(alloc: Global, stream: &[u8], size: usize, fault: IdentifyFault) -> bool {
+    let mut reader = IdentifyIn::new(alloc, PeerId::of_ed25519(&[1; 32]));
+    let is_begun = is_fresh(&mut reader);
+    let came = read(&mut reader, stream, size);
+    let number = fault as u8;
+    has_failed(reader) && is_begun && came == Err(HandlerFault { number })
+}
+
+fn reads(alloc: Global, input: &[u8], size: usize, said: &Said) -> bool {
+    match message(alloc, said) {
+        Some(message) => is_read(alloc, input, size, &message),
+        None => false,
     }
 }
 
-fn is_written(alloc: Global, message: &Identify, parts: Parts) -> Result<bool, AllocError> {
-    let written = message.write()?;
-    Ok(written == joined(alloc, parts)?)
+fn leads_to(alloc: Global, input: &[u8], size: usize, stream: &Stream) -> bool {
+    match &stream.outcome {
+        Ok(said) => reads(alloc, input, size, said),
+        Err(fault) => is_refused(alloc, input, size, *fault),
+    }
 }
 
-fn is_body_of(alloc: Global, body: &Body, message: &Identify) -> Result<bool, Fail> {
-    let bytes = joined(alloc, body.body)?;
-    Ok(says(alloc, &bytes, message) && is_own(alloc, &bytes, message))
-}
-
-fn is_body(alloc: Global, body: &Body) -> Result<bool, Fail> {
-    let message = message(alloc, &body.said)?;
-    let is_read = is_body_of(alloc, body, &message)?;
-    Ok(is_read && is_written(alloc, &message, body.written)?)
+fn comes_to(alloc: Global, stream: &Stream, size: usize) -> bool {
+    match joined(alloc, stream.input) {
+        Ok(input) => leads_to(alloc, &input, size, stream),
+        Err(_) => false,
+    }
 }
 
 #[test]
-fn bodies_are_read_and_written(rt: HostRuntime) -> Result<(), Fail> {
-    for (number, body) in BODIES.iter().enumerate() {
-        let held = is_body(rt.alloc(), body)?;
-        assert!(rt; held, "row {number}");
+fn streams_however_cut(rt: HostRuntime) {
+    for (number, stream) in STREAMS.iter().enumerate() {
+        for size in [1, 3, 7, 64, 1000, 8194] {
+            let held = comes_to(rt.alloc(), stream, size);
+            assert!(rt; held, "row {number} in pieces of {size}");
+        }
     }
-    Ok(())
 }
 
 // ---- what a sender sends
 
+/// Rooms, each so often.
+type Rooms<'a> = &'a [(usize, usize)];
+
 /// A message, by which rooms it is asked for before the end and behind it, and what is sent, unless it is too long.
 struct Sending {
     said: Said<'static>,
-    before: &'static [usize],
-    behind: &'static [usize],
+    before: Rooms<'static>,
+    behind: Rooms<'static>,
     sent: Option<Parts<'static>>,
 }
 
 const ONE: Parts<'static> = &[(1, b"\x08*\x03abc2\x01x")];
 
-static SENDINGS: [Sending; 10] = [
+const LONGEST: Said<'static> = Said {
+    agent: Some(&[(16381, &[7])]),
+    ..NOTHING
+};
+
+const LONGEST_SENT: Parts<'static> = &[(1, &[0x80, 0x80, 1, 0x32, 0xfd, 0x7f]), (16381, &[7])];
+
+static SENDINGS: [Sending; 13] = [
     Sending {
         said: ABC_X,
-        before: &[0, 1, 1, 1, 1, 1, 1, 1, 1, 1],
+        before: &[(1, 0), (9, 1)],
         behind: &[],
         sent: Some(ONE),
     },
     Sending {
         said: ABC_X,
-        before: &[0, 7, 7, 7, 7, 7, 7, 7, 7, 7],
+        before: &[(1, 0), (9, 7)],
         behind: &[],
         sent: Some(ONE),
     },
     Sending {
         said: ABC_X,
-        before: &[0, 64, 64, 64, 64, 64, 64, 64, 64, 64],
+        before: &[(1, 0), (9, 64)],
         behind: &[],
         sent: Some(ONE),
     },
     // What says nothing is a length of none.
     Sending {
         said: NOTHING,
-        before: &[0, 64, 64],
+        before: &[(1, 0), (2, 64)],
         behind: &[],
         sent: Some(&[(1, &[0])]),
     },
@@ -409,8 +314,8 @@ static SENDINGS: [Sending; 10] = [
             agent: Some(&[(1, b"x")]),
             ..NOTHING
         },
-        before: &[1],
-        behind: &[1000, 1000],
+        before: &[(1, 1)],
+        behind: &[(2, 1000)],
         sent: Some(&[(1, b"\x032\x01x")]),
     },
     Sending {
@@ -418,7 +323,7 @@ static SENDINGS: [Sending; 10] = [
             agent: Some(&[(197, &[7])]),
             ..NOTHING
         },
-        before: &[64, 64, 64, 64],
+        before: &[(4, 64)],
         behind: &[],
         sent: Some(&[(1, &[0xc8, 1, 0x32, 0xc5, 1]), (197, &[7])]),
     },
@@ -428,7 +333,7 @@ static SENDINGS: [Sending; 10] = [
             agent: Some(&[(16381, &[0])]),
             ..NOTHING
         },
-        before: &[20000],
+        before: &[(1, 20000)],
         behind: &[],
         sent: Some(&[(1, &[0x80, 0x80, 1, 0x32, 0xfd, 0x7f]), (16381, &[0])]),
     },
@@ -446,7 +351,7 @@ static SENDINGS: [Sending; 10] = [
             agent: Some(&[(16311, &[0])]),
             ..MOST
         },
-        before: &[20000],
+        before: &[(1, 20000)],
         behind: &[],
         sent: Some(&[
             (1, &[0x80, 0x80, 1]),
@@ -464,85 +369,98 @@ static SENDINGS: [Sending; 10] = [
         behind: &[],
         sent: None,
     },
+    // A message of 16384 bytes in parts.
+    Sending {
+        said: LONGEST,
+        before: &[(16387, 1)],
+        behind: &[],
+        sent: Some(LONGEST_SENT),
+    },
+    Sending {
+        said: LONGEST,
+        before: &[(257, 64)],
+        behind: &[],
+        sent: Some(LONGEST_SENT),
+    },
+    Sending {
+        said: LONGEST,
+        before: &[(17, 1000)],
+        behind: &[],
+        sent: Some(LONGEST_SENT),
+    },
 ];
 
-/// Whether a sender gives the rest by these rooms, each in full. It is over once all was given. Gives how many it gave.
-fn gives(sender: &mut IdentifyOut, rooms: &[usize], rest: &[u8]) -> Option<usize> {
-    let mut at = 0usize;
-    for room in rooms {
-        let is_all = at == rest.len();
-        let is_over = sender.closed() && sender.finished();
-        let given = sender.give(*room).ok()?;
-        let to = at.saturating_add(*room).min(rest.len());
-        if is_over != is_all || rest.get(at..to) != Some(given.as_slice()) {
-            return None;
+/// Whether a sender, which is over once all was given, gives the next bytes for this room, in full.
+fn gives_next(sender: &mut IdentifyOut, room: usize, rest: &[u8]) -> bool {
+    let is_over = sender.closed() && sender.finished();
+    let next = rest.get(..room.min(rest.len()));
+    match sender.give(room) {
+        Ok(given) => next == Some(given.as_slice()) && is_over == rest.is_empty(),
+        Err(_) => false,
+    }
+}
+
+/// Whether a sender gives the bytes behind this place by these rooms. Gives the place that it came to.
+fn gives(sender: &mut IdentifyOut, rooms: Rooms, sent: &[u8], from: usize) -> Option<usize> {
+    let mut at = from;
+    for (times, room) in rooms {
+        for _ in 0..*times {
+            if !gives_next(sender, *room, sent.get(at..)?) {
+                return None;
+            }
+            at = at.saturating_add(*room).min(sent.len());
         }
-        at = to;
     }
     Some(at)
 }
 
+fn drops_what_comes(sender: &mut IdentifyOut) -> bool {
+    sender.take(&[1, 2, 3]) == Ok(()) && sender.take(&[]) == Ok(())
+}
+
+/// Whether a sender is over, and refuses what comes behind the end.
+fn is_done(sender: &mut IdentifyOut) -> bool {
+    let is_over = sender.closed() && sender.finished();
+    is_over && sender.end() == FAILED && sender.take(&[1]) == FAILED
+}
+
 /// Whether what comes is dropped before the end, and refused behind it, and all is given.
 fn sends(sender: &mut IdentifyOut, sending: &Sending, sent: &[u8]) -> Option<bool> {
-    sending.sent?;
-    let is_dropped = sender.take(&[1, 2, 3]) == Ok(()) && sender.take(&[]) == Ok(());
-    let at = gives(sender, sending.before, sent)?;
+    let is_dropped = drops_what_comes(sender);
+    let at = gives(sender, sending.before, sent, 0)?;
     let is_ended = sender.end() == Ok(());
-    let rest = gives(sender, sending.behind, sent.get(at..)?)?;
-    let is_all = at.saturating_add(rest) == sent.len() && sender.closed() && sender.finished();
-    let is_over = sender.end() == FAILED && sender.take(&[1]) == FAILED;
-    Some(is_dropped && is_ended && is_all && is_over)
+    let is_all = gives(sender, sending.behind, sent, at)? == sent.len();
+    Some(is_dropped && is_ended && is_all && is_done(sender))
 }
 
-/// Whether a sender was made, and sends this.
-fn plays(sender: Result<IdentifyOut, IdentifyFault>, sending: &Sending, sent: &[u8]) -> bool {
-    match sender {
-        Ok(mut sender) => sends(&mut sender, sending, sent) == Some(true),
-        Err(fault) => fault == IdentifyFault::TooLong && sending.sent.is_none(),
+fn sends_parts(alloc: Global, sender: &mut IdentifyOut, sending: &Sending, parts: Parts) -> bool {
+    match joined(alloc, parts) {
+        Ok(sent) => sends(sender, sending, &sent) == Some(true),
+        Err(_) => false,
     }
 }
 
-fn is_sent(alloc: Global, sending: &Sending) -> Result<bool, Fail> {
-    let message = message(alloc, &sending.said)?;
-    let sent = joined(alloc, sending.sent.unwrap_or(&[]))?;
-    Ok(plays(IdentifyOut::new(alloc, &message), sending, &sent))
+/// Whether a sender is made of this message, and sends what it must.
+fn plays(alloc: Global, message: &Identify, sending: &Sending) -> bool {
+    match (IdentifyOut::new(alloc, message), sending.sent) {
+        (Ok(mut sender), Some(parts)) => sends_parts(alloc, &mut sender, sending, parts),
+        (Err(fault), None) => fault == IdentifyFault::TooLong,
+        _ => false,
+    }
+}
+
+fn is_sent(alloc: Global, sending: &Sending) -> bool {
+    match message(alloc, &sending.said) {
+        Some(message) => plays(alloc, &message, sending),
+        None => false,
+    }
 }
 
 #[test]
-fn messages_are_sent(rt: HostRuntime) -> Result<(), Fail> {
+fn messages_are_sent(rt: HostRuntime) {
     for (number, sending) in SENDINGS.iter().enumerate() {
-        let held = is_sent(rt.alloc(), sending)?;
-        assert!(rt; held, "row {number}");
+        assert!(rt; is_sent(rt.alloc(), sending), "row {number}");
     }
-    Ok(())
-}
-
-/// Whether a message of 16384 bytes is given whole, by so much room at a time.
-fn is_given(alloc: Global, room: usize) -> Result<bool, Fail> {
-    let said = Said {
-        agent: Some(&[(16381, &[7])]),
-        ..NOTHING
-    };
-    let mut sender = IdentifyOut::new(alloc, &message(alloc, &said)?)?;
-    let mut held = true;
-    let mut rest = 16387usize;
-    for _ in 0..16387usize.div_ceil(room.max(1)) {
-        let next = room.min(rest);
-        held = held
-            && !sender.finished()
-            && sender.give(room).is_ok_and(|bytes| bytes.len() == next);
-        rest = rest.saturating_sub(next);
-    }
-    Ok(held && sender.finished())
-}
-
-#[test]
-fn a_message_is_given_in_parts(rt: HostRuntime) -> Result<(), Fail> {
-    for room in [1, 64, 1000] {
-        let held = is_given(rt.alloc(), room)?;
-        assert!(rt; held, "room {room}");
-    }
-    Ok(())
 }
 
 // ---- what is sent is read back
@@ -593,87 +511,99 @@ static BACK: [Said<'static>; 10] = [
     },
 ];
 
-fn stream_of(alloc: Global, message: &Identify) -> Result<Vec<u8>, Fail> {
-    let mut sender = IdentifyOut::new(alloc, message)?;
-    Ok(sender.give(usize::MAX)?)
+fn stream_of(alloc: Global, message: &Identify) -> Option<Vec<u8>> {
+    let mut sender = IdentifyOut::new(alloc, message).ok()?;
+    sender.give(usize::MAX).ok()
 }
 
 /// Whether this is read back once it was sent, in pieces of this size.
-fn comes_back(alloc: Global, said: &Said, size: usize) -> Result<bool, Fail> {
-    let message = message(alloc, said)?;
-    let is_own = is_own(alloc, &message.write()?, &message);
-    Ok(is_own && is_read(alloc, &stream_of(alloc, &message)?, size, &message))
+fn is_back(alloc: Global, message: &Identify, size: usize) -> bool {
+    match stream_of(alloc, message) {
+        Some(stream) => is_read(alloc, &stream, size, message),
+        None => false,
+    }
+}
+
+fn writes_its_own(alloc: Global, message: &Identify) -> bool {
+    match message.write() {
+        Ok(written) => is_own(alloc, &written, message),
+        Err(_) => false,
+    }
+}
+
+fn comes_back(alloc: Global, said: &Said, size: usize) -> bool {
+    match message(alloc, said) {
+        Some(message) => writes_its_own(alloc, &message) && is_back(alloc, &message, size),
+        None => false,
+    }
 }
 
 #[test]
-fn what_is_sent_comes_back(rt: HostRuntime) -> Result<(), Fail> {
+fn what_is_sent_comes_back(rt: HostRuntime) {
     for (number, said) in BACK.iter().enumerate() {
         for size in [1, 64, 1000, 20000] {
-            let held = comes_back(rt.alloc(), said, size)?;
+            let held = comes_back(rt.alloc(), said, size);
             assert!(rt; held, "row {number} in pieces of {size}");
         }
     }
-    Ok(())
+}
+
+fn text_if(is_said: bool, parts: Parts) -> Option<Parts> {
+    if is_said { Some(parts) } else { None }
+}
+
+fn entries_if(is_said: bool, parts: Parts) -> Parts {
+    if is_said { parts } else { &[] }
 }
 
 /// What says one text alone: the observed address, the version, the agent, or the entry of a list.
 fn one_text(parts: Parts, which: usize) -> Said {
-    let text = Some(parts);
-    match which {
-        0 => Said {
-            observed: text,
-            ..NOTHING
-        },
-        1 => Said {
-            version: text,
-            ..NOTHING
-        },
-        2 => Said {
-            agent: text,
-            ..NOTHING
-        },
-        3 => Said {
-            listen: parts,
-            ..NOTHING
-        },
-        _ => Said {
-            protocols: parts,
-            ..NOTHING
-        },
+    Said {
+        key: None,
+        observed: text_if(which == 0, parts),
+        version: text_if(which == 1, parts),
+        agent: text_if(which == 2, parts),
+        listen: entries_if(which == 3, parts),
+        protocols: entries_if(which == 4, parts),
     }
 }
 
 /// Whether a text of so many bytes comes back.
-fn text_comes_back(alloc: Global, len: usize, which: usize) -> Result<bool, Fail> {
-    let bytes = vec![in alloc; 7u8; len]?;
-    let parts: [(usize, &[u8]); 1] = [(1, bytes.as_slice())];
-    comes_back(alloc, &one_text(&parts, which), 20000)
+fn text_comes_back(alloc: Global, len: usize, which: usize) -> bool {
+    match vec![in alloc; 7u8; len] {
+        Ok(bytes) => comes_back(alloc, &one_text(&[(1, bytes.as_slice())], which), 20000),
+        Err(_) => false,
+    }
 }
 
 #[test]
-fn texts_of_many_lengths_come_back(rt: HostRuntime) -> Result<(), Fail> {
+fn texts_of_many_lengths_come_back(rt: HostRuntime) {
     // The last has 16380 bytes, with which the body has 16384.
     for step in 0..=66usize {
         let len = if step == 66 { 16380 } else { step * 250 };
         for which in 0..5 {
-            let held = text_comes_back(rt.alloc(), len, which)?;
+            let held = text_comes_back(rt.alloc(), len, which);
             assert!(rt; held, "text {which} of {len} bytes");
         }
     }
-    Ok(())
 }
 
+fn key_comes_back(alloc: Global, kind: KeyType, len: usize) -> bool {
+    let said = Said {
+        key: Some((kind, len)),
+        ..NOTHING
+    };
+    comes_back(alloc, &said, 20000)
+}
+
+static KINDS: [KeyType; 3] = [KeyType::Rsa, KeyType::Secp256k1, KeyType::Ecdsa];
+
 #[test]
-fn keys_of_many_lengths_come_back(rt: HostRuntime) -> Result<(), Fail> {
-    for step in 1..=16usize {
-        for kind in [KeyType::Rsa, KeyType::Secp256k1, KeyType::Ecdsa] {
-            let said = Said {
-                key: Some((kind, step * 256)),
-                ..NOTHING
-            };
-            let held = comes_back(rt.alloc(), &said, 20000)?;
+fn keys_of_many_lengths_come_back(rt: HostRuntime) {
+    for kind in KINDS.iter() {
+        for step in 1..=16usize {
+            let held = key_comes_back(rt.alloc(), *kind, step * 256);
             assert!(rt; held, "a key of {step} times 256 bytes");
         }
     }
-    Ok(())
 }

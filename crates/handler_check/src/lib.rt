@@ -4,13 +4,9 @@
 #[cfg(test)]
 mod fault_tests;
 #[cfg(test)]
-mod handler_tests;
-#[cfg(test)]
 mod identify_tests;
 #[cfg(test)]
 mod message_tests;
-#[cfg(test)]
-mod number_tests;
 #[cfg(test)]
 mod ping_tests;
 #[cfg(test)]

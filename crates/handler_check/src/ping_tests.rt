@@ -1,6 +1,6 @@
 use handlers::{Handler, HandlerFault};
 use ping_h::*;
-use std::alloc::{AllocError, Global};
+use std::alloc::Global;
 use std::test::*;
 
 /// The 32 bytes of a ping.
@@ -29,25 +29,32 @@ const LONGER: [u8; 33] = [
 
 const FAILED: Result<(), HandlerFault> = Err(HandlerFault { number: 1 });
 
+/// Adds what a handler gives for this room. Fault 0 is want of memory here.
+fn give_more<H: Handler>(
+    handler: &mut H,
+    given: &mut Vec<u8>,
+    room: usize,
+) -> Result<(), HandlerFault> {
+    let more = handler.give(room)?;
+    match given.extend_from_slice(&more) {
+        Ok(()) => Ok(()),
+        Err(_) => Err(HandlerFault { number: 0 }),
+    }
+}
+
 /// Hands the bytes over in pieces of this size, asking for bytes with this room after each, and then says the end.
-/// Gives what was given, or the number of the fault.
 fn serve<H: Handler>(
     handler: &mut H,
     given: &mut Vec<u8>,
     bytes: &[u8],
     size: usize,
     room: usize,
-) -> Option<u8> {
+) -> Result<(), HandlerFault> {
     for piece in bytes.chunks(size.max(1)) {
-        if let Err(fault) = handler.take(piece) {
-            return Some(fault.number);
-        }
-        match handler.give(room) {
-            Ok(more) => given.extend_from_slice(&more).ok()?,
-            Err(fault) => return Some(fault.number),
-        }
+        handler.take(piece)?;
+        give_more(handler, given, room)?;
     }
-    handler.end().err().map(|fault: HandlerFault| fault.number)
+    handler.end()
 }
 
 /// Whether just these bytes are given.
@@ -67,11 +74,7 @@ fn gives_often<H: Handler>(
 ) -> bool {
     let mut held = true;
     for _ in 0..times {
-        held = held
-            && match handler.give(room) {
-                Ok(more) => given.extend_from_slice(&more).is_ok(),
-                Err(_) => false,
-            };
+        held = held && give_more(handler, given, room) == Ok(());
     }
     held
 }
@@ -89,7 +92,7 @@ fn is_echoed(alloc: Global, size: usize, room: usize) -> bool {
     let mut echo = PingEcho::new(alloc);
     let mut given = Vec::new(alloc);
     let is_empty = echo.take(&[]) == Ok(());
-    let is_served = serve(&mut echo, &mut given, &BOTH, size, room).is_none();
+    let is_served = serve(&mut echo, &mut given, &BOTH, size, room) == Ok(());
     let is_early = echo.finished() && given.len() != BOTH.len();
     let is_given = gives_often(&mut echo, &mut given, 64, 1) && given.as_slice() == BOTH.as_slice();
     let is_over = echo.closed() && echo.finished();
@@ -98,36 +101,54 @@ fn is_echoed(alloc: Global, size: usize, room: usize) -> bool {
 
 #[test]
 fn an_echo_gives_whole_rounds_back(rt: HostRuntime) {
-    for (size, room) in [(64, 64), (1, 64), (7, 64), (1, 1), (64, 0)] {
-        assert!(rt;
-            is_echoed(rt.alloc(), size, room),
-            "pieces of {size}, room {room}"
-        );
-    }
-    for room in 2..64 {
-        assert!(rt; is_echoed(rt.alloc(), 64, room), "room {room}");
+    for size in [1, 7, 64] {
+        for room in 0..=64usize {
+            let held = is_echoed(rt.alloc(), size, room);
+            assert!(rt; held, "pieces of {size}, room {room}");
+        }
     }
 }
 
-/// More bytes than a stream may bring before any is given back, in pieces of this size.
-fn is_long(alloc: Global, size: usize) -> Result<bool, AllocError> {
-    let input = vec![in alloc; 7u8; 4194304]?;
-    let mut echo = PingEcho::new(alloc);
+/// More bytes than a stream may bring before any is given back.
+const LONG: usize = 4194304;
+
+fn takes(echo: &mut PingEcho, bytes: &[u8], size: usize) -> bool {
     let mut held = true;
-    for piece in input.chunks(size.max(1)) {
+    for piece in bytes.chunks(size.max(1)) {
         held = echo.take(piece) == Ok(()) && held;
     }
-    held = echo.end() == Ok(()) && held;
-    let front = echo.give(2000).map(|given| given.len());
-    let rest = echo.give(usize::MAX).map(|given| given.len());
-    Ok(held && front == Ok(2000) && rest == Ok(4192304) && echo.finished())
+    held && echo.end() == Ok(())
+}
+
+/// Whether so many bytes are given for this room.
+fn gives_so_many(echo: &mut PingEcho, room: usize, len: usize) -> bool {
+    match echo.give(room) {
+        Ok(given) => given.len() == len,
+        Err(_) => false,
+    }
+}
+
+/// Whether all is given back that comes in pieces of this size.
+fn is_long_echoed(alloc: Global, input: &[u8], size: usize) -> bool {
+    let mut echo = PingEcho::new(alloc);
+    let is_taken = takes(&mut echo, input, size);
+    let is_begun = gives_so_many(&mut echo, 2000, 2000);
+    let is_given = gives_so_many(&mut echo, usize::MAX, LONG - 2000);
+    is_taken && is_begun && is_given && echo.finished()
+}
+
+fn is_long(alloc: Global, size: usize) -> bool {
+    match vec![in alloc; 7u8; LONG] {
+        Ok(input) => is_long_echoed(alloc, &input, size),
+        Err(_) => false,
+    }
 }
 
 #[test]
 fn a_long_input_is_echoed(rt: HostRuntime) {
     // Pieces of 65, 100, 255, 999 and 1000 bytes begin within a round.
     for size in [65, 100, 255, 512, 999, 1000, 131072, 4194304] {
-        assert!(rt; is_long(rt.alloc(), size) == Ok(true), "pieces of {size}");
+        assert!(rt; is_long(rt.alloc(), size), "pieces of {size}");
     }
 }
 
@@ -149,8 +170,9 @@ fn an_echo_goes_on(rt: HostRuntime) {
 fn is_cut(alloc: Global, size: usize) -> bool {
     let mut echo = PingEcho::new(alloc);
     let mut given = Vec::new(alloc);
-    let fault = serve(&mut echo, &mut given, &PING[..31], size, 64);
-    has_failed(&mut echo) && fault == Some(PingFault::Cut as u8) && given.is_empty()
+    let answer = serve(&mut echo, &mut given, &PING[..31], size, 64);
+    let number = PingFault::Cut as u8;
+    has_failed(&mut echo) && answer == Err(HandlerFault { number }) && given.is_empty()
 }
 
 #[test]
@@ -261,11 +283,17 @@ static REFUSED: [(&[u8], PingFault); 3] = [
     ),
 ];
 
+/// Whether a ping fails for good by what comes.
+fn fails(out: &mut PingOut, alloc: Global, bytes: &[u8], size: usize, fault: PingFault) -> bool {
+    let mut given = Vec::new(alloc);
+    let answer = serve(out, &mut given, bytes, size, 64);
+    let number = fault as u8;
+    answer == Err(HandlerFault { number }) && has_failed(out)
+}
+
 fn is_refused(alloc: Global, bytes: &[u8], size: usize, fault: PingFault) -> bool {
     let mut out = PingOut::new(alloc, PING);
-    let mut given = Vec::new(alloc);
-    let answer = serve(&mut out, &mut given, bytes, size, 64);
-    has_failed(&mut out) && answer == Some(fault as u8)
+    fails(&mut out, alloc, bytes, size, fault)
 }
 
 #[test]
@@ -285,10 +313,7 @@ fn is_near(alloc: Global, place: usize, size: usize) -> bool {
         *byte ^= 0x40;
     }
     let mut out = PingOut::new(alloc, PING);
-    let mut given = Vec::new(alloc);
-    let answer = serve(&mut out, &mut given, &bytes, size, 64);
-    let is_open = !out.closed();
-    has_failed(&mut out) && is_open && answer == Some(PingFault::WrongEcho as u8)
+    fails(&mut out, alloc, &bytes, size, PingFault::WrongEcho) && !out.closed()
 }
 
 #[test]
@@ -299,44 +324,4 @@ fn an_echo_that_differs_in_one_byte(rt: HostRuntime) {
             assert!(rt; held, "byte {place} in pieces of {size}");
         }
     }
-}
-
-// ---- faults
-
-/// A fault, its number, its name and its sentence.
-static FAULTS: [(PingFault, u8, &str, &str); 4] = [
-    (
-        PingFault::Failed,
-        1,
-        "Failed",
-        "the ping failed or ended before",
-    ),
-    (
-        PingFault::WrongEcho,
-        2,
-        "WrongEcho",
-        "the echo differs from the ping",
-    ),
-    (PingFault::Cut, 3, "Cut", "the stream ended within a round"),
-    (PingFault::OutOfMemory, 4, "OutOfMemory", "out of memory"),
-];
-
-fn is_told(
-    alloc: Global,
-    fault: PingFault,
-    name: &str,
-    sentence: &str,
-) -> Result<bool, AllocError> {
-    let named = format!(in alloc; "{fault:?}")?;
-    let told = format!(in alloc; "{fault}")?;
-    Ok(named.as_str() == name && told.as_str() == sentence)
-}
-
-#[test]
-fn numbers_names_and_sentences_of_faults(rt: HostRuntime) -> Result<(), Fail> {
-    for (fault, number, name, sentence) in FAULTS.iter() {
-        let held = is_told(rt.alloc(), *fault, *name, *sentence)? && *fault as u8 == *number;
-        assert!(rt; held, "fault {number}");
-    }
-    Ok(())
 }

@@ -78,21 +78,30 @@ static PUSHES: [Push; 4] = [
     },
 ];
 
-fn merged(alloc: Global, push: &Push) -> Result<Identify, Fail> {
-    let said = message(alloc, &push.push)?;
-    Ok(message(alloc, &push.known)?.merged_with(said))
+/// Whether this is the message that is wanted.
+fn is_wanted(alloc: Global, merged: &Identify, said: &Said) -> bool {
+    match message(alloc, said) {
+        Some(wanted) => is_same(merged, &wanted),
+        None => false,
+    }
 }
 
-fn merges(alloc: Global, push: &Push) -> Result<bool, Fail> {
-    let merged = merged(alloc, push)?;
-    Ok(is_same(&merged, &message(alloc, &push.merged)?))
+fn merged(alloc: Global, known: Identify, push: &Said) -> Option<Identify> {
+    match message(alloc, push) {
+        Some(said) => Some(known.merged_with(said)),
+        None => None,
+    }
+}
+
+fn merges(alloc: Global, push: &Push) -> Option<bool> {
+    let known = message(alloc, &push.known)?;
+    let merged = merged(alloc, known, &push.push)?;
+    Some(is_wanted(alloc, &merged, &push.merged))
 }
 
 #[test]
-fn a_push_leaves_what_it_does_not_name(rt: HostRuntime) -> Result<(), Fail> {
+fn a_push_leaves_what_it_does_not_name(rt: HostRuntime) {
     for (number, push) in PUSHES.iter().enumerate() {
-        let held = merges(rt.alloc(), push)?;
-        assert!(rt; held, "row {number}");
+        assert!(rt; merges(rt.alloc(), push) == Some(true), "row {number}");
     }
-    Ok(())
 }

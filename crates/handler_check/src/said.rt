@@ -3,7 +3,6 @@
 use identify_h::*;
 use peer_ids::{KeyType, PeerId, PublicKey};
 use std::alloc::{AllocError, Global};
-use std::test::*;
 
 /// Parts, each so often.
 pub type Parts<'a> = &'a [(usize, &'a [u8])];
@@ -70,34 +69,36 @@ pub fn text(alloc: Global, parts: Option<Parts>) -> Result<Option<Vec<u8>>, Allo
     }
 }
 
-pub fn key(alloc: Global, key: Option<(KeyType, usize)>) -> Result<Option<PublicKey>, Fail> {
-    let Some((kind, len)) = key else {
-        return Ok(None);
-    };
-    let key = PublicKey::new(kind, vec![in alloc; 7u8; len]?);
-    Ok(Some(key.ok_or("a key of this type")?))
+pub fn key(alloc: Global, kind: KeyType, len: usize) -> Option<PublicKey> {
+    PublicKey::new(kind, vec![in alloc; 7u8; len].ok()?)
 }
 
-pub fn say(alloc: Global, message: &mut Identify, said: &Said) -> Result<(), AllocError> {
-    message.listen = entries(alloc, said.listen)?;
-    message.protocols = entries(alloc, said.protocols)?;
-    message.observed = text(alloc, said.observed)?;
-    message.version = text(alloc, said.version)?;
-    message.agent = text(alloc, said.agent)?;
-    Ok(())
+pub fn say(alloc: Global, message: &mut Identify, said: &Said) -> Option<()> {
+    if let Some((kind, len)) = said.key {
+        message.key = Some(key(alloc, kind, len)?);
+    }
+    message.listen = entries(alloc, said.listen).ok()?;
+    message.protocols = entries(alloc, said.protocols).ok()?;
+    message.observed = text(alloc, said.observed).ok()?;
+    message.version = text(alloc, said.version).ok()?;
+    message.agent = text(alloc, said.agent).ok()?;
+    Some(())
 }
 
-pub fn message(alloc: Global, said: &Said) -> Result<Identify, Fail> {
+/// There is none where memory is wanting, or a key of this length.
+pub fn message(alloc: Global, said: &Said) -> Option<Identify> {
     let mut message = Identify {
-        key: key(alloc, said.key)?,
+        key: None,
         listen: Vec::new(alloc),
         protocols: Vec::new(alloc),
         observed: None,
         version: None,
         agent: None,
     };
-    say(alloc, &mut message, said)?;
-    Ok(message)
+    match say(alloc, &mut message, said) {
+        Some(()) => Some(message),
+        None => None,
+    }
 }
 
 /// Whose message this is: where it has no key, it may be anybody's.
@@ -123,4 +124,12 @@ pub fn is_same(one: &Identify, other: &Identify) -> bool {
         && one.observed == other.observed
         && one.version == other.version
         && one.agent == other.agent
+}
+
+/// Whether these bytes are the parts.
+pub fn is_joined(alloc: Global, bytes: &[u8], parts: Parts) -> bool {
+    match joined(alloc, parts) {
+        Ok(all) => all.as_slice() == bytes,
+        Err(_) => false,
+    }
 }

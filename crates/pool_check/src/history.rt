@@ -5,7 +5,7 @@ use pool_state::{Agent, Call, Config, ConnSide, Phase, Refusal, Reply, Row};
 use std::alloc::{AllocError, Global};
 
 /// A call and what it was answered.
-#[derive(Clone, Copy, Debug, PartialEq)]
+#[derive(Clone, Copy)]
 pub struct Entry {
     pub call: Call,
     pub reply: Reply,
@@ -13,10 +13,13 @@ pub struct Entry {
 
 /// How many connections were admitted.
 fn admissions(history: &[Entry]) -> u64 {
-    history
-        .iter()
-        .filter(|entry| matches!(entry.reply, Reply::Conn(_)))
-        .count() as u64
+    let mut count: u64 = 0;
+    for entry in history {
+        if let Reply::Conn(_) = entry.reply {
+            count = count.saturating_add(1);
+        }
+    }
+    count
 }
 
 /// The number of the next connection.
@@ -33,9 +36,9 @@ pub fn front(config: &Config, history: &[Entry]) -> u64 {
 fn stands(history: &[Entry], conn: u32) -> bool {
     let mut stands = false;
     for entry in history {
-        match (entry.call, entry.reply) {
-            (_, Reply::Conn(number)) if number == conn => stands = true,
-            (Call::Gone(number), Reply::Done) if number == conn => stands = false,
+        match (&entry.call, &entry.reply) {
+            (_, Reply::Conn(number)) if *number == conn => stands = true,
+            (Call::Gone(number), Reply::Done) if *number == conn => stands = false,
             _ => {}
         }
     }
@@ -44,15 +47,19 @@ fn stands(history: &[Entry], conn: u32) -> bool {
 
 /// Whether this end dialed.
 fn is_dialed(history: &[Entry], conn: u32) -> bool {
-    history.iter().any(|entry| {
-        matches!(entry.call, Call::Dial(_)) && entry.reply == Reply::Conn(conn)
-    })
+    let mut is_dialed = false;
+    for entry in history {
+        if let Call::Dial(_) = entry.call {
+            is_dialed = is_dialed || entry.reply == Reply::Conn(conn);
+        }
+    }
+    is_dialed
 }
 
 /// The peer that the entry expects at the connection.
 fn expects(entry: &Entry, conn: u32) -> Option<PeerId> {
-    match (entry.call, entry.reply) {
-        (Call::Dial(peer), Reply::Conn(number)) if number == conn => peer,
+    match (&entry.call, &entry.reply) {
+        (Call::Dial(peer), Reply::Conn(number)) if *number == conn => *peer,
         _ => None,
     }
 }
@@ -87,21 +94,23 @@ fn closes(config: &Config, entry: &Entry) -> Option<PeerId> {
 
 /// Whether some entry closed the connections of the peer that it had there.
 fn is_closed(config: &Config, history: &[Entry], conn: u32) -> bool {
+    let mut is_closed = false;
     for (place, entry) in history.iter().enumerate() {
         let closed = closes(config, entry);
-        if closed.is_some() && closed == peer_of(&history[..place], conn) {
-            return true;
+        if closed.is_some() {
+            is_closed = is_closed || closed == peer_of(&history[..place], conn);
         }
     }
-    false
+    is_closed
 }
 
 /// Whether it was settled.
 fn is_settled(history: &[Entry], conn: u32) -> bool {
-    history.iter().any(|entry| {
-        matches!(entry.call, Call::Settle(number, _) if number == conn)
-            && entry.reply == Reply::Done
-    })
+    let mut is_settled = false;
+    for entry in history {
+        is_settled = is_settled || proves(entry, conn).is_some();
+    }
+    is_settled
 }
 
 /// The phase of a connection.
@@ -115,20 +124,25 @@ fn phase(config: &Config, history: &[Entry], conn: u32) -> Phase {
     }
 }
 
+/// How often this call has counted.
+fn counted(history: &[Entry], call: &Call) -> u64 {
+    let mut count: u64 = 0;
+    for entry in history {
+        if entry.call == *call && entry.reply == Reply::Done {
+            count = count.saturating_add(1);
+        }
+    }
+    count
+}
+
 /// How many streams of the protocol were asked for.
 fn asked(history: &[Entry], conn: u32, index: u8) -> u64 {
-    history
-        .iter()
-        .filter(|entry| entry.call == Call::Ask(conn, index) && entry.reply == Reply::Done)
-        .count() as u64
+    counted(history, &Call::Ask(conn, index))
 }
 
 /// How many streams of the protocol are done.
 fn done(history: &[Entry], conn: u32, index: u8) -> u64 {
-    history
-        .iter()
-        .filter(|entry| entry.call == Call::Done(conn, index) && entry.reply == Reply::Done)
-        .count() as u64
+    counted(history, &Call::Done(conn, index))
 }
 
 /// The agent that the entry notes at the connection.
@@ -236,33 +250,67 @@ struct Question<'a> {
     allowed: &'a [PeerId],
 }
 
+fn has(peers: &[PeerId], peer: PeerId) -> bool {
+    let mut has = false;
+    for other in peers {
+        has = has || *other == peer;
+    }
+    has
+}
+
 impl Question<'_> {
-    fn row(&self, conn: u32) -> Option<Row> {
-        self.rows.iter().copied().find(|row| row.conn == conn)
+    fn stands(&self, conn: u32) -> bool {
+        let mut stands = false;
+        for row in self.rows {
+            stands = stands || row.conn == conn;
+        }
+        stands
     }
 
     fn is_in(&self, conn: u32, phase: Phase) -> bool {
-        self.rows
-            .iter()
-            .any(|row| row.conn == conn && row.phase == phase)
+        let mut is_in = false;
+        for row in self.rows {
+            is_in = is_in || (row.conn == conn && row.phase == phase);
+        }
+        is_in
     }
 
     /// How many other connections have the peer.
     fn others(&self, conn: Option<u32>, peer: PeerId) -> usize {
-        self.rows
-            .iter()
-            .filter(|row| Some(row.conn) != conn && row.peer == Some(peer))
-            .count()
+        let mut count = 0usize;
+        for row in self.rows {
+            if Some(row.conn) != conn && row.peer == Some(peer) {
+                count = count.saturating_add(1);
+            }
+        }
+        count
     }
 
     fn is_full_on(&self, role: ConnSide, limit: usize) -> bool {
-        self.rows.iter().filter(|row| row.role == role).count() >= limit
+        let mut count = 0usize;
+        for row in self.rows {
+            if row.role == role {
+                count = count.saturating_add(1);
+            }
+        }
+        count >= limit
+    }
+
+    /// Whether the connection has another peer than this one.
+    fn is_of_another(&self, conn: u32, peer: PeerId) -> bool {
+        let mut is_of_another = false;
+        for row in self.rows {
+            if row.conn == conn && row.peer.is_some() {
+                is_of_another = is_of_another || row.peer != Some(peer);
+            }
+        }
+        is_of_another
     }
 
     /// Whether the refusal's condition holds for a call that names a connection.
     fn refuses_conn(&self, refusal: Refusal, conn: u32) -> bool {
         match refusal {
-            Refusal::NoConn => self.row(conn).is_none(),
+            Refusal::NoConn => !self.stands(conn),
             Refusal::Closing => self.is_in(conn, Phase::Closing),
             Refusal::NotPending => self.is_in(conn, Phase::Live),
             Refusal::NotLive => self.is_in(conn, Phase::Pending),
@@ -274,11 +322,9 @@ impl Question<'_> {
     fn refuses_peer(&self, refusal: Refusal, conn: Option<u32>, peer: PeerId) -> bool {
         match refusal {
             Refusal::SelfPeer => peer == self.config.own,
-            Refusal::Blocked => self.blocked.iter().any(|other| *other == peer),
+            Refusal::Blocked => has(self.blocked, peer),
             Refusal::PeerFull => self.others(conn, peer) >= self.config.limits.per_peer,
-            Refusal::NotAllowed => {
-                self.config.allow_only && !self.allowed.iter().any(|other| *other == peer)
-            }
+            Refusal::NotAllowed => self.config.allow_only && !has(self.allowed, peer),
             _ => false,
         }
     }
@@ -335,7 +381,7 @@ impl Question<'_> {
             Call::Note(conn, _) => {
                 refusal != Refusal::NotPending && self.refuses_conn(refusal, *conn)
             }
-            Call::Gone(conn) => refusal == Refusal::NoConn && self.row(*conn).is_none(),
+            Call::Gone(conn) => refusal == Refusal::NoConn && !self.stands(*conn),
             Call::HangUp(peer) | Call::Unblock(peer) | Call::Disallow(peer) => {
                 refusal == Refusal::SelfPeer && *peer == self.config.own
             }
@@ -358,11 +404,7 @@ impl Question<'_> {
 
     fn refuses_settle(&self, refusal: Refusal, conn: u32, peer: PeerId) -> bool {
         match refusal {
-            Refusal::Mismatch => {
-                self.rows.iter().any(|row| row.conn == conn
-                    && row.peer.is_some()
-                    && row.peer != Some(peer))
-            }
+            Refusal::Mismatch => self.is_of_another(conn, peer),
             Refusal::NotLive => false,
             _ => {
                 self.refuses_conn(refusal, conn) || self.refuses_peer(refusal, Some(conn), peer)
@@ -379,24 +421,23 @@ impl Question<'_> {
         full: Refusal,
         limit: usize,
     ) -> bool {
-        let is_further = !list.iter().any(|other| *other == peer) && list.len() >= limit;
+        let is_further = !has(list, peer) && list.len() >= limit;
         (refusal == Refusal::SelfPeer && peer == self.config.own) || (refusal == full && is_further)
     }
 
     /// How many connections of the peer a call would close.
     fn closable(&self, peer: PeerId) -> u8 {
-        let count = self
-            .rows
-            .iter()
-            .filter(|row| row.peer == Some(peer) && row.phase != Phase::Closing)
-            .count();
-        u8::try_from(count).unwrap_or(u8::MAX)
+        let mut count = 0u8;
+        for row in self.rows {
+            if row.peer == Some(peer) && row.phase != Phase::Closing {
+                count = count.saturating_add(1);
+            }
+        }
+        count
     }
 
     /// What a call is answered that nothing refuses.
     fn answer(&self, call: Call) -> Reply {
-        let is_blocked = |peer: PeerId| self.blocked.iter().any(|other| *other == peer);
-        let is_allowed = |peer: PeerId| self.allowed.iter().any(|other| *other == peer);
         match call {
             Call::Dial(_) | Call::Accept => {
                 let number = next_number(self.config, self.history);
@@ -405,15 +446,15 @@ impl Question<'_> {
             Call::HangUp(peer) | Call::Block(peer) => Reply::Count(self.closable(peer)),
             Call::Disallow(peer) if self.config.allow_only => Reply::Count(self.closable(peer)),
             Call::Disallow(_) => Reply::Count(0),
-            Call::Unblock(peer) => Reply::Count(u8::from(is_blocked(peer))),
-            Call::Allow(peer) => Reply::Count(u8::from(!is_allowed(peer))),
+            Call::Unblock(peer) => Reply::Count(u8::from(has(self.blocked, peer))),
+            Call::Allow(peer) => Reply::Count(u8::from(!has(self.allowed, peer))),
             _ => Reply::Done,
         }
     }
 }
 
 /// The refusals that stand in a history, by their numbers.
-pub const IN_ORDER: [Refusal; 17] = [
+pub static IN_ORDER: [Refusal; 17] = [
     Refusal::NoConn,
     Refusal::Closing,
     Refusal::NotPending,
@@ -435,35 +476,58 @@ pub const IN_ORDER: [Refusal; 17] = [
 
 /// What the call is answered before the last front.
 fn reply_of(question: &Question, call: Call) -> Reply {
-    for refusal in IN_ORDER {
-        if question.refuses(refusal, &call) {
-            return Reply::Refused(refusal);
+    for refusal in IN_ORDER.iter() {
+        if question.refuses(*refusal, &call) {
+            return Reply::Refused(*refusal);
         }
     }
     question.answer(call)
 }
 
-/// What the call is answered after the history.
-pub fn reply<'a>(
+/// What the call is answered after the history, none where memory is wanting. The lists are made one by one, each lent
+/// to the next: whoever owns all of them and may fail costs most to prove.
+pub fn reply(alloc: Global, config: &Config, history: &[Entry], call: Call) -> Option<Reply> {
+    if front(config, history) == u64::MAX {
+        return Some(Reply::Refused(Refusal::Spent));
+    }
+    match rows(alloc, config, history) {
+        Ok(rows) => reply_by_rows(alloc, config, history, rows.as_slice(), call),
+        Err(_) => None,
+    }
+}
+
+fn reply_by_rows(
     alloc: Global,
-    config: &'a Config,
-    history: &'a [Entry],
+    config: &Config,
+    history: &[Entry],
+    rows: &[Row],
     call: Call,
-) -> Result<Reply, AllocError> {
-    let rows = rows(alloc, config, history)?;
-    let blocked = listed(alloc, history, true)?;
-    let allowed = listed(alloc, history, false)?;
-    let question = Question {
-        config,
-        history,
-        rows: rows.as_slice(),
-        blocked: blocked.as_slice(),
-        allowed: allowed.as_slice(),
-    };
-    let reply = if front(config, history) == u64::MAX {
-        Reply::Refused(Refusal::Spent)
-    } else {
-        reply_of(&question, call)
-    };
-    Ok(reply)
+) -> Option<Reply> {
+    match listed(alloc, history, true) {
+        Ok(blocked) => reply_by_blocked(alloc, config, history, rows, blocked.as_slice(), call),
+        Err(_) => None,
+    }
+}
+
+fn reply_by_blocked(
+    alloc: Global,
+    config: &Config,
+    history: &[Entry],
+    rows: &[Row],
+    blocked: &[PeerId],
+    call: Call,
+) -> Option<Reply> {
+    match listed(alloc, history, false) {
+        Ok(allowed) => {
+            let question = Question {
+                config,
+                history,
+                rows,
+                blocked,
+                allowed: allowed.as_slice(),
+            };
+            Some(reply_of(&question, call))
+        }
+        Err(_) => None,
+    }
 }

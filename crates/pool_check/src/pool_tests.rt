@@ -1,3 +1,7 @@
+//! Scripts and rows of a pool. A function counts how many rows hold, from the first on, so that a test fails with the
+//! number of the first row that doesn't: one assertion is proved far sooner than one for each row.
+
+use crate::all_hold;
 use peer_ids::PeerId;
 use pool_state::*;
 use std::test::*;
@@ -9,7 +13,23 @@ fn peer(byte: u8) -> PeerId {
 
 // ---- scripts
 
-/// A call that names a peer by the byte of its key, and an agent by its text.
+/// The name of an agent.
+#[derive(Clone, Copy)]
+enum Name {
+    X,
+    Y,
+    Spaced,
+}
+
+fn agent(name: Name) -> Option<Agent> {
+    match name {
+        Name::X => Agent::from_bytes(b"x"),
+        Name::Y => Agent::from_bytes(b"y"),
+        Name::Spaced => Agent::from_bytes(b"a b"),
+    }
+}
+
+/// A call that names a peer by the byte of its key. It is kept small: a table costs its proof by its bytes.
 #[derive(Clone, Copy)]
 enum Asked {
     Dial(Option<u8>),
@@ -23,7 +43,7 @@ enum Asked {
     Gone(u32),
     Allow(u8),
     Disallow(u8),
-    Note(u32, &'static str),
+    Note(u32, Name),
 }
 
 fn peer_if(byte: Option<u8>) -> Option<PeerId> {
@@ -46,20 +66,13 @@ fn call(asked: Asked) -> Option<Call> {
         Asked::Gone(conn) => Call::Gone(conn),
         Asked::Allow(byte) => Call::Allow(peer(byte)),
         Asked::Disallow(byte) => Call::Disallow(peer(byte)),
-        Asked::Note(conn, name) => Call::Note(conn, Agent::from_bytes(name.as_bytes())?),
+        Asked::Note(conn, name) => Call::Note(conn, agent(name)?),
     };
     Some(call)
 }
 
 /// A connection on which nothing is asked for: its number, the side, the phase, the peer and the agent.
-struct Stood(u32, ConnSide, Phase, Option<u8>, Option<&'static str>);
-
-fn agent_if(name: Option<&str>) -> Option<Agent> {
-    match name {
-        Some(name) => Agent::from_bytes(name.as_bytes()),
-        None => None,
-    }
-}
+struct Stood(u32, ConnSide, Phase, Option<u8>, Option<Name>);
 
 fn row(stood: &Stood) -> Row {
     let Stood(conn, role, phase, byte, name) = stood;
@@ -70,8 +83,19 @@ fn row(stood: &Stood) -> Row {
         peer: peer_if(*byte),
         asked: [0; 3],
         done: [0; 3],
-        agent: agent_if(*name),
+        agent: match name {
+            Some(name) => agent(*name),
+            None => None,
+        },
     }
+}
+
+/// The front, the rows, and the bytes of the peers who are blocked and who are allowed.
+struct Shown {
+    front: u64,
+    rows: &'static [Stood],
+    blocked: &'static [u8],
+    allowed: &'static [u8],
 }
 
 enum Step {
@@ -83,10 +107,9 @@ enum Step {
     Turns(u32, &'static [(Asked, Reply)]),
     /// The peers of these bytes, up to the last, are blocked and allowed in turn.
     Lists(u8, u8),
-    /// There are this front, these rows, and these peers, who are blocked and who are allowed.
-    Shows(u64, &'static [Stood], &'static [u8], &'static [u8]),
+    Shows(&'static Shown),
     /// There are so many rows, and so many peers, who are blocked and who are allowed, the same ones.
-    Counts(usize, usize),
+    Counts(u16, u16),
 }
 
 /// What happens to a pool of the node whose id is that of zeros.
@@ -136,12 +159,12 @@ static SCRIPTS: [Script; 17] = [
             Step::Call(Asked::Gone(1), Reply::Done),
             Step::Call(Asked::Gone(1), Reply::Refused(Refusal::NoConn)),
             Step::Call(Asked::Dial(Some(0)), Reply::Refused(Refusal::SelfPeer)),
-            Step::Shows(
-                23,
-                &[Stood(2, ConnSide::Listener, Phase::Pending, None, None)],
-                &[],
-                &[],
-            ),
+            Step::Shows(&Shown {
+                front: 23,
+                rows: &[Stood(2, ConnSide::Listener, Phase::Pending, None, None)],
+                blocked: &[],
+                allowed: &[],
+            }),
         ],
         ..WIDEST
     },
@@ -153,15 +176,15 @@ static SCRIPTS: [Script; 17] = [
             Step::Call(Asked::Block(0x11), Reply::Count(1)),
             Step::Call(Asked::Settle(1, 0x11), Reply::Refused(Refusal::Closing)),
             Step::Call(Asked::Settle(2, 0x11), Reply::Refused(Refusal::Blocked)),
-            Step::Shows(
-                5,
-                &[
+            Step::Shows(&Shown {
+                front: 5,
+                rows: &[
                     Stood(1, ConnSide::Dialer, Phase::Closing, Some(0x11), None),
                     Stood(2, ConnSide::Listener, Phase::Pending, None, None),
                 ],
-                &[0x11],
-                &[],
-            ),
+                blocked: &[0x11],
+                allowed: &[],
+            }),
             Step::Call(Asked::HangUp(0x22), Reply::Count(0)),
             Step::Call(Asked::HangUp(0), Reply::Refused(Refusal::SelfPeer)),
             Step::Call(Asked::Settle(2, 0x22), Reply::Done),
@@ -175,12 +198,12 @@ static SCRIPTS: [Script; 17] = [
         steps: &[
             Step::Call(Asked::Dial(None), Reply::Conn(1)),
             Step::Call(Asked::Block(0x11), Reply::Refused(Refusal::Spent)),
-            Step::Shows(
-                u64::MAX,
-                &[Stood(1, ConnSide::Dialer, Phase::Pending, None, None)],
-                &[],
-                &[],
-            ),
+            Step::Shows(&Shown {
+                front: u64::MAX,
+                rows: &[Stood(1, ConnSide::Dialer, Phase::Pending, None, None)],
+                blocked: &[],
+                allowed: &[],
+            }),
         ],
         ..WIDEST
     },
@@ -208,15 +231,15 @@ static SCRIPTS: [Script; 17] = [
             Step::Call(Asked::Settle(1, 0x11), Reply::Done),
             Step::Call(Asked::Disallow(0x11), Reply::Count(2)),
             Step::Call(Asked::Settle(2, 0x11), Reply::Refused(Refusal::Closing)),
-            Step::Shows(
-                11,
-                &[
+            Step::Shows(&Shown {
+                front: 11,
+                rows: &[
                     Stood(1, ConnSide::Listener, Phase::Closing, Some(0x11), None),
                     Stood(2, ConnSide::Dialer, Phase::Closing, Some(0x11), None),
                 ],
-                &[],
-                &[],
-            ),
+                blocked: &[],
+                allowed: &[],
+            }),
         ],
         ..WIDEST
     },
@@ -336,18 +359,24 @@ static SCRIPTS: [Script; 17] = [
     Script {
         steps: &[
             Step::Call(Asked::Dial(None), Reply::Conn(1)),
-            Step::Call(Asked::Note(1, "x"), Reply::Refused(Refusal::NotLive)),
+            Step::Call(Asked::Note(1, Name::X), Reply::Refused(Refusal::NotLive)),
             Step::Call(Asked::Settle(1, 0x11), Reply::Done),
-            Step::Call(Asked::Note(1, "a b"), Reply::Done),
-            Step::Shows(
-                4,
-                &[Stood(1, ConnSide::Dialer, Phase::Live, Some(0x11), Some("a b"))],
-                &[],
-                &[],
-            ),
-            Step::Call(Asked::Note(2, "x"), Reply::Refused(Refusal::NoConn)),
+            Step::Call(Asked::Note(1, Name::Spaced), Reply::Done),
+            Step::Shows(&Shown {
+                front: 4,
+                rows: &[Stood(
+                    1,
+                    ConnSide::Dialer,
+                    Phase::Live,
+                    Some(0x11),
+                    Some(Name::Spaced),
+                )],
+                blocked: &[],
+                allowed: &[],
+            }),
+            Step::Call(Asked::Note(2, Name::X), Reply::Refused(Refusal::NoConn)),
             Step::Call(Asked::HangUp(0x11), Reply::Count(1)),
-            Step::Call(Asked::Note(1, "y"), Reply::Refused(Refusal::Closing)),
+            Step::Call(Asked::Note(1, Name::Y), Reply::Refused(Refusal::Closing)),
         ],
         ..WIDEST
     },
@@ -362,12 +391,12 @@ static SCRIPTS: [Script; 17] = [
             Step::Call(Asked::Unblock(0), Reply::Refused(Refusal::SelfPeer)),
             Step::Call(Asked::Allow(0), Reply::Refused(Refusal::SelfPeer)),
             Step::Call(Asked::Disallow(0), Reply::Refused(Refusal::SelfPeer)),
-            Step::Shows(
-                8,
-                &[Stood(1, ConnSide::Listener, Phase::Pending, None, None)],
-                &[],
-                &[],
-            ),
+            Step::Shows(&Shown {
+                front: 8,
+                rows: &[Stood(1, ConnSide::Listener, Phase::Pending, None, None)],
+                blocked: &[],
+                allowed: &[],
+            }),
         ],
         ..WIDEST
     },
@@ -391,12 +420,12 @@ static SCRIPTS: [Script; 17] = [
             Step::Call(Asked::Settle(1, 0x11), Reply::Refused(Refusal::NotPending)),
             Step::Call(Asked::Block(0x11), Reply::Count(1)),
             Step::Call(Asked::Gone(1), Reply::Refused(Refusal::Spent)),
-            Step::Shows(
-                u64::MAX,
-                &[Stood(1, ConnSide::Listener, Phase::Closing, Some(0x11), None)],
-                &[0x11],
-                &[],
-            ),
+            Step::Shows(&Shown {
+                front: u64::MAX,
+                rows: &[Stood(1, ConnSide::Listener, Phase::Closing, Some(0x11), None)],
+                blocked: &[0x11],
+                allowed: &[],
+            }),
         ],
         ..WIDEST
     },
@@ -410,7 +439,7 @@ struct Pools {
     copy: Listing,
 }
 
-fn limits(of: [usize; 7]) -> Option<Limits> {
+pub fn limits(of: [usize; 7]) -> Option<Limits> {
     Limits::new(of[0], of[1], of[2], of[3], of[4], of[5], of[6])
 }
 
@@ -433,69 +462,89 @@ fn begin(script: &Script) -> Option<Pools> {
 
 impl Pools {
     /// Whether the call is answered so, also beforehand, and the other pool and the copy show the same then.
-    fn answers(&mut self, asked: Asked, reply: Reply) -> Option<bool> {
-        let call = call(asked)?;
+    fn is_answered(&mut self, call: Call, reply: Reply) -> bool {
         let is_answered = self.pool.reply(call) == reply && self.pool.apply(call) == reply;
         self.told.commit(&call, &reply);
         self.copy.add(call, reply);
         let is_shown = self.told.show() == self.pool.show();
-        Some(is_answered && is_shown && self.copy.copied() == self.pool.listing())
+        is_answered && is_shown && self.copy.copied() == self.pool.listing()
     }
 
-    fn admits(&mut self, asked: Asked, count: u32) -> Option<bool> {
+    fn answers(&mut self, asked: Asked, reply: Reply) -> bool {
+        match call(asked) {
+            Some(call) => self.is_answered(call, reply),
+            None => false,
+        }
+    }
+
+    fn admits(&mut self, asked: Asked, count: u32) -> bool {
         let mut held = true;
         for before in 0..count {
-            held = self.answers(asked, Reply::Conn(before.saturating_add(1)))? && held;
+            held = self.answers(asked, Reply::Conn(before.saturating_add(1))) && held;
         }
-        Some(held)
+        held
     }
 
-    fn takes_turns(&mut self, times: u32, calls: &[(Asked, Reply)]) -> Option<bool> {
+    fn takes_turns(&mut self, times: u32, calls: &[(Asked, Reply)]) -> bool {
         let mut held = true;
         for _ in 0..times {
             for (asked, reply) in calls {
-                held = self.answers(*asked, *reply)? && held;
+                held = self.answers(*asked, *reply) && held;
             }
         }
-        Some(held)
+        held
     }
 
-    fn lists(&mut self, first: u8, last: u8) -> Option<bool> {
+    fn lists(&mut self, first: u8, last: u8) -> bool {
         let mut held = true;
         for byte in first..=last {
-            held = self.answers(Asked::Block(byte), Reply::Count(0))? && held;
-            held = self.answers(Asked::Allow(byte), Reply::Count(1))? && held;
+            held = self.answers(Asked::Block(byte), Reply::Count(0)) && held;
+            held = self.answers(Asked::Allow(byte), Reply::Count(1)) && held;
         }
-        Some(held)
+        held
     }
 
-    fn shows(&self, front: u64, stood: &[Stood], blocked: &[u8], allowed: &[u8]) -> bool {
-        let listing = self.pool.listing();
-        let mut held = listing.front == front && listing.conns.len() == stood.len();
-        for (place, stood) in stood.iter().enumerate() {
-            held = held && listing.conns.get(place) == Some(&row(stood));
-        }
-        held && are_peers(&listing.blocked, blocked) && are_peers(&listing.allowed, allowed)
-    }
-
-    fn counts(&self, rows: usize, peers: usize) -> bool {
-        let listing = self.pool.listing();
-        let is_same = listing.blocked == listing.allowed;
-        listing.conns.len() == rows && listing.blocked.len() == peers && is_same
-    }
-
-    fn plays(&mut self, step: &Step) -> Option<bool> {
+    fn plays(&mut self, step: &Step) -> bool {
         match step {
             Step::Call(asked, reply) => self.answers(*asked, *reply),
             Step::Admits(asked, count) => self.admits(*asked, *count),
             Step::Turns(times, calls) => self.takes_turns(*times, *calls),
             Step::Lists(first, last) => self.lists(*first, *last),
-            Step::Shows(front, rows, blocked, allowed) => {
-                Some(self.shows(*front, *rows, *blocked, *allowed))
-            }
-            Step::Counts(rows, peers) => Some(self.counts(*rows, *peers)),
+            Step::Shows(shown) => shows(&self.pool.listing(), shown),
+            Step::Counts(rows, peers) => counts(&self.pool.listing(), *rows, *peers),
         }
     }
+
+    /// How many steps hold, from the first on.
+    fn steps_held(&mut self, steps: &[Step]) -> usize {
+        let mut held = 0usize;
+        for (row, step) in steps.iter().enumerate() {
+            if self.plays(step) && held == row {
+                held = held.saturating_add(1);
+            }
+        }
+        held
+    }
+}
+
+fn are_rows(rows: &[Row], stood: &[Stood]) -> bool {
+    let mut held = rows.len() == stood.len();
+    for (place, stood) in stood.iter().enumerate() {
+        held = held && rows.get(place) == Some(&row(stood));
+    }
+    held
+}
+
+fn shows(listing: &Listing, shown: &Shown) -> bool {
+    let are_listed = are_peers(&listing.blocked, shown.blocked)
+        && are_peers(&listing.allowed, shown.allowed);
+    listing.front == shown.front && are_rows(&listing.conns, shown.rows) && are_listed
+}
+
+fn counts(listing: &Listing, rows: u16, peers: u16) -> bool {
+    let is_same = listing.blocked.as_slice() == listing.allowed.as_slice();
+    let is_long = listing.conns.len() == usize::from(rows);
+    is_long && listing.blocked.len() == usize::from(peers) && is_same
 }
 
 fn are_peers(peers: &[PeerId], bytes: &[u8]) -> bool {
@@ -506,16 +555,31 @@ fn are_peers(peers: &[PeerId], bytes: &[u8]) -> bool {
     held
 }
 
-#[test]
-fn scripts(rt: HostRuntime) -> Result<(), Fail> {
+fn script_held(script: &Script) -> usize {
+    match begin(script) {
+        Some(mut pools) => pools.steps_held(script.steps),
+        None => 0,
+    }
+}
+
+/// How many scripts hold, from the first on, and how many steps of the first that doesn't.
+fn scripts_held() -> (usize, usize) {
+    let mut held = (0usize, 0usize);
     for (number, script) in SCRIPTS.iter().enumerate() {
-        let mut pools = begin(script).ok_or("limits in range")?;
-        for (row, step) in script.steps.iter().enumerate() {
-            let held = pools.plays(step) == Some(true);
-            assert!(rt; held, "script {number}, row {row}");
+        if held.0 == number {
+            held.1 = script_held(script);
+            if held.1 == script.steps.len() {
+                held.0 = held.0.saturating_add(1);
+            }
         }
     }
-    Ok(())
+    held
+}
+
+#[test]
+fn scripts(rt: HostRuntime) {
+    let (number, row) = scripts_held();
+    assert!(rt; number == SCRIPTS.len(), "script {number}, row {row}");
 }
 
 // ---- peers that are alike
@@ -549,26 +613,42 @@ fn are_three(own: PeerId, one: PeerId, other: PeerId) -> Option<bool> {
         allow_only: true,
     };
     let mut pool = Pool::new(config);
-    let mut held = pool.apply(Call::Allow(one)) == Reply::Count(1);
-    held = pool.apply(Call::Dial(Some(other))) == Reply::Refused(Refusal::NotAllowed) && held;
-    held = pool.apply(Call::Allow(other)) == Reply::Count(1) && held;
-    held = pool.apply(Call::Dial(Some(one))) == Reply::Conn(1) && held;
-    held = pool.apply(Call::Dial(Some(other))) == Reply::Conn(2) && held;
-    held = pool.apply(Call::Settle(1, other)) == Reply::Refused(Refusal::Mismatch) && held;
-    held = pool.apply(Call::Block(other)) == Reply::Count(1) && held;
-    held = pool.apply(Call::Settle(1, one)) == Reply::Done && held;
-    held = pool.apply(Call::Unblock(one)) == Reply::Count(0) && held;
-    held = pool.apply(Call::Disallow(other)) == Reply::Count(0) && held;
-    Some(pool.apply(Call::HangUp(one)) == Reply::Count(1) && held)
+    Some(are_two(&mut pool, one, other) && are_two_still(&mut pool, one, other))
+}
+
+fn are_two(pool: &mut Pool, one: PeerId, other: PeerId) -> bool {
+    pool.apply(Call::Allow(one)) == Reply::Count(1)
+        && pool.apply(Call::Dial(Some(other))) == Reply::Refused(Refusal::NotAllowed)
+        && pool.apply(Call::Allow(other)) == Reply::Count(1)
+        && pool.apply(Call::Dial(Some(one))) == Reply::Conn(1)
+        && pool.apply(Call::Dial(Some(other))) == Reply::Conn(2)
+}
+
+fn are_two_still(pool: &mut Pool, one: PeerId, other: PeerId) -> bool {
+    pool.apply(Call::Settle(1, other)) == Reply::Refused(Refusal::Mismatch)
+        && pool.apply(Call::Block(other)) == Reply::Count(1)
+        && pool.apply(Call::Settle(1, one)) == Reply::Done
+        && pool.apply(Call::Unblock(one)) == Reply::Count(0)
+        && pool.apply(Call::Disallow(other)) == Reply::Count(0)
+        && pool.apply(Call::HangUp(one)) == Reply::Count(1)
+}
+
+/// How many bytes tell three peers apart, from the first on.
+fn places_held() -> usize {
+    let mut held = 0usize;
+    for place in 0..32usize {
+        let (own, one) = (peer_but_for(place, 0x22), peer_but_for(place, 0x11));
+        let are_three = are_three(own, one, peer_but_for(place, 0x33)) == Some(true);
+        if held == place && are_three {
+            held = held.saturating_add(1);
+        }
+    }
+    held
 }
 
 #[test]
 fn peers_that_differ_in_one_byte(rt: HostRuntime) {
-    for place in 0..32usize {
-        let (own, one) = (peer_but_for(place, 0x22), peer_but_for(place, 0x11));
-        let held = are_three(own, one, peer_but_for(place, 0x33)) == Some(true);
-        assert!(rt; held, "byte {place}");
-    }
+    all_hold(&rt, places_held(), 32);
 }
 
 /// Whether three ids of this code and size that differ in this byte of their digests are three peers to a pool.
@@ -576,6 +656,17 @@ fn are_three_digests(code: u8, size: u8, place: usize) -> Option<bool> {
     let own = digest_but_for(code, size, place, 0x22)?;
     let one = digest_but_for(code, size, place, 0x11)?;
     are_three(own, one, digest_but_for(code, size, place, 0x33)?)
+}
+
+/// How many bytes of such digests tell three peers apart, from the first on.
+fn digests_held(code: u8, size: u8) -> usize {
+    let mut held = 0usize;
+    for place in 0..usize::from(size) {
+        if held == place && are_three_digests(code, size, place) == Some(true) {
+            held = held.saturating_add(1);
+        }
+    }
+    held
 }
 
 /// Whether ids of one digest, of which the one is that of a hash and the other the digest itself, are two peers.
@@ -591,101 +682,8 @@ fn are_two_hashes() -> Option<bool> {
 
 #[test]
 fn peers_of_other_hashes_and_lengths(rt: HostRuntime) {
-    for (code, size) in [(18u8, 32u8), (0, 1), (0, 42)] {
-        for place in 0..usize::from(size) {
-            let held = are_three_digests(code, size, place) == Some(true);
-            assert!(rt; held, "hash {code}, byte {place} of {size}");
-        }
-    }
+    all_hold(&rt, digests_held(18, 32), 32);
+    all_hold(&rt, digests_held(0, 1), 1);
+    all_hold(&rt, digests_held(0, 42), 42);
     assert!(rt; are_two_hashes() == Some(true));
-}
-
-// ---- parts
-
-/// A name, and whether it is an agent's.
-static AGENTS: [(&[u8], bool); 6] = [
-    (b"node/1.0.0", true),
-    (&[b'~'; 64], true),
-    (&[b'~'; 65], false),
-    (&[], false),
-    (&[0x1f], false),
-    (&[0x7f], false),
-];
-
-#[test]
-fn agents_have_printable_names(rt: HostRuntime) {
-    for (row, (name, good)) in AGENTS.iter().enumerate() {
-        let held = match Agent::from_bytes(*name) {
-            Some(agent) => *good && agent.as_bytes() == *name,
-            None => !*good,
-        };
-        assert!(rt; held, "row {row}");
-    }
-}
-
-/// Limits, and whether each is in range.
-static LIMITS: [([usize; 7], bool); 11] = [
-    ([1, 1, 1, 0, 0, 0, 0], true),
-    ([257, 8, 64, 64, 256, 256, 64], false),
-    ([0, 8, 64, 64, 256, 256, 64], false),
-    ([64, 9, 64, 64, 256, 256, 64], false),
-    ([64, 0, 64, 64, 256, 256, 64], false),
-    ([64, 8, 65, 64, 256, 256, 64], false),
-    ([64, 8, 0, 64, 256, 256, 64], false),
-    ([64, 8, 64, 65, 256, 256, 64], false),
-    ([64, 8, 64, 64, 257, 256, 64], false),
-    ([64, 8, 64, 64, 256, 257, 64], false),
-    ([64, 8, 64, 64, 256, 256, 65], false),
-];
-
-#[test]
-fn limits_have_ranges(rt: HostRuntime) {
-    for (row, (of, good)) in LIMITS.iter().enumerate() {
-        assert!(rt; limits(*of).is_some() == *good, "row {row}");
-    }
-}
-
-#[test]
-fn common_limits(rt: HostRuntime) {
-    let common = Limits::default();
-    let of = [
-        common.conns,
-        common.per_peer,
-        common.streams,
-        common.blocked,
-        common.inbound,
-        common.outbound,
-        common.allowed,
-    ];
-    assert_eq!(rt; of, [64, 8, 64, 64, 256, 256, 64]);
-    assert_eq!(rt; limits(of), Some(common));
-}
-
-static REFUSALS: [(Refusal, u8); 19] = [
-    (Refusal::Spent, 1),
-    (Refusal::OutOfMemory, 2),
-    (Refusal::NoConn, 3),
-    (Refusal::Closing, 4),
-    (Refusal::NotPending, 5),
-    (Refusal::NotLive, 6),
-    (Refusal::BadProtocol, 7),
-    (Refusal::SelfPeer, 8),
-    (Refusal::Mismatch, 9),
-    (Refusal::Blocked, 10),
-    (Refusal::Full, 11),
-    (Refusal::PeerFull, 12),
-    (Refusal::StreamsFull, 13),
-    (Refusal::NothingAsked, 14),
-    (Refusal::BlockFull, 15),
-    (Refusal::IdsExhausted, 16),
-    (Refusal::SideFull, 17),
-    (Refusal::NotAllowed, 18),
-    (Refusal::AllowFull, 19),
-];
-
-#[test]
-fn refusals_have_numbers(rt: HostRuntime) {
-    for (refusal, number) in REFUSALS.iter() {
-        assert!(rt; refusal.number() == *number, "{number}");
-    }
 }

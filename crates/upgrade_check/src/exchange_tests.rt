@@ -1,6 +1,6 @@
 use peer_ids::{KeyType, PublicKey};
 use plaintext_x::*;
-use std::alloc::{AllocError, Global};
+use std::alloc::Global;
 use std::test::*;
 
 /// The message of the Ed25519 key of 32 zeros.
@@ -138,42 +138,49 @@ static ROWS: [(&[u8], Came); 25] = [
     (ID_OF_THE_SPELLING, Err(ExchangeFault::Differs)),
 ];
 
-/// Whether the exchange hands out what the key proves.
-fn proves(exchange: Exchange) -> bool {
+fn writes(exchange: &mut Exchange) -> bool {
+    exchange.take_output().as_slice() == MESSAGE
+}
+
+fn is_own(proven: &Proven) -> bool {
+    proven.peer().as_bytes() == ID && proven.key().kind() == KeyType::Ed25519
+}
+
+/// Whether the exchange hands out what the key proves, where it has proven that.
+fn hands_out(exchange: Exchange, is_proven: bool) -> bool {
     match exchange.into_proven() {
-        Ok(proven) => { proven.peer().as_bytes() == ID && proven.key().kind() == KeyType::Ed25519 }
-        Err(_) => false,
+        Ok(proven) => is_own(&proven) && is_proven,
+        Err(_) => !is_proven,
     }
 }
 
-/// Whether the exchange stays where it came to, and hands out what that is.
-fn stays(exchange: Exchange, outcome: Came) -> bool {
-    let mut exchange = exchange;
+/// Whether the exchange stays where it came to.
+fn stays(exchange: &mut Exchange, outcome: Came) -> bool {
     match outcome {
-        Ok((_, true)) => {
-            let is_over = exchange.feed(b"more") == Ok((0, true));
-            proves(exchange) && is_over
-        }
-        Ok((_, false)) => exchange.into_proven().is_err(),
-        Err(_) => {
-            let has_failed = exchange.feed(MESSAGE) == Err(ExchangeFault::Failed);
-            exchange.into_proven().is_err() && has_failed
-        }
+        Ok((_, true)) => exchange.feed(b"more") == Ok((0, true)),
+        Ok((_, false)) => true,
+        Err(_) => exchange.feed(MESSAGE) == Err(ExchangeFault::Failed),
     }
 }
 
-fn comes_to(alloc: Global, input: &[u8], size: usize, outcome: Came) -> Option<bool> {
-    let mut exchange = fresh(alloc)?;
-    let is_written = exchange.take_output().as_slice() == MESSAGE;
-    let came = came(&mut exchange, input, size);
-    Some(stays(exchange, outcome) && is_written && came == outcome)
+fn comes_to(alloc: Global, input: &[u8], size: usize, outcome: Came) -> bool {
+    match fresh(alloc) {
+        Some(mut exchange) => {
+            let is_written = writes(&mut exchange);
+            let is_come = came(&mut exchange, input, size) == outcome;
+            let is_staying = stays(&mut exchange, outcome);
+            let is_out = hands_out(exchange, matches!(outcome, Ok((_, true))));
+            is_written && is_come && is_staying && is_out
+        }
+        None => false,
+    }
 }
 
 #[test]
 fn inputs_however_they_are_cut(rt: HostRuntime) {
     for (row, (input, outcome)) in ROWS.iter().enumerate() {
         for size in [1, 7, 1024] {
-            let held = comes_to(rt.alloc(), *input, size, *outcome) == Some(true);
+            let held = comes_to(rt.alloc(), *input, size, *outcome);
             assert!(rt; held, "row {row} in pieces of {size}");
         }
     }
@@ -185,31 +192,44 @@ static EARLIER_IDS: [(&[u8], usize); 2] = [
     (b"\x53\x0a\x00\x0a\x01\x07", 84),
 ];
 
-/// Whether the last of the ids counts.
-fn is_last_id(alloc: Global, front: &[u8], used: usize) -> Option<bool> {
-    let mut input = Vec::new(alloc);
-    input.extend_from_slice(front).ok()?;
+fn with_front(alloc: Global, front: &[u8]) -> Option<Vec<u8>> {
+    let mut input = Vec::from_slice(alloc, front).ok()?;
     input.extend_from_slice(MESSAGE.get(1..)?).ok()?;
-    comes_to(alloc, &input, 7, Ok((used, true)))
+    Some(input)
+}
+
+/// Whether the last of the ids counts.
+fn is_last_id(alloc: Global, front: &[u8], used: usize) -> bool {
+    match with_front(alloc, front) {
+        Some(input) => comes_to(alloc, &input, 7, Ok((used, true))),
+        None => false,
+    }
 }
 
 #[test]
 fn the_last_id_counts(rt: HostRuntime) {
     for (row, (front, used)) in EARLIER_IDS.iter().enumerate() {
-        let held = is_last_id(rt.alloc(), *front, *used) == Some(true);
-        assert!(rt; held, "row {row}");
+        assert!(rt; is_last_id(rt.alloc(), *front, *used), "row {row}");
     }
+}
+
+/// Whether an exchange that was handed back proves by its last byte.
+fn proves_by(exchange: Exchange, last: &[u8]) -> bool {
+    let mut exchange = exchange;
+    let is_written = writes(&mut exchange);
+    let is_over = exchange.feed(last) == Ok((1, true));
+    hands_out(exchange, true) && is_written && is_over
 }
 
 /// Whether an exchange that was fed all but the last byte is handed back, and proves by that byte.
 fn is_handed_back(alloc: Global) -> Option<bool> {
-    let mut exchange = fresh(alloc)?;
     let (front, last) = MESSAGE.split_at_checked(78)?;
-    let came = came(&mut exchange, front, 7);
-    let mut exchange = exchange.into_proven().err()?;
-    let is_written = exchange.take_output().as_slice() == MESSAGE;
-    let is_over = exchange.feed(last) == Ok((1, true));
-    Some(proves(exchange) && is_written && is_over && came == Ok((78, false)))
+    let mut exchange = fresh(alloc)?;
+    let is_come = came(&mut exchange, front, 7) == Ok((78, false));
+    match exchange.into_proven() {
+        Ok(_) => Some(false),
+        Err(exchange) => Some(proves_by(exchange, last) && is_come),
+    }
 }
 
 #[test]
@@ -217,51 +237,23 @@ fn hands_itself_back_before_the_proof(rt: HostRuntime) {
     assert!(rt; is_handed_back(rt.alloc()) == Some(true));
 }
 
+fn is_done(done: &Exchanged) -> bool {
+    match &done.proven {
+        Some(proven) => proven.peer().as_bytes() == ID && done.output.as_slice() == MESSAGE,
+        None => false,
+    }
+}
+
 fn is_whole(alloc: Global) -> Option<bool> {
-    let key = own_key(alloc)?;
     let (front, rest) = MESSAGE.split_at_checked(40)?;
-    let done = exchange_keys(alloc, &key, &[front, rest, b"more"]).ok()?;
-    let is_written = done.output.as_slice() == MESSAGE;
-    let proven = done.proven?;
-    Some(proven.peer().as_bytes() == ID && is_written)
+    let key = own_key(alloc)?;
+    match exchange_keys(alloc, &key, &[front, rest, b"more"]) {
+        Ok(done) => Some(is_done(&done)),
+        Err(_) => Some(false),
+    }
 }
 
 #[test]
 fn a_whole_exchange(rt: HostRuntime) {
     assert!(rt; is_whole(rt.alloc()) == Some(true));
-}
-
-// ---- faults
-
-static FAULTS: [(ExchangeFault, usize, &str); 8] = [
-    (ExchangeFault::Failed, 1, "the exchange failed before"),
-    (ExchangeFault::TooLong, 2, "the message is too long"),
-    (ExchangeFault::Wire, 3, "the message is badly spelt"),
-    (ExchangeFault::NoId, 4, "the message has no id"),
-    (ExchangeFault::NoKey, 5, "the message has no key"),
-    (ExchangeFault::BadKey, 6, "the key is not read"),
-    (ExchangeFault::Differs, 7, "the id is not that of the key"),
-    (ExchangeFault::OutOfMemory, 8, "out of memory"),
-];
-
-/// Whether the fault is equal to that of this number alone.
-fn is_alone(fault: ExchangeFault, number: usize) -> bool {
-    let mut held = fault as usize == number;
-    for (other, place, _) in FAULTS.iter() {
-        held = held && (fault == *other) == (number == *place);
-    }
-    held
-}
-
-fn has_text(alloc: Global, fault: ExchangeFault, text: &str) -> Result<bool, AllocError> {
-    let told = format!(in alloc; "{fault}")?;
-    Ok(told.as_str() == text)
-}
-
-#[test]
-fn numbers_and_texts_of_faults(rt: HostRuntime) {
-    for (fault, number, text) in FAULTS.iter() {
-        let is_told = has_text(rt.alloc(), *fault, *text) == Ok(true);
-        assert!(rt; is_told && is_alone(*fault, *number), "fault {number}");
-    }
 }

@@ -30,7 +30,7 @@ struct Row {
     names: &'static [&'static str],
     input: &'static [u8],
     answer: Result<Answer, SelectFault>,
-    used: usize,
+    used: u8,
     output: &'static [u8],
     may_send: bool,
 }
@@ -60,7 +60,8 @@ const X_Y: Row = Row {
     ..X
 };
 
-static LISTENERS: [Row; 22] = [
+static ROWS: [Row; 53] = [
+    // Listeners.
     Y,
     // One without names refuses, and goes on.
     Row {
@@ -203,10 +204,7 @@ static LISTENERS: [Row; 22] = [
         answer: Err(SelectFault::BadHeader),
         ..Y
     },
-];
-
-static DIALERS: [Row; 31] = [
-    // The third of three names, and none of them.
+    // Dialers: the third of three names, and none of them.
     Row {
         names: &["/x", "/y", "/z"],
         input: b"\x13/multistream/1.0.0\n\x03na\n\x03na\n\x03/z\nN",
@@ -468,72 +466,62 @@ impl Came {
         }
     }
 
-    fn take_output(&mut self) -> Result<(), AllocError> {
+    fn take_output(&mut self) -> bool {
         let output = self.end.take_output();
-        self.output.extend_from_slice(&output)?;
-        Ok(())
+        self.output.extend_from_slice(&output).is_ok()
     }
 
     fn is_as(&self, row: &Row) -> bool {
-        let is_used = row.answer.is_err() || self.used == row.used;
+        let is_used = row.answer.is_err() || self.used == usize::from(row.used);
         let is_written = self.output.as_slice() == row.output;
         let is_as = self.answer == row.answer && is_used && is_written;
         is_as && self.end.may_send() == row.may_send
     }
 
     /// Plays the row in pieces of this size, behind each of which output is taken, or at the end alone.
-    fn plays(&mut self, row: &Row, size: usize, at_once: bool) -> Result<bool, AllocError> {
+    fn plays(&mut self, row: &Row, size: usize, at_once: bool) -> bool {
         let mut held = true;
         for piece in row.input.chunks(size.max(1)) {
             if at_once {
-                self.take_output()?;
+                held = self.take_output() && held;
             }
             held = self.hears(piece) && held;
         }
-        self.take_output()?;
-        Ok(held && self.is_as(row) && (row.answer == Ok(Answer::Going) || self.hears(M)))
+        held = self.take_output() && held;
+        held && self.is_as(row) && (row.answer == Ok(Answer::Going) || self.hears(M))
     }
 }
 
-fn begin(alloc: Global, row: &Row) -> Result<Came, Fail> {
-    Ok(Came {
-        end: End::new(alloc, row.role, row.names).ok().ok_or("names")?,
+fn begin(alloc: Global, row: &Row) -> Option<Came> {
+    Some(Came {
+        end: End::new(alloc, row.role, row.names).ok()?,
         answer: Ok(Answer::Going),
         used: 0,
         output: Vec::new(alloc),
     })
 }
 
-fn holds_so(alloc: Global, row: &Row, size: usize, at_once: bool) -> Result<bool, Fail> {
-    Ok(begin(alloc, row)?.plays(row, size, at_once)?)
+fn holds_so(alloc: Global, row: &Row, size: usize, at_once: bool) -> bool {
+    match begin(alloc, row) {
+        Some(mut came) => came.plays(row, size, at_once),
+        None => false,
+    }
 }
 
 /// Whether the row holds in pieces of this size, behind each of which output is taken, and where it is taken at the end
 /// alone.
-fn holds(alloc: Global, row: &Row, size: usize) -> Result<bool, Fail> {
-    Ok(holds_so(alloc, row, size, true)? && holds_so(alloc, row, size, false)?)
+fn holds(alloc: Global, row: &Row, size: usize) -> bool {
+    holds_so(alloc, row, size, true) && holds_so(alloc, row, size, false)
 }
 
 #[test]
-fn listeners_however_the_input_is_cut(rt: HostRuntime) -> Result<(), Fail> {
-    for (number, row) in LISTENERS.iter().enumerate() {
+fn ends_however_the_input_is_cut(rt: HostRuntime) {
+    for (number, row) in ROWS.iter().enumerate() {
         for size in [1, 7, 1024] {
-            let held = holds(rt.alloc(), row, size)?;
+            let held = holds(rt.alloc(), row, size);
             assert!(rt; held, "row {number} in pieces of {size}");
         }
     }
-    Ok(())
-}
-
-#[test]
-fn dialers_however_the_input_is_cut(rt: HostRuntime) -> Result<(), Fail> {
-    for (number, row) in DIALERS.iter().enumerate() {
-        for size in [1, 7, 1024] {
-            let held = holds(rt.alloc(), row, size)?;
-            assert!(rt; held, "row {number} in pieces of {size}");
-        }
-    }
-    Ok(())
 }
 
 // ---- names
@@ -551,75 +539,57 @@ fn takes(alloc: Global, role: Role, names: &[&str], good: bool) -> bool {
     }
 }
 
-/// Whether both ends take a name of so many bytes, alone and behind another, or neither does.
-fn are_taken(alloc: Global, length: usize, good: bool) -> Result<bool, AllocError> {
+/// Whether both ends take these names, or neither does.
+fn both_take(alloc: Global, names: &[&str], good: bool) -> bool {
+    takes(alloc, Role::Dialer, names, good) && takes(alloc, Role::Listener, names, good)
+}
+
+fn name(alloc: Global, length: usize) -> Result<String, AllocError> {
     let mut name = String::new(alloc);
     for _ in 0..length {
         name.push('x')?;
     }
-    let name = name.as_str();
-    let alone = takes(alloc, Role::Dialer, &[name], good)
-        && takes(alloc, Role::Listener, &[name], good);
-    let names = ["/x", name];
-    let behind = takes(alloc, Role::Dialer, &names, good)
-        && takes(alloc, Role::Listener, &names, good);
-    Ok(alone && behind)
+    Ok(name)
 }
 
-#[test]
-fn names_of_1_to_1023_bytes(rt: HostRuntime) -> Result<(), Fail> {
-    for (length, good) in LENGTHS.iter() {
-        let held = are_taken(rt.alloc(), *length, *good)?;
-        assert!(rt; held, "a name of {length} bytes");
-    }
-    Ok(())
-}
-
-// ---- whole talks
-
-/// Pieces, the answer to them, and the output.
-struct Whole {
-    role: Role,
-    names: &'static [&'static str],
-    pieces: &'static [&'static [u8]],
-    answer: Answer,
-    output: &'static [u8],
-}
-
-/// What the dialer writes is the listener's piece.
-static WHOLES: [Whole; 2] = [
-    Whole {
-        role: Role::Dialer,
-        names: &["/x", "/y"],
-        pieces: &[M, NA, b"\x03/y\nNext"],
-        answer: Answer::Agreed(1),
-        output: M_X_Y,
-    },
-    Whole {
-        role: Role::Listener,
-        names: &["/y"],
-        pieces: &[M_X_Y],
-        answer: Answer::Agreed(0),
-        output: M_NA_Y,
-    },
-];
-
-fn is_whole(alloc: Global, whole: &Whole) -> bool {
-    let talk = match whole.role {
-        Role::Dialer => dial(alloc, whole.names, whole.pieces),
-        Role::Listener => listen(alloc, whole.names, whole.pieces),
-    };
-    match talk {
-        Ok(talk) => talk.answer == whole.answer && talk.output.as_slice() == whole.output,
+/// Whether both ends take a name of so many bytes, alone and behind another, or neither does.
+fn are_taken(alloc: Global, length: usize, good: bool) -> bool {
+    match name(alloc, length) {
+        Ok(name) => {
+            let name = name.as_str();
+            both_take(alloc, &[name], good) && both_take(alloc, &["/x", name], good)
+        }
         Err(_) => false,
     }
 }
 
 #[test]
-fn whole_talks_of_two_ends(rt: HostRuntime) {
-    for (number, whole) in WHOLES.iter().enumerate() {
-        assert!(rt; is_whole(rt.alloc(), whole), "row {number}");
+fn names_of_1_to_1023_bytes(rt: HostRuntime) {
+    for (length, good) in LENGTHS.iter() {
+        let held = are_taken(rt.alloc(), *length, *good);
+        assert!(rt; held, "a name of {length} bytes");
     }
+}
+
+// ---- whole talks
+
+fn is_talked(talk: Result<Talk, SelectFault>, answer: Answer, output: &[u8]) -> bool {
+    match talk {
+        Ok(talk) => talk.answer == answer && talk.output.as_slice() == output,
+        Err(_) => false,
+    }
+}
+
+/// What the dialer writes is the listener's piece.
+#[test]
+fn whole_talks_of_two_ends(rt: HostRuntime) {
+    let dialed = dial(rt.alloc(), &["/x", "/y"], &[M, NA, b"\x03/y\nNext"]);
+    assert!(rt; is_talked(dialed, Answer::Agreed(1), M_X_Y), "the dialer");
+    let listened = listen(rt.alloc(), &["/y"], &[M_X_Y]);
+    assert!(rt;
+        is_talked(listened, Answer::Agreed(0), M_NA_Y),
+        "the listener"
+    );
 }
 
 // ---- many names
@@ -627,33 +597,26 @@ fn whole_talks_of_two_ends(rt: HostRuntime) {
 /// How many names an end has, each of two bytes, the first of which tell them apart.
 const MANY: usize = 90;
 
+/// The names, joined: each a printable letter, in order, and x.
+const ALL: &str = "!x\"x#x$x%x&x'x(x)x*x+x,x-x.x/x0x1x2x3x4x5x6x7x8x9x:x;x<x=x>x?x@x\
+    AxBxCxDxExFxGxHxIxJxKxLxMxNxOxPxQxRxSxTxUxVxWxXxYxZx[x\\x]x^x_x`x\
+    axbxcxdxexfxgxhxixjxkxlxmxnxoxpxqxrxsxtxuxvxwxxxyxzx";
+
 /// The name of this index, and nothing where that is none of them.
-fn name_of(all: &str, index: usize) -> &str {
+fn name_of(index: usize) -> &'static str {
     let at = index.saturating_mul(2);
-    match all.get(at..at.saturating_add(2)) {
+    match ALL.get(at..at.saturating_add(2)) {
         Some(name) => name,
         None => "",
     }
 }
 
-/// All names, joined: each a printable letter and x.
-fn joined_names(alloc: Global) -> Result<String, AllocError> {
-    let mut all = String::new(alloc);
-    for index in 0..MANY {
-        let letter = b'!'.saturating_add(index as u8);
-        all.push(char::from(letter))?;
-        all.push('x')?;
+/// The name of this index as a message.
+fn message_of(index: usize) -> [u8; 4] {
+    match ALL.as_bytes().get(index.saturating_mul(2)) {
+        Some(letter) => [3, *letter, b'x', b'\n'],
+        None => [3, 0, 0, b'\n'],
     }
-    Ok(all)
-}
-
-/// A text of two bytes as a message.
-fn message_of(text: &str) -> [u8; 4] {
-    let mut message = [3, 0, 0, b'\n'];
-    for (place, byte) in message.iter_mut().skip(1).zip(text.as_bytes()) {
-        *place = *byte;
-    }
-    message
 }
 
 /// Whether an end that has come so far answers this to a piece.
@@ -662,100 +625,59 @@ fn goes_to(end: &mut End, piece: &[u8], answer: Answer) -> bool {
     end.feed(piece) == Ok(Step { used, answer })
 }
 
-/// Whether the header and so many refusals lead a dialer through as many names, and then the name of the next index is
-/// agreed on; or none is left, where each is refused.
-fn is_dialed(alloc: Global, names: &[&str], refusals: usize) -> Result<bool, SelectFault> {
-    let mut end = End::new(alloc, Role::Dialer, names)?;
-    let mut held = goes_to(&mut end, M, Answer::Going);
+/// Whether the header and so many refusals lead an end on, and then the name of the next index is agreed on; or none is
+/// left to a dialer, where each of its names is refused.
+fn agrees(end: &mut End, role: Role, names: &[&str], refusals: usize) -> bool {
+    let mut held = goes_to(end, M, Answer::Going);
     for refused in 0..refusals {
-        let is_last = refused.saturating_add(1) == names.len();
-        let answer = if is_last {
-            Answer::NoneLeft
-        } else {
-            Answer::Going
-        };
-        held = goes_to(&mut end, NA, answer) && held;
+        held = held
+            && match role {
+                Role::Listener => goes_to(end, b"\x03/z\n", Answer::Going),
+                Role::Dialer if refused.saturating_add(1) == names.len() => {
+                    goes_to(end, NA, Answer::NoneLeft)
+                }
+                Role::Dialer => goes_to(end, NA, Answer::Going),
+            };
     }
-    match names.get(refusals) {
-        Some(name) => Ok(goes_to(&mut end, &message_of(*name), Answer::Agreed(refusals)) && held),
-        None => Ok(held),
-    }
+    let is_agreed = refusals >= names.len()
+        || goes_to(end, &message_of(refusals), Answer::Agreed(refusals));
+    held && is_agreed
 }
 
-/// Whether a listener agrees on the name of this index, behind as many refusals.
-fn is_listened(alloc: Global, names: &[&str], index: usize) -> Result<bool, SelectFault> {
-    let mut end = End::new(alloc, Role::Listener, names)?;
-    let mut held = goes_to(&mut end, M, Answer::Going);
-    for _ in 0..index {
-        held = goes_to(&mut end, b"\x03/z\n", Answer::Going) && held;
-    }
-    match names.get(index) {
-        Some(name) => Ok(goes_to(&mut end, &message_of(*name), Answer::Agreed(index)) && held),
-        None => Ok(false),
+fn is_agreed(alloc: Global, role: Role, names: &[&str], refusals: usize) -> bool {
+    match End::new(alloc, role, names) {
+        Ok(mut end) => agrees(&mut end, role, names, refusals),
+        Err(_) => false,
     }
 }
 
 /// The names of an end that has many.
-fn many<'a>(alloc: Global, all: &'a str) -> Result<Vec<&'a str>, AllocError> {
+fn many(alloc: Global) -> Result<Vec<&'static str>, AllocError> {
     let mut names = Vec::new(alloc);
     for index in 0..MANY {
-        names.push(name_of(all, index))?;
+        names.push(name_of(index))?;
     }
     Ok(names)
 }
 
-#[test]
-fn ends_of_many_names(rt: HostRuntime) -> Result<(), Fail> {
-    let all = joined_names(rt.alloc())?;
-    let names = many(rt.alloc(), all.as_str())?;
-    for index in [0, 1, 2, 3, 4, 5, 6, 7, 8, 9, 16, 33, 64, 89] {
-        let is_dialed = is_dialed(rt.alloc(), &names, index) == Ok(true);
-        assert!(rt; is_dialed, "the name {index} of a dialer");
-        let is_listened = is_listened(rt.alloc(), &names, index) == Ok(true);
-        assert!(rt; is_listened, "the name {index} of a listener");
+/// Whether an end of many names comes to agree behind so many refusals.
+fn is_agreed_of_many(alloc: Global, role: Role, refusals: usize) -> bool {
+    match many(alloc) {
+        Ok(names) => is_agreed(alloc, role, &names, refusals),
+        Err(_) => false,
     }
-    assert!(rt; is_dialed(rt.alloc(), &names, MANY) == Ok(true), "no name");
-    Ok(())
 }
 
-// ---- faults
-
-static FAULTS: [(SelectFault, usize, &str); 6] = [
-    (SelectFault::Failed, 1, "the negotiation failed before"),
-    (
-        SelectFault::BadLength,
-        2,
-        "a message or a name has a bad length",
-    ),
-    (SelectFault::NoNewline, 3, "a message has no newline"),
-    (
-        SelectFault::BadHeader,
-        4,
-        "the first message is not the header",
-    ),
-    (SelectFault::NotProposed, 5, "the answer is no proposal"),
-    (SelectFault::OutOfMemory, 6, "out of memory"),
-];
-
-/// Whether the fault is equal to that of this number alone.
-fn is_alone(fault: SelectFault, number: usize) -> bool {
-    let mut held = fault as usize == number;
-    for (other, place, _) in FAULTS.iter() {
-        held = held && (fault == *other) == (number == *place);
-    }
-    held
-}
-
-fn has_text(alloc: Global, fault: SelectFault, text: &str) -> Result<bool, AllocError> {
-    let told = format!(in alloc; "{fault}")?;
-    Ok(told.as_str() == text)
-}
+static INDICES: [usize; 15] = [0, 1, 2, 3, 4, 5, 6, 7, 8, 9, 16, 33, 64, 89, MANY];
 
 #[test]
-fn numbers_and_texts_of_faults(rt: HostRuntime) -> Result<(), Fail> {
-    for (fault, number, text) in FAULTS.iter() {
-        let held = has_text(rt.alloc(), *fault, *text)? && is_alone(*fault, *number);
-        assert!(rt; held, "fault {number}");
+fn ends_of_many_names(rt: HostRuntime) {
+    for index in INDICES.iter() {
+        let is_dialed = is_agreed_of_many(rt.alloc(), Role::Dialer, *index);
+        let is_listened = is_agreed_of_many(rt.alloc(), Role::Listener, *index);
+        assert!(rt;
+            is_dialed && is_listened,
+            "the name {index}: dialer {is_dialed}, listener {is_listened}"
+        );
     }
-    Ok(())
 }

@@ -1,5 +1,5 @@
 use ms_select::{Answer, SelectFault, Step};
-use std::alloc::Global;
+use std::alloc::{AllocError, Global};
 use std::test::*;
 use talks::*;
 
@@ -25,7 +25,7 @@ struct Row {
     end: End,
     input: &'static [u8],
     answer: Result<Answer, SelectFault>,
-    used: usize,
+    used: u8,
     output: &'static [u8],
 }
 
@@ -164,19 +164,23 @@ struct Came {
 
 impl Came {
     /// Hands a piece to the talk, unless it has failed. Its output is taken behind each piece.
-    fn hear(&mut self, piece: &[u8]) -> Result<(), Fail> {
+    fn hears(&mut self, piece: &[u8]) -> bool {
         if self.answer.is_err() {
-            return Ok(());
+            return true;
         }
-        self.answer = match self.talk.hear(piece) {
+        match self.talk.hear(piece) {
             Ok(step) => {
                 self.used = self.used.saturating_add(step.used);
-                Ok(step.answer)
+                self.answer = Ok(step.answer);
             }
-            Err(fault) => Err(fault),
-        };
-        self.output.extend_from_slice(&self.talk.take_output())?;
-        Ok(())
+            Err(fault) => self.answer = Err(fault),
+        }
+        self.take_output()
+    }
+
+    fn take_output(&mut self) -> bool {
+        let output = self.talk.take_output();
+        self.output.extend_from_slice(&output).is_ok()
     }
 
     /// Whether what came next is answered as it must be: a decision is told again and uses nothing, a fault is for
@@ -190,8 +194,17 @@ impl Came {
     }
 
     fn is_as(&self, row: &Row) -> bool {
-        let is_used = row.answer.is_err() || self.used == row.used;
+        let is_used = row.answer.is_err() || self.used == usize::from(row.used);
         self.answer == row.answer && is_used && self.output.as_slice() == row.output
+    }
+
+    /// Whether the row comes to what it must, in pieces of this size, and stays there.
+    fn plays(&mut self, row: &Row, size: usize) -> bool {
+        let mut held = self.take_output();
+        for piece in row.input.chunks(size.max(1)) {
+            held = self.hears(piece) && held;
+        }
+        held && self.is_as(row) && self.stays()
     }
 }
 
@@ -202,37 +215,36 @@ fn talk(alloc: Global, end: End) -> Result<Talk, SelectFault> {
     }
 }
 
-fn heard(alloc: Global, row: &Row, size: usize) -> Result<Came, Fail> {
-    let mut talk = talk(alloc, row.end).ok().ok_or("names")?;
-    let output = talk.take_output();
-    let mut came = Came {
-        talk,
+fn begin(alloc: Global, end: End) -> Option<Came> {
+    Some(Came {
+        talk: talk(alloc, end).ok()?,
         answer: Ok(Answer::Going),
         used: 0,
-        output,
-    };
-    for piece in row.input.chunks(size.max(1)) {
-        came.hear(piece)?;
+        output: Vec::new(alloc),
+    })
+}
+
+fn holds(alloc: Global, row: &Row, size: usize) -> bool {
+    match begin(alloc, row.end) {
+        Some(mut came) => came.plays(row, size),
+        None => false,
     }
-    Ok(came)
 }
 
 #[test]
-fn talks_however_the_input_is_cut(rt: HostRuntime) -> Result<(), Fail> {
+fn talks_however_the_input_is_cut(rt: HostRuntime) {
     for (number, row) in ROWS.iter().enumerate() {
         for size in [1, 7, 1024] {
-            let mut came = heard(rt.alloc(), row, size)?;
-            let held = came.is_as(row) && came.stays();
+            let held = holds(rt.alloc(), row, size);
             assert!(rt; held, "row {number} in pieces of {size}");
         }
     }
-    Ok(())
 }
 
 /// How long a name is, and whether a talk can be about it.
 static LENGTHS: [(usize, bool); 4] = [(0, false), (1, true), (1023, true), (1024, false)];
 
-fn name(alloc: Global, length: usize) -> Result<String, Fail> {
+fn name(alloc: Global, length: usize) -> Result<String, AllocError> {
     let mut name = String::new(alloc);
     for _ in 0..length {
         name.push('x')?;
@@ -241,31 +253,36 @@ fn name(alloc: Global, length: usize) -> Result<String, Fail> {
 }
 
 /// Whether there is a talk, or none for the length of a name.
-fn is_begun(talk: Result<Talk, SelectFault>) -> Option<bool> {
+fn is_begun(talk: Result<Talk, SelectFault>, good: bool) -> bool {
     match talk {
-        Ok(_) => Some(true),
-        Err(SelectFault::BadLength) => Some(false),
-        Err(_) => None,
+        Ok(_) => good,
+        Err(fault) => fault == SelectFault::BadLength && !good,
     }
 }
 
-/// Whether a talk that asks, and one that answers, can be about this name.
-fn begins(alloc: Global, name: &str) -> (Option<bool>, Option<bool>) {
-    let asks = is_begun(Talk::ask(alloc, name, 0));
-    (asks, is_begun(Talk::answer(alloc, &["/x", name])))
+/// Whether a talk that asks, and one that answers, can be about a name of so many bytes, or neither can.
+fn are_begun(alloc: Global, length: usize, good: bool) -> bool {
+    match name(alloc, length) {
+        Ok(name) => {
+            let name = name.as_str();
+            is_begun(Talk::ask(alloc, name, 0), good)
+                && is_begun(Talk::answer(alloc, &["/x", name]), good)
+        }
+        Err(_) => false,
+    }
 }
 
 #[test]
-fn names_of_1_to_1023_bytes(rt: HostRuntime) -> Result<(), Fail> {
-    for (length, good) in LENGTHS {
-        assert_eq!(rt;
-            begins(rt.alloc(), &name(rt.alloc(), length)?),
-            (Some(good), Some(good)),
-            "a name of {length} bytes"
-        );
+fn names_of_1_to_1023_bytes(rt: HostRuntime) {
+    for (length, good) in LENGTHS.iter() {
+        let held = are_begun(rt.alloc(), *length, *good);
+        assert!(rt; held, "a name of {length} bytes");
     }
-    assert!(rt; Talk::answer(rt.alloc(), &[]).is_ok());
-    Ok(())
+}
+
+#[test]
+fn a_talk_may_have_no_names(rt: HostRuntime) {
+    assert!(rt; is_begun(Talk::answer(rt.alloc(), &[]), true));
 }
 
 /// A whole talk in pieces: what it comes to, and what it writes where it is no fault.

@@ -36,12 +36,47 @@ fn upgrade(alloc: Global, role: ConnRole, message: &[u8]) -> Option<Upgrade> {
     Upgrade::new(alloc, role, key).ok()
 }
 
-fn joined(alloc: Global, parts: &[&[u8]]) -> Result<Vec<u8>, AllocError> {
+/// What the ends write, as rows name it.
+#[derive(Clone, Copy)]
+enum Part {
+    Header,
+    Refused,
+    Unknown,
+    Hello,
+    Plaintext,
+    Own,
+    Other,
+    Mux,
+}
+
+fn bytes_of(part: Part) -> &'static [u8] {
+    match part {
+        Part::Header => M,
+        Part::Refused => M_NA,
+        Part::Unknown => M_X,
+        Part::Hello => HELLO,
+        Part::Plaintext => b"\x11/plaintext/2.0.0\n",
+        Part::Own => OWN,
+        Part::Other => OTHER,
+        Part::Mux => MUX,
+    }
+}
+
+fn joined(alloc: Global, parts: &[Part], rest: &[u8]) -> Result<Vec<u8>, AllocError> {
     let mut all = Vec::new(alloc);
     for part in parts {
-        all.extend_from_slice(part)?;
+        all.extend_from_slice(bytes_of(*part))?;
     }
+    all.extend_from_slice(rest)?;
     Ok(all)
+}
+
+/// Whether these bytes are the parts.
+fn is_joined(alloc: Global, bytes: &[u8], parts: &[Part]) -> bool {
+    match joined(alloc, parts, b"") {
+        Ok(all) => all.as_slice() == bytes,
+        Err(_) => false,
+    }
 }
 
 fn last_byte(proven: &plaintext_x::Proven) -> Option<u8> {
@@ -50,246 +85,278 @@ fn last_byte(proven: &plaintext_x::Proven) -> Option<u8> {
 
 // ---- one end, however its input is cut
 
-/// An input, what it comes to, how many bytes are used where the connection is up, and all output.
+/// An input of parts and a rest, what it comes to, how many bytes are used where the connection is up, and all output.
 struct Row {
     role: ConnRole,
-    input: &'static [&'static [u8]],
+    input: &'static [Part],
+    rest: &'static [u8],
     outcome: Outcome,
-    used: usize,
-    output: &'static [&'static [u8]],
+    used: u8,
+    output: &'static [Part],
 }
 
-static DIALERS: [Row; 19] = [
+static ROWS: [Row; 32] = [
+    // Dialers.
     Row {
         role: ConnRole::Dialer,
         input: &[],
+        rest: b"",
         outcome: Ok(None),
         used: 0,
-        output: &[HELLO],
+        output: &[Part::Hello],
     },
     Row {
         role: ConnRole::Dialer,
-        input: &[M, b"\x11/plain"],
+        input: &[Part::Header],
+        rest: b"\x11/plain",
         outcome: Ok(None),
         used: 0,
-        output: &[HELLO],
+        output: &[Part::Hello],
     },
     Row {
         role: ConnRole::Dialer,
-        input: &[HELLO],
+        input: &[Part::Hello],
+        rest: b"",
         outcome: Ok(None),
         used: 0,
-        output: &[HELLO, OWN],
+        output: &[Part::Hello, Part::Own],
     },
     Row {
         role: ConnRole::Dialer,
-        input: &[HELLO, b"\x10\x0a\x07"],
+        input: &[Part::Hello],
+        rest: b"\x10\x0a\x07",
         outcome: Ok(None),
         used: 0,
-        output: &[HELLO, OWN],
+        output: &[Part::Hello, Part::Own],
     },
     Row {
         role: ConnRole::Dialer,
-        input: &[HELLO, OTHER],
+        input: &[Part::Hello, Part::Other],
+        rest: b"",
         outcome: Ok(None),
         used: 0,
-        output: &[HELLO, OWN, MUX],
+        output: &[Part::Hello, Part::Own, Part::Mux],
     },
     Row {
         role: ConnRole::Dialer,
-        input: &[HELLO, OTHER, MUX],
+        input: &[Part::Hello, Part::Other, Part::Mux],
+        rest: b"",
         outcome: Ok(Some(6)),
         used: 89,
-        output: &[HELLO, OWN, MUX],
+        output: &[Part::Hello, Part::Own, Part::Mux],
     },
     // What follows is the session's.
     Row {
         role: ConnRole::Dialer,
-        input: &[HELLO, OTHER, MUX, b"\0\x01"],
+        input: &[Part::Hello, Part::Other, Part::Mux],
+        rest: b"\0\x01",
         outcome: Ok(Some(6)),
         used: 89,
-        output: &[HELLO, OWN, MUX],
+        output: &[Part::Hello, Part::Own, Part::Mux],
     },
     Row {
         role: ConnRole::Dialer,
-        input: &[M_NA, HELLO],
+        input: &[Part::Refused, Part::Hello],
+        rest: b"",
         outcome: Err(UpgradeFault::NoneLeft),
         used: 0,
-        output: &[HELLO],
+        output: &[Part::Hello],
     },
     Row {
         role: ConnRole::Dialer,
-        input: &[b"\x03/x\n"],
+        input: &[],
+        rest: b"\x03/x\n",
         outcome: Err(UpgradeFault::Select(SelectFault::BadHeader)),
         used: 0,
-        output: &[HELLO],
+        output: &[Part::Hello],
     },
     Row {
         role: ConnRole::Dialer,
-        input: &[HELLO, b"\0"],
+        input: &[Part::Hello],
+        rest: b"\0",
         outcome: Err(UpgradeFault::Exchange(ExchangeFault::NoId)),
         used: 0,
-        output: &[HELLO, OWN],
+        output: &[Part::Hello, Part::Own],
     },
     Row {
         role: ConnRole::Dialer,
-        input: &[HELLO, b"\x81\x40"],
+        input: &[Part::Hello],
+        rest: b"\x81\x40",
         outcome: Err(UpgradeFault::Exchange(ExchangeFault::TooLong)),
         used: 0,
-        output: &[HELLO, OWN],
+        output: &[Part::Hello, Part::Own],
     },
     Row {
         role: ConnRole::Dialer,
-        input: &[HELLO, OTHER, M_NA],
+        input: &[Part::Hello, Part::Other, Part::Refused],
+        rest: b"",
         outcome: Err(UpgradeFault::NoneLeft),
         used: 0,
-        output: &[HELLO, OWN, MUX],
+        output: &[Part::Hello, Part::Own, Part::Mux],
     },
     Row {
         role: ConnRole::Dialer,
-        input: &[HELLO, OTHER, M_X],
+        input: &[Part::Hello, Part::Other, Part::Unknown],
+        rest: b"",
         outcome: Err(UpgradeFault::Select(SelectFault::NotProposed)),
         used: 0,
-        output: &[HELLO, OWN, MUX],
+        output: &[Part::Hello, Part::Own, Part::Mux],
     },
     // Each other fault of a talk and of the exchange.
     Row {
         role: ConnRole::Dialer,
-        input: &[M, b"\0"],
+        input: &[Part::Header],
+        rest: b"\0",
         outcome: Err(UpgradeFault::Select(SelectFault::BadLength)),
         used: 0,
-        output: &[HELLO],
+        output: &[Part::Hello],
     },
     Row {
         role: ConnRole::Dialer,
-        input: &[M, b"\x02ab"],
+        input: &[Part::Header],
+        rest: b"\x02ab",
         outcome: Err(UpgradeFault::Select(SelectFault::NoNewline)),
         used: 0,
-        output: &[HELLO],
+        output: &[Part::Hello],
     },
     Row {
         role: ConnRole::Dialer,
-        input: &[HELLO, b"\x01\0"],
+        input: &[Part::Hello],
+        rest: b"\x01\0",
         outcome: Err(UpgradeFault::Exchange(ExchangeFault::Wire)),
         used: 0,
-        output: &[HELLO, OWN],
+        output: &[Part::Hello, Part::Own],
     },
     Row {
         role: ConnRole::Dialer,
-        input: &[HELLO, b"\x02\x0a\0"],
+        input: &[Part::Hello],
+        rest: b"\x02\x0a\0",
         outcome: Err(UpgradeFault::Exchange(ExchangeFault::NoKey)),
         used: 0,
-        output: &[HELLO, OWN],
+        output: &[Part::Hello, Part::Own],
     },
     Row {
         role: ConnRole::Dialer,
-        input: &[HELLO, b"\x04\x0a\0\x12\0"],
+        input: &[Part::Hello],
+        rest: b"\x04\x0a\0\x12\0",
         outcome: Err(UpgradeFault::Exchange(ExchangeFault::BadKey)),
         used: 0,
-        output: &[HELLO, OWN],
+        output: &[Part::Hello, Part::Own],
     },
     Row {
         role: ConnRole::Dialer,
-        input: &[HELLO, b"\x09\x0a\0\x12\x05", OTHER_KEY],
+        input: &[Part::Hello],
+        rest: b"\x09\x0a\0\x12\x05\x08\x02\x12\x01\x06",
         outcome: Err(UpgradeFault::Exchange(ExchangeFault::Differs)),
         used: 0,
-        output: &[HELLO, OWN],
+        output: &[Part::Hello, Part::Own],
     },
-];
-
-static LISTENERS: [Row; 13] = [
+    // Listeners.
     Row {
         role: ConnRole::Listener,
         input: &[],
+        rest: b"",
         outcome: Ok(None),
         used: 0,
-        output: &[M],
+        output: &[Part::Header],
     },
     Row {
         role: ConnRole::Listener,
-        input: &[M_X],
+        input: &[Part::Unknown],
+        rest: b"",
         outcome: Ok(None),
         used: 0,
-        output: &[M_NA],
+        output: &[Part::Refused],
     },
     Row {
         role: ConnRole::Listener,
-        input: &[HELLO],
+        input: &[Part::Hello],
+        rest: b"",
         outcome: Ok(None),
         used: 0,
-        output: &[HELLO, OWN],
+        output: &[Part::Hello, Part::Own],
     },
     Row {
         role: ConnRole::Listener,
-        input: &[HELLO, OTHER],
+        input: &[Part::Hello, Part::Other],
+        rest: b"",
         outcome: Ok(None),
         used: 0,
-        output: &[HELLO, OWN, M],
+        output: &[Part::Hello, Part::Own, Part::Header],
     },
     Row {
         role: ConnRole::Listener,
-        input: &[HELLO, OTHER, M_X],
+        input: &[Part::Hello, Part::Other, Part::Unknown],
+        rest: b"",
         outcome: Ok(None),
         used: 0,
-        output: &[HELLO, OWN, M_NA],
+        output: &[Part::Hello, Part::Own, Part::Refused],
     },
     Row {
         role: ConnRole::Listener,
-        input: &[HELLO, OTHER, MUX],
+        input: &[Part::Hello, Part::Other, Part::Mux],
+        rest: b"",
         outcome: Ok(Some(6)),
         used: 89,
-        output: &[HELLO, OWN, MUX],
+        output: &[Part::Hello, Part::Own, Part::Mux],
     },
     Row {
         role: ConnRole::Listener,
-        input: &[HELLO, OTHER, MUX, b"\0\x01"],
+        input: &[Part::Hello, Part::Other, Part::Mux],
+        rest: b"\0\x01",
         outcome: Ok(Some(6)),
         used: 89,
-        output: &[HELLO, OWN, MUX],
+        output: &[Part::Hello, Part::Own, Part::Mux],
     },
     // A name that isn't known, and then plaintext.
     Row {
         role: ConnRole::Listener,
-        input: &[M_X, b"\x11/plaintext/2.0.0\n", OTHER, MUX],
+        input: &[Part::Unknown, Part::Plaintext, Part::Other, Part::Mux],
+        rest: b"",
         outcome: Ok(Some(6)),
         used: 93,
-        output: &[M_NA, b"\x11/plaintext/2.0.0\n", OWN, MUX],
+        output: &[Part::Refused, Part::Plaintext, Part::Own, Part::Mux],
     },
     Row {
         role: ConnRole::Listener,
-        input: &[b"\x03/x\n"],
+        input: &[],
+        rest: b"\x03/x\n",
         outcome: Err(UpgradeFault::Select(SelectFault::BadHeader)),
         used: 0,
-        output: &[M],
+        output: &[Part::Header],
     },
     Row {
         role: ConnRole::Listener,
-        input: &[M, b"\x02ab"],
+        input: &[Part::Header],
+        rest: b"\x02ab",
         outcome: Err(UpgradeFault::Select(SelectFault::NoNewline)),
         used: 0,
-        output: &[M],
+        output: &[Part::Header],
     },
     // What was written before a bad message is sent too.
     Row {
         role: ConnRole::Listener,
-        input: &[M_X, b"\0"],
+        input: &[Part::Unknown],
+        rest: b"\0",
         outcome: Err(UpgradeFault::Select(SelectFault::BadLength)),
         used: 0,
-        output: &[M_NA],
+        output: &[Part::Refused],
     },
     Row {
         role: ConnRole::Listener,
-        input: &[HELLO, b"\0"],
+        input: &[Part::Hello],
+        rest: b"\0",
         outcome: Err(UpgradeFault::Exchange(ExchangeFault::NoId)),
         used: 0,
-        output: &[HELLO, OWN],
+        output: &[Part::Hello, Part::Own],
     },
     Row {
         role: ConnRole::Listener,
-        input: &[HELLO, OTHER, M_X, b"\0"],
+        input: &[Part::Hello, Part::Other, Part::Unknown],
+        rest: b"\0",
         outcome: Err(UpgradeFault::Select(SelectFault::BadLength)),
         used: 0,
-        output: &[HELLO, OWN, M_NA],
+        output: &[Part::Hello, Part::Own, Part::Refused],
     },
 ];
 
@@ -309,11 +376,20 @@ impl Came {
 
     /// Feeds a piece. An upgrade that is over fails for good.
     fn hears(&mut self, piece: &[u8]) -> bool {
-        let fed = self.upgrade.feed(piece);
         if self.is_over() {
-            return matches!(fed, Err(UpgradeFault::Failed));
+            self.has_failed(piece)
+        } else {
+            self.hear(piece);
+            true
         }
-        match fed {
+    }
+
+    fn has_failed(&mut self, piece: &[u8]) -> bool {
+        matches!(self.upgrade.feed(piece), Err(UpgradeFault::Failed))
+    }
+
+    fn hear(&mut self, piece: &[u8]) {
+        match self.upgrade.feed(piece) {
             Ok(Progress::Going) => self.used = self.used.saturating_add(piece.len()),
             Ok(Progress::Up { used, proven }) => {
                 self.used = self.used.saturating_add(used);
@@ -321,7 +397,6 @@ impl Came {
             }
             Err(fault) => self.outcome = Err(fault),
         }
-        true
     }
 
     fn take_output(&mut self) -> bool {
@@ -329,10 +404,10 @@ impl Came {
         self.output.extend_from_slice(&output).is_ok()
     }
 
-    fn is_as(&self, row: &Row, output: &[u8]) -> bool {
+    fn is_as(&self, row: &Row) -> bool {
         let is_up = matches!(row.outcome, Ok(Some(_)));
-        let is_used = !is_up || self.used == row.used;
-        self.outcome == row.outcome && is_used && self.output.as_slice() == output
+        let is_used = !is_up || self.used == usize::from(row.used);
+        self.outcome == row.outcome && is_used
     }
 
     /// Hears the input in pieces of this size, behind each of which output is taken, or at the end alone.
@@ -357,93 +432,93 @@ fn begin(alloc: Global, role: ConnRole) -> Option<Came> {
     })
 }
 
-fn is_played(
-    came: &mut Came,
-    alloc: Global,
-    row: &Row,
-    size: usize,
-    at_once: bool,
-) -> Option<bool> {
-    let input = joined(alloc, row.input).ok()?;
-    Some(came.plays(&input, size, at_once))
+/// Whether what was heard is what the row says.
+fn is_played(came: &mut Came, alloc: Global, row: &Row, input: &[u8], way: (usize, bool)) -> bool {
+    let is_heard = came.plays(input, way.0, way.1);
+    is_heard && came.is_as(row) && is_joined(alloc, &came.output, row.output)
 }
 
-fn is_ended(came: &Came, alloc: Global, row: &Row) -> Option<bool> {
-    let output = joined(alloc, row.output).ok()?;
-    Some(came.is_as(row, &output))
+fn leads_to(alloc: Global, row: &Row, input: &[u8], way: (usize, bool)) -> bool {
+    match begin(alloc, row.role) {
+        Some(mut came) => is_played(&mut came, alloc, row, input, way),
+        None => false,
+    }
 }
 
-fn holds(alloc: Global, row: &Row, size: usize, at_once: bool) -> Option<bool> {
-    let mut came = begin(alloc, row.role)?;
-    let held = is_played(&mut came, alloc, row, size, at_once)?;
-    Some(held && is_ended(&came, alloc, row)?)
+/// Whether the row holds in pieces of this size, behind each of which output is taken, or at the end alone.
+fn holds(alloc: Global, row: &Row, way: (usize, bool)) -> bool {
+    match joined(alloc, row.input, row.rest) {
+        Ok(input) => leads_to(alloc, row, &input, way),
+        Err(_) => false,
+    }
 }
 
 /// Whether the row holds in pieces of this size, behind each of which output is taken, and where it is taken at the end
 /// alone.
 fn is_so(alloc: Global, row: &Row, size: usize) -> bool {
-    holds(alloc, row, size, true) == Some(true) && holds(alloc, row, size, false) == Some(true)
+    holds(alloc, row, (size, true)) && holds(alloc, row, (size, false))
 }
 
 #[test]
-fn dialers_however_the_input_is_cut(rt: HostRuntime) {
-    for (number, row) in DIALERS.iter().enumerate() {
+fn ends_however_the_input_is_cut(rt: HostRuntime) {
+    for (number, row) in ROWS.iter().enumerate() {
         for size in [1, 7, 1024] {
-            assert!(rt;
-                is_so(rt.alloc(), row, size),
-                "row {number} in pieces of {size}"
-            );
-        }
-    }
-}
-
-#[test]
-fn listeners_however_the_input_is_cut(rt: HostRuntime) {
-    for (number, row) in LISTENERS.iter().enumerate() {
-        for size in [1, 7, 1024] {
-            assert!(rt;
-                is_so(rt.alloc(), row, size),
-                "row {number} in pieces of {size}"
-            );
+            let held = is_so(rt.alloc(), row, size);
+            assert!(rt; held, "row {number} in pieces of {size}");
         }
     }
 }
 
 // ---- two ends
 
-/// What one end wrote comes to the other: whose key it has proven then, where that is all that it used.
-fn hears(from: &mut Upgrade, to: &mut Upgrade) -> Option<u8> {
-    let sent = from.take_output();
-    match to.feed(&sent) {
-        Ok(Progress::Up { used, proven }) if used == sent.len() => last_byte(&proven),
+/// Whose key an end has proven by all that comes.
+fn heard(to: &mut Upgrade, sent: &[u8]) -> Option<u8> {
+    match to.feed(sent) {
+        Ok(Progress::Up { used, proven }) => {
+            if used == sent.len() {
+                last_byte(&proven)
+            } else {
+                None
+            }
+        }
         _ => None,
     }
 }
 
-/// Whose keys both ends have proven in the end: the dialer, and the listener.
-fn come_up(dialer: &mut Upgrade, listener: &mut Upgrade) -> (Option<u8>, Option<u8>) {
+/// What one end wrote comes to the other: whose key it has proven then, where that is all that it used.
+fn hears(from: &mut Upgrade, to: &mut Upgrade) -> Option<u8> {
+    let sent = from.take_output();
+    heard(to, &sent)
+}
+
+/// Whether both ends prove one another's keys in the end: the dialer's ends in 5, and the listener's in 6.
+fn come_up(dialer: &mut Upgrade, listener: &mut Upgrade) -> bool {
     let mut dialed = None;
     let mut accepted = None;
     for _ in 0..4 {
         accepted = accepted.or(hears(dialer, listener));
         dialed = dialed.or(hears(listener, dialer));
     }
-    (dialed, accepted)
+    dialed == Some(6) && accepted == Some(5)
 }
 
-fn meets_listener(alloc: Global, dialer: &mut Upgrade) -> Option<(Option<u8>, Option<u8>)> {
-    let mut listener = upgrade(alloc, ConnRole::Listener, OTHER_KEY)?;
-    Some(come_up(dialer, &mut listener))
+fn meets_listener(alloc: Global, dialer: &mut Upgrade) -> bool {
+    match upgrade(alloc, ConnRole::Listener, OTHER_KEY) {
+        Some(mut listener) => come_up(dialer, &mut listener),
+        None => false,
+    }
 }
 
-fn two_ends(alloc: Global) -> Option<(Option<u8>, Option<u8>)> {
-    let mut dialer = upgrade(alloc, ConnRole::Dialer, OWN_KEY)?;
-    meets_listener(alloc, &mut dialer)
+fn two_ends(alloc: Global) -> bool {
+    match upgrade(alloc, ConnRole::Dialer, OWN_KEY) {
+        Some(mut dialer) => meets_listener(alloc, &mut dialer),
+        None => false,
+    }
 }
 
 #[test]
 fn two_ends_come_up(rt: HostRuntime) {
-    assert!(rt; two_ends(rt.alloc()) == Some((Some(6), Some(5))));
+    assert!(rt; two_ends(rt.alloc()));
 }
 
 // ---- whole upgrades
@@ -453,7 +528,7 @@ struct Whole {
     role: ConnRole,
     pieces: &'static [&'static [u8]],
     outcome: Outcome,
-    output: &'static [&'static [u8]],
+    output: &'static [Part],
 }
 
 static WHOLES: [Whole; 3] = [
@@ -467,13 +542,13 @@ static WHOLES: [Whole; 3] = [
             b"Next",
         ],
         outcome: Ok(Some(6)),
-        output: &[HELLO, OWN, MUX],
+        output: &[Part::Hello, Part::Own, Part::Mux],
     },
     Whole {
         role: ConnRole::Listener,
         pieces: &[HELLO, OTHER],
         outcome: Ok(None),
-        output: &[HELLO, OWN, M],
+        output: &[Part::Hello, Part::Own, Part::Header],
     },
     Whole {
         role: ConnRole::Listener,
@@ -483,67 +558,147 @@ static WHOLES: [Whole; 3] = [
     },
 ];
 
-fn is_up(up: &Upgraded, outcome: Outcome, output: &[u8]) -> bool {
-    let proven = up.proven.as_ref().and_then(last_byte);
-    outcome == Ok(proven) && up.output.as_slice() == output
+fn is_up(alloc: Global, up: &Upgraded, whole: &Whole) -> bool {
+    let proven = match &up.proven {
+        Some(proven) => last_byte(proven),
+        None => None,
+    };
+    whole.outcome == Ok(proven) && is_joined(alloc, &up.output, whole.output)
 }
 
-fn is_whole(alloc: Global, whole: &Whole) -> Result<bool, Fail> {
-    let output = joined(alloc, whole.output)?;
-    let key = PublicKey::read(alloc, OWN_KEY).ok().ok_or("a key")?;
+fn comes_up(alloc: Global, whole: &Whole, key: PublicKey) -> bool {
     match bring_up(alloc, whole.role, key, whole.pieces) {
-        Ok(up) => Ok(is_up(&up, whole.outcome, &output)),
-        Err(fault) => Ok(whole.outcome == Err(fault)),
+        Ok(up) => is_up(alloc, &up, whole),
+        Err(fault) => whole.outcome == Err(fault),
+    }
+}
+
+fn is_whole(alloc: Global, whole: &Whole) -> bool {
+    match PublicKey::read(alloc, OWN_KEY) {
+        Ok(key) => comes_up(alloc, whole, key),
+        Err(_) => false,
     }
 }
 
 #[test]
-fn whole_upgrades_in_pieces(rt: HostRuntime) -> Result<(), Fail> {
+fn whole_upgrades_in_pieces(rt: HostRuntime) {
     for (number, whole) in WHOLES.iter().enumerate() {
-        let held = is_whole(rt.alloc(), whole)?;
-        assert!(rt; held, "row {number}");
+        assert!(rt; is_whole(rt.alloc(), whole), "row {number}");
     }
-    Ok(())
 }
 
 // ---- faults
 
-static FAULTS: [(UpgradeFault, &str); 5] = [
-    (UpgradeFault::Failed, "the upgrade is over"),
+/// Each fault, the number of that of a talk or of the exchange, and its text, which ends in the text of that.
+static FAULTS: [(UpgradeFault, usize, &str); 17] = [
+    (UpgradeFault::Failed, 0, "the upgrade is over"),
+    (
+        UpgradeFault::NoneLeft,
+        0,
+        "the other end does not know the protocol",
+    ),
+    (UpgradeFault::OutOfMemory, 0, "out of memory"),
+    (
+        UpgradeFault::Select(SelectFault::Failed),
+        1,
+        "no protocol is settled: the negotiation failed before",
+    ),
+    (
+        UpgradeFault::Select(SelectFault::BadLength),
+        2,
+        "no protocol is settled: a message or a name has a bad length",
+    ),
+    (
+        UpgradeFault::Select(SelectFault::NoNewline),
+        3,
+        "no protocol is settled: a message has no newline",
+    ),
     (
         UpgradeFault::Select(SelectFault::BadHeader),
+        4,
         "no protocol is settled: the first message is not the header",
     ),
     (
-        UpgradeFault::NoneLeft,
-        "the other end does not know the protocol",
+        UpgradeFault::Select(SelectFault::NotProposed),
+        5,
+        "no protocol is settled: the answer is no proposal",
+    ),
+    (
+        UpgradeFault::Select(SelectFault::OutOfMemory),
+        6,
+        "no protocol is settled: out of memory",
+    ),
+    (
+        UpgradeFault::Exchange(ExchangeFault::Failed),
+        1,
+        "no key is proven: the exchange failed before",
+    ),
+    (
+        UpgradeFault::Exchange(ExchangeFault::TooLong),
+        2,
+        "no key is proven: the message is too long",
+    ),
+    (
+        UpgradeFault::Exchange(ExchangeFault::Wire),
+        3,
+        "no key is proven: the message is badly spelt",
+    ),
+    (
+        UpgradeFault::Exchange(ExchangeFault::NoId),
+        4,
+        "no key is proven: the message has no id",
     ),
     (
         UpgradeFault::Exchange(ExchangeFault::NoKey),
+        5,
         "no key is proven: the message has no key",
     ),
-    (UpgradeFault::OutOfMemory, "out of memory"),
+    (
+        UpgradeFault::Exchange(ExchangeFault::BadKey),
+        6,
+        "no key is proven: the key is not read",
+    ),
+    (
+        UpgradeFault::Exchange(ExchangeFault::Differs),
+        7,
+        "no key is proven: the id is not that of the key",
+    ),
+    (
+        UpgradeFault::Exchange(ExchangeFault::OutOfMemory),
+        8,
+        "no key is proven: out of memory",
+    ),
 ];
+
+/// The number of the fault of a talk or of the exchange.
+fn number_of(fault: UpgradeFault) -> usize {
+    match fault {
+        UpgradeFault::Select(fault) => fault as usize,
+        UpgradeFault::Exchange(fault) => fault as usize,
+        _ => 0,
+    }
+}
 
 /// Whether the fault is equal to that of this row alone.
 fn is_alone(fault: UpgradeFault, row: usize) -> bool {
     let mut held = true;
-    for (place, (other, _)) in FAULTS.iter().enumerate() {
+    for (place, (other, _, _)) in FAULTS.iter().enumerate() {
         held = held && (fault == *other) == (row == place);
     }
     held
 }
 
-fn has_text(alloc: Global, fault: UpgradeFault, text: &str) -> Result<bool, AllocError> {
-    let told = format!(in alloc; "{fault}")?;
-    Ok(told.as_str() == text)
+fn has_text(alloc: Global, fault: UpgradeFault, text: &str) -> bool {
+    match format!(in alloc; "{fault}") {
+        Ok(told) => told.as_str() == text,
+        Err(_) => false,
+    }
 }
 
 #[test]
-fn texts_of_faults(rt: HostRuntime) -> Result<(), Fail> {
-    for (row, (fault, text)) in FAULTS.iter().enumerate() {
-        let held = has_text(rt.alloc(), *fault, *text)? && is_alone(*fault, row);
-        assert!(rt; held, "row {row}");
+fn numbers_and_texts_of_faults(rt: HostRuntime) {
+    for (row, (fault, number, text)) in FAULTS.iter().enumerate() {
+        let is_told = has_text(rt.alloc(), *fault, *text) && number_of(*fault) == *number;
+        assert!(rt; is_told && is_alone(*fault, row), "row {row}");
     }
-    Ok(())
 }
