@@ -4,13 +4,13 @@
 ghost use Rattle.std.specs.Prelude.{◌≡◌, [], ◌∷◌, ⊤, ◌==◌, ◌&&◌, false, codes};
 
 use crate::greeting::{KEY, OTHER, ROOM};
-use crate::stopping::{Why, why_broken};
 use conn_core::ConnCore;
 use conn_log::ConnEvent;
 use handlers::{Handler, HandlerFault, Protocols};
 use peer_ids::{PeerId, PublicKey};
 use std::alloc::{AllocError, Global};
 use std::test::*;
+use streams::Cause;
 use upgrade::ConnRole;
 
 /// A handler that gives as many bytes as it owes, and one more for each that it takes. Once it has given some and owes
@@ -39,7 +39,7 @@ impl Handler for Owing {
     }
 
     fn end(&mut self) -> Result<(), HandlerFault> {
-        if self.fails && !self.finished() {
+        if self.fails && !(self.gave && self.owed == 0) {
             return Err(HandlerFault { number: 7 });
         }
         self.lost = self.owed;
@@ -142,72 +142,76 @@ const END_1: &[u8] = b"\0\x01\0\x04\0\0\0\x01\0\0\0\0";
 
 const END_3: &[u8] = b"\0\x01\0\x04\0\0\0\x03\0\0\0\0";
 
-/// What is told of a stream: Done with how much its handler lost.
-#[derive(Clone, Copy, Debug, PartialEq, Eq)]
+/// What alone is told of a stream: Done, with how much its handler lost, or that its handler failed.
 enum Told {
-    Nothing,
     Done(u32, usize),
-    Broken(u32, Why),
-    Other,
-}
-
-fn only_told(events: &[ConnEvent<Owing>]) -> Told {
-    match events.first() {
-        None => Told::Nothing,
-        Some(_) if events.len() > 1 => Told::Other,
-        Some(ConnEvent::Done(number, handler)) => Told::Done(*number, handler.lost),
-        Some(ConnEvent::Broken(number, cause)) => Told::Broken(*number, why_broken(*cause)),
-        Some(_) => Told::Other,
-    }
+    Failed(u32),
 }
 
 /// What a handler owes at first, whether it fails at an early end, the piece that comes once it has given what there
 /// was room for, and what is told.
 type Row = (usize, bool, &'static [u8], Told);
 
-const FAILED: Why = Why::Handler(7);
-
 const ROWS: [Row; 12] = [
     (ROOM + 1, true, CREDIT_AND_END_1, Told::Done(1, 0)),
-    (ROOM + 2, true, CREDIT_AND_END_1, Told::Broken(1, FAILED)),
+    (ROOM + 2, true, CREDIT_AND_END_1, Told::Failed(1)),
     (ROOM + 1, true, CREDIT_AND_END_3, Told::Done(3, 0)),
     (ROOM + 1, false, CREDIT_AND_END_3, Told::Done(3, 0)),
     (ROOM + 2, false, CREDIT_AND_END_3, Told::Done(3, 1)),
     (ROOM + 1, true, CREDIT_1, Told::Done(1, 0)),
-    (ROOM + 1, true, END_1, Told::Broken(1, FAILED)),
+    (ROOM + 1, true, END_1, Told::Failed(1)),
     (ROOM + 1, false, END_3, Told::Done(3, 1)),
     (0, true, DATA_AND_END_1, Told::Done(1, 0)),
     (0, true, DATA_AND_END_3, Told::Done(3, 0)),
     (0, false, DATA_AND_END_3, Told::Done(3, 0)),
-    (0, true, END_1, Told::Broken(1, FAILED)),
+    (0, true, END_1, Told::Failed(1)),
 ];
 
-/// A listener that is up, with two handlers, each of which gave what there was room for.
-fn begin(alloc: Global, protocols: Owings) -> Option<ConnCore<Owings>> {
-    let key = PublicKey::read(alloc, KEY).ok()?;
-    let mut core = ConnCore::new(alloc, ConnRole::Listener, key, protocols).ok()?;
-    core.feed(OTHER).ok()?;
-    core.feed(OPENS).ok()?;
-    Some(core)
+fn is_told(event: &ConnEvent<Owing>, told: &Told) -> bool {
+    match event {
+        ConnEvent::Done(number, handler) => matches!(told,
+            Told::Done(other, lost) if other == number && *lost == handler.lost),
+        ConnEvent::Broken(number, cause) => matches!(told,
+            Told::Failed(other) if other == number && *cause == Cause::Handler(HandlerFault { number: 7 })),
+        _ => false,
+    }
 }
 
-fn meets(core: &mut ConnCore<Owings>, piece: &[u8]) -> Option<Told> {
-    let events = core.feed(piece).ok()?;
-    Some(only_told(&events))
+/// Whether the piece is told so, once the connection is up, with two handlers, each of which gave what there was room
+/// for.
+fn tells(core: &mut ConnCore<Owings>, piece: &[u8], told: &Told) -> bool {
+    let is_open = core.feed(OTHER).is_ok() && core.feed(OPENS).is_ok();
+    match core.feed(piece) {
+        Ok(events) => match events.first() {
+            Some(event) => is_open && events.len() == 1 && is_told(event, told),
+            None => false,
+        },
+        Err(_) => false,
+    }
 }
 
-fn told_of(alloc: Global, owed: usize, fails: bool, piece: &[u8]) -> Option<Told> {
-    let mut core = begin(alloc, Owings { alloc, owed, fails })?;
-    meets(&mut core, piece)
+fn listener(alloc: Global, protocols: Owings) -> Option<ConnCore<Owings>> {
+    match PublicKey::read(alloc, KEY) {
+        Ok(key) => ConnCore::new(alloc, ConnRole::Listener, key, protocols).ok(),
+        Err(_) => None,
+    }
+}
+
+fn holds(alloc: Global, owed: usize, fails: bool, piece: &[u8], told: &Told) -> bool {
+    match listener(alloc, Owings { alloc, owed, fails }) {
+        Some(core) => {
+            let mut core = core;
+            tells(&mut core, piece, told)
+        }
+        None => false,
+    }
 }
 
 #[test]
 fn a_handler_gives_before_it_hears_the_end(rt: HostRuntime) -> Result<(), Fail> {
-    let alloc = rt.alloc();
-    for row in &ROWS {
-        let (owed, fails, piece, told) = *row;
-        let found = told_of(alloc, owed, fails, piece);
-        assert_eq!(rt; found, Some(told));
+    for (number, (owed, fails, piece, told)) in ROWS.iter().enumerate() {
+        let held = holds(rt.alloc(), *owed, *fails, *piece, told);
+        assert!(rt; held, "row {number}");
     }
     Ok(())
 }

@@ -106,54 +106,6 @@ impl Protocols for Mutes {
 const OUTPUT: &[u8] = b"\x13/multistream/1.0.0\n\x11/plaintext/2.0.0\n\
     \x10\x0a\x07\0\x05\x08\x02\x12\x01\x05\x12\x05\x08\x02\x12\x01\x05\x13/multistream/1.0.0\n\x0d/yamux/1.0.0\n";
 
-/// What an answer says: one event, by its kind, or the number of a refusal.
-fn said(answer: &ConnAnswer<Mute>) -> Option<u8> {
-    match answer {
-        ConnAnswer::Events(events) => match events.first() {
-            Some(ConnEvent::Upgraded(_)) => Some(101),
-            Some(ConnEvent::Shut) => Some(102),
-            _ => None,
-        },
-        ConnAnswer::Stream(_) => None,
-        ConnAnswer::Refused(refused) => Some(*refused as u8),
-    }
-}
-
-fn acts(alloc: Global) -> Result<Vec<ConnAct>, AllocError> {
-    let mut acts = Vec::new(alloc);
-    acts.push(ConnAct::Ask(0))?;
-    acts.push(ConnAct::Feed(Vec::new(alloc)))?;
-    acts.push(ConnAct::Feed(Vec::from_slice(alloc, OTHER)?))?;
-    acts.push(ConnAct::Feed(Vec::new(alloc)))?;
-    acts.push(ConnAct::Ask(0))?;
-    acts.push(ConnAct::Ended)?;
-    acts.push(ConnAct::Ended)?;
-    Ok(acts)
-}
-
-/// NotUp, nothing of an empty piece, Upgraded, nothing of another, BadIndex, Shut, Failed.
-const SAID: [Option<u8>; 7] = [Some(2), None, Some(101), None, Some(3), Some(102), Some(1)];
-
-fn is_told(alloc: Global) -> Option<bool> {
-    let key = PublicKey::read(alloc, KEY).ok()?;
-    let acts = acts(alloc).ok()?;
-    let protocols = Mutes {
-        alloc,
-        is_known: false,
-        gives_up: false,
-    };
-    let ran = run(alloc, ConnRole::Dialer, key, protocols, &acts).ok()?;
-    let told = ran.answers.iter().map(said).eq(SAID.iter().copied());
-    Some(told && ran.output.as_slice() == OUTPUT && ran.handlers.is_empty())
-}
-
-#[test]
-fn a_run_without_protocols(rt: HostRuntime) -> Result<(), Fail> {
-    let held = is_told(rt.alloc()) == Some(true);
-    assert!(rt; held, "the run");
-    Ok(())
-}
-
 /// The other end opens the stream 1 for `/mute`, and ends it at once.
 const OPENS_1: &[u8] = b"\0\0\0\x05\0\0\0\x01\0\0\0\x1b\x13/multistream/1.0.0\n\x06/mute\n";
 
@@ -161,6 +113,9 @@ const OPENS_3: &[u8] = b"\0\0\0\x05\0\0\0\x03\0\0\0\x1b\x13/multistream/1.0.0\n\
 
 /// It opens the stream 3 for `/mute`, and doesn't end it.
 const OPENS_3_ALONE: &[u8] = b"\0\0\0\x01\0\0\0\x03\0\0\0\x1b\x13/multistream/1.0.0\n\x06/mute\n";
+
+/// The same of the stream 2.
+const OPENS_2: &[u8] = b"\0\0\0\x01\0\0\0\x02\0\0\0\x1b\x13/multistream/1.0.0\n\x06/mute\n";
 
 /// It opens the stream 3, and begins its talk.
 const BEGINS_3: &[u8] = b"\0\0\0\x01\0\0\0\x03\0\0\0\x14\x13/multistream/1.0.0\n";
@@ -171,126 +126,253 @@ const SPOILS_3: &[u8] = b"\0\0\0\x01\0\0\0\x03\0\0\0\x14\x13/multistream/2.0.0\n
 /// RST of the stream 3.
 const RESETS_3: &[u8] = b"\0\x01\0\x08\0\0\0\x03\0\0\0\0";
 
-/// What comes to a listener, and the streams whose handlers it holds then, in the order in which they were made. Both
-/// ends end the streams 3 and 1 while their handlers are not finished; then one or both are opened anew.
-const HELD: [(&[&[u8]], &[u32]); 5] = [
-    (&[OTHER, OPENS_3, OPENS_1, OPENS_3, OPENS_1], &[3, 1, 3, 1]),
-    (&[OTHER, OPENS_3, OPENS_1, OPENS_3_ALONE], &[3, 1, 3]),
-    // Where it is broken, or reset, within its talk, no handler was made for it, and that of its number stays.
-    (&[OTHER, OPENS_3, OPENS_1, SPOILS_3], &[3, 1]),
-    (&[OTHER, OPENS_3, OPENS_1, BEGINS_3, RESETS_3], &[3, 1]),
-    // Behind its talk its own goes.
-    (&[OTHER, OPENS_3, OPENS_1, OPENS_3_ALONE, RESETS_3], &[3, 1]),
-];
-
-fn feeds(alloc: Global, pieces: &[&[u8]]) -> Result<Vec<ConnAct>, AllocError> {
-    let mut acts = Vec::new(alloc);
-    for piece in pieces {
-        acts.push(ConnAct::Feed(Vec::from_slice(alloc, *piece)?))?;
-    }
-    Ok(acts)
+/// What is done: the first protocol is asked for, bytes come, or the input ends.
+enum Does {
+    Ask,
+    Feed(&'static [u8]),
+    Ended,
 }
 
-fn is_held(alloc: Global, pieces: &[&[u8]], held: &[u32]) -> Option<bool> {
-    let key = PublicKey::read(alloc, KEY).ok()?;
-    let acts = feeds(alloc, pieces).ok()?;
-    let protocols = Mutes {
-        alloc,
-        is_known: true,
-        gives_up: false,
-    };
-    let ran = run(alloc, ConnRole::Listener, key, protocols, &acts).ok()?;
-    let numbers = ran.handlers.iter().map(|(number, _)| *number);
-    Some(numbers.eq(held.iter().copied()))
-}
-
-#[test]
-fn handlers_come_in_the_order_in_which_they_were_made(rt: HostRuntime) -> Result<(), Fail> {
-    for (row, (pieces, held)) in HELD.iter().enumerate() {
-        let is_so = is_held(rt.alloc(), *pieces, *held) == Some(true);
-        assert!(rt; is_so, "row {row}");
-    }
-    Ok(())
-}
-
-/// The same of the stream 2, which the other end doesn't end.
-const OPENS_2: &[u8] = b"\0\0\0\x01\0\0\0\x02\0\0\0\x1b\x13/multistream/1.0.0\n\x06/mute\n";
-
-fn asks(alloc: Global) -> Result<Vec<ConnAct>, AllocError> {
-    let mut acts = Vec::new(alloc);
-    acts.push(ConnAct::Feed(Vec::from_slice(alloc, OTHER)?))?;
-    acts.push(ConnAct::Ask(0))?;
-    acts.push(ConnAct::Feed(Vec::from_slice(alloc, OPENS_2)?))?;
-    acts.push(ConnAct::Ask(0))?;
-    acts.push(ConnAct::Ended)?;
-    Ok(acts)
-}
-
-/// What is told and answered, in order: an event by its kind and its stream, a stream that is opened, a refusal.
-#[derive(Clone, Copy, Debug, PartialEq, Eq)]
+/// What is told and answered: an event by its kind and its stream, a stream that is opened, the number of a refusal.
 enum Heard {
     Upgraded,
     Opened(u32),
     Agreed(u32),
     Broken(u32),
     Shut,
-    Other,
+    Refused(u8),
 }
 
-fn kind_of(event: &ConnEvent<Mute>) -> Heard {
-    match event {
-        ConnEvent::Upgraded(_) => Heard::Upgraded,
-        ConnEvent::Agreed(number, _) => Heard::Agreed(*number),
-        ConnEvent::Broken(number, _) => Heard::Broken(*number),
-        ConnEvent::Shut => Heard::Shut,
-        _ => Heard::Other,
-    }
+/// A run, what each call is answered, where that is compared, the streams whose handlers are held at its end, in the
+/// order in which they were made, and all output, where that is compared.
+struct Script {
+    role: ConnRole,
+    is_known: bool,
+    gives_up: bool,
+    does: &'static [Does],
+    heard: Option<&'static [&'static [Heard]]>,
+    held: &'static [u32],
+    output: Option<&'static [u8]>,
 }
 
-fn all_heard(alloc: Global, answers: &[ConnAnswer<Mute>]) -> Result<Vec<Heard>, AllocError> {
-    let mut heard = Vec::new(alloc);
-    for answer in answers {
-        match answer {
-            ConnAnswer::Events(events) => {
-                for event in events {
-                    heard.push(kind_of(event))?;
-                }
-            }
-            ConnAnswer::Stream(number) => heard.push(Heard::Opened(*number))?,
-            ConnAnswer::Refused(_) => heard.push(Heard::Other)?,
-        }
-    }
-    Ok(heard)
-}
-
-/// What is met within an ask is told by the next call, before all else.
-const HEARD: [Heard; 8] = [
-    Heard::Upgraded,
-    Heard::Opened(1),
-    Heard::Broken(1),
-    Heard::Agreed(2),
-    Heard::Broken(2),
-    Heard::Opened(3),
-    Heard::Broken(3),
-    Heard::Shut,
-];
-
-fn is_owed(alloc: Global) -> Option<bool> {
-    let key = PublicKey::read(alloc, KEY).ok()?;
-    let acts = asks(alloc).ok()?;
-    let protocols = Mutes {
-        alloc,
+static SCRIPTS: [Script; 7] = [
+    // No protocol is known. An empty piece is answered by nothing; the refusals are NotUp, BadIndex and Failed.
+    Script {
+        role: ConnRole::Dialer,
+        is_known: false,
+        gives_up: false,
+        does: &[
+            Does::Ask,
+            Does::Feed(b""),
+            Does::Feed(OTHER),
+            Does::Feed(b""),
+            Does::Ask,
+            Does::Ended,
+            Does::Ended,
+        ],
+        heard: Some(&[
+            &[Heard::Refused(2)],
+            &[],
+            &[Heard::Upgraded],
+            &[],
+            &[Heard::Refused(3)],
+            &[Heard::Shut],
+            &[Heard::Refused(1)],
+        ]),
+        held: &[],
+        output: Some(OUTPUT),
+    },
+    // What is met within an ask is told by the next call, before all else.
+    Script {
+        role: ConnRole::Dialer,
         is_known: true,
         gives_up: true,
+        does: &[
+            Does::Feed(OTHER),
+            Does::Ask,
+            Does::Feed(OPENS_2),
+            Does::Ask,
+            Does::Ended,
+        ],
+        heard: Some(&[
+            &[Heard::Upgraded],
+            &[Heard::Opened(1)],
+            &[Heard::Broken(1), Heard::Agreed(2), Heard::Broken(2)],
+            &[Heard::Opened(3)],
+            &[Heard::Broken(3), Heard::Shut],
+        ]),
+        held: &[],
+        output: None,
+    },
+    // Both ends end the streams 3 and 1 while their handlers are not finished; then one or both are opened anew.
+    Script {
+        role: ConnRole::Listener,
+        is_known: true,
+        gives_up: false,
+        does: &[
+            Does::Feed(OTHER),
+            Does::Feed(OPENS_3),
+            Does::Feed(OPENS_1),
+            Does::Feed(OPENS_3),
+            Does::Feed(OPENS_1),
+        ],
+        heard: None,
+        held: &[3, 1, 3, 1],
+        output: None,
+    },
+    Script {
+        role: ConnRole::Listener,
+        is_known: true,
+        gives_up: false,
+        does: &[
+            Does::Feed(OTHER),
+            Does::Feed(OPENS_3),
+            Does::Feed(OPENS_1),
+            Does::Feed(OPENS_3_ALONE),
+        ],
+        heard: None,
+        held: &[3, 1, 3],
+        output: None,
+    },
+    // Where it is broken, or reset, within its talk, no handler was made for it, and that of its number stays.
+    Script {
+        role: ConnRole::Listener,
+        is_known: true,
+        gives_up: false,
+        does: &[
+            Does::Feed(OTHER),
+            Does::Feed(OPENS_3),
+            Does::Feed(OPENS_1),
+            Does::Feed(SPOILS_3),
+        ],
+        heard: None,
+        held: &[3, 1],
+        output: None,
+    },
+    Script {
+        role: ConnRole::Listener,
+        is_known: true,
+        gives_up: false,
+        does: &[
+            Does::Feed(OTHER),
+            Does::Feed(OPENS_3),
+            Does::Feed(OPENS_1),
+            Does::Feed(BEGINS_3),
+            Does::Feed(RESETS_3),
+        ],
+        heard: None,
+        held: &[3, 1],
+        output: None,
+    },
+    // Behind its talk its own goes.
+    Script {
+        role: ConnRole::Listener,
+        is_known: true,
+        gives_up: false,
+        does: &[
+            Does::Feed(OTHER),
+            Does::Feed(OPENS_3),
+            Does::Feed(OPENS_1),
+            Does::Feed(OPENS_3_ALONE),
+            Does::Feed(RESETS_3),
+        ],
+        heard: None,
+        held: &[3, 1],
+        output: None,
+    },
+];
+
+fn acts(alloc: Global, all: &[Does]) -> Result<Vec<ConnAct>, AllocError> {
+    let mut acts = Vec::new(alloc);
+    for does in all {
+        let act = match does {
+            Does::Ask => ConnAct::Ask(0),
+            Does::Feed(bytes) => ConnAct::Feed(Vec::from_slice(alloc, *bytes)?),
+            Does::Ended => ConnAct::Ended,
+        };
+        acts.push(act)?;
+    }
+    Ok(acts)
+}
+
+fn is_told(event: &ConnEvent<Mute>, heard: &Heard) -> bool {
+    match event {
+        ConnEvent::Upgraded(_) => matches!(heard, Heard::Upgraded),
+        ConnEvent::Agreed(number, _) => matches!(heard, Heard::Agreed(other) if other == number),
+        ConnEvent::Broken(number, _) => matches!(heard, Heard::Broken(other) if other == number),
+        ConnEvent::Shut => matches!(heard, Heard::Shut),
+        _ => false,
+    }
+}
+
+/// Whether a call is answered by exactly this.
+fn is_answered(answer: &ConnAnswer<Mute>, heard: &[Heard]) -> bool {
+    let mut is_so = true;
+    match answer {
+        ConnAnswer::Events(events) => {
+            for (event, one) in events.iter().zip(heard.iter()) {
+                is_so = is_so && is_told(event, one);
+            }
+            is_so && events.len() == heard.len()
+        }
+        ConnAnswer::Stream(number) => heard.len() == 1
+            && matches!(heard.first(), Some(Heard::Opened(other)) if other == number),
+        ConnAnswer::Refused(refused) => heard.len() == 1
+            && matches!(heard.first(), Some(Heard::Refused(other)) if *other == *refused as u8),
+    }
+}
+
+fn are_answered(answers: &[ConnAnswer<Mute>], all: &[&[Heard]]) -> bool {
+    let mut is_so = answers.len() == all.len();
+    for (answer, heard) in answers.iter().zip(all.iter()) {
+        is_so = is_so && is_answered(answer, *heard);
+    }
+    is_so
+}
+
+fn are_held(handlers: &[(u32, Mute)], numbers: &[u32]) -> bool {
+    let mut is_so = handlers.len() == numbers.len();
+    for ((number, _), held) in handlers.iter().zip(numbers.iter()) {
+        is_so = is_so && number == held;
+    }
+    is_so
+}
+
+/// Whether the calls are answered, the handlers held and the bytes written as the script says.
+fn is_as_said(ran: &ConnRan<Mute>, script: &Script) -> bool {
+    let is_answered = match script.heard {
+        Some(heard) => are_answered(&ran.answers, heard),
+        None => true,
     };
-    let ran = run(alloc, ConnRole::Dialer, key, protocols, &acts).ok()?;
-    let heard = all_heard(alloc, &ran.answers).ok()?;
-    Some(heard.as_slice() == HEARD.as_slice() && ran.handlers.is_empty())
+    let is_written = match script.output {
+        Some(output) => ran.output.as_slice() == output,
+        None => true,
+    };
+    is_answered && is_written && are_held(&ran.handlers, script.held)
+}
+
+fn holds(alloc: Global, script: &Script) -> bool {
+    let Ok(acts) = acts(alloc, script.does) else {
+        return false;
+    };
+    let Ok(key) = PublicKey::read(alloc, KEY) else {
+        return false;
+    };
+    let protocols = Mutes {
+        alloc,
+        is_known: script.is_known,
+        gives_up: script.gives_up,
+    };
+    match run(alloc, script.role, key, protocols, &acts) {
+        Ok(ran) => is_as_said(&ran, script),
+        Err(_) => false,
+    }
 }
 
 #[test]
-fn what_an_ask_met_is_told_first(rt: HostRuntime) -> Result<(), Fail> {
-    let held = is_owed(rt.alloc()) == Some(true);
-    assert!(rt; held, "the run");
+fn runs(rt: HostRuntime) -> Result<(), Fail> {
+    for (number, script) in SCRIPTS.iter().enumerate() {
+        assert!(rt; holds(rt.alloc(), script), "run {number}");
+    }
     Ok(())
 }

@@ -1,118 +1,13 @@
 //! Streams of a connection that knows /x and /y. Its handlers note what they are handed.
 
-ghost use Rattle.std.specs.Prelude.{◌≡◌, ◌∷◌, [], codes, ⊤, false};
-
+use crate::echo::{Echo, Echoes, NAMES};
 use crate::stopping::{Why, stop_for};
 use dispatch::*;
-use handlers::{Handler, HandlerFault, Protocols};
 use ms_select::SelectFault;
 use peer_ids::PeerId;
-use std::alloc::{AllocError, Global};
+use std::alloc::Global;
 use std::test::*;
 use streams::{Heard, Stop, Stream};
-
-/// A handler that notes what it is handed, and fails where that would be more than it holds.
-#[derive(Drop)]
-struct Note {
-    alloc: Global,
-    direction: Direction,
-    index: usize,
-    taken: Vec<u8>,
-    most: usize,
-    ended: bool,
-}
-
-impl Handler for Note {
-    ghost steps = { λ _ _ _. ⊤ };
-
-    ghost fails = { λ _ _ _. ⊤ };
-
-    ghost is_closed = { λ _. false };
-
-    ghost is_finished = { λ note. note.ended };
-
-    fn take(&mut self, bytes: &[u8]) -> Result<(), HandlerFault> {
-        if bytes.len() > self.most || self.taken.extend_from_slice(bytes).is_err() {
-            return Err(HandlerFault { number: 7 });
-        }
-        Ok(())
-    }
-
-    fn end(&mut self) -> Result<(), HandlerFault> {
-        self.ended = true;
-        Ok(())
-    }
-
-    fn give(&mut self, _room: usize) -> Result<Vec<u8>, HandlerFault> {
-        Ok(Vec::new(self.alloc))
-    }
-
-    fn closed(&self) -> bool {
-        false
-    }
-
-    fn finished(&self) -> bool {
-        self.ended
-    }
-}
-
-const NAMES: [&str; 2] = ["/x", "/y"];
-
-/// What makes the handlers, or finds no memory for them.
-#[derive(Drop)]
-struct Two {
-    alloc: Global,
-    most: usize,
-    out_of_memory: bool,
-}
-
-impl Two {
-    fn note(&self, direction: Direction, index: usize) -> Result<Note, AllocError> {
-        if self.out_of_memory {
-            return Err(AllocError);
-        }
-        Ok(Note {
-            alloc: self.alloc,
-            direction,
-            index,
-            taken: Vec::new(self.alloc),
-            most: self.most,
-            ended: false,
-        })
-    }
-}
-
-impl Protocols for Two {
-    type H = Note;
-
-    ghost listed = { λ _. codes "/x" ∷ codes "/y" ∷ [] };
-
-    ghost is_eager = { λ _ _. false };
-
-    ghost makes_inbound = { λ _ _ _ _. ⊤ };
-
-    ghost makes_outbound = { λ _ _ _ _. ⊤ };
-
-    ghost leads_inbound = { λ old _ _ _ new. new ≡ old };
-
-    ghost leads_outbound = { λ old _ _ _ new. new ≡ old };
-
-    fn names(&self) -> &[&str] {
-        &NAMES
-    }
-
-    fn eager(&self, _index: usize) -> bool {
-        false
-    }
-
-    fn inbound(&mut self, index: usize, _peer: PeerId) -> Result<Note, AllocError> {
-        self.note(Direction::Inbound, index)
-    }
-
-    fn outbound(&mut self, index: usize, _peer: PeerId) -> Result<Note, AllocError> {
-        self.note(Direction::Outbound, index)
-    }
-}
 
 /// A stream: who opens it, how much its handler may be handed at once, whether an eager one is there and whether
 /// there is memory for another. Then what comes, on which protocol both agree, what the last piece came to, and what
@@ -205,81 +100,99 @@ static SCRIPTS: [Script; 7] = [
     },
 ];
 
-fn stream(alloc: Global, protocols: &Two, script: &Script) -> Result<Stream<Note>, Stop> {
-    if script.direction == Direction::Inbound {
-        return Stream::answer(alloc, &NAMES);
+fn begun(alloc: Global, script: &Script) -> Result<Stream<Echo>, Stop> {
+    match script.direction {
+        Direction::Inbound => Stream::answer(alloc, &NAMES),
+        Direction::Outbound => {
+            let eager = if script.eager {
+                Some(Echo::new(alloc, Direction::Outbound, 1, 1024))
+            } else {
+                None
+            };
+            Stream::ask(alloc, "/y", 1, eager)
+        }
     }
-    if !script.eager {
-        return Stream::ask(alloc, "/y", 1, None);
-    }
-    let mut eager = protocols.note(Direction::Outbound, 1)?;
-    eager.most = 1024;
-    Stream::ask(alloc, "/y", 1, Some(eager))
 }
 
 /// What came of pieces.
 #[derive(Drop)]
 struct Came {
-    stream: Stream<Note>,
+    protocols: Echoes,
+    stream: Stream<Echo>,
     agreed: Option<usize>,
-    last: Result<Heard, Stop>,
 }
 
-/// Hands a piece to the talk, and behind the agreement to the handler.
-fn hand(protocols: &mut Two, direction: Direction, came: &mut Came, piece: &[u8]) {
-    let peer = PeerId::of_ed25519(&[0; 32]);
-    let mut rest = piece;
-    if came.stream.talks() {
-        came.last = negotiate(protocols, direction, peer, &mut came.stream, piece);
-        let Ok(Heard::Agreed { index, used }) = came.last else {
-            return;
-        };
-        came.agreed = Some(index);
-        rest = &piece[used..];
-    }
-    came.last = match came.stream.take(rest) {
-        Ok(()) => Ok(Heard::Going),
-        Err(stop) => Err(stop),
-    };
-}
-
-/// The end comes. Whether the handler, which is handed out, is of this direction and index, and was handed this.
-fn was_handed(came: Came, direction: Direction, index: usize, bytes: &[u8]) -> bool {
-    let mut stream = came.stream;
-    let is_told = stream.end().is_ok();
-    match stream.finish() {
-        Some(note) => {
-            is_told
-                && note.direction == direction
-                && note.index == index
-                && note.taken.as_slice() == bytes
+impl Came {
+    /// Hands a piece to the talk, and behind the agreement to the handler.
+    fn hand(&mut self, direction: Direction, piece: &[u8]) -> Result<Heard, Stop> {
+        let peer = PeerId::of_ed25519(&[0; 32]);
+        let mut rest = piece;
+        if self.stream.talks() {
+            match negotiate(
+                &mut self.protocols,
+                direction,
+                peer,
+                &mut self.stream,
+                piece,
+            ) {
+                Ok(Heard::Agreed { index, used }) => {
+                    self.agreed = Some(index);
+                    rest = &piece[used..];
+                }
+                other => return other,
+            }
         }
-        None => false,
+        match self.stream.take(rest) {
+            Ok(()) => Ok(Heard::Going),
+            Err(stop) => Err(stop),
+        }
+    }
+
+    /// The end comes, and all is given. Whether the handler, which is handed out, is of this direction and of /y, and
+    /// was handed this.
+    fn was_handed(&mut self, direction: Direction, bytes: &[u8]) -> bool {
+        let is_told = self.stream.end().is_ok() && self.stream.give(1000).is_ok();
+        match self.stream.finish() {
+            Some(echo) => {
+                let is_made_so = echo.direction == direction && echo.index == 1;
+                is_told && is_made_so && echo.taken.as_slice() == bytes
+            }
+            None => false,
+        }
+    }
+
+    fn plays(&mut self, script: &Script, size: usize) -> bool {
+        let mut last = Ok(Heard::Going);
+        for piece in script.input.chunks(size.max(1)) {
+            last = self.hand(script.direction, piece);
+        }
+        let said = match &script.last {
+            Ok(heard) => Ok(*heard),
+            Err(why) => Err(stop_for(why)),
+        };
+        let is_handed = match script.handed {
+            Some(bytes) => self.was_handed(script.direction, bytes),
+            None => true,
+        };
+        is_handed && self.agreed == script.agreed && last == said
     }
 }
 
-fn holds(alloc: Global, script: &Script, size: usize) -> Option<bool> {
-    let mut protocols = Two {
-        alloc,
-        most: script.most,
-        out_of_memory: script.out_of_memory,
-    };
-    let mut came = Came {
-        stream: stream(alloc, &protocols, script).ok()?,
-        agreed: None,
-        last: Ok(Heard::Going),
-    };
-    for piece in script.input.chunks(size.max(1)) {
-        hand(&mut protocols, script.direction, &mut came, piece);
-    }
-    let last = match script.last {
-        Ok(heard) => Ok(heard),
-        Err(why) => Err(stop_for(why)),
-    };
-    let held = came.agreed == script.agreed && came.last == last;
-    match script.handed {
-        Some(bytes) => Some(held && was_handed(came, script.direction, 1, bytes)),
-        None => Some(held),
+fn holds(alloc: Global, script: &Script, size: usize) -> bool {
+    match begun(alloc, script) {
+        Ok(stream) => {
+            let mut came = Came {
+                protocols: Echoes {
+                    alloc,
+                    most: script.most,
+                    out_of_memory: script.out_of_memory,
+                },
+                stream,
+                agreed: None,
+            };
+            came.plays(script, size)
+        }
+        Err(_) => false,
     }
 }
 
@@ -287,7 +200,7 @@ fn holds(alloc: Global, script: &Script, size: usize) -> Option<bool> {
 fn scripts_in_pieces(rt: HostRuntime) -> Result<(), Fail> {
     for size in [1, 7, 1024] {
         for (number, script) in SCRIPTS.iter().enumerate() {
-            let held = holds(rt.alloc(), script, size) == Some(true);
+            let held = holds(rt.alloc(), script, size);
             assert!(rt; held, "script {number}, in pieces of {size}");
         }
     }

@@ -4,7 +4,7 @@
 ghost use Rattle.std.specs.Prelude.{◌≡◌, [], ◌∷◌, ⊤, false, codes};
 
 use crate::greeting::{KEY, OTHER, ROOM};
-use crate::stopping::{Why, why_broken};
+use crate::stopping::{Why, stop_for};
 use conn_core::ConnCore;
 use conn_log::{ConnEvent, ConnFault};
 use handlers::{Handler, HandlerFault, Protocols};
@@ -14,10 +14,11 @@ use std::alloc::{AllocError, Global};
 use std::cell::Cell;
 use std::rc::Rc;
 use std::test::*;
+use streams::Stop;
 use upgrade::ConnRole;
 
 /// How many handlers were made, and of all calls of theirs: how many, the bytes taken, the ends, the greatest room.
-#[derive(Clone, Copy, Debug, PartialEq, Eq)]
+#[derive(Clone, Copy)]
 struct Counts {
     made: u32,
     calls: u32,
@@ -165,202 +166,222 @@ impl Protocols for Countings {
 const OPENS: &[u8] = b"\0\0\0\x01\0\0\0\x01\0\0\0\x1b\x13/multistream/1.0.0\n\x06/mute\n\
     \0\0\0\0\0\0\0\x01\0\0\0\x03abc";
 
-/// What is told.
-#[derive(Clone, Copy, Debug, PartialEq, Eq)]
+/// What alone is told.
 enum Told {
     Refused,
     Broken(Why),
     Fault(ConnFault),
     Shut,
-    Other,
 }
-
-/// The only event that is told.
-fn only_told(events: &[ConnEvent<Counting>]) -> Option<Told> {
-    if events.len() != 1 {
-        return None;
-    }
-    match events.first()? {
-        ConnEvent::Refused(1) => Some(Told::Refused),
-        ConnEvent::Broken(1, cause) => Some(Told::Broken(why_broken(*cause))),
-        ConnEvent::Fault(fault) => Some(Told::Fault(*fault)),
-        ConnEvent::Shut => Some(Told::Shut),
-        _ => Some(Told::Other),
-    }
-}
-
-/// What comes first; the bytes by which the handler is dropped then, or none: the input ends; and what is told of it.
-type Row = (&'static [u8], Option<&'static [u8]>, Told);
 
 /// So many calls more, of so many bytes, and so many ends.
 type More = (u32, usize, u32);
 
-/// A connection that is up, with one handler: a dialer's is eager, and its talk goes on; a listener's has agreed.
-fn begin(alloc: Global, role: ConnRole, counts: &Rc<Cell<Counts>>) -> Option<ConnCore<Countings>> {
+const NO_MORE: More = (0, 0, 0);
+
+/// What comes first; the bytes by which the handler is dropped then, or none: the input ends; what is told of it; and
+/// what the handler sees of that.
+type Row = (&'static [u8], Option<&'static [u8]>, Told, More);
+
+/// The rows, and whose they are.
+static TABLES: [(ConnRole, &[Row]); 3] = [
+    // Of a handler whose ends have agreed.
+    (
+        ConnRole::Listener,
+        &[
+            // The input ends: between two frames, within a head, and within a payload.
+            (b"", None, Told::Shut, NO_MORE),
+            (
+                b"\0\0\0\0\0\0",
+                None,
+                Told::Fault(ConnFault::EarlyEnd),
+                NO_MORE,
+            ),
+            (
+                b"\0\0\0\0\0\0\0\x01\0\0\0\x03de",
+                None,
+                Told::Fault(ConnFault::EarlyEnd),
+                NO_MORE,
+            ),
+            // The other end resets the stream.
+            (
+                b"",
+                Some(b"\0\x01\0\x08\0\0\0\x01\0\0\0\0"),
+                Told::Broken(Why::Reset),
+                NO_MORE,
+            ),
+            // A frame of another version, and one that is longer than the window.
+            (
+                b"",
+                Some(b"\x01\0\0\0\0\0\0\x01\0\0\0\x03def"),
+                Told::Fault(ConnFault::Mux),
+                NO_MORE,
+            ),
+            (
+                b"",
+                Some(b"\0\0\0\0\0\0\0\x01\0\x10\0\0def"),
+                Told::Fault(ConnFault::Mux),
+                NO_MORE,
+            ),
+        ],
+    ),
+    // Of an eager handler, within its talk.
+    (
+        ConnRole::Dialer,
+        &[
+            // The other end ends the stream, or resets it.
+            (
+                b"",
+                Some(b"\0\x01\0\x06\0\0\0\x01\0\0\0\0"),
+                Told::Broken(Why::Ended),
+                NO_MORE,
+            ),
+            (
+                b"\0\0\0\x02\0\0\0\x01\0\0\0\x14\x13/multistream/1.0.0\n",
+                Some(b"\0\x01\0\x04\0\0\0\x01\0\0\0\0"),
+                Told::Broken(Why::Ended),
+                NO_MORE,
+            ),
+            (
+                b"",
+                Some(b"\0\x01\0\x08\0\0\0\x01\0\0\0\0"),
+                Told::Broken(Why::Reset),
+                NO_MORE,
+            ),
+            // The talk is refused, or has a fault.
+            (
+                b"\0\0\0\x02\0\0\0\x01\0\0\0\x14\x13/multistream/1.0.0\n",
+                Some(b"\0\0\0\0\0\0\0\x01\0\0\0\x04\x03na\n"),
+                Told::Refused,
+                NO_MORE,
+            ),
+            (
+                b"",
+                Some(b"\0\0\0\x02\0\0\0\x01\0\0\0\x02\x01x"),
+                Told::Broken(Why::Select(SelectFault::NoNewline)),
+                NO_MORE,
+            ),
+            // The input ends.
+            (b"", None, Told::Shut, NO_MORE),
+        ],
+    ),
+    // Of a handler that fails: where it is handed bytes, where it is asked to give then, and where it is told the end.
+    (
+        ConnRole::Listener,
+        &[
+            (
+                b"",
+                Some(b"\0\0\0\0\0\0\0\x01\0\0\0\x04take"),
+                Told::Broken(Why::Handler(b't')),
+                (1, 4, 0),
+            ),
+            (
+                b"",
+                Some(b"\0\0\0\0\0\0\0\x01\0\0\0\x04give"),
+                Told::Broken(Why::Handler(b'g')),
+                (2, 4, 0),
+            ),
+            (
+                b"\0\0\0\0\0\0\0\x01\0\0\0\x03end",
+                Some(b"\0\x01\0\x04\0\0\0\x01\0\0\0\0"),
+                Told::Broken(Why::Handler(b'e')),
+                (1, 0, 1),
+            ),
+        ],
+    ),
+];
+
+fn is_told(event: &ConnEvent<Counting>, told: &Told) -> bool {
+    match event {
+        ConnEvent::Refused(number) => *number == 1 && matches!(told, Told::Refused),
+        ConnEvent::Broken(number, cause) => match told {
+            Told::Broken(why) => *number == 1 && Stop::Broken(*cause) == stop_for(why),
+            _ => false,
+        },
+        ConnEvent::Fault(fault) => matches!(told, Told::Fault(other) if other == fault),
+        ConnEvent::Shut => matches!(told, Told::Shut),
+        _ => false,
+    }
+}
+
+/// Whether this alone is told of these bytes, or of the end of the input.
+fn tells(core: &mut ConnCore<Countings>, last: Option<&[u8]>, told: &Told) -> bool {
+    let events = match last {
+        Some(bytes) => core.feed(bytes),
+        None => core.ended(),
+    };
+    match events {
+        Ok(events) => match events.first() {
+            Some(event) => events.len() == 1 && is_told(event, told),
+            None => false,
+        },
+        Err(_) => false,
+    }
+}
+
+/// A connection is up, with one handler: a dialer's is eager, and its talk goes on; a listener's has agreed.
+fn begins(core: &mut ConnCore<Countings>, role: ConnRole) -> bool {
+    let is_up = core.feed(OTHER).is_ok();
+    match role {
+        ConnRole::Dialer => is_up && core.ask(0).is_ok(),
+        ConnRole::Listener => is_up && core.feed(OPENS).is_ok(),
+    }
+}
+
+/// Whether the handler sees those calls alone of what drops it, also where the connection ends behind that.
+fn sees(core: &mut ConnCore<Countings>, counts: &Cell<Counts>, row: &Row) -> bool {
+    let (first, last, told, more) = row;
+    let is_fed = core.feed(*first).is_ok();
+    let before = counts.get();
+    let is_told = tells(core, *last, told);
+    let _ = core.ended();
+    let after = counts.get();
+    let was_served = before.made == 1 && before.room == ROOM;
+    let is_same = after.made == before.made && after.room == before.room;
+    let is_called = after.calls == before.calls.saturating_add(more.0);
+    let is_handed = after.bytes == before.bytes.saturating_add(more.1);
+    let is_ended = after.ends == before.ends.saturating_add(more.2);
+    is_fed && is_told && was_served && is_same && is_called && is_handed && is_ended
+}
+
+fn connection(
+    alloc: Global,
+    role: ConnRole,
+    counts: &Rc<Cell<Counts>>,
+) -> Option<ConnCore<Countings>> {
+    let key = PublicKey::read(alloc, KEY).ok()?;
     let protocols = Countings {
         alloc,
         counts: counts.clone().ok()?,
         is_eager: role == ConnRole::Dialer,
     };
-    let key = PublicKey::read(alloc, KEY).ok()?;
-    let mut core = ConnCore::new(alloc, role, key, protocols).ok()?;
-    core.feed(OTHER).ok()?;
-    match role {
-        ConnRole::Dialer => {
-            core.ask(0).ok()?;
+    ConnCore::new(alloc, role, key, protocols).ok()
+}
+
+fn holds_so(alloc: Global, role: ConnRole, counts: &Rc<Cell<Counts>>, row: &Row) -> bool {
+    match connection(alloc, role, counts) {
+        Some(core) => {
+            let mut core = core;
+            begins(&mut core, role) && sees(&mut core, counts, row)
         }
-        ConnRole::Listener => {
-            core.feed(OPENS).ok()?;
+        None => false,
+    }
+}
+
+fn holds(alloc: Global, role: ConnRole, row: &Row) -> bool {
+    match Rc::new(alloc, Cell::new(NONE)) {
+        Ok(counts) => holds_so(alloc, role, &counts, row),
+        Err(_) => false,
+    }
+}
+
+#[test]
+fn a_handler_that_is_dropped_sees_no_further_call(rt: HostRuntime) -> Result<(), Fail> {
+    for (table, (role, rows)) in TABLES.iter().enumerate() {
+        for (number, row) in rows.iter().enumerate() {
+            let held = holds(rt.alloc(), *role, row);
+            assert!(rt; held, "table {table}, row {number}");
         }
-    }
-    Some(core)
-}
-
-/// What is told of these bytes, or of the end of the input.
-fn meets(core: &mut ConnCore<Countings>, last: Option<&[u8]>) -> Option<Told> {
-    let events = match last {
-        Some(bytes) => core.feed(bytes),
-        None => core.ended(),
-    };
-    only_told(&events.ok()?)
-}
-
-fn grown(counts: Counts, more: More) -> Counts {
-    Counts {
-        made: counts.made,
-        calls: counts.calls.saturating_add(more.0),
-        bytes: counts.bytes.saturating_add(more.1),
-        ends: counts.ends.saturating_add(more.2),
-        room: counts.room,
-    }
-}
-
-/// Whether the handler sees those calls alone of what drops it, also where the connection ends behind that.
-fn sees(alloc: Global, role: ConnRole, row: Row, more: More) -> Option<bool> {
-    let (first, last, told) = row;
-    let counts = Rc::new(alloc, Cell::new(NONE)).ok()?;
-    let mut core = begin(alloc, role, &counts)?;
-    core.feed(first).ok()?;
-    let before = counts.get();
-    let is_told = meets(&mut core, last)? == told;
-    let _ = core.ended();
-    let was_served = before.made == 1 && before.room == ROOM;
-    Some(is_told && was_served && counts.get() == grown(before, more))
-}
-
-/// Of a handler whose ends have agreed.
-static AGREED: [Row; 6] = [
-    // The input ends: between two frames, within a head, and within a payload.
-    (b"", None, Told::Shut),
-    (b"\0\0\0\0\0\0", None, Told::Fault(ConnFault::EarlyEnd)),
-    (
-        b"\0\0\0\0\0\0\0\x01\0\0\0\x03de",
-        None,
-        Told::Fault(ConnFault::EarlyEnd),
-    ),
-    // The other end resets the stream.
-    (
-        b"",
-        Some(b"\0\x01\0\x08\0\0\0\x01\0\0\0\0"),
-        Told::Broken(Why::Reset),
-    ),
-    // A frame of another version, and one that is longer than the window.
-    (
-        b"",
-        Some(b"\x01\0\0\0\0\0\0\x01\0\0\0\x03def"),
-        Told::Fault(ConnFault::Mux),
-    ),
-    (
-        b"",
-        Some(b"\0\0\0\0\0\0\0\x01\0\x10\0\0def"),
-        Told::Fault(ConnFault::Mux),
-    ),
-];
-
-#[test]
-fn a_handler_that_is_dropped_sees_no_call(rt: HostRuntime) -> Result<(), Fail> {
-    for (number, row) in AGREED.iter().enumerate() {
-        let held = sees(rt.alloc(), ConnRole::Listener, *row, (0, 0, 0));
-        assert!(rt; held == Some(true), "row {number}");
-    }
-    Ok(())
-}
-
-/// Of an eager handler, within its talk.
-static EAGER: [Row; 6] = [
-    // The other end ends the stream, or resets it.
-    (
-        b"",
-        Some(b"\0\x01\0\x06\0\0\0\x01\0\0\0\0"),
-        Told::Broken(Why::Ended),
-    ),
-    (
-        b"\0\0\0\x02\0\0\0\x01\0\0\0\x14\x13/multistream/1.0.0\n",
-        Some(b"\0\x01\0\x04\0\0\0\x01\0\0\0\0"),
-        Told::Broken(Why::Ended),
-    ),
-    (
-        b"",
-        Some(b"\0\x01\0\x08\0\0\0\x01\0\0\0\0"),
-        Told::Broken(Why::Reset),
-    ),
-    // The talk is refused, or has a fault.
-    (
-        b"\0\0\0\x02\0\0\0\x01\0\0\0\x14\x13/multistream/1.0.0\n",
-        Some(b"\0\0\0\0\0\0\0\x01\0\0\0\x04\x03na\n"),
-        Told::Refused,
-    ),
-    (
-        b"",
-        Some(b"\0\0\0\x02\0\0\0\x01\0\0\0\x02\x01x"),
-        Told::Broken(Why::Select(SelectFault::NoNewline)),
-    ),
-    // The input ends.
-    (b"", None, Told::Shut),
-];
-
-#[test]
-fn an_eager_handler_that_is_dropped_sees_no_call(rt: HostRuntime) -> Result<(), Fail> {
-    for (number, row) in EAGER.iter().enumerate() {
-        let held = sees(rt.alloc(), ConnRole::Dialer, *row, (0, 0, 0));
-        assert!(rt; held == Some(true), "row {number}");
-    }
-    Ok(())
-}
-
-/// Of a handler that fails: where it is handed bytes, where it is asked to give then, and where it is told the end.
-static FAILS: [(Row, More); 3] = [
-    (
-        (
-            b"",
-            Some(b"\0\0\0\0\0\0\0\x01\0\0\0\x04take"),
-            Told::Broken(Why::Handler(b't')),
-        ),
-        (1, 4, 0),
-    ),
-    (
-        (
-            b"",
-            Some(b"\0\0\0\0\0\0\0\x01\0\0\0\x04give"),
-            Told::Broken(Why::Handler(b'g')),
-        ),
-        (2, 4, 0),
-    ),
-    (
-        (
-            b"\0\0\0\0\0\0\0\x01\0\0\0\x03end",
-            Some(b"\0\x01\0\x04\0\0\0\x01\0\0\0\0"),
-            Told::Broken(Why::Handler(b'e')),
-        ),
-        (1, 0, 1),
-    ),
-];
-
-#[test]
-fn a_handler_that_fails_sees_no_further_call(rt: HostRuntime) -> Result<(), Fail> {
-    for (number, (row, more)) in FAILS.iter().enumerate() {
-        let held = sees(rt.alloc(), ConnRole::Listener, *row, *more);
-        assert!(rt; held == Some(true), "row {number}");
     }
     Ok(())
 }

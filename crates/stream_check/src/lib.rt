@@ -10,6 +10,8 @@ mod dispatch_tests;
 #[cfg(test)]
 mod dropping_tests;
 #[cfg(test)]
+mod echo;
+#[cfg(test)]
 mod greeting;
 #[cfg(test)]
 mod routing_tests;

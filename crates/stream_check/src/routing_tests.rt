@@ -1,16 +1,14 @@
 //! Two sessions, one of which delivers to its stream 1 what comes. It knows /x and /y, each an echo.
 
-ghost use Rattle.std.specs.Prelude.{◌≡◌, ◌∷◌, [], codes, ⊤, ◌&&◌, ◌==◌, false, vec_len};
-
-use crate::stopping::{Why, why_broken};
+use crate::echo::{Echo, Echoes, NAMES};
+use crate::stopping::{Why, stop_for};
 use dispatch::Direction;
-use handlers::{Handler, HandlerFault, Protocols};
 use ms_select::SelectFault;
 use peer_ids::PeerId;
 use routing::*;
-use std::alloc::{AllocError, Global};
+use std::alloc::Global;
 use std::test::*;
-use streams::Stream;
+use streams::{Stop, Stream};
 use yamux_session::{Event, Role, Session};
 
 /// What either end writes to agree on /y.
@@ -25,109 +23,7 @@ const Y: &[u8] = b"\x03/y\n";
 /// What the end that answers writes where it knows no name that it was asked for.
 const M_NA: &[u8] = b"\x13/multistream/1.0.0\n\x03na\n";
 
-/// A handler that gives back what it is handed. It fails where it is handed more than it may hold.
-#[derive(Drop)]
-struct Echo {
-    alloc: Global,
-    owed: Vec<u8>,
-    most: usize,
-    ended: bool,
-}
-
-impl Handler for Echo {
-    ghost steps = { λ _ _ _. ⊤ };
-
-    ghost fails = { λ _ _ _. ⊤ };
-
-    ghost is_closed = { λ echo. echo.ended && (vec_len echo.owed == 0) };
-
-    ghost is_finished = { λ echo. echo.ended && (vec_len echo.owed == 0) };
-
-    fn take(&mut self, bytes: &[u8]) -> Result<(), HandlerFault> {
-        if bytes.len() > self.most || self.owed.extend_from_slice(bytes).is_err() {
-            return Err(HandlerFault { number: 7 });
-        }
-        Ok(())
-    }
-
-    fn end(&mut self) -> Result<(), HandlerFault> {
-        self.ended = true;
-        Ok(())
-    }
-
-    fn give(&mut self, room: usize) -> Result<Vec<u8>, HandlerFault> {
-        let count = room.min(self.owed.len());
-        let mut bytes = Vec::new(self.alloc);
-        if bytes.extend_from_slice(&self.owed[..count]).is_err() {
-            return Err(HandlerFault { number: 8 });
-        }
-        self.owed.drain(..count);
-        Ok(bytes)
-    }
-
-    fn closed(&self) -> bool {
-        self.ended && self.owed.is_empty()
-    }
-
-    fn finished(&self) -> bool {
-        self.ended && self.owed.is_empty()
-    }
-}
-
-const NAMES: [&str; 2] = ["/x", "/y"];
-
-/// What makes the handlers, each of which may be handed so many bytes at once.
-#[derive(Drop)]
-struct Echoes {
-    alloc: Global,
-    most: usize,
-}
-
-impl Echoes {
-    fn echo(&self) -> Echo {
-        Echo {
-            alloc: self.alloc,
-            owed: Vec::new(self.alloc),
-            most: self.most,
-            ended: false,
-        }
-    }
-}
-
-impl Protocols for Echoes {
-    type H = Echo;
-
-    ghost listed = { λ _. codes "/x" ∷ codes "/y" ∷ [] };
-
-    ghost is_eager = { λ _ _. false };
-
-    ghost makes_inbound = { λ _ _ _ _. ⊤ };
-
-    ghost makes_outbound = { λ _ _ _ _. ⊤ };
-
-    ghost leads_inbound = { λ old _ _ _ new. new ≡ old };
-
-    ghost leads_outbound = { λ old _ _ _ new. new ≡ old };
-
-    fn names(&self) -> &[&str] {
-        &NAMES
-    }
-
-    fn eager(&self, _index: usize) -> bool {
-        false
-    }
-
-    fn inbound(&mut self, _index: usize, _peer: PeerId) -> Result<Echo, AllocError> {
-        Ok(self.echo())
-    }
-
-    fn outbound(&mut self, _index: usize, _peer: PeerId) -> Result<Echo, AllocError> {
-        Ok(self.echo())
-    }
-}
-
 /// What the other end does.
-#[derive(Clone, Copy)]
 enum Does {
     Nothing,
     Writes(&'static [u8]),
@@ -135,7 +31,6 @@ enum Does {
 }
 
 /// Where the stream is, as an outcome told it.
-#[derive(Clone, Copy, Debug, PartialEq, Eq)]
 enum Place {
     Going,
     Done,
@@ -168,60 +63,22 @@ struct Pair {
     other: Session,
     stream: Stream<Echo>,
     agreed: Option<usize>,
-    place: Place,
-}
-
-/// Opens stream 1.
-fn open(direction: Direction, own: &mut Session, other: &mut Session) -> Result<(), Fail> {
-    match direction {
-        Direction::Inbound => {
-            other.open_stream()?;
-            own.feed(&other.take_output())?;
-        }
-        Direction::Outbound => {
-            own.open_stream()?;
-        }
-    }
-    Ok(())
-}
-
-fn stream(alloc: Global, direction: Direction) -> Result<Stream<Echo>, Fail> {
-    let stream = match direction {
-        Direction::Inbound => Stream::answer(alloc, &NAMES),
-        Direction::Outbound => Stream::ask(alloc, NAMES[1], 1, None),
-    };
-    Ok(stream.ok().ok_or("a stream")?)
-}
-
-fn begin(alloc: Global, direction: Direction, most: usize) -> Result<Pair, Fail> {
-    let (own, other) = match direction {
-        Direction::Inbound => (Role::Server, Role::Client),
-        Direction::Outbound => (Role::Client, Role::Server),
-    };
-    let mut pair = Pair {
-        protocols: Echoes { alloc, most },
-        direction,
-        own: Session::new(alloc, own),
-        other: Session::new(alloc, other),
-        stream: stream(alloc, direction)?,
-        agreed: None,
-        place: Place::Going,
-    };
-    open(direction, &mut pair.own, &mut pair.other)?;
-    Ok(pair)
+    outcome: Outcome<Echo>,
 }
 
 impl Pair {
-    fn outcome(&mut self, outcome: Outcome<Echo>) {
-        self.place = match &outcome {
-            Outcome::Going => Place::Going,
-            Outcome::Done(_) => Place::Done,
-            Outcome::Refused => Place::Refused,
-            Outcome::Broken(cause) => Place::Broken(why_broken(*cause)),
-        };
+    /// Opens stream 1.
+    fn opens(&mut self) -> bool {
+        match self.direction {
+            Direction::Inbound => {
+                let is_open = self.other.open_stream().is_ok();
+                is_open && self.own.feed(&self.other.take_output()).is_ok()
+            }
+            Direction::Outbound => self.own.open_stream().is_ok(),
+        }
     }
 
-    fn delivered(&mut self, bytes: &[u8]) -> Result<(), AllocError> {
+    fn delivers(&mut self, bytes: &[u8]) -> bool {
         let peer = PeerId::of_ed25519(&[0; 32]);
         let delivered = deliver(
             &mut self.own,
@@ -231,62 +88,109 @@ impl Pair {
             peer,
             &mut self.stream,
             bytes,
-        )?;
-        self.agreed = self.agreed.or(delivered.agreed);
-        self.outcome(delivered.outcome);
-        Ok(())
-    }
-
-    /// Delivers what an event tells.
-    fn hears(&mut self, event: &Event) -> Result<(), AllocError> {
-        match event {
-            Event::Payload(_, data) => self.delivered(data.as_slice())?,
-            Event::Ended(_) => {
-                let outcome = deliver_end(&mut self.own, 1, &mut self.stream)?;
-                self.outcome(outcome);
+        );
+        match delivered {
+            Ok(delivered) => {
+                self.agreed = self.agreed.or(delivered.agreed);
+                self.outcome = delivered.outcome;
+                true
             }
-            _ => (),
+            Err(_) => false,
         }
-        Ok(())
     }
 
-    /// What the other end wrote comes.
-    fn comes(&mut self) -> Result<(), Fail> {
-        for event in &self.own.feed(&self.other.take_output())? {
-            self.hears(event)?;
-        }
-        Ok(())
-    }
-
-    fn does(&mut self, does: Does, size: usize) -> Result<(), Fail> {
-        match does {
-            Does::Nothing => {
-                let outcome = deliver_credit(&mut self.own, 1, &mut self.stream)?;
-                self.outcome(outcome);
+    /// The end is delivered, or credit alone.
+    fn goes_on(&mut self, is_end: bool) -> bool {
+        let outcome = if is_end {
+            deliver_end(&mut self.own, 1, &mut self.stream)
+        } else {
+            deliver_credit(&mut self.own, 1, &mut self.stream)
+        };
+        match outcome {
+            Ok(outcome) => {
+                self.outcome = outcome;
+                true
             }
-            Does::Writes(bytes) => {
-                for piece in bytes.chunks(size.max(1)) {
-                    self.other.write(1, piece)?;
-                    self.comes()?;
+            Err(_) => false,
+        }
+    }
+
+    /// What the other end wrote comes, and is delivered.
+    fn comes(&mut self) -> bool {
+        let mut held = true;
+        match self.own.feed(&self.other.take_output()) {
+            Ok(events) => {
+                for event in &events {
+                    held = held
+                        && match event {
+                            Event::Payload(_, data) => self.delivers(data.as_slice()),
+                            Event::Ended(_) => self.goes_on(true),
+                            _ => true,
+                        };
                 }
+                held
             }
-            Does::Closes => {
-                self.other.close(1)?;
-                self.comes()?;
-            }
+            Err(_) => false,
         }
-        Ok(())
+    }
+
+    fn does(&mut self, does: &Does, size: usize) -> bool {
+        match does {
+            Does::Nothing => self.goes_on(false),
+            Does::Writes(bytes) => {
+                let mut held = true;
+                for piece in bytes.chunks(size.max(1)) {
+                    held = held && self.other.write(1, piece).is_ok() && self.comes();
+                }
+                held
+            }
+            Does::Closes => self.other.close(1).is_ok() && self.comes(),
+        }
     }
 
     /// Whether the other end is told exactly this data.
-    fn tells(&mut self, alloc: Global, data: &[u8]) -> Result<bool, Fail> {
+    fn tells(&mut self, alloc: Global, data: &[u8]) -> bool {
         let mut told = Vec::new(alloc);
-        for event in &self.other.feed(&self.own.take_output())? {
-            if let Event::Payload(_, bytes) = event {
-                told.extend_from_slice(bytes.as_slice())?;
+        let mut held = true;
+        match self.other.feed(&self.own.take_output()) {
+            Ok(events) => {
+                for event in &events {
+                    if let Event::Payload(_, bytes) = event {
+                        held = told.extend_from_slice(bytes.as_slice()).is_ok() && held;
+                    }
+                }
+                held && told.as_slice() == data
+            }
+            Err(_) => false,
+        }
+    }
+
+    fn is_at(&self, place: &Place) -> bool {
+        match &self.outcome {
+            Outcome::Going => matches!(place, Place::Going),
+            Outcome::Done(_) => matches!(place, Place::Done),
+            Outcome::Refused => matches!(place, Place::Refused),
+            Outcome::Broken(cause) =>
+                matches!(place, Place::Broken(why) if stop_for(why) == Stop::Broken(*cause)),
+        }
+    }
+
+    /// How many steps hold, from the first on, if the stream is open.
+    fn plays(&mut self, alloc: Global, steps: &[Step], size: usize) -> Option<usize> {
+        if !self.opens() {
+            return None;
+        }
+        for (row, step) in steps.iter().enumerate() {
+            let is_done = self.does(&step.does, size);
+            let is_told = match step.told {
+                Some(data) => self.tells(alloc, data),
+                None => true,
+            };
+            if !is_done || !is_told || self.agreed != step.agreed || !self.is_at(&step.place) {
+                return Some(row);
             }
         }
-        Ok(told.as_slice() == data)
+        Some(steps.len())
     }
 }
 
@@ -408,39 +312,51 @@ static SCRIPTS: [Script; 6] = [
     },
 ];
 
-/// Whether all comes as the step says.
-fn holds(pair: &mut Pair, alloc: Global, step: &Step, size: usize) -> Result<bool, Fail> {
-    pair.does(step.does, size)?;
-    let is_told = match step.told {
-        Some(data) => pair.tells(alloc, data)?,
-        None => true,
-    };
-    Ok(is_told && pair.agreed == step.agreed && pair.place == step.place)
-}
-
-/// How many steps hold, from the first on.
-fn plays(pair: &mut Pair, alloc: Global, steps: &[Step], size: usize) -> Result<usize, Fail> {
-    for (row, step) in steps.iter().enumerate() {
-        if !holds(pair, alloc, step, size)? {
-            return Ok(row);
-        }
+fn begun(alloc: Global, direction: Direction) -> Result<Stream<Echo>, Stop> {
+    match direction {
+        Direction::Inbound => Stream::answer(alloc, &NAMES),
+        Direction::Outbound => Stream::ask(alloc, NAMES[1], 1, None),
     }
-    Ok(steps.len())
 }
 
-fn play(alloc: Global, script: &Script, size: usize) -> Result<usize, Fail> {
-    let mut pair = begin(alloc, script.direction, script.most)?;
-    plays(&mut pair, alloc, script.steps, size)
+fn two_ends(alloc: Global, script: &Script, stream: Stream<Echo>) -> Pair {
+    let (own, other) = match script.direction {
+        Direction::Inbound => (Role::Server, Role::Client),
+        Direction::Outbound => (Role::Client, Role::Server),
+    };
+    Pair {
+        protocols: Echoes {
+            alloc,
+            most: script.most,
+            out_of_memory: false,
+        },
+        direction: script.direction,
+        own: Session::new(alloc, own),
+        other: Session::new(alloc, other),
+        stream,
+        agreed: None,
+        outcome: Outcome::Going,
+    }
+}
+
+fn rows_held(alloc: Global, script: &Script, size: usize) -> Option<usize> {
+    match begun(alloc, script.direction) {
+        Ok(stream) => {
+            let mut pair = two_ends(alloc, script, stream);
+            pair.plays(alloc, script.steps, size)
+        }
+        Err(_) => None,
+    }
 }
 
 #[test]
 fn scripts_in_pieces(rt: HostRuntime) -> Result<(), Fail> {
     for size in [1, 7, 1024] {
         for (number, script) in SCRIPTS.iter().enumerate() {
-            let held = play(rt.alloc(), script, size)?;
+            let held = rows_held(rt.alloc(), script, size);
             assert_eq!(rt;
                 held,
-                script.steps.len(),
+                Some(script.steps.len()),
                 "script {number}, in pieces of {size}: so many rows hold"
             );
         }

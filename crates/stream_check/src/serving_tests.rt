@@ -1,72 +1,18 @@
 //! Two sessions, one of which serves its stream 1 by an echo.
 
-ghost use Rattle.std.specs.Prelude.{⊤, ◌&&◌, ◌==◌, vec_len};
-
-use crate::stopping::{Why, why_stopped};
-use handlers::{Handler, HandlerFault};
+use crate::echo::Echo;
+use crate::stopping::{Why, stop_for};
+use dispatch::Direction;
 use serving::*;
 use std::alloc::Global;
 use std::test::*;
-use streams::{Stop, Stream};
+use streams::Stream;
 use yamux_session::{Event, Role, Session};
 
 /// What either end of the talk writes: the header, and the name.
 const M_X: &[u8] = b"\x13/multistream/1.0.0\n\x03/x\n";
 
-/// A handler that gives back what it is handed, or fails where it is asked for bytes.
-#[derive(Drop)]
-struct Echo {
-    alloc: Global,
-    owed: Vec<u8>,
-    ended: bool,
-    failing: bool,
-}
-
-impl Handler for Echo {
-    ghost steps = { λ _ _ _. ⊤ };
-
-    ghost fails = { λ _ _ _. ⊤ };
-
-    ghost is_closed = { λ echo. echo.ended && (vec_len echo.owed == 0) };
-
-    ghost is_finished = { λ echo. echo.ended && (vec_len echo.owed == 0) };
-
-    fn take(&mut self, bytes: &[u8]) -> Result<(), HandlerFault> {
-        match self.owed.extend_from_slice(bytes) {
-            Ok(()) => Ok(()),
-            Err(_) => Err(HandlerFault { number: 0 }),
-        }
-    }
-
-    fn end(&mut self) -> Result<(), HandlerFault> {
-        self.ended = true;
-        Ok(())
-    }
-
-    fn give(&mut self, room: usize) -> Result<Vec<u8>, HandlerFault> {
-        if self.failing {
-            return Err(HandlerFault { number: 7 });
-        }
-        let count = room.min(self.owed.len());
-        let mut bytes = Vec::new(self.alloc);
-        if bytes.extend_from_slice(&self.owed[..count]).is_err() {
-            return Err(HandlerFault { number: 0 });
-        }
-        self.owed.drain(..count);
-        Ok(bytes)
-    }
-
-    fn closed(&self) -> bool {
-        self.ended && self.owed.is_empty()
-    }
-
-    fn finished(&self) -> bool {
-        self.ended && self.owed.is_empty()
-    }
-}
-
 /// What the client does.
-#[derive(Clone, Copy)]
 enum Does {
     Nothing,
     /// It writes so many bytes.
@@ -77,7 +23,6 @@ enum Does {
 }
 
 /// What serving came to.
-#[derive(Clone, Copy, PartialEq, Eq)]
 enum Served {
     Going,
     Done,
@@ -103,210 +48,217 @@ struct Pair {
     stream: Stream<Echo>,
 }
 
-/// The client opens a stream, and asks.
-fn open(client: &mut Session, server: &mut Session) -> Result<(), Fail> {
-    let number = client.open_stream()?;
-    client.write(number, M_X)?;
-    server.feed(&client.take_output())?;
-    Ok(())
-}
-
-/// The stream hears what was asked, and gets its handler.
-fn agree(alloc: Global, stream: &mut Stream<Echo>, failing: bool) -> Result<(), Fail> {
-    let Ok(_) = stream.hear(M_X) else {
-        return Err("an agreement".into());
-    };
-    if !stream.awaits_handler() {
-        return Err("no agreement".into());
-    }
-    stream.serve(Echo {
-        alloc,
-        owed: Vec::new(alloc),
-        ended: false,
-        failing,
-    });
-    Ok(())
-}
-
-fn agreed(alloc: Global, failing: bool) -> Result<Pair, Fail> {
-    let mut pair = Pair {
-        client: Session::new(alloc, Role::Client),
-        server: Session::new(alloc, Role::Server),
-        stream: Stream::answer(alloc, &["/x"]).ok().ok_or("a name")?,
-    };
-    pair.agree(alloc, failing)?;
-    Ok(pair)
-}
-
 impl Pair {
-    /// The client opens a stream, and both ends agree.
-    fn agree(&mut self, alloc: Global, failing: bool) -> Result<(), Fail> {
-        open(&mut self.client, &mut self.server)?;
-        agree(alloc, &mut self.stream, failing)
-    }
-
-    fn hears(&mut self, event: &Event) -> Result<(), Stop> {
-        match event {
-            Event::Payload(_, data) => self.stream.take(data.as_slice()),
-            Event::Ended(_) => self.stream.end(),
-            _ => Ok(()),
+    /// The client opens a stream, and asks; the stream hears that, and gets its handler.
+    fn agrees(&mut self, alloc: Global, failing: u8) -> bool {
+        let is_asked = self.client.open_stream() == Ok(1) && self.client.write(1, M_X).is_ok();
+        let is_fed = self.server.feed(&self.client.take_output()).is_ok();
+        let is_agreed = self.stream.hear(M_X).is_ok() && self.stream.awaits_handler();
+        if is_agreed {
+            let mut echo = Echo::new(alloc, Direction::Inbound, 0, usize::MAX);
+            echo.failing = failing;
+            self.stream.serve(echo);
         }
+        is_asked && is_fed && is_agreed
     }
 
-    /// The client does this, and the handler is told what came of it.
-    fn does(&mut self, alloc: Global, does: Does) -> Result<(), Fail> {
+    /// The client does this.
+    fn does(&mut self, alloc: Global, does: &Does) -> bool {
         match does {
-            Does::Nothing => (),
-            Does::Writes(count) => {
-                let bytes = vec![in alloc; b'a'; count]?;
-                self.client.write(1, &bytes)?;
+            Does::Nothing => true,
+            Does::Writes(count) => match vec![in alloc; b'a'; *count] {
+                Ok(bytes) => self.client.write(1, &bytes).is_ok(),
+                Err(_) => false,
+            },
+            Does::Closes => self.client.close(1).is_ok(),
+            Does::Takes => self.client.taken(1, usize::MAX).is_ok(),
+        }
+    }
+
+    /// The handler is told what came of it.
+    fn hears(&mut self) -> bool {
+        let mut held = true;
+        match self.server.feed(&self.client.take_output()) {
+            Ok(events) => {
+                for event in &events {
+                    held = held
+                        && match event {
+                            Event::Payload(_, data) => self.stream.take(data.as_slice()).is_ok(),
+                            Event::Ended(_) => self.stream.end().is_ok(),
+                            _ => true,
+                        };
+                }
+                held
             }
-            Does::Closes => self.client.close(1)?,
-            Does::Takes => self.client.taken(1, usize::MAX)?,
+            Err(_) => false,
         }
-        for event in &self.server.feed(&self.client.take_output())? {
-            let Ok(()) = self.hears(event) else {
-                return Err("what is told is taken".into());
-            };
-        }
-        Ok(())
     }
 
-    fn served(&mut self) -> Served {
+    fn serves(&mut self, served: &Served) -> bool {
         match serve(&mut self.server, 1, &mut self.stream) {
-            Ok(None) => Served::Going,
-            Ok(Some(_)) => Served::Done,
-            Err(stop) => Served::Stopped(why_stopped(stop)),
+            Ok(None) => matches!(served, Served::Going),
+            Ok(Some(_)) => matches!(served, Served::Done),
+            Err(stop) => matches!(served, Served::Stopped(why) if stop_for(why) == stop),
         }
     }
 
-    /// How many bytes the client is told, and whether the end came.
-    fn told(&mut self) -> Result<(usize, bool), Fail> {
+    /// Whether the client is told so many bytes, and the end or not.
+    fn tells(&mut self, told: usize, is_end: bool) -> bool {
         let mut count = 0usize;
         let mut ended = false;
-        for event in &self.client.feed(&self.server.take_output())? {
-            match event {
-                Event::Payload(_, data) => count = count.saturating_add(data.as_slice().len()),
-                Event::Ended(_) => ended = true,
-                _ => (),
+        match self.client.feed(&self.server.take_output()) {
+            Ok(events) => {
+                for event in &events {
+                    match event {
+                        Event::Payload(_, data) => count = count.saturating_add(
+                            data.as_slice().len(),
+                        ),
+                        Event::Ended(_) => ended = true,
+                        _ => (),
+                    }
+                }
+                count == told && ended == is_end
             }
+            Err(_) => false,
         }
-        Ok((count, ended))
     }
 
-    /// Whether all comes as the step says.
-    fn holds(&mut self, alloc: Global, step: &Step) -> Result<bool, Fail> {
-        self.does(alloc, step.does)?;
-        let served = self.served();
-        let (told, ended) = self.told()?;
-        let is_told = told == step.told && ended == step.ended;
-        let has_credit = self.server.credit(1) == step.credit && self.client.credit(1) == step.left;
-        Ok(served == step.served && is_told && has_credit)
+    /// How many steps hold, from the first on, if both ends agree.
+    fn plays(&mut self, alloc: Global, failing: u8, steps: &[Step]) -> Option<usize> {
+        if !self.agrees(alloc, failing) {
+            return None;
+        }
+        for (row, step) in steps.iter().enumerate() {
+            let is_heard = self.does(alloc, &step.does) && self.hears();
+            let is_told = self.serves(&step.served) && self.tells(step.told, step.ended);
+            let is_left = self.client.credit(1) == step.left;
+            if !is_heard || !is_told || !is_left || self.server.credit(1) != step.credit {
+                return Some(row);
+            }
+        }
+        Some(steps.len())
     }
 }
 
-/// Each script of a handler that gives back what it is handed.
-static SCRIPTS: [&[Step]; 3] = [
-    &[
-        Step {
+/// The call at which the handler fails, by its letter, and the steps.
+static SCRIPTS: [(u8, &[Step]); 4] = [
+    (
+        0,
+        &[
+            Step {
+                does: Does::Writes(5),
+                served: Served::Going,
+                told: 29,
+                ended: false,
+                credit: Some(262115),
+                left: Some(262115),
+            },
+            Step {
+                does: Does::Closes,
+                served: Served::Done,
+                told: 0,
+                ended: true,
+                credit: None,
+                left: None,
+            },
+            // Once the stream is over, nothing is done.
+            Step {
+                does: Does::Nothing,
+                served: Served::Going,
+                told: 0,
+                ended: false,
+                credit: None,
+                left: None,
+            },
+        ],
+    ),
+    (
+        0,
+        &[
+            // All that came is given back, and that uses up the credit.
+            Step {
+                does: Does::Writes(262120),
+                served: Served::Going,
+                told: 262144,
+                ended: false,
+                credit: Some(0),
+                left: Some(0),
+            },
+            // The client takes it: there is credit again, and what came counts as taken.
+            Step {
+                does: Does::Takes,
+                served: Served::Going,
+                told: 0,
+                ended: false,
+                credit: Some(262144),
+                left: Some(262144),
+            },
+        ],
+    ),
+    (
+        0,
+        &[
+            // All that came is given back, and credit for one byte is left: what came counts as taken.
+            Step {
+                does: Does::Writes(262119),
+                served: Served::Going,
+                told: 262143,
+                ended: false,
+                credit: Some(1),
+                left: Some(262144),
+            },
+            // Of a whole window one byte is given back, and that uses up the credit: nothing counts as taken.
+            Step {
+                does: Does::Writes(262144),
+                served: Served::Going,
+                told: 1,
+                ended: false,
+                credit: Some(0),
+                left: Some(0),
+            },
+        ],
+    ),
+    // The handler gives up when it is asked: nothing is sent.
+    (
+        b'g',
+        &[Step {
             does: Does::Writes(5),
-            served: Served::Going,
-            told: 29,
-            ended: false,
-            credit: Some(262115),
-            left: Some(262115),
-        },
-        Step {
-            does: Does::Closes,
-            served: Served::Done,
-            told: 0,
-            ended: true,
-            credit: None,
-            left: None,
-        },
-        // Once the stream is over, nothing is done.
-        Step {
-            does: Does::Nothing,
-            served: Served::Going,
-            told: 0,
-            ended: false,
-            credit: None,
-            left: None,
-        },
-    ],
-    &[
-        // All that came is given back, and that uses up the credit.
-        Step {
-            does: Does::Writes(262120),
-            served: Served::Going,
-            told: 262144,
-            ended: false,
-            credit: Some(0),
-            left: Some(0),
-        },
-        // The client takes it: there is credit again, and what came counts as taken.
-        Step {
-            does: Does::Takes,
-            served: Served::Going,
+            served: Served::Stopped(Why::Handler(b'g')),
             told: 0,
             ended: false,
             credit: Some(262144),
-            left: Some(262144),
-        },
-    ],
-    &[
-        // All that came is given back, and credit for one byte is left: what came counts as taken.
-        Step {
-            does: Does::Writes(262119),
-            served: Served::Going,
-            told: 262143,
-            ended: false,
-            credit: Some(1),
-            left: Some(262144),
-        },
-        // Of a whole window one byte is given back, and that uses up the credit: nothing counts as taken.
-        Step {
-            does: Does::Writes(262144),
-            served: Served::Going,
-            told: 1,
-            ended: false,
-            credit: Some(0),
-            left: Some(0),
-        },
-    ],
+            left: Some(262115),
+        }],
+    ),
 ];
 
-/// The handler gives up when it is asked: nothing is sent.
-const GIVES_UP: Step = Step {
-    does: Does::Writes(5),
-    served: Served::Stopped(Why::Handler(7)),
-    told: 0,
-    ended: false,
-    credit: Some(262144),
-    left: Some(262115),
-};
-
-/// How many steps hold, from the first on.
-fn plays(pair: &mut Pair, alloc: Global, steps: &[Step]) -> Result<usize, Fail> {
-    for (row, step) in steps.iter().enumerate() {
-        if !pair.holds(alloc, step)? {
-            return Ok(row);
-        }
+fn two_ends(alloc: Global, stream: Stream<Echo>) -> Pair {
+    Pair {
+        client: Session::new(alloc, Role::Client),
+        server: Session::new(alloc, Role::Server),
+        stream,
     }
-    Ok(steps.len())
 }
 
-fn play(alloc: Global, steps: &[Step], failing: bool) -> Result<usize, Fail> {
-    let mut pair = agreed(alloc, failing)?;
-    plays(&mut pair, alloc, steps)
+fn rows_held(alloc: Global, failing: u8, steps: &[Step]) -> Option<usize> {
+    match Stream::answer(alloc, &["/x"]) {
+        Ok(stream) => {
+            let mut pair = two_ends(alloc, stream);
+            pair.plays(alloc, failing, steps)
+        }
+        Err(_) => None,
+    }
 }
 
 #[test]
 fn scripts(rt: HostRuntime) -> Result<(), Fail> {
-    for (number, script) in SCRIPTS.iter().enumerate() {
-        let held = play(rt.alloc(), *script, false)?;
-        assert_eq!(rt; held, script.len(), "script {number}: so many rows hold");
+    for (number, (failing, steps)) in SCRIPTS.iter().enumerate() {
+        let held = rows_held(rt.alloc(), *failing, *steps);
+        assert_eq!(rt;
+            held,
+            Some(steps.len()),
+            "script {number}: so many rows hold"
+        );
     }
-    assert_eq!(rt; play(rt.alloc(), &[GIVES_UP], true)?, 1);
     Ok(())
 }

@@ -5,7 +5,6 @@ use ms_select::SelectFault;
 use streams::{Cause, Stop};
 
 /// Why a stream stops; of a handler's fault the number.
-#[derive(Clone, Copy, Debug, PartialEq, Eq)]
 pub(crate) enum Why {
     Select(SelectFault),
     Handler(u8),
@@ -14,27 +13,11 @@ pub(crate) enum Why {
     OutOfMemory,
 }
 
-pub(crate) fn why_broken(cause: Cause) -> Why {
-    match cause {
-        Cause::Select(fault) => Why::Select(fault),
-        Cause::Handler(fault) => Why::Handler(fault.number),
-        Cause::Reset => Why::Reset,
-        Cause::Ended => Why::Ended,
-    }
-}
-
-pub(crate) fn why_stopped(stop: Stop) -> Why {
-    match stop {
-        Stop::Broken(cause) => why_broken(cause),
-        Stop::OutOfMemory => Why::OutOfMemory,
-    }
-}
-
 /// What a table says, as a stream says it.
-pub(crate) fn stop_for(why: Why) -> Stop {
+pub(crate) fn stop_for(why: &Why) -> Stop {
     match why {
-        Why::Select(fault) => Stop::Broken(Cause::Select(fault)),
-        Why::Handler(number) => Stop::Broken(Cause::Handler(HandlerFault { number })),
+        Why::Select(fault) => Stop::Broken(Cause::Select(*fault)),
+        Why::Handler(number) => Stop::Broken(Cause::Handler(HandlerFault { number: *number })),
         Why::Reset => Stop::Broken(Cause::Reset),
         Why::Ended => Stop::Broken(Cause::Ended),
         Why::OutOfMemory => Stop::OutOfMemory,

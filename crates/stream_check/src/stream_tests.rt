@@ -1,9 +1,11 @@
-ghost use Rattle.std.specs.Prelude.{⊤, ◌&&◌, ◌==◌, vec_len};
+//! Streams by themselves: whole ones however cut, single calls in and out of turn, and why they stop in words.
 
-use crate::stopping::{Why, stop_for, why_stopped};
-use handlers::{Handler, HandlerFault};
+use crate::echo::Echo;
+use crate::stopping::{Why, stop_for};
+use dispatch::Direction;
+use handlers::HandlerFault;
 use ms_select::SelectFault;
-use std::alloc::{AllocError, Global};
+use std::alloc::Global;
 use std::test::*;
 use streams::*;
 
@@ -16,89 +18,8 @@ const M_Y: &[u8] = b"\x13/multistream/1.0.0\n\x03/y\n";
 
 const M_NA: &[u8] = b"\x13/multistream/1.0.0\n\x03na\n";
 
-/// A handler that gives back what it is handed, and notes its calls, each by a letter.
-#[derive(Drop)]
-struct Echo {
-    alloc: Global,
-    calls: Vec<u8>,
-    taken: Vec<u8>,
-    owed: Vec<u8>,
-    ended: bool,
-    /// The call that fails, by its letter.
-    failing: u8,
-}
-
-impl Echo {
-    /// One that owes these bytes from the beginning, and fails at the call of this letter.
-    fn owing(alloc: Global, early: &[u8], failing: u8, ended: bool) -> Result<Echo, AllocError> {
-        Ok(Echo {
-            alloc,
-            calls: Vec::new(alloc),
-            taken: Vec::new(alloc),
-            owed: Vec::from_slice(alloc, early)?,
-            ended,
-            failing,
-        })
-    }
-
-    fn noted(&mut self, call: u8) -> Result<(), HandlerFault> {
-        if self.calls.push(call).is_err() {
-            return Err(HandlerFault { number: 0 });
-        }
-        if self.failing == call {
-            return Err(HandlerFault { number: call });
-        }
-        Ok(())
-    }
-}
-
-impl Handler for Echo {
-    ghost steps = { λ _ _ _. ⊤ };
-
-    ghost fails = { λ _ _ _. ⊤ };
-
-    ghost is_closed = { λ echo. echo.ended && (vec_len echo.owed == 0) };
-
-    ghost is_finished = { λ echo. echo.ended && (vec_len echo.owed == 0) };
-
-    fn take(&mut self, bytes: &[u8]) -> Result<(), HandlerFault> {
-        self.noted(b't')?;
-        let kept = self.taken.extend_from_slice(bytes).is_ok();
-        if !kept || self.owed.extend_from_slice(bytes).is_err() {
-            return Err(HandlerFault { number: 0 });
-        }
-        Ok(())
-    }
-
-    fn end(&mut self) -> Result<(), HandlerFault> {
-        self.noted(b'e')?;
-        self.ended = true;
-        Ok(())
-    }
-
-    fn give(&mut self, room: usize) -> Result<Vec<u8>, HandlerFault> {
-        self.noted(b'g')?;
-        let count = room.min(self.owed.len());
-        let mut bytes = Vec::new(self.alloc);
-        if bytes.extend_from_slice(&self.owed[..count]).is_err() {
-            return Err(HandlerFault { number: 0 });
-        }
-        self.owed.drain(..count);
-        Ok(bytes)
-    }
-
-    fn closed(&self) -> bool {
-        self.ended && self.owed.is_empty()
-    }
-
-    fn finished(&self) -> bool {
-        self.ended && self.owed.is_empty()
-    }
-}
-
 /// How a stream begins: it asks for /x, which it numbers 2, with an eager handler or none, or it answers with /x and
 /// /y.
-#[derive(Clone, Copy)]
 enum Begins {
     Asks,
     /// The handler owes these bytes, fails at the call of this letter, and was told the end or not.
@@ -106,11 +27,20 @@ enum Begins {
     Answers,
 }
 
-fn begun(alloc: Global, begins: Begins) -> Result<Stream<Echo>, Stop> {
+fn echo(alloc: Global) -> Echo {
+    Echo::new(alloc, Direction::Inbound, 0, 1024)
+}
+
+fn begun(alloc: Global, begins: &Begins) -> Result<Stream<Echo>, Stop> {
     match begins {
         Begins::Asks => Stream::ask(alloc, "/x", 2, None),
         Begins::AsksWith(early, failing, ended) => {
-            let eager = Echo::owing(alloc, early, failing, ended)?;
+            let mut eager = echo(alloc);
+            eager.failing = *failing;
+            eager.ended = *ended;
+            if eager.owed.extend_from_slice(*early).is_err() {
+                return Err(Stop::OutOfMemory);
+            }
             Stream::ask(alloc, "/x", 2, Some(eager))
         }
         Begins::Answers => Stream::answer(alloc, &["/x", "/y"]),
@@ -205,19 +135,17 @@ impl Came {
         if !self.stream.talks() {
             return self.stream.take(bytes);
         }
-        let (index, used) = match self.stream.hear(bytes) {
-            Ok(Heard::Agreed { index, used }) => (index, used),
-            Ok(_) => return Ok(()),
-            Err(stop) => return Err(stop),
-        };
-        self.agreed = Some(index);
-        if self.stream.awaits_handler() {
-            let Ok(echo) = Echo::owing(alloc, b"", 0, false) else {
-                return Err(Stop::OutOfMemory);
-            };
-            self.stream.serve(echo);
+        match self.stream.hear(bytes) {
+            Ok(Heard::Agreed { index, used }) => {
+                self.agreed = Some(index);
+                if self.stream.awaits_handler() {
+                    self.stream.serve(echo(alloc));
+                }
+                self.stream.take(&bytes[used..])
+            }
+            Ok(_) => Ok(()),
+            Err(stop) => Err(stop),
         }
-        self.stream.take(&bytes[used..])
     }
 
     /// Asks for output. Whether there is an answer of at most so many bytes.
@@ -228,17 +156,6 @@ impl Came {
         }
     }
 
-    /// Plays a piece, behind which it asks for output.
-    fn plays(&mut self, alloc: Global, piece: &[u8], room: usize) -> bool {
-        if self.stop.is_some() {
-            return true;
-        }
-        if let Err(stop) = self.hand(alloc, piece) {
-            self.stop = Some(stop);
-        }
-        self.stop.is_some() || self.gives(room)
-    }
-
     /// The end comes, all is given, and the handler is handed out, which was handed this, and called so first. What
     /// comes later is dropped, and a handler that is closed is asked no more.
     fn ends(&mut self, taken: &[u8], first: u8) -> bool {
@@ -246,40 +163,58 @@ impl Came {
         let is_held = self.stream.finish().is_none();
         let is_told = self.stream.end() == Ok(()) && self.gives(1000);
         let is_whole = self.stream.closed() && self.stream.finished() && self.gives(1000);
-        let Some(handler) = self.stream.finish() else {
-            return false;
+        let is_as = match self.stream.finish() {
+            Some(handler) => {
+                let is_last = handler.calls.ends_with(b"e");
+                let is_first = handler.calls.as_slice().first() == Some(&first);
+                handler.taken.as_slice() == taken && is_last && is_first
+            }
+            None => false,
         };
-        let is_as = handler.taken.as_slice() == taken && handler.calls.ends_with(b"e");
-        let is_first = handler.calls.as_slice().first() == Some(&first);
         let is_over = self.stream.closed() && !self.stream.finished();
         let is_dropped = self.stream.take(b"late") == Ok(()) && self.stream.end() == Ok(());
-        is_open && is_held && is_told && is_whole && is_as && is_first && is_over && is_dropped
+        is_open && is_held && is_told && is_whole && is_as && is_over && is_dropped
+    }
+
+    /// Plays the pieces, behind each of which it asks for output, and then gives the rest byte by byte.
+    fn plays(&mut self, alloc: Global, row: &Row, size: usize, room: usize) -> bool {
+        let mut held = self.gives(room);
+        for piece in row.input.chunks(size.max(1)) {
+            if self.stop.is_none() {
+                match self.hand(alloc, piece) {
+                    Ok(()) => held = self.gives(room) && held,
+                    Err(stop) => self.stop = Some(stop),
+                }
+            }
+        }
+        for _ in 0..64 {
+            held = self.gives(1) && held;
+        }
+        let is_ended = match &row.handed {
+            Some((taken, first)) => self.ends(*taken, *first),
+            None => true,
+        };
+        let stop = match &row.stop {
+            Some(why) => Some(stop_for(why)),
+            None => None,
+        };
+        held && is_ended && self.agreed == row.agreed && self.stop == stop
     }
 }
 
-fn holds(alloc: Global, row: &Row, size: usize, room: usize) -> Result<bool, Fail> {
-    let mut came = Came {
-        stream: begun(alloc, row.begins).ok().ok_or("a stream")?,
-        agreed: None,
-        stop: None,
-        output: Vec::new(alloc),
-    };
-    let mut held = came.gives(room);
-    for piece in row.input.chunks(size.max(1)) {
-        held = came.plays(alloc, piece, room) && held;
+fn holds(alloc: Global, row: &Row, size: usize, room: usize) -> bool {
+    match begun(alloc, &row.begins) {
+        Ok(stream) => {
+            let mut came = Came {
+                stream,
+                agreed: None,
+                stop: None,
+                output: Vec::new(alloc),
+            };
+            came.plays(alloc, row, size, room) && came.output.as_slice() == row.output
+        }
+        Err(_) => false,
     }
-    for _ in 0..64 {
-        held = came.gives(1) && held;
-    }
-    if let Some((taken, first)) = row.handed {
-        held = came.ends(taken, first) && held;
-    }
-    let stop = match row.stop {
-        Some(why) => Some(stop_for(why)),
-        None => None,
-    };
-    let is_as = came.agreed == row.agreed && came.stop == stop;
-    Ok(held && is_as && came.output.as_slice() == row.output)
 }
 
 #[test]
@@ -287,7 +222,7 @@ fn whole_streams_however_cut(rt: HostRuntime) -> Result<(), Fail> {
     for (number, row) in ROWS.iter().enumerate() {
         for size in [1, 7, 1024] {
             for room in [0, 1, 1000] {
-                let held = holds(rt.alloc(), row, size, room)?;
+                let held = holds(rt.alloc(), row, size, room);
                 assert!(rt;
                     held,
                     "row {number} in pieces of {size} with a room of {room}"
@@ -300,7 +235,6 @@ fn whole_streams_however_cut(rt: HostRuntime) -> Result<(), Fail> {
 
 // ---- single calls
 
-#[derive(Clone, Copy)]
 enum Call {
     Hear(&'static [u8]),
     Take(&'static [u8]),
@@ -309,7 +243,6 @@ enum Call {
 }
 
 /// What a call answered.
-#[derive(Clone, Copy, PartialEq, Eq)]
 enum Answer {
     Heard(Heard),
     Done,
@@ -578,29 +511,25 @@ static SCRIPTS: [Script; 7] = [
     },
 ];
 
-fn done(outcome: Result<(), Stop>) -> Answer {
-    match outcome {
-        Ok(()) => Answer::Done,
-        Err(stop) => Answer::Stopped(why_stopped(stop)),
-    }
-}
-
 /// Whether the call is answered so.
 fn answers(stream: &mut Stream<Echo>, step: &Step) -> bool {
-    let answer = match step.call {
+    let outcome = match step.call {
         Call::Hear(bytes) => match stream.hear(bytes) {
-            Ok(heard) => Answer::Heard(heard),
-            Err(stop) => Answer::Stopped(why_stopped(stop)),
+            Ok(heard) => return matches!(step.answer, Answer::Heard(other) if other == heard),
+            Err(stop) => Err(stop),
         },
-        Call::Take(bytes) => done(stream.take(bytes)),
-        Call::End => done(stream.end()),
+        Call::Take(bytes) => stream.take(bytes),
+        Call::End => stream.end(),
         Call::Give(room) => match stream.give(room) {
             Ok(given) =>
                 return matches!(step.answer, Answer::Gave(bytes) if given.as_slice() == bytes),
-            Err(stop) => Answer::Stopped(why_stopped(stop)),
+            Err(stop) => Err(stop),
         },
     };
-    answer == step.answer
+    match outcome {
+        Ok(()) => matches!(step.answer, Answer::Done),
+        Err(stop) => matches!(&step.answer, Answer::Stopped(why) if stop_for(why) == stop),
+    }
 }
 
 fn stands(stream: &Stream<Echo>, step: &Step) -> bool {
@@ -608,37 +537,58 @@ fn stands(stream: &Stream<Echo>, step: &Step) -> bool {
     talks && stream.closed() == step.closed && stream.finished() == step.finished
 }
 
+/// How many steps hold, from the first on.
+fn steps_held(stream: &mut Stream<Echo>, steps: &[Step]) -> usize {
+    for (row, step) in steps.iter().enumerate() {
+        if !answers(stream, step) || !stands(stream, step) {
+            return row;
+        }
+    }
+    steps.len()
+}
+
+fn rows_held(alloc: Global, script: &Script) -> Option<usize> {
+    match begun(alloc, &script.begins) {
+        Ok(stream) => {
+            let mut stream = stream;
+            Some(steps_held(&mut stream, script.steps))
+        }
+        Err(_) => None,
+    }
+}
+
 #[test]
 fn single_calls(rt: HostRuntime) -> Result<(), Fail> {
     for (number, script) in SCRIPTS.iter().enumerate() {
-        let mut stream = begun(rt.alloc(), script.begins).ok().ok_or("a stream")?;
-        for (row, step) in script.steps.iter().enumerate() {
-            let held = answers(&mut stream, step) && stands(&stream, step);
-            assert!(rt; held, "script {number}, row {row}");
-        }
+        let held = rows_held(rt.alloc(), script);
+        assert_eq!(rt;
+            held,
+            Some(script.steps.len()),
+            "script {number}: so many rows hold"
+        );
     }
     Ok(())
 }
 
-fn is_bad_length(begun: &Result<Stream<Echo>, Stop>) -> bool {
-    match begun {
-        Ok(_) => false,
-        Err(stop) => *stop == Stop::Broken(Cause::Select(SelectFault::BadLength)),
-    }
+fn ask_fault(alloc: Global, name: &str) -> Option<Stop> {
+    let asked: Result<Stream<Echo>, Stop> = Stream::ask(alloc, name, 0, None);
+    asked.err()
 }
 
-/// Whether a name of no byte is refused, be it asked for or known.
-fn refuses_no_name(alloc: Global) -> bool {
-    let asked: Result<Stream<Echo>, Stop> = Stream::ask(alloc, "", 0, None);
-    let answered: Result<Stream<Echo>, Stop> = Stream::answer(alloc, &["/x", ""]);
-    is_bad_length(&asked) && is_bad_length(&answered)
+fn answer_fault(alloc: Global, names: &[&str]) -> Option<Stop> {
+    let answered: Result<Stream<Echo>, Stop> = Stream::answer(alloc, names);
+    answered.err()
 }
 
+/// A name of no byte is refused, be it asked for or known; no name at all is not.
 #[test]
 fn names_of_bad_length(rt: HostRuntime) -> Result<(), Fail> {
-    assert!(rt; refuses_no_name(rt.alloc()));
-    let none: Result<Stream<Echo>, Stop> = Stream::answer(rt.alloc(), &[]);
-    assert!(rt; none.is_ok());
+    let alloc = rt.alloc();
+    let bad_length = Some(Stop::Broken(Cause::Select(SelectFault::BadLength)));
+    let asked = ask_fault(alloc, "") == bad_length;
+    let known = answer_fault(alloc, &["/x", ""]) == bad_length;
+    let none = answer_fault(alloc, &[]).is_none();
+    assert_eq!(rt; (asked, known, none), (true, true, true));
     Ok(())
 }
 
