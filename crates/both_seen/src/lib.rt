@@ -22,9 +22,6 @@ use swarm_calls::{
     Swarm,
 };
 
-#[cfg(test)]
-mod tests;
-
 /// What two dials were answered, and what was listed behind them.
 #[derive(Drop)]
 pub struct Dials {

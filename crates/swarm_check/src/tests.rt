@@ -1,5 +1,6 @@
 ghost use Rattle.std.specs.Prelude.{◌≡◌};
 
+mod both;
 mod crowd;
 mod gate;
 mod held;
@@ -11,11 +12,13 @@ use plaintext_x::{Exchange, Proven, exchange_keys};
 use pool_state::{Agent, Call, Config, Limits, Reply};
 use std::alloc::Global;
 use std::marker::Brand;
+use std::mem;
 use std::sync::Wait;
 use std::sync::ledger::Ledger;
 use std::test::*;
 use swarm_calls::{
-    BlankHistory, BlankLedgers, Eight, Gate, Identity, Ledgers, NewRefused, NoGate, Pass, Swarm,
+    BlankHistory, BlankLedgers, Closed, Eight, Gate, Identity, Ledgers, NewRefused, NoGate, Pass,
+    Swarm,
 };
 
 /// The id of the Ed25519 key of 32 bytes that are all `byte`.
@@ -114,15 +117,75 @@ fn make<G: Gate, J: Identity, L: Ledgers, R: Wait>(
     }
 }
 
-/// What a test of one thread does with a swarm.
+/// What a test of one thread does with a swarm. It borrows the swarm and the passes, since a function that owns these is
+/// dear to prove: `play_out` alone lets them go.
 trait Script {
     /// How many of its rows hold, from the first on.
     fn play<J: Identity, L: Ledgers, R: Wait>(
         &self,
         rt: &R,
-        swarm: Swarm<NoGate, J, L>,
-        passes: Vec<Pass<J, L>>,
+        swarm: &Swarm<NoGate, J, L>,
+        passes: &mut [Pass<J, L>],
     ) -> usize;
+
+    /// How many rows must hold for the swarm to be closed, and not dropped.
+    fn rows(&self) -> usize;
+
+    /// Whether the swarm ends with what it must end with.
+    fn is_closed(&self, closed: &Closed) -> bool;
+}
+
+/// The swarm, where the passes behind those that are kept back don't end it. All passes are together again then.
+fn stays_without<G: Gate, J: Identity, L: Ledgers, R: Wait>(
+    rt: &R,
+    swarm: Swarm<G, J, L>,
+    passes: &mut Vec<Pass<J, L>>,
+    kept: usize,
+) -> Option<Swarm<G, J, L>> {
+    let others = passes.split_off(kept.min(passes.len())).ok()?;
+    match swarm.close(rt, others) {
+        Ok(_) => None,
+        Err((swarm, mut others)) => match passes.append(&mut others) {
+            Ok(()) => Some(swarm),
+            Err(_) => None,
+        },
+    }
+}
+
+/// All passes end the swarm, in any order, and all but the first don't, nor does none.
+fn close<G: Gate, J: Identity, L: Ledgers, R: Wait>(
+    rt: &R,
+    alloc: Global,
+    swarm: Swarm<G, J, L>,
+    passes: &mut Vec<Pass<J, L>>,
+) -> Option<Closed> {
+    let all = passes.len();
+    let swarm = stays_without(rt, swarm, passes, all)?;
+    let swarm = stays_without(rt, swarm, passes, 1)?;
+    passes.reverse();
+    let swarm = stays_without(rt, swarm, passes, 1)?;
+    swarm.close(rt, mem::replace(passes, Vec::new(alloc))).ok()
+}
+
+/// How many rows of the script hold, and one more where the swarm ends as it must then.
+fn play_out<J: Identity, L: Ledgers, S: Script, R: Wait>(
+    rt: &R,
+    alloc: Global,
+    script: &S,
+    swarm: Swarm<NoGate, J, L>,
+    passes: Vec<Pass<J, L>>,
+) -> usize {
+    let mut passes = passes;
+    let held = script.play(rt, &swarm, passes.as_mut_slice());
+    let closed = if held < script.rows() {
+        None
+    } else {
+        close(rt, alloc, swarm, &mut passes)
+    };
+    match closed {
+        Some(closed) => held.saturating_add(script.is_closed(&closed) as usize),
+        None => held,
+    }
 }
 
 /// Makes a swarm, and plays the script on it, or says why there is no swarm.
@@ -163,7 +226,7 @@ fn run<
         rt, alloc, config, callers, NoGate, history, ledgers,
     );
     match made {
-        Ok((swarm, passes)) => Ok(script.play(rt, swarm, passes)),
+        Ok((swarm, passes)) => Ok(play_out(rt, alloc, script, swarm, passes)),
         Err(refused) => Err(refused),
     }
 }
@@ -185,24 +248,4 @@ fn play<S: Script, R: Wait>(
         BlankLedgers::new(),
         script,
     )
-}
-
-/// The passes of two callers.
-fn both<J: Identity, L: Ledgers>(passes: Vec<Pass<J, L>>) -> Option<(Pass<J, L>, Pass<J, L>)> {
-    let mut passes = passes;
-    let two = passes.pop()?;
-    let one = passes.pop()?;
-    Some((one, two))
-}
-
-/// Two passes as `close` takes them.
-fn in_one<J: Identity, L: Ledgers>(
-    alloc: Global,
-    one: Pass<J, L>,
-    two: Pass<J, L>,
-) -> Option<Vec<Pass<J, L>>> {
-    let mut passes = Vec::new(alloc);
-    passes.push(one).ok()?;
-    passes.push(two).ok()?;
-    Some(passes)
 }

@@ -1,7 +1,7 @@
 //! Many threads at once: what each caller saw of its calls makes one history, which a pool of one thread repeats, and
 //! each listing shows that pool after a beginning of the history.
 
-use super::make;
+use super::{make, peer};
 use peer_ids::PeerId;
 use pool_state::{Call, Config, Listing, Pool, Reply};
 use std::alloc::{AllocError, Global};
@@ -35,11 +35,51 @@ fn counts_of(listing: &Listing) -> Counts {
     }
 }
 
-/// What one caller saw.
+/// What one caller saw, and whether that is all of it: memory may be refused.
 #[derive(Drop)]
 pub struct Told {
     made: Vec<Made>,
     listed: Vec<Counts>,
+    is_whole: bool,
+}
+
+impl Told {
+    pub fn new(alloc: Global) -> Told {
+        Told {
+            made: Vec::new(alloc),
+            listed: Vec::new(alloc),
+            is_whole: true,
+        }
+    }
+
+    pub fn show(&mut self, listing: &Listing) {
+        let is_kept = self.listed.push(counts_of(listing)).is_ok();
+        self.is_whole &= is_kept;
+    }
+
+    /// Whether one call was made, with this reply.
+    pub fn is_answered(&self, reply: Reply) -> bool {
+        match self.made.as_slice() {
+            [made] => made.reply == reply,
+            _ => false,
+        }
+    }
+
+    /// Whether one call was made, with this reply, and the front was that then.
+    pub fn is_answered_at(&self, front: u64, reply: Reply) -> bool {
+        match self.made.as_slice() {
+            [made] => made.front == front && made.reply == reply,
+            _ => false,
+        }
+    }
+
+    /// Whether there were so many listings, all up to this front.
+    pub fn has_listed(&self, count: u64, front: u64) -> bool {
+        match self.listed.as_slice() {
+            [.., last] => last.front == front && self.listed.len() as u64 == count,
+            [] => false,
+        }
+    }
 }
 
 /// The next of a row of numbers that look like chance.
@@ -67,44 +107,38 @@ fn some_call(number: u64, peers: &[PeerId; 3]) -> Call {
     }
 }
 
-/// Makes the calls of one caller, and lists after every eighth.
-fn call_often<G: Gate, J: Identity, L: Ledgers, R: Wait>(
+/// Makes a call, and keeps what is seen of it.
+pub fn call_once<G: Gate, J: Identity, L: Ledgers, R: Wait>(
     rt: &R,
     swarm: &Swarm<G, J, L>,
     pass: &mut Pass<J, L>,
-    peers: &[PeerId; 3],
+    call: &Call,
     told: &mut Told,
+) {
+    let reply = make(rt, swarm, pass, call);
+    let front = pass.front();
+    let call = *call;
+    let is_kept = told.made.push(Made { front, call, reply }).is_ok();
+    told.is_whole &= is_kept;
+}
+
+/// Makes so many calls, and lists after every eighth.
+pub fn call_often<G: Gate, J: Identity, L: Ledgers, R: Wait>(
+    rt: &R,
+    swarm: &Swarm<G, J, L>,
+    pass: &mut Pass<J, L>,
     calls: u64,
-) -> Result<(), AllocError> {
+    told: &mut Told,
+) {
+    let peers = [peer(0x11), peer(0x22), peer(0x33)];
     let mut number = next(pass.number() as u64);
     for round in 0..calls {
         number = next(number);
-        let call = some_call(number, peers);
-        let reply = make(rt, swarm, pass, &call);
-        let front = pass.front();
-        told.made.push(Made { front, call, reply })?;
+        call_once(rt, swarm, pass, &some_call(number, &peers), told);
         if round % 8 == 0 {
-            told.listed.push(counts_of(&swarm.list(pass)))?;
+            told.show(&swarm.list(pass));
         }
     }
-    Ok(())
-}
-
-/// The calls of one caller, with its pass, and what it saw, unless memory was refused.
-pub fn run_caller<G: Gate, J: Identity, L: Ledgers, R: Wait>(
-    rt: &R,
-    alloc: Global,
-    swarm: &Swarm<G, J, L>,
-    mut pass: Pass<J, L>,
-    peers: &[PeerId; 3],
-    calls: u64,
-) -> (Pass<J, L>, Option<Told>) {
-    let mut told = Told {
-        made: Vec::new(alloc),
-        listed: Vec::new(alloc),
-    };
-    let ended = call_often(rt, swarm, &mut pass, peers, &mut told, calls);
-    (pass, ended.ok().map(|_| told))
 }
 
 /// The history that the callers saw, by the fronts, and what was listed at each.
@@ -121,39 +155,64 @@ impl History {
         Ok(History { made, listed })
     }
 
-    /// Writes down what a caller saw. False where another saw something else at one of these fronts.
+    /// Writes down a call. False where another saw one at this front.
+    fn put_call(&mut self, made: &Made) -> bool {
+        match self.made.as_mut_slice().get_mut(place_of(made.front)) {
+            Some(place) => {
+                let is_new = place.is_none();
+                *place = Some(*made);
+                is_new
+            }
+            None => false,
+        }
+    }
+
+    /// Writes down what was listed. False where another saw something else at this front.
+    fn put_counts(&mut self, counts: &Counts) -> bool {
+        match self.listed.as_mut_slice().get_mut(place_of(counts.front)) {
+            Some(place) => {
+                let is_same = place.is_none() || *place == Some(*counts);
+                *place = Some(*counts);
+                is_same
+            }
+            None => false,
+        }
+    }
+
+    /// Writes down what a caller saw. False where that isn't all, or doesn't go with what others saw.
     pub fn note(&mut self, told: &Told) -> bool {
-        for call in told.made.iter() {
-            match self.made.as_mut_slice().get_mut(place_of(call.front)) {
-                Some(place) if place.is_none() => *place = Some(*call),
-                _ => return false,
-            }
+        let mut is_one = told.is_whole;
+        for made in told.made.iter() {
+            is_one = self.put_call(made) && is_one;
         }
-        for shown in told.listed.iter() {
-            match self.listed.as_mut_slice().get_mut(place_of(shown.front)) {
-                Some(place) if place.is_none() || *place == Some(*shown) => *place = Some(*shown),
-                _ => return false,
-            }
+        for counts in told.listed.iter() {
+            is_one = self.put_counts(counts) && is_one;
         }
-        true
+        is_one
     }
 
     /// A pool that is called in turn answers what the callers saw, and lists what they saw listed.
     pub fn repeats(&self, config: Config) -> bool {
         let mut pool = Pool::new(config);
+        let mut held = true;
         for (made, shown) in self.made.iter().zip(self.listed.iter()) {
-            let Some(made) = made else {
-                return false;
-            };
-            if pool.apply(made.call) != made.reply {
-                return false;
-            }
-            if shown.is_some() && *shown != Some(counts_of(&pool.listing())) {
-                return false;
-            }
+            held = held && repeats_one(&mut pool, made, shown);
         }
-        true
+        held
     }
+}
+
+/// Whether there is a call, which the pool answers so, and lists so behind it where that was seen.
+fn repeats_one(pool: &mut Pool, made: &Option<Made>, shown: &Option<Counts>) -> bool {
+    let is_answered = match made {
+        Some(made) => pool.apply(made.call) == made.reply,
+        None => false,
+    };
+    let is_listed = match shown {
+        Some(shown) => *shown == counts_of(&pool.listing()),
+        None => true,
+    };
+    is_answered && is_listed
 }
 
 /// So many places that hold nothing yet.

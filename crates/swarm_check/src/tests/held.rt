@@ -1,13 +1,11 @@
 //! What the gate holds, and when.
 
 use super::gate::Watch;
-use super::{Asked, call, make, proven};
+use super::{Asked, call, make};
 use plaintext_x::Proven;
 use pool_state::{Refusal, Reply};
-use std::alloc::Global;
 use std::rt::Clock;
 use std::sync::Wait;
-use std::test::*;
 use std::thread;
 use std::time::Duration;
 use swarm_calls::{Gate, Identity, Ledgers, Pass, Swarm};
@@ -90,31 +88,17 @@ fn hold_settles<G: Gate, J: Identity, L: Ledgers, R: Wait>(
     are_held && is_spent && watch.held() == (12, 12, 0)
 }
 
-fn hold_all<G: Gate, J: Identity, L: Ledgers, R: Wait>(
-    rt: &R,
-    swarm: &Swarm<G, J, L>,
-    passes: &mut [Pass<J, L>],
-    proven: &Proven,
-    watch: &Watch,
-) -> usize {
-    let [one, two] = passes else {
-        return 0;
-    };
-    let held = hold_in_turn(rt, swarm, one, two, watch);
-    let are_settled = hold_settles(rt, swarm, one, two, proven, watch);
-    held.saturating_add(are_settled as usize)
-}
-
 /// Each call of either caller is held once, with its caller's number, and refused or not. One that is turned away isn't
 /// held. Gives how many kinds of calls are held so.
 pub fn hold_each_call<G: Gate, J: Identity, L: Ledgers, R: Wait>(
     rt: &R,
-    alloc: Global,
-    swarm: Swarm<G, J, L>,
-    passes: Vec<Pass<J, L>>,
+    swarm: &Swarm<G, J, L>,
+    one: &mut Pass<J, L>,
+    two: &mut Pass<J, L>,
+    proven: &Proven,
     watch: &Watch,
-) -> Result<usize, Fail> {
-    let proven = proven(alloc, 0x11)?;
-    let mut passes = passes;
-    Ok(hold_all(rt, &swarm, passes.as_mut_slice(), &proven, watch))
+) -> usize {
+    let held = hold_in_turn(rt, swarm, one, two, watch);
+    let are_settled = hold_settles(rt, swarm, one, two, proven, watch);
+    held.saturating_add(are_settled as usize)
 }

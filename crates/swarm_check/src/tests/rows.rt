@@ -96,22 +96,16 @@ impl Script for TwoCallers {
     fn play<J: Identity, L: Ledgers, R: Wait>(
         &self,
         rt: &R,
-        swarm: Swarm<NoGate, J, L>,
-        passes: Vec<Pass<J, L>>,
+        swarm: &Swarm<NoGate, J, L>,
+        passes: &mut [Pass<J, L>],
     ) -> usize {
-        let mut passes = passes;
-        let held = go(rt, &swarm, passes.as_mut_slice(), self);
-        if held <= self.beats.len() {
-            return held;
-        }
-        match close(rt, swarm, passes) {
-            Some(closed) => held.saturating_add(self.is_closed(&closed) as usize),
-            None => held,
-        }
+        go(rt, swarm, passes, self)
     }
-}
 
-impl TwoCallers {
+    fn rows(&self) -> usize {
+        self.beats.len().saturating_add(1)
+    }
+
     fn is_closed(&self, closed: &Closed) -> bool {
         closed.calls == self.calls && are_rows(closed.listing.conns.as_slice(), self.rows)
     }
@@ -201,55 +195,6 @@ fn pending(row: (u32, ConnSide, Option<u8>)) -> Row {
         peer: peer_if(byte),
         ..Row::default()
     }
-}
-
-/// What is there where a swarm isn't closed.
-type Open<J, L> = (Swarm<NoGate, J, L>, Vec<Pass<J, L>>);
-
-/// No pass at all doesn't end the swarm.
-fn stays_without_all<J: Identity, L: Ledgers, R: Wait>(
-    rt: &R,
-    swarm: Swarm<NoGate, J, L>,
-    passes: Vec<Pass<J, L>>,
-) -> Option<Open<J, L>> {
-    let mut passes = passes;
-    let none = passes.split_off(passes.len()).ok()?;
-    match swarm.close(rt, none) {
-        Ok(_) => None,
-        Err((swarm, _)) => Some((swarm, passes)),
-    }
-}
-
-/// Puts the pass behind the others again.
-fn with_last<J: Identity, L: Ledgers>(open: Open<J, L>, last: Pass<J, L>) -> Option<Open<J, L>> {
-    let (swarm, mut passes) = open;
-    passes.push(last).ok()?;
-    Some((swarm, passes))
-}
-
-/// Nor do the passes without the last.
-fn stays_without_last<J: Identity, L: Ledgers, R: Wait>(
-    rt: &R,
-    swarm: Swarm<NoGate, J, L>,
-    passes: Vec<Pass<J, L>>,
-) -> Option<Open<J, L>> {
-    let mut passes = passes;
-    let last = passes.pop()?;
-    let open = swarm.close(rt, passes).err()?;
-    with_last(open, last)
-}
-
-/// Both passes end the swarm, in either order, and either alone doesn't, nor does none.
-fn close<J: Identity, L: Ledgers, R: Wait>(
-    rt: &R,
-    swarm: Swarm<NoGate, J, L>,
-    passes: Vec<Pass<J, L>>,
-) -> Option<Closed> {
-    let (swarm, passes) = stays_without_all(rt, swarm, passes)?;
-    let (swarm, mut passes) = stays_without_last(rt, swarm, passes)?;
-    passes.reverse();
-    let (swarm, passes) = stays_without_last(rt, swarm, passes)?;
-    swarm.close(rt, passes).ok()
 }
 
 #[test]
@@ -410,25 +355,32 @@ impl Script for Playing<'_> {
     fn play<J: Identity, L: Ledgers, R: Wait>(
         &self,
         rt: &R,
-        swarm: Swarm<NoGate, J, L>,
-        passes: Vec<Pass<J, L>>,
+        swarm: &Swarm<NoGate, J, L>,
+        passes: &mut [Pass<J, L>],
     ) -> usize {
-        let mut passes = passes;
         let mut pool = Pool::new(self.config);
-        let held = self.go(rt, &swarm, passes.as_mut_slice(), &mut pool);
-        if held < self.script.steps.len() {
-            return held;
-        }
-        match swarm.close(rt, passes).ok() {
-            Some(closed) => held.saturating_add(self.is_closed(&closed, &pool) as usize),
-            None => held,
-        }
+        self.go(rt, swarm, passes, &mut pool)
+    }
+
+    fn rows(&self) -> usize {
+        self.script.steps.len()
+    }
+
+    fn is_closed(&self, closed: &Closed) -> bool {
+        closed.calls == self.script.calls && closed.listing == self.pool().listing()
     }
 }
 
 impl Playing<'_> {
-    fn is_closed(&self, closed: &Closed, pool: &Pool) -> bool {
-        closed.calls == self.script.calls && closed.listing == pool.listing()
+    /// The pool of one thread behind all steps.
+    fn pool(&self) -> Pool {
+        let mut pool = Pool::new(self.config);
+        for (_, asked, _) in self.script.steps.iter() {
+            if let Some(call) = call(*asked) {
+                pool.apply(call);
+            }
+        }
+        pool
     }
 
     /// How many steps go so.
@@ -540,10 +492,19 @@ impl Script for Nothing {
     fn play<J: Identity, L: Ledgers, R: Wait>(
         &self,
         _rt: &R,
-        _swarm: Swarm<NoGate, J, L>,
-        _passes: Vec<Pass<J, L>>,
+        _swarm: &Swarm<NoGate, J, L>,
+        _passes: &mut [Pass<J, L>],
     ) -> usize {
         0
+    }
+
+    /// More than hold, so that it isn't closed.
+    fn rows(&self) -> usize {
+        1
+    }
+
+    fn is_closed(&self, _closed: &Closed) -> bool {
+        false
     }
 }
 

@@ -2,12 +2,12 @@
 
 ghost use Rattle.std.specs.Prelude.{◌≡◌};
 
-use super::crowd::{History, Told, run_caller};
+use super::crowd::{History, Told, call_often, call_once};
 use super::gate::{ENOUGH, HoldFirst, PATIENT, Watch};
 use super::held::{hold_each_call, wait_for_the_first};
-use super::{both, config, in_one, peer};
-use peer_ids::PeerId;
-use pool_state::{Config, Refusal, Reply};
+use super::{close, config, peer, proven};
+use plaintext_x::Proven;
+use pool_state::{Call, Config, Refusal, Reply};
 use std::alloc::{AllocError, Global};
 use std::marker::Brand;
 use std::rt::Clock;
@@ -15,8 +15,10 @@ use std::sync::Wait;
 use std::sync::atomic::Ordering;
 use std::sync::ledger::Ledger;
 use std::test::*;
-use std::thread::{Threads, join, map_vec};
-use swarm_calls::{BlankHistory, BlankLedgers, Eight, Gate, Identity, Ledgers, Pass, Swarm};
+use std::thread::{Threads, map_vec};
+use swarm_calls::{
+    BlankHistory, BlankLedgers, Closed, Eight, Gate, Identity, Ledgers, Pass, Swarm,
+};
 
 /// What several threads do with a swarm.
 #[derive(Clone, Copy)]
@@ -36,7 +38,7 @@ enum Plan {
 }
 
 /// A swarm that several threads call. Its gate holds caller 1 until the watch has counted enough. Gives how much of the
-/// plan holds: of most plans all or nothing.
+/// row's plan holds, and one more where the swarm ends as it must.
 fn run<
     J: Identity + Send + Sync,
     L1: Ledger + Send + Sync,
@@ -55,8 +57,7 @@ fn run<
     callers: usize,
     history: BlankHistory,
     ledgers: BlankLedgers,
-    watch: &Watch,
-    plan: Plan,
+    stage: &Stage,
 ) -> Result<usize, Fail>
     requires history { history ≡ J.book }
     requires config { config ≡ J.config }
@@ -70,204 +71,39 @@ fn run<
     requires seventh { (ledgers.seventh.name ≡ L7.name) × (ledgers.seventh.parts ≡ L7.parts) }
     requires eighth { (ledgers.eighth.name ≡ L8.name) × (ledgers.eighth.parts ≡ L8.parts) }
 {
-    let gate = HoldFirst { clock: rt, watch };
+    let gate = HoldFirst {
+        clock: rt,
+        watch: &stage.watch,
+    };
     let made = Swarm::<HoldFirst<'_, '_, R>, J, Eight<L1, L2, L3, L4, L5, L6, L7, L8>>::new(
         rt, alloc, config, callers, gate, history, ledgers,
     );
     let Ok((swarm, passes)) = made else {
         return Err(Fail::from("a swarm"));
     };
-    match plan {
-        Plan::Accept => Ok(call_at_once(rt, alloc, swarm, passes, &None) as usize),
-        Plan::Dial => Ok(call_at_once(rt, alloc, swarm, passes, &Some(peer(0x22))) as usize),
-        Plan::Hold => Ok(list_while_held(rt, swarm, passes, watch) as usize),
-        Plan::Wait => Ok(call_while_held(rt, swarm, passes, watch) as usize),
-        Plan::Count => hold_each_call(rt, alloc, swarm, passes, watch),
-        Plan::Crowd(calls) => Ok(
-            call_in_a_crowd(rt, alloc, swarm, passes, config, calls)? as usize,
-        ),
-    }
+    Ok(play_out(rt, alloc, swarm, passes, stage))
 }
 
 /// The same, with a new history and new ledgers.
 fn play<R: Threads + Wait + Clock + Sync>(
     rt: &R,
     alloc: Global,
-    config: Config,
-    callers: usize,
-    watch: Watch,
-    plan: Plan,
+    stage: Stage,
 ) -> Result<usize, Fail> {
     run::<Brand, Brand, Brand, Brand, Brand, Brand, Brand, Brand, Brand, R>(
         rt,
         alloc,
-        config,
-        callers,
+        stage.config,
+        stage.row.callers,
         BlankHistory::new(),
         BlankLedgers::new(),
-        &watch,
-        plan,
+        &stage,
     )
 }
 
-/// What a caller does in its thread: it dials this peer, or accepts and lists.
-fn call<G: Gate, J: Identity, L: Ledgers, R: Wait>(
-    rt: &R,
-    swarm: &Swarm<G, J, L>,
-    mut pass: Pass<J, L>,
-    whom: &Option<PeerId>,
-) -> (Pass<J, L>, Reply) {
-    let reply = match whom {
-        Some(peer) => swarm.dial(rt, &mut pass, Some(*peer)),
-        None => {
-            let reply = swarm.accept(rt, &mut pass);
-            swarm.renew(&mut pass);
-            reply
-        }
-    };
-    (pass, reply)
-}
-
-/// How many calls were made, and how many connections stand, where these are all passes.
-fn close<G: Gate, J: Identity, L: Ledgers, R: Wait>(
-    rt: &R,
-    swarm: Swarm<G, J, L>,
-    passes: Vec<Pass<J, L>>,
-) -> Option<(u64, usize)> {
-    let closed = swarm.close(rt, passes).ok()?;
-    Some((closed.calls, closed.listing.conns.len()))
-}
-
-/// Whether both calls were answered so, in either order.
-fn are_answered(first: Reply, second: Reply, one: Reply, other: Reply) -> bool {
-    (first == one && second == other) || (first == other && second == one)
-}
-
-/// Whether one of two dials of a peer has the one connection and the other is refused, or each of two that accept has
-/// one; and each pass comes to both calls, which are all.
-fn have_met<G: Gate, J: Identity, L: Ledgers, R: Wait>(
-    rt: &R,
-    alloc: Global,
-    swarm: Swarm<G, J, L>,
-    one: (Pass<J, L>, Reply),
-    two: (Pass<J, L>, Reply),
-    whom: &Option<PeerId>,
-) -> bool {
-    let (mut one, first) = one;
-    let (mut two, second) = two;
-    let (other, conns) = match whom {
-        Some(_) => (Reply::Refused(Refusal::PeerFull), 1),
-        None => (Reply::Conn(2), 2),
-    };
-    let are_answered = are_answered(first, second, Reply::Conn(1), other);
-    swarm.meet(rt, &mut one, &mut two);
-    let are_both = one.front() == 2 && two.front() == 2;
-    let Some(passes) = in_one(alloc, one, two) else {
-        return false;
-    };
-    close(rt, swarm, passes) == Some((2, conns)) && are_answered && are_both
-}
-
-/// Two callers dial this peer, of which one alone has a connection, or accept, and both have one.
-fn call_at_once<
-    G: Gate + Sync,
-    J: Identity + Send + Sync,
-    L1: Ledger + Send + Sync,
-    L2: Ledger + Send + Sync,
-    L3: Ledger + Send + Sync,
-    L4: Ledger + Send + Sync,
-    L5: Ledger + Send + Sync,
-    L6: Ledger + Send + Sync,
-    L7: Ledger + Send + Sync,
-    L8: Ledger + Send + Sync,
-    R: Threads + Wait + Sync,
->(
-    rt: &R,
-    alloc: Global,
-    swarm: Swarm<G, J, Eight<L1, L2, L3, L4, L5, L6, L7, L8>>,
-    passes: Vec<Pass<J, Eight<L1, L2, L3, L4, L5, L6, L7, L8>>>,
-    whom: &Option<PeerId>,
-) -> bool {
-    let Some((one, two)) = both(passes) else {
-        return false;
-    };
-    let shared = &swarm;
-    let (one, two) = join(
-        rt,
-        move || call(rt, shared, one, whom),
-        move || call(rt, shared, two, whom),
-    );
-    have_met(rt, alloc, swarm, one, two, whom)
-}
-
-/// Lists often enough for the gate. Gives the front of the last listing.
-fn list_often<G: Gate, J: Identity, L: Ledgers>(
-    swarm: &Swarm<G, J, L>,
-    mut pass: Pass<J, L>,
-    watch: &Watch,
-) -> (Pass<J, L>, u64) {
-    let mut front = 0;
-    for _ in 0..ENOUGH {
-        front = swarm.list(&mut pass).front;
-        watch.listed.fetch_add(1, Ordering::SeqCst);
-    }
-    (pass, front)
-}
-
-/// Whether all listings beside the held call were of the front before it, and one behind it shows it.
-fn has_listed<G: Gate, J: Identity, L: Ledgers>(
-    swarm: &Swarm<G, J, L>,
-    two: &mut (Pass<J, L>, u64),
-    watch: &Watch,
-) -> bool {
-    let listing = swarm.list(&mut two.0);
-    let is_shown = listing.front == 1 && listing.conns.len() == 1;
-    is_shown && two.1 == 0 && watch.gave_up.load(Ordering::SeqCst) == 0
-}
-
-fn list_while_held<
-    G: Gate + Sync,
-    J: Identity + Send + Sync,
-    L1: Ledger + Send + Sync,
-    L2: Ledger + Send + Sync,
-    L3: Ledger + Send + Sync,
-    L4: Ledger + Send + Sync,
-    L5: Ledger + Send + Sync,
-    L6: Ledger + Send + Sync,
-    L7: Ledger + Send + Sync,
-    L8: Ledger + Send + Sync,
-    R: Threads + Wait + Sync,
->(
-    rt: &R,
-    swarm: Swarm<G, J, Eight<L1, L2, L3, L4, L5, L6, L7, L8>>,
-    passes: Vec<Pass<J, Eight<L1, L2, L3, L4, L5, L6, L7, L8>>>,
-    watch: &Watch,
-) -> bool {
-    let Some((one, two)) = both(passes) else {
-        return false;
-    };
-    let first = peer(0x11);
-    let shared = &swarm;
-    let (_one, mut two) = join(
-        rt,
-        move || call(rt, shared, one, &Some(first)),
-        move || list_often(shared, two, watch),
-    );
-    has_listed(&swarm, &mut two, watch)
-}
-
-fn have_called<J: Identity, L: Ledgers>(
-    one: &(Pass<J, L>, Reply),
-    two: &(Pass<J, L>, Reply),
-    watch: &Watch,
-) -> bool {
-    let are_made = one.1 == Reply::Conn(1) && two.1 == Reply::Conn(2);
-    let are_in_turn = one.0.front() == 1 && two.0.front() == 2;
-    are_made && are_in_turn && watch.gave_up.load(Ordering::SeqCst) == 1
-}
-
-/// A call of the second waits until that of the first, which holds the lock, is made.
-fn call_while_held<
+/// How much of the plan holds, and one more where all passes end the swarm as they must. It alone owns the swarm and the
+/// passes.
+fn play_out<
     G: Gate + Sync,
     J: Identity + Send + Sync,
     L1: Ledger + Send + Sync,
@@ -281,66 +117,26 @@ fn call_while_held<
     R: Threads + Wait + Clock + Sync,
 >(
     rt: &R,
+    alloc: Global,
     swarm: Swarm<G, J, Eight<L1, L2, L3, L4, L5, L6, L7, L8>>,
     passes: Vec<Pass<J, Eight<L1, L2, L3, L4, L5, L6, L7, L8>>>,
-    watch: &Watch,
-) -> bool {
-    let Some((one, two)) = both(passes) else {
-        return false;
+    stage: &Stage,
+) -> usize {
+    let mut passes = passes;
+    let told = act_at_once(rt, alloc, &swarm, passes.as_mut_slice(), stage);
+    let held = if stage.is_told(alloc, &told) {
+        look_behind(rt, &swarm, passes.as_mut_slice(), stage)
+    } else {
+        0
     };
-    let (first, second) = (peer(0x11), peer(0x22));
-    let shared = &swarm;
-    let (one, two) = join(
-        rt,
-        move || call(rt, shared, one, &Some(first)),
-        move || {
-            wait_for_the_first(rt, watch);
-            call(rt, shared, two, &Some(second))
-        },
-    );
-    have_called(&one, &two, watch)
-}
-
-/// Takes the passes of all callers. Whether what they saw is one history.
-fn gather<J: Identity, L: Ledgers>(
-    callers: Vec<(Pass<J, L>, Option<Told>)>,
-    passes: &mut Vec<Pass<J, L>>,
-    history: &mut History,
-) -> Result<bool, AllocError> {
-    let mut held = true;
-    for (pass, told) in callers {
-        passes.push(pass)?;
-        held = held && has_noted(history, &told);
-    }
-    Ok(held)
-}
-
-fn has_noted(history: &mut History, told: &Option<Told>) -> bool {
-    match told {
-        Some(told) => history.note(told),
-        None => false,
+    match close(rt, alloc, swarm, &mut passes) {
+        Some(closed) => held.saturating_add(stage.row.is_closed(&closed) as usize),
+        None => held,
     }
 }
 
-/// Whether the callers' passes are all, and what they saw is one history.
-fn is_one_history<G: Gate, J: Identity, L: Ledgers, R: Wait>(
-    rt: &R,
-    alloc: Global,
-    swarm: Swarm<G, J, L>,
-    callers: Vec<(Pass<J, L>, Option<Told>)>,
-    config: Config,
-    all: u64,
-) -> Result<bool, AllocError> {
-    let mut history = History::blank(alloc, all)?;
-    let mut passes = Vec::new(alloc);
-    let is_one = gather(callers, &mut passes, &mut history)? && history.repeats(config);
-    match close(rt, swarm, passes) {
-        Some((made, _)) => Ok(is_one && made == all),
-        None => Ok(false),
-    }
-}
-
-fn call_in_a_crowd<
+/// What each caller saw in its thread. All plans start their threads here, since each place that does is dear to prove.
+fn act_at_once<
     G: Gate + Sync,
     J: Identity + Send + Sync,
     L1: Ledger + Send + Sync,
@@ -351,28 +147,153 @@ fn call_in_a_crowd<
     L6: Ledger + Send + Sync,
     L7: Ledger + Send + Sync,
     L8: Ledger + Send + Sync,
-    R: Threads + Wait + Sync,
+    R: Threads + Wait + Clock + Sync,
 >(
     rt: &R,
     alloc: Global,
-    swarm: Swarm<G, J, Eight<L1, L2, L3, L4, L5, L6, L7, L8>>,
-    passes: Vec<Pass<J, Eight<L1, L2, L3, L4, L5, L6, L7, L8>>>,
+    swarm: &Swarm<G, J, Eight<L1, L2, L3, L4, L5, L6, L7, L8>>,
+    passes: &mut [Pass<J, Eight<L1, L2, L3, L4, L5, L6, L7, L8>>],
+    stage: &Stage,
+) -> Result<Vec<Told>, AllocError> {
+    let callers = passes.iter_mut().collect::<Vec<_>>(alloc)?;
+    map_vec(rt, callers, &|pass| act(rt, alloc, swarm, stage, pass))
+}
+
+/// What a caller does in its thread, and sees.
+fn act<G: Gate, J: Identity, L: Ledgers, R: Wait + Clock>(
+    rt: &R,
+    alloc: Global,
+    swarm: &Swarm<G, J, L>,
+    stage: &Stage,
+    pass: &mut Pass<J, L>,
+) -> Told {
+    let mut told = Told::new(alloc);
+    let watch = &stage.watch;
+    let is_first = pass.number() == 1;
+    match stage.row.plan {
+        Plan::Accept => {
+            call_once(rt, swarm, pass, &Call::Accept, &mut told);
+            swarm.renew(pass);
+        }
+        Plan::Dial => dial(rt, swarm, pass, 0x22, &mut told),
+        Plan::Hold if !is_first => list_often(swarm, pass, watch, &mut told),
+        Plan::Wait if !is_first => {
+            wait_for_the_first(rt, watch);
+            dial(rt, swarm, pass, 0x22, &mut told);
+        }
+        Plan::Hold | Plan::Wait => dial(rt, swarm, pass, 0x11, &mut told),
+        Plan::Crowd(calls) => call_often(rt, swarm, pass, calls, &mut told),
+        Plan::Count => (),
+    }
+    told
+}
+
+fn dial<G: Gate, J: Identity, L: Ledgers, R: Wait>(
+    rt: &R,
+    swarm: &Swarm<G, J, L>,
+    pass: &mut Pass<J, L>,
+    byte: u8,
+    told: &mut Told,
+) {
+    call_once(rt, swarm, pass, &Call::Dial(Some(peer(byte))), told);
+}
+
+/// Lists often enough for the gate.
+fn list_often<G: Gate, J: Identity, L: Ledgers>(
+    swarm: &Swarm<G, J, L>,
+    pass: &mut Pass<J, L>,
+    watch: &Watch,
+    told: &mut Told,
+) {
+    for _ in 0..ENOUGH {
+        told.show(&swarm.list(pass));
+        watch.listed.fetch_add(1, Ordering::SeqCst);
+    }
+}
+
+/// How much of the plan holds behind what the callers saw.
+fn look_behind<G: Gate, J: Identity, L: Ledgers, R: Wait>(
+    rt: &R,
+    swarm: &Swarm<G, J, L>,
+    passes: &mut [Pass<J, L>],
+    stage: &Stage,
+) -> usize {
+    let [one, two, ..] = passes else {
+        return 0;
+    };
+    match stage.row.plan {
+        Plan::Accept | Plan::Dial => have_met(rt, swarm, one, two) as usize,
+        Plan::Hold => is_listed(swarm, two) as usize,
+        Plan::Count => hold_each_call(rt, swarm, one, two, &stage.proven, &stage.watch),
+        Plan::Wait | Plan::Crowd(_) => 1,
+    }
+}
+
+/// Whether each pass comes to both calls.
+fn have_met<G: Gate, J: Identity, L: Ledgers, R: Wait>(
+    rt: &R,
+    swarm: &Swarm<G, J, L>,
+    one: &mut Pass<J, L>,
+    two: &mut Pass<J, L>,
+) -> bool {
+    swarm.meet(rt, one, two);
+    one.front() == 2 && two.front() == 2
+}
+
+/// Whether a listing behind the held call shows it.
+fn is_listed<G: Gate, J: Identity, L: Ledgers>(
+    swarm: &Swarm<G, J, L>,
+    two: &mut Pass<J, L>,
+) -> bool {
+    let listing = swarm.list(two);
+    listing.front == 1 && listing.conns.len() == 1
+}
+
+/// Whether both calls were answered so, in either order.
+fn are_answered(told: &[Told], one: Reply, other: Reply) -> bool {
+    let [first, second] = told else {
+        return false;
+    };
+    (first.is_answered(one) && second.is_answered(other))
+        || (first.is_answered(other) && second.is_answered(one))
+}
+
+/// Whether the first call was made first, and the second then.
+fn are_in_turn(told: &[Told]) -> bool {
+    let [first, second] = told else {
+        return false;
+    };
+    let (one, two) = (Reply::Conn(1), Reply::Conn(2));
+    first.is_answered_at(1, one) && second.is_answered_at(2, two)
+}
+
+/// Whether all listings beside the held call were of the front before it.
+fn are_listed(told: &[Told]) -> bool {
+    match told {
+        [_, second] => second.has_listed(ENOUGH, 0),
+        _ => false,
+    }
+}
+
+/// Whether what the callers saw is one history of so many calls. Memory for the history may be refused.
+fn is_one_history(
+    alloc: Global,
+    told: &[Told],
     config: Config,
-    calls: u64,
-) -> Result<bool, Fail> {
-    let peers = [peer(0x11), peer(0x22), peer(0x33)];
-    let (shared, named) = (&swarm, &peers);
-    let callers = map_vec(
-        rt,
-        passes,
-        &|pass| run_caller(rt, alloc, shared, pass, named, calls),
-    )?;
-    let all = calls.saturating_mul(8);
-    Ok(is_one_history(rt, alloc, swarm, callers, config, all)?)
+    all: u64,
+) -> Result<bool, AllocError> {
+    let mut history = History::blank(alloc, all)?;
+    let mut is_one = true;
+    for told in told {
+        is_one = is_one && history.note(told);
+    }
+    Ok(is_one && history.repeats(config))
 }
 
 /// A plan, the first front, how many connections a peer may have, how many callers there are, how often the other
-/// caller is taken to have listed, how often the gate looks at most, and how much of the plan holds.
+/// caller is taken to have listed, how often the gate looks at most, and how much of the plan holds: of most plans all or
+/// nothing. Then how many calls are made, and how many connections stand at the end unless that is left to chance.
+#[derive(Clone, Copy)]
 struct Row {
     plan: Plan,
     first_front: u64,
@@ -381,6 +302,45 @@ struct Row {
     listed: u64,
     patience: u64,
     holds: usize,
+    calls: u64,
+    conns: Option<usize>,
+}
+
+impl Row {
+    fn is_closed(&self, closed: &Closed) -> bool {
+        let conns = closed.listing.conns.len();
+        closed.calls == self.calls && conns == self.conns.unwrap_or(conns)
+    }
+}
+
+/// A row, and what is made for it.
+#[derive(Drop)]
+struct Stage {
+    row: Row,
+    config: Config,
+    watch: Watch,
+    proven: Proven,
+}
+
+impl Stage {
+    /// Whether the callers saw in their threads what they must.
+    fn is_told(&self, alloc: Global, told: &Result<Vec<Told>, AllocError>) -> bool {
+        let Ok(told) = told else {
+            return false;
+        };
+        let (told, one) = (told.as_slice(), Reply::Conn(1));
+        let gave_up = self.watch.gave_up.load(Ordering::SeqCst);
+        match self.row.plan {
+            Plan::Accept => are_answered(told, one, Reply::Conn(2)),
+            Plan::Dial => are_answered(told, one, Reply::Refused(Refusal::PeerFull)),
+            Plan::Hold => are_listed(told) && gave_up == 0,
+            Plan::Wait => are_in_turn(told) && gave_up == 1,
+            Plan::Crowd(_) => {
+                is_one_history(alloc, told, self.config, self.row.calls) == Ok(true)
+            }
+            Plan::Count => true,
+        }
+    }
 }
 
 static ROWS: [Row; 6] = [
@@ -392,6 +352,8 @@ static ROWS: [Row; 6] = [
         listed: ENOUGH,
         patience: PATIENT,
         holds: 1,
+        calls: 2,
+        conns: Some(2),
     },
     Row {
         plan: Plan::Dial,
@@ -401,6 +363,8 @@ static ROWS: [Row; 6] = [
         listed: ENOUGH,
         patience: PATIENT,
         holds: 1,
+        calls: 2,
+        conns: Some(1),
     },
     Row {
         plan: Plan::Hold,
@@ -410,6 +374,8 @@ static ROWS: [Row; 6] = [
         listed: 0,
         patience: PATIENT,
         holds: 1,
+        calls: 1,
+        conns: Some(1),
     },
     Row {
         plan: Plan::Wait,
@@ -419,6 +385,8 @@ static ROWS: [Row; 6] = [
         listed: 0,
         patience: 300,
         holds: 1,
+        calls: 2,
+        conns: Some(2),
     },
     // Two callers make each call; then the front is at its end.
     Row {
@@ -429,6 +397,8 @@ static ROWS: [Row; 6] = [
         listed: ENOUGH,
         patience: PATIENT,
         holds: 12,
+        calls: 24,
+        conns: Some(3),
     },
     Row {
         plan: Plan::Crowd(2_000),
@@ -438,6 +408,8 @@ static ROWS: [Row; 6] = [
         listed: ENOUGH,
         patience: PATIENT,
         holds: 1,
+        calls: 16_000,
+        conns: None,
     },
 ];
 
@@ -448,9 +420,15 @@ fn several_threads_call_a_swarm(rt: HostRuntime) -> Result<(), Fail> {
             first_front: row.first_front,
             ..config(row.per_peer)?
         };
-        let watch = Watch::new(row.listed, row.patience);
-        let holds = play(&rt, rt.alloc(), config, row.callers, watch, row.plan)?;
-        assert_eq!(rt; holds, row.holds, "row {number}: so much of it holds");
+        let stage = Stage {
+            row: *row,
+            config,
+            watch: Watch::new(row.listed, row.patience),
+            proven: proven(rt.alloc(), 0x11)?,
+        };
+        let holds = play(&rt, rt.alloc(), stage)?;
+        let all = row.holds.saturating_add(1);
+        assert_eq!(rt; holds, all, "row {number}: so much of it holds");
     }
     Ok(())
 }

@@ -1,4 +1,4 @@
-use Rattle.both_seen.proofs.tests.play.Given as goal
+use Rattle.swarm_check.proofs.tests.both.play.Given as goal
 
 abbrev pub ghosts-both_seen-J-Identity : goal.ghosts-both_seen-J-Identity
 ghosts-both_seen-J-Identity g a = record { book = a.history; config = a.config; callers = 2 }

@@ -1,12 +1,14 @@
-use super::*;
-use pool_state::{ConnSide, Limits, Phase, Row};
-use std::marker::Brand;
-use std::test::*;
+//! Two callers that dial, by `both_seen`.
 
-/// The id of the Ed25519 key of 32 bytes that are all `byte`.
-fn peer(byte: u8) -> PeerId {
-    PeerId::of_ed25519(&[byte; 32])
-}
+use super::peer;
+use both_seen::{Dials, both_seen};
+use peer_ids::PeerId;
+use pool_state::{Config, ConnSide, Limits, Phase, Reply, Row};
+use std::alloc::Global;
+use std::marker::Brand;
+use std::sync::Wait;
+use std::test::*;
+use swarm_calls::{BlankHistory, BlankLedgers, Closed, NewRefused};
 
 /// Both dials on a new swarm.
 fn play<R: Wait>(
