@@ -83,7 +83,8 @@ module _ {P H : Type 0} (step : H → HandlerCall → H → Type 0) (fails : H �
     pub at_rest : AreAtRest step fails is_closed is_finished inbound_makes outbound_makes (is_eager start)
         (listed start) (id_of key) (session_role role) log rest (output (session_role role) (items log)) session streams
         past
-    -- and so all streams were before each frame that came, and before each stream that this end opened
+    -- and so all streams were before each frame that came, before its payload, and before each stream that this end
+    -- opened
     pub rested : AreRested step fails is_closed is_finished inbound_makes outbound_makes (is_eager start) (listed start)
         (id_of key) (session_role role) log
     pub asks_are : asks log ≡ asked

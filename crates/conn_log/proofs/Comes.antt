@@ -407,6 +407,15 @@ module _ {P H : Type 0} (step : H → HandlerCall → H → Type 0) (fails : H �
     holding handler stages.Done e = absurd (cc e)
     holding handler stages.Over e = refl
 
+    in_turn_by : {handler : H} {Q T : Type 0} (stage : Stage H) → handler_of stage ≡ Some handler → (kind_of stage ≡ Served → T) → (is_talking stage ≡ true) ⊎ Q
+        → (is_talking stage ≡ true) ⊎ (Q × T)
+    in_turn_by stage held begun (inl talks) = inl talks
+    in_turn_by (stages.Talking talk it) held begun (inr anew) = inl refl
+    in_turn_by (stages.Agreed index) held begun (inr anew) = absurd (cc held)
+    in_turn_by (stages.Serving it) held begun (inr anew) = inr (anew, begun refl)
+    in_turn_by stages.Done held begun (inr anew) = absurd (cc held)
+    in_turn_by stages.Over held begun (inr anew) = absurd (cc held)
+
     -- its handler may be asked for as much as there is credit behind what waits
     may_give : (handler : H) (room : ℕ) → handler_of old.stage ≡ Some handler → is_closed handler ≡ false → is_open is_closed old.stage ≡ true → is_live role (items log) n ≡ true
         → closed role (items log) n ≡ false → room ≡ credit role (items log) n - length old.waiting
@@ -416,7 +425,7 @@ module _ {P H : Type 0} (step : H → HandlerCall → H → Type 0) (fails : H �
       handler = handler;
       held = held;
       asked_for = (a.heard.came ∙ no_more ∙ sym served.held.got_is, room_is);
-      in_turn = (live, open_still, unclosed, served.anew asked);
+      in_turn = (live, open_still, unclosed, in_turn_by old.stage held served.handed (served.anew asked));
       talking = served.held.talking;
       agreed_on = served.held.agreed_on;
       going = served.held.over ∙ holding handler old.stage held;

@@ -156,13 +156,18 @@ module _ {P H : Type 0} (step : H → HandlerCall → H → Type 0) (fails : H �
       comes = come (around_event step fails is_closed is_finished inbound_makes outbound_makes eager names peer role log fed sent after now past n view rest told of is_due (still step fails is_closed is_finished inbound_makes outbound_makes eager names peer role log fed sent before after streams now past n view rest same_session elsewhere a));
     }
 
-    in_turn_by : {stage : Stage H} {handler : H} {S Q : Type 0} → ((has_finished is_finished stage ≡ false) × S) ⊎ Q → stage ≡ stages.Serving handler
-        → ((is_finished handler ≡ false) × S) ⊎ Q
-    in_turn_by (inl (unfinished, some)) serves = inl (sym (ap (has_finished is_finished) serves) ∙ unfinished, some)
-    in_turn_by (inr agreed) serves = inr agreed
+    -- bytes behind the talk are handed over to one that isn't finished, and was handed what stood there, or has just agreed
+    abbrev MayTake : List (Entry H) → Stage H → List ℕ → Type 0
+    MayTake log stage bytes =
+        ((has_finished is_finished stage ≡ false) × (bytes ≢ []) × (kind_of stage ≡ Serves → has_taken (calls_of role log n) ≡ true)) ⊎ HasJustAgreed n log
+
+    in_turn_by : (log : List (Entry H)) {stage : Stage H} {bytes : List ℕ} {handler : H} → MayTake log stage bytes → stage ≡ stages.Serving handler
+        → ((is_finished handler ≡ false) × (bytes ≢ []) × (has_taken (calls_of role log n) ≡ true)) ⊎ HasJustAgreed n log
+    in_turn_by log (inl (unfinished, some, begun)) serves = inl (sym (ap (has_finished is_finished) serves) ∙ unfinished, some, begun (ap kind_of serves))
+    in_turn_by log (inr just_agreed) serves = inr just_agreed
 
     -- the handler may be told data behind the talk
-    may_take : (log : List (Entry H)) (bytes : List ℕ) (old : Streaming H) (got : List ℕ) → ((has_finished is_finished old.stage ≡ false) × (bytes ≢ [])) ⊎ HasJustAgreed n log
+    may_take : (log : List (Entry H)) (bytes : List ℕ) (old : Streaming H) (got : List ℕ) → MayTake log old.stage bytes
         → (a : Around step fails is_closed is_finished inbound_makes outbound_makes eager names peer role log fed sent before streams past n view rest)
         → view.came ≡ got ++ bytes → view.ended ≡ false → (h : IsHeld step is_closed is_finished names role log n got view.ended old)
         → (handler : H) → old.stage ≡ stages.Serving handler → MayBeAsked step fails is_closed is_finished inbound_makes outbound_makes eager names peer role log n (ToTake bytes)
@@ -186,7 +191,7 @@ module _ {P H : Type 0} (step : H → HandlerCall → H → Type 0) (fails : H �
           handler = handler;
           held = ap handler_of serves;
           asked_for = data_is;
-          in_turn = (serves, h.ended_is ∙ going, in_turn_by turn serves);
+          in_turn = (serves, h.ended_is ∙ going, in_turn_by log turn serves);
           talking = h.talking;
           agreed_on = h.agreed_on;
           going = h.over ∙ ap was_handed_out serves;
@@ -194,7 +199,7 @@ module _ {P H : Type 0} (step : H → HandlerCall → H → Type 0) (fails : H �
         }
 
     -- and answers
-    take_due : (log : List (Entry H)) (bytes : List ℕ) (old : Streaming H) (got : List ℕ) → ((has_finished is_finished old.stage ≡ false) × (bytes ≢ [])) ⊎ HasJustAgreed n log
+    take_due : (log : List (Entry H)) (bytes : List ℕ) (old : Streaming H) (got : List ℕ) → MayTake log old.stage bytes
         → (a : Around step fails is_closed is_finished inbound_makes outbound_makes eager names peer role log fed sent before streams past n view rest)
         → view.came ≡ got ++ bytes → view.ended ≡ false → (h : IsHeld step is_closed is_finished names role log n got view.ended old)
         → (handler : H) → old.stage ≡ stages.Serving handler → AnswersCall step old.stage (Take bytes)
@@ -234,7 +239,7 @@ module _ {P H : Type 0} (step : H → HandlerCall → H → Type 0) (fails : H �
     -- the handler took data behind the talk
     pub takes : (making : List (Entry H) → List (Entry H) → Type 0) (log : List (Entry H)) → ((newer : List (Entry H)) → MakesNone newer → making log (newer ++ log))
         → (bytes : List ℕ) (old : Streaming H) (got : List ℕ) (outcome : Outcome H)
-        → ((has_finished is_finished old.stage ≡ false) × (bytes ≢ [])) ⊎ HasJustAgreed n log
+        → MayTake log old.stage bytes
         → (a : Around step fails is_closed is_finished inbound_makes outbound_makes eager names peer role log fed sent before streams past n view rest)
         → view.came ≡ got ++ bytes → view.ended ≡ false
         → (h : IsHeld step is_closed is_finished names role log n got view.ended old)
@@ -291,7 +296,7 @@ module _ {P H : Type 0} (step : H → HandlerCall → H → Type 0) (fails : H �
     module _ (inbound_leads outbound_leads : P → ℕ → List ℕ → H → P → Type 0) (protocols behind_them : P) (log : List (Entry H)) (bytes : List ℕ) (old : Streaming H) (got : List ℕ)
         (a : Around step fails is_closed is_finished inbound_makes outbound_makes eager names peer role log fed sent before streams past n view rest)
         (came : view.came ≡ got ++ bytes) (going : view.ended ≡ false) (h : IsHeld step is_closed is_finished names role log n got view.ended old)
-        (unfinished : has_finished is_finished old.stage ≡ false) (some : bytes ≢ []) where
+        (unfinished : has_finished is_finished old.stage ≡ false) (some : bytes ≢ []) (begun : kind_of old.stage ≡ Serves → has_taken (calls_of role log n) ≡ true) where
       abbrev pub makes : ℕ → H → Type 0
       makes = makes_once inbound_makes outbound_makes inbound_leads outbound_leads (direction_of role n) peer protocols behind_them
 
@@ -478,4 +483,4 @@ module _ {P H : Type 0} (step : H → HandlerCall → H → Type 0) (fails : H �
         by_talk : (b : Bool) → is_talking old.stage ≡ b → Went making log (agreement n delivered.agreed) fed sent after now past n rest delivered.outcome
         by_talk true e = in_talk delivered.agreed delivered.outcome e (d.0 e)
         by_talk false e = subst (λ (k : Option ℕ). Went making log (agreement n k) fed sent after now past n rest delivered.outcome) (sym (d.1 e).0)
-            (takes making log (keeps (d.1 e).1) bytes old got delivered.outcome (inl (unfinished, some)) a came going h (d.1 e).2)
+            (takes making log (keeps (d.1 e).1) bytes old got delivered.outcome (inl (unfinished, some, begun)) a came going h (d.1 e).2)

@@ -127,7 +127,7 @@ module _ {P H : Type 0} (step : H → HandlerCall → H → Type 0) (fails : H �
         serves,
         h.ended_is ∙ going,
         sym (ap (has_finished is_finished) serves) ∙ unfinished,
-        λ live open_still unclosed. (settled live).asked open_still (ap (asks_open is_closed) serves ∙ ap not unclosed),
+        handed (ap kind_of serves),
       );
       talking = h.talking;
       agreed_on = h.agreed_on;

@@ -21,6 +21,7 @@ use Rattle.yamux_session.specs.Naming.{IsAbout}
 use Rattle.yamux_session.specs.Endings.{opened_in}
 use Rattle.yamux_session.specs.State.{IsOneFrame}
 use Rattle.yamux_session.proofs.Hearing.{or_none}
+use Rattle.yamux_session.proofs.Stepping.{older_came}
 use Rattle.conn_log.specs.Entries.{Entry, items, is_kept, put_aside}
 use Rattle.conn_log.specs.Turns.{turn, AreInTurn}
 use Rattle.conn_log.specs.Rests.{IsRested, AreRested}
@@ -102,10 +103,10 @@ all_named role past (x ∷ []) one = at_named role past x
 all_named role past (Head h ∷ y ∷ more) one = absurd one
 all_named role past (Byte b ∷ y ∷ more) one =
     all_join (IsNamed (stream_of past (y ∷ more))) (told_by role past (y ∷ more)) (events_at role (map Came (y ∷ more) ++ past) (Came (Byte b)))
-    (all_named role past (y ∷ more) one) (at_named role (map Came (y ∷ more) ++ past) (Byte b))
+    (all_named role past (y ∷ more) (older_came (Byte b) (y ∷ more) one)) (at_named role (map Came (y ∷ more) ++ past) (Byte b))
 all_named role past (Tail ∷ y ∷ more) one =
     all_join (IsNamed (stream_of past (y ∷ more))) (told_by role past (y ∷ more)) (events_at role (map Came (y ∷ more) ++ past) (Came Tail))
-    (all_named role past (y ∷ more) one) (at_named role (map Came (y ∷ more) ++ past) Tail)
+    (all_named role past (y ∷ more) (older_came Tail (y ∷ more) one)) (at_named role (map Came (y ∷ more) ++ past) Tail)
 all_named role past (Garbled bytes ∷ y ∷ more) one = absurd one
 
 -- ---- credit is told by a head, and the end behind it
@@ -170,11 +171,11 @@ credit_first role past (Head h ∷ y ∷ more) one = absurd one
 credit_first role past (Byte b ∷ y ∷ more) one =
     let now = map Came (y ∷ more) ++ past in
     let alone = byte_alone b (taker role now (reading role now)) in
-    first_join (told_by role past (y ∷ more)) (events_at role now (Came (Byte b))) (credit_first role past (y ∷ more) one) alone.0 alone.1
+    first_join (told_by role past (y ∷ more)) (events_at role now (Came (Byte b))) (credit_first role past (y ∷ more) (older_came (Byte b) (y ∷ more) one)) alone.0 alone.1
 credit_first role past (Tail ∷ y ∷ more) one =
     let now = map Came (y ∷ more) ++ past in
     let alone = tail_alone role now (reading role now) in
-    first_join (told_by role past (y ∷ more)) (events_at role now (Came Tail)) (credit_first role past (y ∷ more) one) alone.0 alone.1
+    first_join (told_by role past (y ∷ more)) (events_at role now (Came Tail)) (credit_first role past (y ∷ more) (older_came Tail (y ∷ more) one)) alone.0 alone.1
 credit_first role past (Garbled bytes ∷ y ∷ more) one = absurd one
 
 -- ---- and by each event
@@ -216,8 +217,8 @@ aside_arrived role (Byte b ∷ []) log one = refl
 aside_arrived role (Tail ∷ []) log one = refl
 aside_arrived role (Garbled bytes ∷ []) log one = refl
 aside_arrived role (Head h ∷ y ∷ more) log one = absurd one
-aside_arrived role (Byte b ∷ y ∷ more) log one = aside_arrived role (y ∷ more) log one
-aside_arrived role (Tail ∷ y ∷ more) log one = aside_arrived role (y ∷ more) log one
+aside_arrived role (Byte b ∷ y ∷ more) log one = aside_arrived role (y ∷ more) log (older_came (Byte b) (y ∷ more) one)
+aside_arrived role (Tail ∷ y ∷ more) log one = aside_arrived role (y ∷ more) log (older_came Tail (y ∷ more) one)
 aside_arrived role (Garbled bytes ∷ y ∷ more) log one = absurd one
 
 module _ {P H : Type 0} (step : H → HandlerCall → H → Type 0) (fails : H → Asked → ℕ → Type 0)
@@ -229,10 +230,14 @@ module _ {P H : Type 0} (step : H → HandlerCall → H → Type 0) (fails : H �
       → AreRested step fails is_closed is_finished inbound_makes outbound_makes eager names peer role (arrived came ++ log)
   rested_arrived [] log one rests before = before
   rested_arrived (Head h ∷ []) log one rests before = (rests, before)
-  rested_arrived (Byte b ∷ []) log one rests before = before
+  rested_arrived (Byte b ∷ []) log one rests before = (λ behind_head. rests, before)
   rested_arrived (Tail ∷ []) log one rests before = before
   rested_arrived (Garbled bytes ∷ []) log one rests before = before
   rested_arrived (Head h ∷ y ∷ more) log one rests before = absurd one
-  rested_arrived (Byte b ∷ y ∷ more) log one rests before = rested_arrived (y ∷ more) log one rests before
-  rested_arrived (Tail ∷ y ∷ more) log one rests before = rested_arrived (y ∷ more) log one rests before
+  rested_arrived (Byte b ∷ Head h ∷ more) log one rests before = absurd one
+  rested_arrived (Byte b ∷ Byte c ∷ more) log one rests before =
+      (λ behind_head. absurd behind_head, rested_arrived (Byte c ∷ more) log one rests before)
+  rested_arrived (Byte b ∷ Tail ∷ more) log one rests before = absurd one
+  rested_arrived (Byte b ∷ Garbled bytes ∷ more) log one rests before = absurd one
+  rested_arrived (Tail ∷ y ∷ more) log one rests before = rested_arrived (y ∷ more) log (older_came Tail (y ∷ more) one) rests before
   rested_arrived (Garbled bytes ∷ y ∷ more) log one rests before = absurd one

@@ -1,7 +1,7 @@
 -- The worked rows of which entries may stand where.
 use Rattle.std.proofs.Common.{◌≡◌, ◌≢◌, ◌⊎◌, inl, inr, ℕ, ◌==◌, ◌||◌, true, false, List, [], ◌∷◌, ◌++◌, Some, None, Result, Ok, refl, sym, ap, ◌∙◌, subst, arith}
 use Rattle.std.proofs.lemmas.Bool.Decides.{eqb_tells}
-use Rattle.handlers.specs.Calls.{ToGive}
+use Rattle.handlers.specs.Calls.{Take, ToTake, ToGive}
 use Rattle.ms_select.specs.declared.answer.Answer.{Answer}
 use Rattle.ms_select.specs.declared.answer.Answer.TheVariants.{Going, Agreed, NoneLeft}
 use Rattle.ms_select.specs.declared.fault.SelectFault.{SelectFault}
@@ -23,7 +23,7 @@ use Rattle.streams.specs.Streams.{Past}
 use Rattle.streams.specs.State.{StandsAt, is_talking}
 use Rattle.streams.proofs.Hearing.{open_before}
 use Rattle.conn_log.specs.Entries.{items, since, agreed, over_in}
-use Rattle.conn_log.specs.Entries.Entry.{Of}
+use Rattle.conn_log.specs.Entries.Entry.{Of, Calls}
 use Rattle.conn_log.specs.Due.{was_reset}
 use Rattle.conn_log.specs.Held.{IsSide}
 use Rattle.conn_log.specs.EntryRows.{frame, opened, agrees, refuses, breaks}
@@ -163,8 +163,36 @@ act_place_rows = record {
   oldest_not = λ h. omega (arith, h.1.0);
 }
 
-may_ask_for_all : rows.may_be_asked rows.served (ToGive rows.all_room)
+-- its handler was handed what stood behind the talk
+may_ask_for_all : rows.may_be_asked rows.begun (ToGive rows.all_room)
 may_ask_for_all = record {
+  there = record {
+    so_far = record { side = answers; got = header_bytes ++ y_bytes; ended = false; sent = []; made = Some 51; calls = Take [] ∷ []; left = None };
+    stream = record { waiting = header_bytes ++ y_bytes; stage = stages.Serving 51 };
+    come = record { side_is = (refl, refl); rest = []; got_is = refl; ended_by = λ e. absurd (off_is_on e); sent_is = refl; made_is = refl; calls_is = refl };
+    stands = record {
+      index = 1;
+      rest = [];
+      gave = [];
+      made = 51;
+      agreed = record { first = header_bytes ++ y_bytes; output = header_bytes ++ y_bytes; got_is = refl; agrees = answer_rows.agreed; sent_is = refl };
+      made_is = refl;
+      handled = record { was_handed = record { calls = Take [] ∷ []; arises = (51, refl, refl); joined = refl; ends = refl }; calls_are = refl; gave_is = refl; asked = tt };
+    };
+  };
+  handler = 51;
+  held = refl;
+  asked_for = (refl, refl);
+  in_turn = (refl, refl, refl, inr (refl, refl));
+  talking = λ e. absurd (off_is_on e);
+  agreed_on = λ e none. some_is_none 1 none;
+  going = refl;
+  settled = λ e. absurd (cc e);
+}
+
+-- and is handed it at once
+may_be_handed : rows.may_be_asked rows.served (ToTake [])
+may_be_handed = record {
   there = record {
     so_far = record { side = answers; got = header_bytes ++ y_bytes; ended = false; sent = []; made = Some 51; calls = []; left = None };
     stream = record { waiting = header_bytes ++ y_bytes; stage = stages.Serving 51 };
@@ -181,23 +209,31 @@ may_ask_for_all = record {
   };
   handler = 51;
   held = refl;
-  asked_for = (refl, refl);
-  in_turn = (refl, refl, refl, inr refl);
+  asked_for = refl;
+  in_turn = (refl, refl, inr (refl, refl));
   talking = λ e. absurd (off_is_on e);
   agreed_on = λ e none. some_is_none 1 none;
   going = refl;
   settled = λ e. absurd (cc e);
 }
 
-asked_for_all : is_due rows.served (rows.give_all)
+handed_at_once : is_due rows.served (Calls 2 (Take []))
+unfolding may_be_handed
+handed_at_once = record { asked = may_be_handed; after = 51; answers = refl }
+
+asked_for_all : is_due rows.begun (rows.give_all)
 unfolding may_ask_for_all
 asked_for_all = record { asked = may_ask_for_all; after = 51; answers = refl }
 
 pub call_place_rows : CallPlaceRows
 call_place_rows = record {
   asks_for = λ bytes room. (refl, refl, refl);
+  handed_at_once = handed_at_once;
   asked = asked_for_all;
   unanswered = λ h. h.answers;
+  asked_too_early = λ h. by_talk h.asked.in_turn.3 (λ talks. some_is_none 1 (h.asked.talking talks)) (λ anew. off_is_on anew.1);
+  end_too_early = λ h. off_is_on h.asked.in_turn.3;
+  handed_too_late = λ h. by_start h.asked.in_turn.2;
   when_over = λ call h. on_is_off h.asked.going;
   early_when_over = λ call h. on_is_off h.asked.going;
   before_an_agreement = λ bytes h. h.asked.agreed_on (ap is_talking h.asked.in_turn.0) refl;
@@ -207,16 +243,20 @@ call_place_rows = record {
   end_with_a_reset = λ h. off_is_on h.asked.asked_for.1;
   asked_behind_a_reset = λ room h. off_is_on h.asked.in_turn.0;
   asked_when_closed = λ room h. on_is_off h.asked.in_turn.1;
-  asked_twice = λ room h. by_talk h.asked.in_turn.3 (λ talks. some_is_none 1 (h.asked.talking talks));
-  asked_by_a_frame = λ room h. by_talk h.asked.in_turn.3 (λ talks. some_is_none 1 (h.asked.talking talks));
+  asked_twice = λ room h. by_talk h.asked.in_turn.3 (λ talks. some_is_none 1 (h.asked.talking talks)) (λ anew. off_is_on anew.0);
+  asked_by_a_frame = λ room h. by_talk h.asked.in_turn.3 (λ talks. some_is_none 1 (h.asked.talking talks)) (λ anew. off_is_on anew.0);
 } where
-  by_turn : {A : Type 0} → (A × (no_bytes ≢ [])) ⊎ ⊥ → ⊥
+  by_turn : {A B : Type 0} → (A × (no_bytes ≢ []) × B) ⊎ ⊥ → ⊥
   by_turn (inl handed) = handed.1 refl
   by_turn (inr agreed) = agreed
 
-  by_talk : {A : Type 0} → A ⊎ (false ≡ true) → (A → ⊥) → ⊥
-  by_talk (inl talks) not_talking = not_talking talks
-  by_talk (inr anew) not_talking = off_is_on anew
+  by_start : {A B : Type 0} → (A × B × (false ≡ true)) ⊎ ⊥ → ⊥
+  by_start (inl handed) = off_is_on handed.2
+  by_start (inr agreed) = agreed
+
+  by_talk : {A B : Type 0} → A ⊎ B → (A → ⊥) → (B → ⊥) → ⊥
+  by_talk (inl talks) not_talking not_anew = not_talking talks
+  by_talk (inr anew) not_talking not_anew = not_anew anew
 
 pub anew_rows : AnewRows
 anew_rows = record {

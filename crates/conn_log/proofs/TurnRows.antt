@@ -82,8 +82,9 @@ rested_rows = record {
   asked_behind_all = λ h. (h, tt);
   head_untold = λ h. off_is_on (h.0.at_rest.resets_told 2 refl);
   asked_untold = λ h. off_is_on (h.0.at_rest.resets_told 2 refl);
-  passed = tt;
-  older = λ h. off_is_on (h.0.at_rest.resets_told 2 refl);
+  payload = λ log h. h.0 tt;
+  passed = (λ behind. absurd behind, tt);
+  older = λ h. off_is_on (h.1.0.at_rest.resets_told 2 refl);
   older_head = λ log h. h.1;
   older_asked = λ log h. h.1;
 }

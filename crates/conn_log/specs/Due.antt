@@ -150,19 +150,23 @@ module _ {P H : Type 0} (step : H → HandlerCall → H → Type 0) (fails : H �
   WasAsked log n so_far handler = is_live role (items log) n ≡ true → closed role (items log) n ≡ false
       → is_closed handler ≡ false → so_far.left ≡ Some (credit role (items log) n)
 
+  -- its handler was handed what stood behind the talk
+  abbrev pub HasBegun : List (Entry H) → ℕ → Type 0
+  HasBegun log n = has_taken (calls_of role log n) ≡ true
+
   -- It may be asked for that in its turn: what came, and its end, is told to a handler that serves the stream, wasn't
   -- told of the end before, and isn't finished: one that is finished was handed out, unless its talk has just agreed.
   -- It is handed some bytes, unless the talk took all of them. The end is told to one that gave what it has by all that
   -- came before. While a stream is live, and this direction open, one that isn't closed is asked to give: anew, unless
-  -- its talk goes on.
+  -- its talk goes on. Behind the talk what stood there is handed over first.
   abbrev pub IsInTurn : List (Entry H) → ℕ → Stage H → Past H → H → Asked → Type 0
   IsInTurn log n stage so_far handler (ToTake bytes) = (stage ≡ Serving handler) × (so_far.ended ≡ false)
-      × (((is_finished handler ≡ false) × (bytes ≢ [])) ⊎ HasJustAgreed n log)
+      × (((is_finished handler ≡ false) × (bytes ≢ []) × HasBegun log n) ⊎ HasJustAgreed n log)
   IsInTurn log n stage so_far handler ToEnd = (stage ≡ Serving handler) × (so_far.ended ≡ false)
-      × (is_finished handler ≡ false) × WasAsked log n so_far handler
+      × (is_finished handler ≡ false) × HasBegun log n
   IsInTurn log n stage so_far handler (ToGive room) = (is_live role (items log) n ≡ true)
       × (closed role (items log) n ≡ false) × (is_closed handler ≡ false)
-      × ((is_talking stage ≡ true) ⊎ (is_asked_anew role log n ≡ true))
+      × ((is_talking stage ≡ true) ⊎ ((is_asked_anew role log n ≡ true) × HasBegun log n))
 
   -- Its handler may be asked for this, while its last event wasn't told. By then Agreed was told of it, where its talk
   -- is over, and only there.

@@ -51,8 +51,11 @@ is_there log = IsThere (λ before call now. now ≡ before) (λ handler request 
 abbrev pub was_reset : List (Entry ℕ)
 was_reset = frame 8 2 ++ opened 2
 
+abbrev pub byte_came : List (Entry ℕ)
+byte_came = Of (Came Tail) ∷ Of (Came (Byte 99)) ∷ Of (Came (header Payload 0 2 1)) ∷ []
+
 abbrev pub has_come : List (Entry ℕ)
-has_come = Of (Came Tail) ∷ Of (Came (Byte 99)) ∷ Of (Came (header Payload 0 2 1)) ∷ opened 2
+has_come = byte_came ++ opened 2
 
 -- these bytes of a frame came, the newest first
 abbrev pub came_on : List ℕ → List (Entry ℕ) → List (Entry ℕ)
@@ -63,6 +66,10 @@ came_on (b ∷ bytes) log = came_on bytes (Of (Came (Byte b)) ∷ log)
 abbrev pub served : List (Entry ℕ)
 served = makes 2 51 ∷ agrees 2 1 ∷ Of (Came Tail) ∷ came_on (header_bytes ++ y_bytes)
     (Of (Came (header Payload 0 2 (length (header_bytes ++ y_bytes)))) ∷ opened 2)
+
+-- and was handed what stood behind the talk, which is nothing
+abbrev pub begun : List (Entry ℕ)
+begun = answers 2 (Take []) ∷ served
 
 -- as many bytes as there is credit behind what the talk wrote
 abbrev pub all_room : ℕ
@@ -145,28 +152,33 @@ pub record ActPlaceRows : Type 0 where
 pub record CallPlaceRows : Type 0 where
   pub asks_for : (bytes : List ℕ) (room : ℕ) → (asks_for (Take bytes) ≡ ToTake bytes)
       × (asks_for (Give room bytes) ≡ ToGive room) × (asks_for End ≡ ToEnd)
-  -- as many bytes as there is credit behind what the talk wrote
-  pub asked : is_due served give_all
+  -- what stands behind the talk, and then as many bytes as there is credit behind what the talk wrote
+  pub handed_at_once : is_due served (answers 2 (Take []))
+  pub asked : is_due begun give_all
   -- where it answers so
   pub unanswered : ¬ IsDue (λ before call now. ⊥) (λ handler request number. ⊥) (λ handler. false) (λ handler. false)
-      inbound outbound is_1 (x ∷ y ∷ []) (9 ∷ []) Client served give_all
+      inbound outbound is_1 (x ∷ y ∷ []) (9 ∷ []) Client begun give_all
+  -- before it is handed that it isn't asked, nor told the end, nor handed what came later
+  pub asked_too_early : ¬ is_due served give_all
+  pub end_too_early : ¬ is_due (frame 4 2 ++ served) (answers 2 End)
+  pub handed_too_late : ¬ is_due (byte_came ++ served) (answers 2 (Take (99 ∷ [])))
   -- behind its last event it is asked for nothing
-  pub when_over : (call : HandlerCall) → ¬ is_due (done 2 51 ∷ served) (answers 2 call)
+  pub when_over : (call : HandlerCall) → ¬ is_due (done 2 51 ∷ begun) (answers 2 call)
   pub early_when_over : (call : HandlerCall) → ¬ is_due (breaks 1 ∷ early) (answers 1 call)
   -- before both ends agree it is told nothing
   pub before_an_agreement : (bytes : List ℕ) → ¬ is_due early (answers 1 (Take bytes))
   pub end_before_an_agreement : ¬ is_due (frame 4 1 ++ early) (answers 1 End)
   -- behind that it is handed some bytes, and told the end where that was told, which isn't where a reset came with it
-  pub handed_nothing : ¬ is_due (Of (Did (Close 2)) ∷ served) (answers 2 (Take []))
-  pub end_that_did_not_come : ¬ is_due served (answers 2 End)
-  pub end_with_a_reset : ¬ is_due (frame 12 2 ++ served) (answers 2 End)
+  pub handed_nothing : ¬ is_due (Of (Did (Close 2)) ∷ begun) (answers 2 (Take []))
+  pub end_that_did_not_come : ¬ is_due begun (answers 2 End)
+  pub end_with_a_reset : ¬ is_due (frame 12 2 ++ begun) (answers 2 End)
   -- it isn't asked behind a reset, where this direction is closed, nor twice
-  pub asked_behind_a_reset : (room : ℕ) → ¬ is_due (frame 8 2 ++ served) (answers 2 (Give room []))
-  pub asked_when_closed : (room : ℕ) → ¬ is_due (Of (Did (Close 2)) ∷ served) (answers 2 (Give room []))
-  pub asked_twice : (room : ℕ) → ¬ is_due (answers 2 (Give 5 []) ∷ served) (answers 2 (Give room []))
+  pub asked_behind_a_reset : (room : ℕ) → ¬ is_due (frame 8 2 ++ begun) (answers 2 (Give room []))
+  pub asked_when_closed : (room : ℕ) → ¬ is_due (Of (Did (Close 2)) ∷ begun) (answers 2 (Give room []))
+  pub asked_twice : (room : ℕ) → ¬ is_due (answers 2 (Give 5 []) ∷ begun) (answers 2 (Give room []))
   -- nor by a frame that brings no credit
   pub asked_by_a_frame : (room : ℕ)
-      → ¬ is_due (frame 0 2 ++ answers 2 (Give 5 []) ∷ served) (answers 2 (Give room []))
+      → ¬ is_due (frame 0 2 ++ answers 2 (Give 5 []) ∷ begun) (answers 2 (Give room []))
 
 -- whether it is asked anew there
 pub record AnewRows : Type 0 where

@@ -3,8 +3,10 @@
 -- profile.
 use Rattle.std.specs.Prelude.{◌≡◌, ◌≢◌, ℕ, Bool, true, false, List, [], ◌∷◌, ◌++◌, map, Option, None, IfSome, IsSome}
 use Rattle.handlers.specs.Calls.{HandlerCall, Asked}
+use Rattle.yamux_frames.specs.Frames.{Arrival}
 use Rattle.yamux_frames.specs.Frames.Arrival.{Head, Byte, Tail, Garbled}
 use Rattle.yamux_session.specs.declared.event.Role.{Role}
+use Rattle.yamux_session.specs.History.{arrivals}
 use Rattle.yamux_session.specs.History.Item.{Came, Did}
 use Rattle.yamux_session.specs.Openings.{is_live}
 use Rattle.yamux_session.specs.State.{State, Stands as SessionStands}
@@ -16,6 +18,11 @@ use Rattle.conn_log.specs.Entries.Entry.{Of, Says, Made, Asks, Calls}
 use Rattle.conn_log.specs.Turns.{AreInTurn}
 use Rattle.conn_log.specs.Due.{AllDue, was_reset}
 use Rattle.conn_log.specs.Held.{IsAtRest, AreLeft, earlier_of}
+
+-- a header came last: its payload begins
+abbrev pub IsBehindHead : List Arrival → Type 0
+IsBehindHead (Head h ∷ past) = Unit {0}
+IsBehindHead past = ⊥
 
 module _ {P H : Type 0} (step : H → HandlerCall → H → Type 0) (fails : H → Asked → ℕ → Type 0)
     (is_closed is_finished : H → Bool) (inbound_makes outbound_makes : P → ℕ → List ℕ → H → Type 0)
@@ -48,12 +55,12 @@ module _ {P H : Type 0} (step : H → HandlerCall → H → Type 0) (fails : H �
     pub past : List (Earlier H)
     pub at_rest : AreAtRest log fed sent session streams past
 
-  -- before each frame that came, and before each stream that this end opened, all streams were at rest: what the frame
-  -- before led to was told and done
+  -- before each frame that came, before the payload behind its header, and before each stream that this end opened, all
+  -- streams were at rest: what had come before was told, and what it led to was done
   abbrev pub AreRested : List (Entry H) → Type 0
   AreRested [] = Unit {0}
   AreRested (Of (Came (Head head)) ∷ log) = IsRested log × AreRested log
-  AreRested (Of (Came (Byte b)) ∷ log) = AreRested log
+  AreRested (Of (Came (Byte b)) ∷ log) = (IsBehindHead (arrivals (items log)) → IsRested log) × AreRested log
   AreRested (Of (Came Tail) ∷ log) = AreRested log
   AreRested (Of (Came (Garbled bytes)) ∷ log) = AreRested log
   AreRested (Of (Did act) ∷ log) = AreRested log
@@ -72,6 +79,6 @@ module _ {P H : Type 0} (step : H → HandlerCall → H → Type 0) (fails : H �
     -- this end opened no stream
     pub unasked : asks newer ≡ []
     pub makes : making log (newer ++ log)
-    -- all streams were at rest before each frame of these bytes
+    -- all streams were at rest before each frame of these bytes, and before its payload
     pub rested : AreRested log → AreRested (newer ++ log)
     pub at_rest : AreAtRest (newer ++ log) fed sent session streams past

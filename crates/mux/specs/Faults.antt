@@ -30,7 +30,7 @@ pub record Faults {P H : Type 0} (step : H → HandlerCall → H → Type 0) (fa
   pub told_is : after ≡ before ++ said newer
   pub asks_are : asks newer ≡ asked
   pub makes : making log (newer ++ log)
-  -- all streams were at rest before each frame, and before each stream that this end opened
+  -- all streams were at rest before each frame and its payload, and before each stream that this end opened
   pub rested : AreRested step fails is_closed is_finished inbound_makes outbound_makes eager names peer role log
       → AreRested step fails is_closed is_finished inbound_makes outbound_makes eager names peer role (newer ++ log)
   pub front : List ℕ

@@ -1,4 +1,5 @@
 -- The rows of what holds wherever something stands, and of each item of a history.
+use Rattle.yamux_session.proofs.Stepping.{one_came}
 use Rattle.row_check.specs.AnyInputRows.{AnyInputRows, AnyHistoryRows}
 
 pub any_inputs : AnyInputRows
@@ -18,8 +19,8 @@ any_histories = record {
   no_fault = λ role past item. (λ h. h, λ h. h);
   an_act = λ role past act. (λ h. h, λ h. h);
   what_comes = λ role past came. (λ h. h, λ h. h);
-  one_arrival = λ came. (tt, tt);
-  within_a_frame = λ byte next past. ((λ h. h, λ h. h), (λ h. h, λ h. h));
+  one_arrival = λ came. (tt, one_came came);
+  within_a_payload = λ byte older past. ((λ h. h, λ h. h), (λ h. h, λ h. h));
   one_frame_fed = λ old new bytes told it role past fed sent at.
       let (now, led, one) = it role past fed sent at in
       (now, led, (led.came.0, led.came.1, one));

@@ -1,6 +1,10 @@
 -- The rows of the streams that a connection holds, and of which entries may stand where.
 use Rattle.std.proofs.Common.{◌≡◌, ◌≢◌, ◌⊎◌, ℕ, inl, inr, Bool, List, [], ◌∷◌, Option, Some, None, IfSome, refl, sym, ap, subst, append-nil}
 use Rattle.handlers.specs.Calls.{HandlerCall, Asked}
+use Rattle.yamux_frames.specs.declared.header.Header.{Header}
+use Rattle.yamux_frames.specs.Frames.{Arrival}
+use Rattle.yamux_frames.specs.Frames.Arrival.{Head, Byte, Tail, Garbled}
+use Rattle.yamux_session.specs.History.{arrivals}
 use Rattle.yamux_session.specs.declared.event.Role.{Role}
 use Rattle.streams.specs.declared.stop.Cause.{Cause}
 use Rattle.streams.specs.declared.stop.Cause.TheVariants as causes
@@ -10,7 +14,16 @@ use Rattle.conn_log.specs.declared.event.ConnEvent.TheVariants as event
 use Rattle.conn_log.specs.Entries.{Entry, items}
 use Rattle.conn_log.specs.Entries.Entry.{Of, Says, Made, Asks, Calls}
 use Rattle.conn_log.specs.Due.{IsGivenUp}
+use Rattle.conn_log.specs.Rests.{IsBehindHead}
 use Rattle.row_check.specs.AnyRestRows.{AnySideRows, AnyHeldRows, AnyComingRows, AnyDueRows, AnyRestRows, AskedSo, is_there, may_be_asked, may_be_made, rests}
+
+-- no header came last
+behind_none : (came : List Arrival) → ((h : Header) (past : List Arrival) → came ≢ Head h ∷ past) → IsBehindHead came → ⊥
+behind_none [] other behind = behind
+behind_none (Head h ∷ past) other behind = other h past refl
+behind_none (Byte b ∷ past) other behind = behind
+behind_none (Tail ∷ past) other behind = behind
+behind_none (Garbled bytes ∷ past) other behind = behind
 
 pub any_sides : {H : Type 0} → AnySideRows H
 any_sides = record {
@@ -228,7 +241,8 @@ module _ {P H : Type 0} (step : H → HandlerCall → H → Type 0) (fails : H �
     none = tt;
     head = λ h log. (λ r. r, λ r. r);
     asked_for = λ n index log. (λ r. r, λ r. r);
-    part = λ b log. (λ r. r, λ r. r);
+    payload = λ b h past log last. (λ r. (r.0 (subst (λ (t : List Arrival). IsBehindHead t) (sym last) tt), r.1), λ r. (λ behind. r.0, r.1));
+    part = λ b log other. (λ r. r.1, λ r. (λ behind. absurd (behind_none (arrivals (items log)) other behind), r));
     tail = λ log. (λ r. r, λ r. r);
     garbled = λ bytes log. (λ r. r, λ r. r);
     acted = λ act log. (λ r. r, λ r. r);

@@ -25,6 +25,7 @@ use Rattle.std.specs.Prelude.{sum_by, ◌≤◌, take}
 use Rattle.yamux_session.specs.Seen.{just_opened}
 use Rattle.yamux_session.specs.Endings.{EndsOnce, told_opened}
 use Rattle.yamux_session.proofs.Endings.{opened_by_the_other}
+use Rattle.yamux_session.proofs.Stepping.{older_came}
 use Rattle.yamux_session.specs.Acts.{IsRefusedFor}
 use Rattle.std.specs.Global.{Vec}
 use Rattle.yamux_session.specs.declared.event.Event.{Event}
@@ -360,7 +361,7 @@ any_cut_rows = record {
   place_within = λ place going some. ap (λ (o : Option FrameFault). is_within_at o place) going ∙ is_or (nat_lt 0 place.left) (nat_lt 0 (length place.part)) (some_of place some);
   place_between = λ place none empty. nothing_within place.fault place none empty;
   place_failed = λ place why failed. ap (λ (o : Option FrameFault). is_within_at o place) failed;
-  one_frame = λ h b garbled x past. (λ one. one, λ one. one, λ one. one, λ one. one);
+  one_frame = λ h b garbled x past. (λ one. one, λ one. one, λ one. one, older_came (Byte b) (x ∷ past), older_came Tail (x ∷ past));
   tells_more = λ role past now more. more;
   sends_more = λ role past now more. more;
 }

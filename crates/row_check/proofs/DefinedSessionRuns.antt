@@ -3,6 +3,7 @@ use Rattle.std.proofs.Common.{◌≡◌, ◌⊎◌, ℕ, List, refl, inl, inr}
 use Rattle.yamux_session.specs.History.{Item}
 use Rattle.yamux_session.specs.Runs.{Point}
 use Rattle.yamux_session.specs.Runs.Point.{At, Over}
+use Rattle.yamux_session.proofs.Stepping.{one_came}
 use Rattle.row_check.specs.DefinedSessionRuns.{DefinedStateRows, DefinedRunRows, DefinedAnswerRows}
 
 points_are : (point : Point) → ((past : List Item) × (fed : List ℕ) × (point ≡ At past fed)) ⊎ ((out : List ℕ) × (point ≡ Over out))
@@ -21,9 +22,12 @@ defined_state_rows = record {
   first_fault = λ role x past. (λ h. h, λ h. h);
   ends_with = λ bytes frames. (λ r. (r.whole, r.frames_are), λ p. record { whole = p.0; frames_are = p.1 });
   led = λ role past now fed bytes sent told s. (λ r. (r.came, r.told_is, r.goes_on, r.fails), λ p. record { came = p.0; told_is = p.1; goes_on = p.2; fails = p.3 });
-  one_frame = λ arrival. (tt, tt);
+  one_frame = λ arrival. (tt, one_came arrival);
   no_second_frame = λ h bytes y came. ((λ f. f), (λ f. f));
-  frame_goes_on = λ b y came. ((λ h. h, λ h. h), (λ h. h, λ h. h));
+  no_payload_behind_its_head = λ h b came. ((λ f. f), (λ f. f));
+  nothing_behind_an_end = λ b bytes came. ((λ f. f), (λ f. f), (λ f. f), (λ f. f));
+  bare_frame = λ h. tt;
+  frame_goes_on = λ b c came. ((λ h. h, λ h. h), (λ h. h, λ h. h));
   steps_say = λ role past fed bytes sent before after new r. (r.tells, r.names_one, r.led, r.one_frame);
   steps_are = λ role past fed bytes sent before after new now told tells named led one. record { now = now; told = told; tells = tells; names_one = named; led = led; one_frame = one };
   feeds = λ old bytes said new. (λ h. h, λ h. h);

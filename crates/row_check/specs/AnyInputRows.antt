@@ -59,9 +59,9 @@ pub record AnyHistoryRows : Type 0 where
   pub what_comes : (role : Role) (past : List Item) (came : Arrival)
       → AreAnswered role (Came came ∷ past) ↔ AreAnswered role past
   pub one_arrival : (came : Arrival) → IsOneFrame [] × IsOneFrame (came ∷ [])
-  pub within_a_frame : (byte : ℕ) (next : Arrival) (past : List Arrival)
-      → (IsOneFrame (Byte byte ∷ next ∷ past) ↔ IsOneFrame (next ∷ past))
-      × (IsOneFrame (Tail ∷ next ∷ past) ↔ IsOneFrame (next ∷ past))
+  pub within_a_payload : (byte older : ℕ) (past : List Arrival)
+      → (IsOneFrame (Byte byte ∷ Byte older ∷ past) ↔ IsOneFrame (Byte older ∷ past))
+      × (IsOneFrame (Tail ∷ Byte older ∷ past) ↔ IsOneFrame (Byte older ∷ past))
   pub one_frame_fed : (old new : State) (bytes : List ℕ) (told : List Event) → FeedsFrame old bytes told new
       → (role : Role) (past : List Item) (fed sent : List ℕ) → SessionStands role past fed sent old
       → (now : List Item) × Led role past now fed bytes sent (tellings told) new

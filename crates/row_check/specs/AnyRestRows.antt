@@ -14,7 +14,7 @@ use Rattle.yamux_frames.specs.declared.header.Header.{Header}
 use Rattle.yamux_frames.specs.Frames.{Arrival}
 use Rattle.yamux_frames.specs.Frames.Arrival.{Head, Byte, Tail, Garbled}
 use Rattle.yamux_session.specs.declared.event.Role.{Role}
-use Rattle.yamux_session.specs.History.{Act, is_own}
+use Rattle.yamux_session.specs.History.{Act, is_own, arrivals}
 use Rattle.yamux_session.specs.History.Item.{Came, Did}
 use Rattle.yamux_session.specs.History.Act.{Start, Write, Taken, Close, Reset}
 use Rattle.yamux_session.specs.Openings.{is_live, opens, closed, finished}
@@ -213,15 +213,16 @@ module _ {P H : Type 0} (step : H → HandlerCall → H → Type 0) (fails : H �
     pub takes_in_turn : (log : List (Entry H)) (n : ℕ) (stage : Stage H) (so_far : Past H) (handler : H)
         (bytes : List ℕ) → in_turn log n stage so_far handler (ToTake bytes)
         ↔ ((stage ≡ stages.Serving handler) × (so_far.ended ≡ false)
-        × (((is_finished handler ≡ false) × (bytes ≢ [])) ⊎ HasJustAgreed n log))
+        × (((is_finished handler ≡ false) × (bytes ≢ []) × (has_taken (calls_of role log n) ≡ true))
+        ⊎ HasJustAgreed n log))
     pub ends_in_turn : (log : List (Entry H)) (n : ℕ) (stage : Stage H) (so_far : Past H) (handler : H)
         → in_turn log n stage so_far handler ToEnd ↔ ((stage ≡ stages.Serving handler) × (so_far.ended ≡ false)
-        × (is_finished handler ≡ false) × (is_live role (items log) n ≡ true → closed role (items log) n ≡ false
-        → is_closed handler ≡ false → so_far.left ≡ Some (credit role (items log) n)))
+        × (is_finished handler ≡ false) × (has_taken (calls_of role log n) ≡ true))
     pub gives_in_turn : (log : List (Entry H)) (n : ℕ) (stage : Stage H) (so_far : Past H) (handler : H) (room : ℕ)
         → in_turn log n stage so_far handler (ToGive room) ↔ ((is_live role (items log) n ≡ true)
         × (closed role (items log) n ≡ false) × (is_closed handler ≡ false)
-        × ((is_talking stage ≡ true) ⊎ (is_asked_anew role log n ≡ true)))
+        × ((is_talking stage ≡ true)
+        ⊎ ((is_asked_anew role log n ≡ true) × (has_taken (calls_of role log n) ≡ true))))
     pub heard : (log : List (Entry H)) (n : ℕ) (stream : Streaming H)
         → held_by step is_closed is_finished names role log n (inbound role (items log) n)
         (end_was_told role (items log) n) stream → has_finished is_finished stream.stage ≡ false
@@ -387,13 +388,18 @@ module _ {P H : Type 0} (step : H → HandlerCall → H → Type 0) (fails : H �
     pub rested : (log : List (Entry H)) → is_rested log ↔ ((fed sent : List ℕ) × (session : State)
         × (streams : ℕ → Option (Streaming H)) × (past : List (Earlier H))
         × are_at_rest log fed sent session streams past)
-    -- they were before each head, and before each stream that this end opened
+    -- they were before each head and the payload behind it, and before each stream that this end opened
     pub none : are_rested []
     pub head : (h : Header) (log : List (Entry H)) → are_rested (Of (Came (Head h)) ∷ log)
         ↔ (is_rested log × are_rested log)
     pub asked_for : (n index : ℕ) (log : List (Entry H)) → are_rested (Asks n index ∷ log)
         ↔ (is_rested log × are_rested log)
-    pub part : (b : ℕ) (log : List (Entry H)) → are_rested (Of (Came (Byte b)) ∷ log) ↔ are_rested log
+    pub payload : (b : ℕ) (h : Header) (past : List Arrival) (log : List (Entry H))
+        → arrivals (items log) ≡ Head h ∷ past → are_rested (Of (Came (Byte b)) ∷ log)
+        ↔ (is_rested log × are_rested log)
+    pub part : (b : ℕ) (log : List (Entry H))
+        → ((h : Header) (past : List Arrival) → arrivals (items log) ≢ Head h ∷ past)
+        → are_rested (Of (Came (Byte b)) ∷ log) ↔ are_rested log
     pub tail : (log : List (Entry H)) → are_rested (Of (Came Tail) ∷ log) ↔ are_rested log
     pub garbled : (bytes : List ℕ) (log : List (Entry H)) → are_rested (Of (Came (Garbled bytes)) ∷ log)
         ↔ are_rested log

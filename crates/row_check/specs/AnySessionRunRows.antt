@@ -364,6 +364,7 @@ pub record AnyCutRows : Type 0 where
   -- and one call takes a part of one frame
   pub one_frame : (h : Header) (b : ℕ) (garbled : List ℕ) (x : Arrival) (past : List Arrival)
       → (¬ IsOneFrame (Head h ∷ x ∷ past)) × (¬ IsOneFrame (Garbled garbled ∷ x ∷ past))
+      × (¬ IsOneFrame (Byte b ∷ Head h ∷ past))
       × (IsOneFrame (Byte b ∷ x ∷ past) → IsOneFrame (x ∷ past))
       × (IsOneFrame (Tail ∷ x ∷ past) → IsOneFrame (x ∷ past))
   pub tells_more : (role : Role) (past now : List Item) → TellsMore role past now

@@ -192,8 +192,13 @@ leaving_rows = record {
 
 pub frame_rows : FrameRows
 frame_rows = record {
-  whole = tt;
+  nothing = tt;
+  head = tt;
+  bare = tt;
   part = tt;
+  last_part = tt;
+  payload_behind_its_head = λ one. absurd one;
+  whole = λ one. absurd one;
   two_headers = λ one. absurd one;
   behind_an_end = λ one. absurd one;
   behind_a_byte = λ one. absurd one;

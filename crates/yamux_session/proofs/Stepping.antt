@@ -25,7 +25,7 @@ use Rattle.yamux_session.specs.Table.{Table}
 use Rattle.yamux_session.specs.Acts.{AreAnswered}
 use Rattle.yamux_session.specs.Keeps.{Keeps}
 use Rattle.yamux_session.specs.Arrives.{Tells, Arrives}
-use Rattle.yamux_session.specs.State.{State, Stands, EndsWith, IsOneFrame, Steps}
+use Rattle.yamux_session.specs.State.{State, Stands, EndsWith, IsPart, IsOneFrame, Steps}
 use Rattle.yamux_session.proofs.Telling.{tells_nothing, arrives_then}
 use Rattle.yamux_session.proofs.Naming.{TellsOne, names_one, tells_fault, head_tells_one, frame_tells_one, part_tells_one, last_tells_one}
 
@@ -64,17 +64,43 @@ rest_of xs piece at same = take_rest xs at ∙ ap (drop at) same
 
 -- ---- of one frame
 
-byte_behind : (b : ℕ) (came : List Arrival) → IsOneFrame came → IsOneFrame (Byte b ∷ came)
-byte_behind b [] one = tt
-byte_behind b (x ∷ came) one = one
+pub one_came : (x : Arrival) → IsOneFrame (x ∷ [])
+one_came (Head h) = tt
+one_came (Byte b) = tt
+one_came Tail = tt
+one_came (Garbled bytes) = tt
 
-tail_behind : (came : List Arrival) → IsOneFrame came → IsOneFrame (Tail ∷ came)
-tail_behind [] one = tt
-tail_behind (x ∷ came) one = one
+pub part_came : (came : List Arrival) → IsPart came → IsOneFrame came
+part_came [] part = tt
+part_came (Head h ∷ came) part = absurd part
+part_came (Byte b ∷ came) part = part
+part_came (Tail ∷ came) part = absurd part
+part_came (Garbled bytes ∷ came) part = absurd part
 
-bytes_behind : (bytes : List ℕ) (came : List Arrival) → IsOneFrame came → IsOneFrame (with_bytes bytes came)
-bytes_behind [] came one = one
-bytes_behind (b ∷ bytes) came one = bytes_behind bytes (Byte b ∷ came) (byte_behind b came one)
+tail_came : (came : List Arrival) → IsPart came → IsOneFrame (Tail ∷ came)
+tail_came [] part = tt
+tail_came (Head h ∷ came) part = absurd part
+tail_came (Byte b ∷ came) part = part
+tail_came (Tail ∷ came) part = absurd part
+tail_came (Garbled bytes ∷ came) part = absurd part
+
+bytes_came : (bytes : List ℕ) (came : List Arrival) → IsPart came → IsPart (with_bytes bytes came)
+bytes_came [] came part = part
+bytes_came (b ∷ bytes) came part = bytes_came bytes (Byte b ∷ came) part
+
+-- and before the newest arrival as well
+pub older_came : (x : Arrival) (came : List Arrival) → IsOneFrame (x ∷ came) → IsOneFrame came
+older_came (Head h) [] one = tt
+older_came (Head h) (y ∷ came) one = absurd one
+older_came (Byte b) came one = part_came came one
+older_came Tail [] one = tt
+older_came Tail (Head h ∷ []) one = tt
+older_came Tail (Head h ∷ y ∷ came) one = absurd one
+older_came Tail (Byte b ∷ came) one = one
+older_came Tail (Tail ∷ came) one = absurd one
+older_came Tail (Garbled bytes ∷ came) one = absurd one
+older_came (Garbled bytes) [] one = tt
+older_came (Garbled bytes) (y ∷ came) one = absurd one
 
 -- ---- the session goes on
 
@@ -125,7 +151,7 @@ fell role past fed bytes sent before after old new x fault used stands faulty wi
       (used, within, ends),
     );
   };
-  one_frame = tt;
+  one_frame = one_came x;
 }
 
 -- the bytes up to a head
@@ -196,7 +222,7 @@ pub part_went : (role : Role) (past : List Item) (fed bytes sent : List ℕ) (be
     → Stands role past fed sent old → wire.Stands (fed ++ bytes) (cond last (Tail ∷ with_bytes bytes (arrivals past)) (with_bytes bytes (arrivals past))) new.place
     → last ≡ false → Arrives role past (came_bytes bytes past) new.table before after old.pending new.pending → new.failed ≡ false → Steps role past fed bytes sent before after new
 part_went role past fed bytes sent before after old new last stands frames more arrives going =
-    went role past (came_bytes bytes past) fed bytes sent before after old new (with_bytes bytes []) (bytes_behind bytes [] tt) stands (came_are bytes past)
+    went role past (came_bytes bytes past) fed bytes sent before after old new (with_bytes bytes []) (part_came (with_bytes bytes []) (bytes_came bytes [] tt)) stands (came_are bytes past)
     (subst (λ (xs : List Arrival). wire.Stands (fed ++ bytes) xs new.place) (ap (λ b. cond b (Tail ∷ with_bytes bytes (arrivals past)) (with_bytes bytes (arrivals past))) more ∙ sym (arrivals_of_bytes bytes past)) frames)
     arrives going (part_tells_one role past bytes)
 
@@ -212,7 +238,7 @@ pub last_went : (role : Role) (past : List Item) (fed bytes sent : List ℕ) (be
     → (AreAnswered role (came_bytes bytes past) → bytes_left (arrivals (came_bytes bytes past)) ≡ 0 → Keeps role (came_bytes bytes past) table → Arrives role (came_bytes bytes past) (Came Tail ∷ came_bytes bytes past) new.table mid after old.pending old.pending)
     → new.pending ≡ old.pending → new.failed ≡ false → Steps role past fed bytes sent before after new
 last_went role past fed bytes sent before mid after old new table last stands frames ends arrives tail pending going =
-    went role past (Came Tail ∷ came_bytes bytes past) fed bytes sent before after old new (Tail ∷ with_bytes bytes []) (tail_behind (with_bytes bytes []) (bytes_behind bytes [] tt)) stands (ap (λ (xs : List Item). Came Tail ∷ xs) (came_are bytes past))
+    went role past (Came Tail ∷ came_bytes bytes past) fed bytes sent before after old new (Tail ∷ with_bytes bytes []) (tail_came (with_bytes bytes []) (bytes_came bytes [] tt)) stands (ap (λ (xs : List Item). Came Tail ∷ xs) (came_are bytes past))
     (subst (λ (xs : List Arrival). wire.Stands (fed ++ bytes) xs new.place)
     (ap (λ b. cond b (Tail ∷ with_bytes bytes (arrivals past)) (with_bytes bytes (arrivals past))) ends ∙ ap (λ (xs : List Arrival). Tail ∷ xs) (sym (arrivals_of_bytes bytes past))) frames)
     (subst (λ (t : List ℕ). Arrives role past (Came Tail ∷ came_bytes bytes past) new.table before after old.pending t) (sym pending)

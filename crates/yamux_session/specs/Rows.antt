@@ -670,10 +670,15 @@ garbled_bytes = 1 ∷ replicate 11 0
 abbrev pub leaving_bytes : List ℕ
 leaving_bytes = 0 ∷ 3 ∷ 0 ∷ 0 ∷ 0 ∷ 0 ∷ 0 ∷ 0 ∷ 0 ∷ 0 ∷ 0 ∷ 1 ∷ []
 
--- What one call takes at most: a part of one frame, with its header first
+-- What one call takes at most: one header, or a part of a payload
 pub record FrameRows : Type 0 where
-  pub whole : IsOneFrame (Tail ∷ Byte 8 ∷ Byte 7 ∷ header Payload 0 1 2 ∷ [])
-  pub part : IsOneFrame (Tail ∷ Byte 8 ∷ Byte 7 ∷ [])
+  pub nothing : IsOneFrame []
+  pub head : IsOneFrame (header Payload 0 1 2 ∷ [])
+  pub bare : IsOneFrame (Tail ∷ header Ping 1 0 7 ∷ [])
+  pub part : IsOneFrame (Byte 8 ∷ Byte 7 ∷ [])
+  pub last_part : IsOneFrame (Tail ∷ Byte 8 ∷ Byte 7 ∷ [])
+  pub payload_behind_its_head : ¬ IsOneFrame (Byte 7 ∷ header Payload 0 1 2 ∷ [])
+  pub whole : ¬ IsOneFrame (Tail ∷ Byte 8 ∷ Byte 7 ∷ header Payload 0 1 2 ∷ [])
   pub two_headers : ¬ IsOneFrame (header Ping 1 0 7 ∷ Tail ∷ header Window 1 1 0 ∷ [])
   pub behind_an_end : ¬ IsOneFrame (Tail ∷ header Ping 1 0 7 ∷ Tail ∷ [])
   pub behind_a_byte : ¬ IsOneFrame (Byte 7 ∷ header Payload 0 1 1 ∷ Byte 9 ∷ [])

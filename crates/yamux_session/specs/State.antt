@@ -7,7 +7,7 @@ use Rattle.std.specs.Vec.{vec_capacity}
 use Rattle.std.specs.List.{concat}
 use Rattle.yamux_frames.specs.Frames as wire
 use Rattle.yamux_frames.specs.Frames.{Arrival, spelled, AreFrames, Reads}
-use Rattle.yamux_frames.specs.Frames.Arrival.{Head, Garbled}
+use Rattle.yamux_frames.specs.Frames.Arrival.{Head, Byte, Tail, Garbled}
 use Rattle.yamux_frames.specs.Place.{Place}
 use Rattle.yamux_session.specs.declared.event.Role.{Role}
 use Rattle.yamux_session.specs.declared.event.Fault.{Fault}
@@ -82,13 +82,21 @@ pub record Led (role : Role) (past now : List Item) (fed bytes sent : List ℕ) 
     pub fails : s.failed ≡ true → FirstFaults role now × (sent ++ s.pending ≡ output role now)
         × ((used : ℕ) × (used ≤ length bytes) × EndsWith (fed ++ take used bytes) (arrivals now))
 
--- at most one header came, or what is none, and before all else
+-- a part of a payload
+abbrev pub IsPart : List Arrival → Type 0
+IsPart [] = Unit {0}
+IsPart (Byte b ∷ past) = IsPart past
+IsPart (x ∷ past) = ⊥
+
+-- one header came, with the end of a frame that has no payload; or what is no header; or a part of a payload, and
+-- perhaps its end
 abbrev pub IsOneFrame : List Arrival → Type 0
 IsOneFrame [] = Unit {0}
-IsOneFrame (x ∷ []) = Unit {0}
-IsOneFrame (Head h ∷ y ∷ past) = ⊥
-IsOneFrame (Garbled bytes ∷ y ∷ past) = ⊥
-IsOneFrame (x ∷ y ∷ past) = IsOneFrame (y ∷ past)
+IsOneFrame (Head h ∷ []) = Unit {0}
+IsOneFrame (Tail ∷ Head h ∷ []) = Unit {0}
+IsOneFrame (Garbled bytes ∷ []) = Unit {0}
+IsOneFrame (Tail ∷ past) = IsPart past
+IsOneFrame (x ∷ past) = IsPart (x ∷ past)
 
 -- what one answer of the cutter does: it leads on by a part of one frame, and its events name one stream at most
 pub record Steps (role : Role) (past : List Item) (fed bytes sent : List ℕ) (before after : List Event) (new : State)
