@@ -1,6 +1,6 @@
 -- What one call of the session took is a part of one frame: all that it told is about the stream that the last header
 -- names.
-use Rattle.std.proofs.Common.{◌≡◌, ℕ, ◌&&◌, not, nat_lt, Bool, true, false, cond, List, [], ◌∷◌, ◌++◌, map, Option, Some, None, refl, sym, ap}
+use Rattle.std.proofs.Common.{◌≡◌, inl, inr, ℕ, ◌&&◌, not, nat_lt, Bool, true, false, cond, List, [], ◌∷◌, ◌++◌, map, Option, Some, None, refl, sym, ap}
 use Rattle.std.specs.List.{AllByRecursion}
 use Rattle.handlers.specs.Calls.{HandlerCall, Asked}
 use Rattle.yamux_frames.specs.declared.header.Header.{Header}
@@ -229,15 +229,16 @@ module _ {P H : Type 0} (step : H → HandlerCall → H → Type 0) (fails : H �
       → AreRested step fails is_closed is_finished inbound_makes outbound_makes eager names peer role log
       → AreRested step fails is_closed is_finished inbound_makes outbound_makes eager names peer role (arrived came ++ log)
   rested_arrived [] log one rests before = before
-  rested_arrived (Head h ∷ []) log one rests before = (rests, before)
-  rested_arrived (Byte b ∷ []) log one rests before = (λ behind_head. rests, before)
-  rested_arrived (Tail ∷ []) log one rests before = before
-  rested_arrived (Garbled bytes ∷ []) log one rests before = before
+  rested_arrived (x ∷ []) log one rests before = (inr rests, before)
   rested_arrived (Head h ∷ y ∷ more) log one rests before = absurd one
   rested_arrived (Byte b ∷ Head h ∷ more) log one rests before = absurd one
   rested_arrived (Byte b ∷ Byte c ∷ more) log one rests before =
-      (λ behind_head. absurd behind_head, rested_arrived (Byte c ∷ more) log one rests before)
+      (inl tt, rested_arrived (Byte c ∷ more) log one rests before)
   rested_arrived (Byte b ∷ Tail ∷ more) log one rests before = absurd one
   rested_arrived (Byte b ∷ Garbled bytes ∷ more) log one rests before = absurd one
-  rested_arrived (Tail ∷ y ∷ more) log one rests before = rested_arrived (y ∷ more) log (older_came Tail (y ∷ more) one) rests before
+  rested_arrived (Tail ∷ Head h ∷ []) log one rests before = (inl tt, (inr rests, before))
+  rested_arrived (Tail ∷ Head h ∷ y ∷ more) log one rests before = absurd one
+  rested_arrived (Tail ∷ Byte b ∷ more) log one rests before = (inl tt, rested_arrived (Byte b ∷ more) log one rests before)
+  rested_arrived (Tail ∷ Tail ∷ more) log one rests before = absurd one
+  rested_arrived (Tail ∷ Garbled bytes ∷ more) log one rests before = absurd one
   rested_arrived (Garbled bytes ∷ y ∷ more) log one rests before = absurd one

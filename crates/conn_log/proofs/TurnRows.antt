@@ -1,5 +1,5 @@
 -- The worked rows of whose turn it is, and of where all streams are at rest.
-use Rattle.std.proofs.Common.{◌≡◌, ℕ, true, false, List, [], ◌∷◌, Option, Some, None, refl}
+use Rattle.std.proofs.Common.{◌≡◌, ◌⊎◌, inl, inr, ℕ, true, false, List, [], ◌∷◌, Option, Some, None, refl}
 use Rattle.conn_log.specs.TurnRows.{TurnRows, AboutRows, InTurnRows, RestedRows}
 
 pub turn_rows : TurnRows
@@ -71,6 +71,11 @@ first_of a b c d is = cc is
 none_of : (a b : ℕ) → ◌≡◌ {A = List ℕ} [] (a ∷ b ∷ []) → ⊥
 none_of a b is = cc is
 
+-- at rest it must be
+rests_then : {A : Type 0} → ⊥ ⊎ A → A
+rests_then (inl none) = absurd none
+rests_then (inr rests) = rests
+
 pub rested_rows : RestedRows
 rested_rows = record {
   late = λ h. one_is_three h.at_rest.in_turn.0;
@@ -78,13 +83,19 @@ rested_rows = record {
   aside = λ first second fed sent session streams h. first_of first.number second.number 4 2 h.past_is;
   none_is_lost = λ fed sent session streams h. none_of 4 2 h.past_is;
   none = tt;
-  behind_all = λ h. (h, tt);
+  behind_all = λ h. (inr h, tt);
   asked_behind_all = λ h. (h, tt);
-  head_untold = λ h. off_is_on (h.0.at_rest.resets_told 2 refl);
+  head_untold = λ h. off_is_on ((rests_then h.0).at_rest.resets_told 2 refl);
   asked_untold = λ h. off_is_on (h.0.at_rest.resets_told 2 refl);
-  payload = λ log h. h.0 tt;
-  passed = (λ behind. absurd behind, tt);
-  older = λ h. off_is_on (h.1.0.at_rest.resets_told 2 refl);
+  payload_untold = λ h. off_is_on ((rests_then h.0).at_rest.resets_told 2 refl);
+  payload = λ log h. rests_then h.0;
+  garbled_untold = λ h. off_is_on ((rests_then h.0).at_rest.resets_told 2 refl);
+  at_once = λ log h. (inl tt, (inl tt, (inl tt, h)));
+  bare = λ log h. (inl tt, h);
+  called_within = λ log h. rests_then h.0;
+  called_before_the_end = λ log h. rests_then h.0;
+  passed = tt;
+  older = λ h. off_is_on ((rests_then h.1.0).at_rest.resets_told 2 refl);
   older_head = λ log h. h.1;
   older_asked = λ log h. h.1;
 }

@@ -1,12 +1,11 @@
 -- Where the streams of a connection stand when a call returns.
 -- Source: libp2p connections, "Opening new streams over a connection"; what a connection tells is this project's
 -- profile.
-use Rattle.std.specs.Prelude.{◌≡◌, ◌≢◌, ℕ, Bool, true, false, List, [], ◌∷◌, ◌++◌, map, Option, None, IfSome, IsSome}
+use Rattle.std.specs.Prelude.{◌≡◌, ◌≢◌, ◌⊎◌, ℕ, Bool, true, false, List, [], ◌∷◌, ◌++◌, map, Option, None, IfSome, IsSome}
 use Rattle.handlers.specs.Calls.{HandlerCall, Asked}
 use Rattle.yamux_frames.specs.Frames.{Arrival}
 use Rattle.yamux_frames.specs.Frames.Arrival.{Head, Byte, Tail, Garbled}
 use Rattle.yamux_session.specs.declared.event.Role.{Role}
-use Rattle.yamux_session.specs.History.{arrivals}
 use Rattle.yamux_session.specs.History.Item.{Came, Did}
 use Rattle.yamux_session.specs.Openings.{is_live}
 use Rattle.yamux_session.specs.State.{State, Stands as SessionStands}
@@ -19,10 +18,16 @@ use Rattle.conn_log.specs.Turns.{AreInTurn}
 use Rattle.conn_log.specs.Due.{AllDue, was_reset}
 use Rattle.conn_log.specs.Held.{IsAtRest, AreLeft, earlier_of}
 
--- a header came last: its payload begins
-abbrev pub IsBehindHead : List Arrival → Type 0
-IsBehindHead (Head h ∷ past) = Unit {0}
-IsBehindHead past = ⊥
+-- What comes next belongs to what came right before it, with nothing done, told or called between: a further byte of a
+-- payload, or the end of a frame.
+abbrev pub GoesOn : {H : Type 0} → Arrival → List (Entry H) → Type 0
+GoesOn (Head h) log = ⊥
+GoesOn (Byte b) (Of (Came (Byte older)) ∷ log) = Unit {0}
+GoesOn (Byte b) log = ⊥
+GoesOn Tail (Of (Came (Byte older)) ∷ log) = Unit {0}
+GoesOn Tail (Of (Came (Head h)) ∷ log) = Unit {0}
+GoesOn Tail log = ⊥
+GoesOn (Garbled bytes) log = ⊥
 
 module _ {P H : Type 0} (step : H → HandlerCall → H → Type 0) (fails : H → Asked → ℕ → Type 0)
     (is_closed is_finished : H → Bool) (inbound_makes outbound_makes : P → ℕ → List ℕ → H → Type 0)
@@ -55,14 +60,11 @@ module _ {P H : Type 0} (step : H → HandlerCall → H → Type 0) (fails : H �
     pub past : List (Earlier H)
     pub at_rest : AreAtRest log fed sent session streams past
 
-  -- before each frame that came, before the payload behind its header, and before each stream that this end opened, all
-  -- streams were at rest: what had come before was told, and what it led to was done
+  -- All streams were at rest before each header, before each part of a payload, and before each stream that this end
+  -- opened: what had come before was told, and what it led to was done.
   abbrev pub AreRested : List (Entry H) → Type 0
   AreRested [] = Unit {0}
-  AreRested (Of (Came (Head head)) ∷ log) = IsRested log × AreRested log
-  AreRested (Of (Came (Byte b)) ∷ log) = (IsBehindHead (arrivals (items log)) → IsRested log) × AreRested log
-  AreRested (Of (Came Tail) ∷ log) = AreRested log
-  AreRested (Of (Came (Garbled bytes)) ∷ log) = AreRested log
+  AreRested (Of (Came arrival) ∷ log) = (GoesOn arrival log ⊎ IsRested log) × AreRested log
   AreRested (Of (Did act) ∷ log) = AreRested log
   AreRested (Says e ∷ log) = AreRested log
   AreRested (Made n handler ∷ log) = AreRested log
@@ -79,6 +81,6 @@ module _ {P H : Type 0} (step : H → HandlerCall → H → Type 0) (fails : H �
     -- this end opened no stream
     pub unasked : asks newer ≡ []
     pub makes : making log (newer ++ log)
-    -- all streams were at rest before each frame of these bytes, and before its payload
+    -- all streams were at rest before each header and each part of a payload of these bytes
     pub rested : AreRested log → AreRested (newer ++ log)
     pub at_rest : AreAtRest (newer ++ log) fed sent session streams past

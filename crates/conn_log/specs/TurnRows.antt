@@ -97,18 +97,28 @@ pub record RestedRows : Type 0 where
       → at_rest two_aside fed sent session streams (first ∷ second ∷ []) → first.number ≡ 4
   pub none_is_lost : (fed sent : List ℕ) (session : State) (streams : ℕ → Option (Streaming ℕ))
       → ¬ at_rest two_aside fed sent session streams []
-  -- before each head and the payload behind it, and before each stream that is asked for, but before nothing else
+  -- before each head, each part of a payload, and each stream that is asked for, but before nothing else
   pub none : are_rested []
   pub behind_all : is_rested [] → are_rested (opens_it ∷ [])
   pub asked_behind_all : is_rested [] → are_rested (Asks 1 0 ∷ [])
   pub head_untold : ¬ are_rested (opens_it ∷ was_reset)
   pub asked_untold : ¬ are_rested (Asks 1 0 ∷ was_reset)
-  pub payload : (log : List (Entry ℕ)) → are_rested (Of (Came (Byte 9)) ∷ reset 2 ∷ Of (Came (header Payload 0 4 1)) ∷ log)
-      → is_rested (reset 2 ∷ Of (Came (header Payload 0 4 1)) ∷ log)
-  pub passed : are_rested (answers 2 End ∷ makes 2 7 ∷ agrees 2 1 ∷ reset 2 ∷ Of (Came Tail) ∷ Of (Came (Byte 9))
-      ∷ Of (Came (Garbled (9 ∷ []))) ∷ [])
+  pub payload_untold : ¬ are_rested (Of (Came (Byte 9)) ∷ was_reset)
+  pub payload : (log : List (Entry ℕ)) → are_rested (Of (Came (Byte 9)) ∷ Of (Came (header Payload 0 4 1)) ∷ log)
+      → is_rested (Of (Came (header Payload 0 4 1)) ∷ log)
+  pub garbled_untold : ¬ are_rested (Of (Came (Garbled (9 ∷ []))) ∷ was_reset)
+  -- a part of a payload, and the end of its frame, come at once
+  pub at_once : (log : List (Entry ℕ)) → are_rested (Of (Came (Byte 9)) ∷ log)
+      → are_rested (Of (Came Tail) ∷ Of (Came (Byte 7)) ∷ Of (Came (Byte 8)) ∷ Of (Came (Byte 9)) ∷ log)
+  pub bare : (log : List (Entry ℕ)) → are_rested (opens_it ∷ log) → are_rested (Of (Came Tail) ∷ opens_it ∷ log)
+  -- not so where a handler was called between them
+  pub called_within : (log : List (Entry ℕ)) → are_rested (Of (Came (Byte 9)) ∷ answers 2 End ∷ Of (Came (Byte 8)) ∷ log)
+      → is_rested (answers 2 End ∷ Of (Came (Byte 8)) ∷ log)
+  pub called_before_the_end : (log : List (Entry ℕ))
+      → are_rested (Of (Came Tail) ∷ answers 2 End ∷ Of (Came (Byte 8)) ∷ log)
+      → is_rested (answers 2 End ∷ Of (Came (Byte 8)) ∷ log)
+  pub passed : are_rested (answers 2 End ∷ makes 2 7 ∷ agrees 2 1 ∷ reset 2 ∷ [])
   -- nor is an older one passed over
-  pub older : ¬ are_rested (answers 2 End ∷ makes 2 7 ∷ agrees 2 1 ∷ reset 2 ∷ Of (Came Tail) ∷ Of (Came (Byte 9))
-      ∷ Of (Came (Garbled (9 ∷ []))) ∷ opens_it ∷ was_reset)
+  pub older : ¬ are_rested (answers 2 End ∷ makes 2 7 ∷ agrees 2 1 ∷ reset 2 ∷ Of (Came Tail) ∷ opens_it ∷ was_reset)
   pub older_head : (log : List (Entry ℕ)) → are_rested (opens_it ∷ log) → are_rested log
   pub older_asked : (log : List (Entry ℕ)) → are_rested (Asks 1 0 ∷ log) → are_rested log

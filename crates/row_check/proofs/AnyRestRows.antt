@@ -2,9 +2,8 @@
 use Rattle.std.proofs.Common.{◌≡◌, ◌≢◌, ◌⊎◌, ℕ, inl, inr, Bool, List, [], ◌∷◌, Option, Some, None, IfSome, refl, sym, ap, subst, append-nil}
 use Rattle.handlers.specs.Calls.{HandlerCall, Asked}
 use Rattle.yamux_frames.specs.declared.header.Header.{Header}
-use Rattle.yamux_frames.specs.Frames.{Arrival}
 use Rattle.yamux_frames.specs.Frames.Arrival.{Head, Byte, Tail, Garbled}
-use Rattle.yamux_session.specs.History.{arrivals}
+use Rattle.yamux_session.specs.History.Item.{Came, Did}
 use Rattle.yamux_session.specs.declared.event.Role.{Role}
 use Rattle.streams.specs.declared.stop.Cause.{Cause}
 use Rattle.streams.specs.declared.stop.Cause.TheVariants as causes
@@ -14,16 +13,39 @@ use Rattle.conn_log.specs.declared.event.ConnEvent.TheVariants as event
 use Rattle.conn_log.specs.Entries.{Entry, items}
 use Rattle.conn_log.specs.Entries.Entry.{Of, Says, Made, Asks, Calls}
 use Rattle.conn_log.specs.Due.{IsGivenUp}
-use Rattle.conn_log.specs.Rests.{IsBehindHead}
+use Rattle.conn_log.specs.Rests.{GoesOn}
 use Rattle.row_check.specs.AnyRestRows.{AnySideRows, AnyHeldRows, AnyComingRows, AnyDueRows, AnyRestRows, AskedSo, is_there, may_be_asked, may_be_made, rests}
 
--- no header came last
-behind_none : (came : List Arrival) → ((h : Header) (past : List Arrival) → came ≢ Head h ∷ past) → IsBehindHead came → ⊥
-behind_none [] other behind = behind
-behind_none (Head h ∷ past) other behind = other h past refl
-behind_none (Byte b ∷ past) other behind = behind
-behind_none (Tail ∷ past) other behind = behind
-behind_none (Garbled bytes ∷ past) other behind = behind
+-- it goes on with nothing
+begins_a_part : {H : Type 0} (b : ℕ) (log : List (Entry H)) → ((older : ℕ) (rest : List (Entry H)) → log ≢ Of (Came (Byte older)) ∷ rest) → GoesOn (Byte b) log → ⊥
+begins_a_part b [] other goes = goes
+begins_a_part b (Of (Came (Head h)) ∷ log) other goes = goes
+begins_a_part b (Of (Came (Byte older)) ∷ log) other goes = other older log refl
+begins_a_part b (Of (Came Tail) ∷ log) other goes = goes
+begins_a_part b (Of (Came (Garbled bytes)) ∷ log) other goes = goes
+begins_a_part b (Of (Did act) ∷ log) other goes = goes
+begins_a_part b (Says e ∷ log) other goes = goes
+begins_a_part b (Made n handler ∷ log) other goes = goes
+begins_a_part b (Asks n index ∷ log) other goes = goes
+begins_a_part b (Calls n call ∷ log) other goes = goes
+
+ends_nothing : {H : Type 0} (log : List (Entry H)) → ((older : ℕ) (rest : List (Entry H)) → log ≢ Of (Came (Byte older)) ∷ rest)
+    → ((h : Header) (rest : List (Entry H)) → log ≢ Of (Came (Head h)) ∷ rest) → GoesOn Tail log → ⊥
+ends_nothing [] no_byte no_head goes = goes
+ends_nothing (Of (Came (Head h)) ∷ log) no_byte no_head goes = no_head h log refl
+ends_nothing (Of (Came (Byte older)) ∷ log) no_byte no_head goes = no_byte older log refl
+ends_nothing (Of (Came Tail) ∷ log) no_byte no_head goes = goes
+ends_nothing (Of (Came (Garbled bytes)) ∷ log) no_byte no_head goes = goes
+ends_nothing (Of (Did act) ∷ log) no_byte no_head goes = goes
+ends_nothing (Says e ∷ log) no_byte no_head goes = goes
+ends_nothing (Made n handler ∷ log) no_byte no_head goes = goes
+ends_nothing (Asks n index ∷ log) no_byte no_head goes = goes
+ends_nothing (Calls n call ∷ log) no_byte no_head goes = goes
+
+-- at rest it must be
+rests_then : {A B : Type 0} → (B → ⊥) → B ⊎ A → A
+rests_then none (inl other) = absurd (none other)
+rests_then none (inr rests) = rests
 
 pub any_sides : {H : Type 0} → AnySideRows H
 any_sides = record {
@@ -239,12 +261,14 @@ module _ {P H : Type 0} (step : H → HandlerCall → H → Type 0) (fails : H �
       λ h. record { fed = h.0; sent = h.1; session = h.2; streams = h.3; past = h.4; at_rest = h.5 },
     );
     none = tt;
-    head = λ h log. (λ r. r, λ r. r);
+    head = λ h log. (λ r. (rests_then (λ none. none) r.0, r.1), λ r. (inr r.0, r.1));
     asked_for = λ n index log. (λ r. r, λ r. r);
-    payload = λ b h past log last. (λ r. (r.0 (subst (λ (t : List Arrival). IsBehindHead t) (sym last) tt), r.1), λ r. (λ behind. r.0, r.1));
-    part = λ b log other. (λ r. r.1, λ r. (λ behind. absurd (behind_none (arrivals (items log)) other behind), r));
-    tail = λ log. (λ r. r, λ r. r);
-    garbled = λ bytes log. (λ r. r, λ r. r);
+    part = λ b log other. (λ r. (rests_then (begins_a_part b log other) r.0, r.1), λ r. (inr r.0, r.1));
+    within_a_part = λ b older log. (λ r. r.1, λ r. (inl tt, r));
+    tail = λ log no_byte no_head. (λ r. (rests_then (ends_nothing log no_byte no_head) r.0, r.1), λ r. (inr r.0, r.1));
+    tail_of_a_part = λ older log. (λ r. r.1, λ r. (inl tt, r));
+    tail_of_a_head = λ h log. (λ r. r.1, λ r. (inl tt, r));
+    garbled = λ bytes log. (λ r. (rests_then (λ none. none) r.0, r.1), λ r. (inr r.0, r.1));
     acted = λ act log. (λ r. r, λ r. r);
     told = λ e log. (λ r. r, λ r. r);
     made = λ n handler log. (λ r. r, λ r. r);

@@ -22,6 +22,7 @@ defined_state_rows = record {
   first_fault = λ role x past. (λ h. h, λ h. h);
   ends_with = λ bytes frames. (λ r. (r.whole, r.frames_are), λ p. record { whole = p.0; frames_are = p.1 });
   led = λ role past now fed bytes sent told s. (λ r. (r.came, r.told_is, r.goes_on, r.fails), λ p. record { came = p.0; told_is = p.1; goes_on = p.2; fails = p.3 });
+  led_by_name = λ role past now fed bytes sent told s l. l.came.1;
   one_frame = λ arrival. (tt, one_came arrival);
   no_second_frame = λ h bytes y came. ((λ f. f), (λ f. f));
   no_payload_behind_its_head = λ h b came. ((λ f. f), (λ f. f));

@@ -154,6 +154,8 @@ pub record AnySumRows (H : Type 0) : Type 0 where
       → fed_by (Feed bytes ∷ calls) (Events told ∷ answers) ≡ bytes.items ++ fed_by calls answers
   pub fed_in_vain : (bytes : Vec ℕ) (why : ConnRefused) (calls : List ConnAct) (answers : List (ConnAnswer H))
       → fed_by (Feed bytes ∷ calls) (Refused why ∷ answers) ≡ fed_by calls answers
+  pub fed_a_stream : (bytes : Vec ℕ) (n : ℕ) (calls : List ConnAct) (answers : List (ConnAnswer H))
+      → fed_by (Feed bytes ∷ calls) (Stream n ∷ answers) ≡ fed_by calls answers
   pub fed_nothing : (index : ℕ) (answer : ConnAnswer H) (calls : List ConnAct) (answers : List (ConnAnswer H))
       → (fed_by (Ask index ∷ calls) (answer ∷ answers) ≡ fed_by calls answers)
       × (fed_by (Ended ∷ calls) (answer ∷ answers) ≡ fed_by calls answers)
@@ -161,6 +163,8 @@ pub record AnySumRows (H : Type 0) : Type 0 where
       → opened_by (Ask index ∷ calls) (Stream n ∷ answers) ≡ (n, index) ∷ opened_by calls answers
   pub opened_none : (index : ℕ) (why : ConnRefused) (calls : List ConnAct) (answers : List (ConnAnswer H))
       → opened_by (Ask index ∷ calls) (Refused why ∷ answers) ≡ opened_by calls answers
+  pub opened_events : (index : ℕ) (told : Vec (ConnEvent H)) (calls : List ConnAct) (answers : List (ConnAnswer H))
+      → opened_by (Ask index ∷ calls) (Events told ∷ answers) ≡ opened_by calls answers
   pub unasked : (bytes : Vec ℕ) (answer : ConnAnswer H) (calls : List ConnAct) (answers : List (ConnAnswer H))
       → (opened_by (Feed bytes ∷ calls) (answer ∷ answers) ≡ opened_by calls answers)
       × (opened_by (Ended ∷ calls) (answer ∷ answers) ≡ opened_by calls answers)

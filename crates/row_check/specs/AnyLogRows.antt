@@ -24,7 +24,7 @@ use Rattle.conn_log.specs.declared.event.ConnEvent.{ConnEvent}
 use Rattle.conn_log.specs.declared.event.ConnEvent.TheVariants as event
 use Rattle.conn_log.specs.declared.event.ConnFault.{ConnFault}
 use Rattle.conn_log.specs.Entries.{Entry, items, said, asks, asked, agreement, agreed, is_over, was_done, made_in}
-use Rattle.conn_log.specs.Entries.{made_of, calls_in, calls_of, has_taken}
+use Rattle.conn_log.specs.Entries.{made_of, calls_in, calls_of, has_taken, since}
 use Rattle.conn_log.specs.Entries.{is_kept, left_behind, put_aside}
 use Rattle.conn_log.specs.Entries.Entry.{Of, Says, Made, Asks, Calls}
 use Rattle.conn_log.specs.Turns.{turn, about, AreInTurn}
@@ -53,6 +53,20 @@ pub record AnyListRows (H : Type 0) : Type 0 where
       × (said (Asks n index ∷ log) ≡ said log) × (asks (Asks n index ∷ log) ≡ asks log ++ (n, index) ∷ [])
   pub answered : (n : ℕ) (call : HandlerCall) (log : List (Entry H)) → (items (Calls n call ∷ log) ≡ items log)
       × (said (Calls n call ∷ log) ≡ said log) × (asks (Calls n call ∷ log) ≡ asks log)
+  -- what was told, made and called since a stream was opened, of whichever stream it is
+  pub since_nothing : (role : Role) (n : ℕ) → since {H = H} role [] n ≡ []
+  pub since_its_opening : (role : Role) (n : ℕ) (x : Item) (log : List (Entry H)) → opens role (items log) x n ≡ true
+      → since role (Of x ∷ log) n ≡ []
+  pub since_an_item : (role : Role) (n : ℕ) (x : Item) (log : List (Entry H)) → opens role (items log) x n ≡ false
+      → since role (Of x ∷ log) n ≡ since role log n
+  pub since_it_was_asked_for : (role : Role) (n index : ℕ) (log : List (Entry H))
+      → since role (Asks n index ∷ log) n ≡ []
+  pub since_another_was : (role : Role) (n m index : ℕ) (log : List (Entry H)) → m ≢ n
+      → since role (Asks m index ∷ log) n ≡ since role log n
+  pub kept_since : (role : Role) (n m : ℕ) (e : ConnEvent H) (handler : H) (call : HandlerCall) (log : List (Entry H))
+      → (since role (Says e ∷ log) n ≡ Says e ∷ since role log n)
+      × (since role (Made m handler ∷ log) n ≡ Made m handler ∷ since role log n)
+      × (since role (Calls m call ∷ log) n ≡ Calls m call ∷ since role log n)
   -- for which protocol a stream was opened
   pub asked_of_none : (n : ℕ) → asked {H = H} [] n ≡ None
   pub asked_for : (n index : ℕ) (log : List (Entry H)) → asked (Asks n index ∷ log) n ≡ Some index

@@ -14,7 +14,7 @@ use Rattle.yamux_frames.specs.declared.header.Header.{Header}
 use Rattle.yamux_frames.specs.Frames.{Arrival}
 use Rattle.yamux_frames.specs.Frames.Arrival.{Head, Byte, Tail, Garbled}
 use Rattle.yamux_session.specs.declared.event.Role.{Role}
-use Rattle.yamux_session.specs.History.{Act, is_own, arrivals}
+use Rattle.yamux_session.specs.History.{Act, is_own}
 use Rattle.yamux_session.specs.History.Item.{Came, Did}
 use Rattle.yamux_session.specs.History.Act.{Start, Write, Taken, Close, Reset}
 use Rattle.yamux_session.specs.Openings.{is_live, opens, closed, finished}
@@ -388,21 +388,26 @@ module _ {P H : Type 0} (step : H → HandlerCall → H → Type 0) (fails : H �
     pub rested : (log : List (Entry H)) → is_rested log ↔ ((fed sent : List ℕ) × (session : State)
         × (streams : ℕ → Option (Streaming H)) × (past : List (Earlier H))
         × are_at_rest log fed sent session streams past)
-    -- they were before each head and the payload behind it, and before each stream that this end opened
+    -- they were before each head, each part of a payload, and each stream that this end opened
     pub none : are_rested []
     pub head : (h : Header) (log : List (Entry H)) → are_rested (Of (Came (Head h)) ∷ log)
         ↔ (is_rested log × are_rested log)
     pub asked_for : (n index : ℕ) (log : List (Entry H)) → are_rested (Asks n index ∷ log)
         ↔ (is_rested log × are_rested log)
-    pub payload : (b : ℕ) (h : Header) (past : List Arrival) (log : List (Entry H))
-        → arrivals (items log) ≡ Head h ∷ past → are_rested (Of (Came (Byte b)) ∷ log)
-        ↔ (is_rested log × are_rested log)
     pub part : (b : ℕ) (log : List (Entry H))
-        → ((h : Header) (past : List Arrival) → arrivals (items log) ≢ Head h ∷ past)
-        → are_rested (Of (Came (Byte b)) ∷ log) ↔ are_rested log
-    pub tail : (log : List (Entry H)) → are_rested (Of (Came Tail) ∷ log) ↔ are_rested log
+        → ((older : ℕ) (rest : List (Entry H)) → log ≢ Of (Came (Byte older)) ∷ rest)
+        → are_rested (Of (Came (Byte b)) ∷ log) ↔ (is_rested log × are_rested log)
+    pub within_a_part : (b older : ℕ) (log : List (Entry H))
+        → are_rested (Of (Came (Byte b)) ∷ Of (Came (Byte older)) ∷ log) ↔ are_rested (Of (Came (Byte older)) ∷ log)
+    pub tail : (log : List (Entry H)) → ((older : ℕ) (rest : List (Entry H)) → log ≢ Of (Came (Byte older)) ∷ rest)
+        → ((h : Header) (rest : List (Entry H)) → log ≢ Of (Came (Head h)) ∷ rest)
+        → are_rested (Of (Came Tail) ∷ log) ↔ (is_rested log × are_rested log)
+    pub tail_of_a_part : (older : ℕ) (log : List (Entry H))
+        → are_rested (Of (Came Tail) ∷ Of (Came (Byte older)) ∷ log) ↔ are_rested (Of (Came (Byte older)) ∷ log)
+    pub tail_of_a_head : (h : Header) (log : List (Entry H))
+        → are_rested (Of (Came Tail) ∷ Of (Came (Head h)) ∷ log) ↔ are_rested (Of (Came (Head h)) ∷ log)
     pub garbled : (bytes : List ℕ) (log : List (Entry H)) → are_rested (Of (Came (Garbled bytes)) ∷ log)
-        ↔ are_rested log
+        ↔ (is_rested log × are_rested log)
     pub acted : (act : Act) (log : List (Entry H)) → are_rested (Of (Did act) ∷ log) ↔ are_rested log
     pub told : (e : ConnEvent H) (log : List (Entry H)) → are_rested (Says e ∷ log) ↔ are_rested log
     pub made : (n : ℕ) (handler : H) (log : List (Entry H)) → are_rested (Made n handler ∷ log) ↔ are_rested log

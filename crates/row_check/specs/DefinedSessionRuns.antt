@@ -71,6 +71,8 @@ pub record DefinedStateRows : Type 0 where
       × (events role now ≡ events role past ++ told) × (s.failed ≡ false → Stands role now (fed ++ bytes) sent s)
       × (s.failed ≡ true → FirstFaults role now × (sent ++ s.pending ≡ output role now)
       × ((used : ℕ) × (used ≤ length bytes) × EndsWith (fed ++ take used bytes) (arrivals now))))
+  pub led_by_name : (role : Role) (past now : List Item) (fed bytes sent : List ℕ) (told : List Told) (s : State)
+      (l : Led role past now fed bytes sent told s) → now ≡ map Came l.came.0 ++ past
   pub one_frame : (arrival : Arrival) → IsOneFrame [] × IsOneFrame (arrival ∷ [])
   pub no_second_frame : (h : Header) (bytes : List ℕ) (y : Arrival) (came : List Arrival)
       → (¬ IsOneFrame (Head h ∷ y ∷ came)) × (¬ IsOneFrame (Garbled bytes ∷ y ∷ came))
