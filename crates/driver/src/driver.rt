@@ -4,6 +4,7 @@ ghost use Rattle.std.specs.Prelude.{◌≤◌, IfSome};
 ghost use Rattle.futures.specs.Task.{Keeps};
 
 use crate::making::Maker;
+use crate::owning::{let_go, put};
 use crate::seat::Seat;
 use callers::Caller;
 use conn_log::ConnFault;
@@ -128,23 +129,31 @@ impl<'a, N: Net, C: Caller> Driver<'a, N, C> {
         }
         if let Reply::Conn(number) = self.caller.accept() {
             let seat = Seat::accepted(&mut self.maker, number, stream);
-            let _ = self.seats.push(seat);
+            put(&mut self.seats, seat);
         }
     }
 
     /// Dials each connection that the listing shows as to be dialed.
     fn dial(&mut self) {
         for _ in 0..MOST_SOCKETS {
-            let Some(number) = self.next_dial() else {
-                return;
-            };
-            if self.seats.reserve(1).is_err() {
-                self.starve(number);
+            if !self.dial_next() {
                 return;
             }
-            let seat = self.dialing(number);
-            let _ = self.seats.push(seat);
         }
+    }
+
+    /// Dials the next connection, and answers whether there was one, and memory for it.
+    fn dial_next(&mut self) -> bool {
+        let Some(number) = self.next_dial() else {
+            return false;
+        };
+        if self.seats.reserve(1).is_err() {
+            self.starve(number);
+            return false;
+        }
+        let seat = self.dialing(number);
+        put(&mut self.seats, seat);
+        true
     }
 
     /// The connection of this number, which isn't dialed yet, ends for want of memory.
@@ -182,13 +191,20 @@ impl<'a, N: Net, C: Caller> Driver<'a, N, C> {
                 return;
             }
             self.serve_at(at, cx);
-            if self.is_gone(at) && at < self.seats.len() {
-                let seat = self.seats.swap_remove(at);
-                self.reports.add(seat.report());
+            if self.is_gone(at) {
+                self.let_go(at);
             } else {
                 at += 1;
             }
         }
+    }
+
+    /// Lets go of the connection at this place, and reports why it ended.
+    fn let_go(&mut self, at: usize) {
+        if let Some(seat) = self.seats.get(at) {
+            self.reports.add(seat.report());
+        }
+        let_go(&mut self.seats, at);
     }
 
     /// Goes on with the connection at this place.

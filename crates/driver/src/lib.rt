@@ -18,6 +18,7 @@
 
 mod driver;
 mod making;
+mod owning;
 mod payloads;
 mod seat;
 

@@ -4,6 +4,7 @@ ghost use Rattle.std.specs.Prelude.{◌≡◌, ◌<◌, ◌≤◌};
 ghost use Rattle.futures.specs.Task.{Keeps};
 
 use crate::making::{Maker, Socketed};
+use crate::owning::set;
 use callers::Caller;
 use conn_log::{ConnEvent, ConnFault, ConnRefused};
 use futures::task::{Context, Poll};
@@ -110,7 +111,8 @@ impl Seat {
 
     /// It ends, for what it was shut for or else for this.
     fn end(&mut self, end: ConnEnd) {
-        self.way = Way::Ended(self.shut.unwrap_or(end));
+        let way = Way::Ended(self.shut.unwrap_or(end));
+        set(&mut self.way, way);
     }
 
     /// Shuts it for this, where it isn't shut; what isn't connected yet ends.
@@ -121,7 +123,7 @@ impl Seat {
         self.shut = Some(end);
         match &mut self.way {
             Way::Up(conn) => conn.shut(),
-            Way::Connecting(_) => self.way = Way::Ended(end),
+            Way::Connecting(_) => self.end(end),
             Way::Ended(_) => {}
         }
     }
@@ -220,7 +222,7 @@ impl Seat {
     {
         if let Poll::Ready(connected) = self.poll_connected(cx) {
             if let Some(stream) = connected {
-                self.way = way_of(maker, stream, ConnRole::Dialer);
+                set(&mut self.way, way_of(maker, stream, ConnRole::Dialer));
             }
             self.hear_all(cx, caller, reports);
         }
