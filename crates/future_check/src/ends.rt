@@ -3,6 +3,7 @@
 ghost use Rattle.std.specs.Prelude.{◌<◌, ◌-◌};
 
 use crate::counted::Counted;
+use bounded_conn::BoundedConn;
 use conn_core::ConnCore;
 use conn_future::Conn;
 use conn_link::{Link, Pipe};
@@ -29,6 +30,8 @@ const PAYLOAD: [u8; 32] = [7; 32];
 const PING: usize = 2;
 
 pub(crate) type End<L> = Conn<Counted<L>, NodeProtocols<FixedPayload>>;
+
+pub(crate) type Bounded<L> = BoundedConn<Counted<L>, NodeProtocols<FixedPayload>>;
 
 /// What is told, by its kind.
 #[derive(Clone, Copy, Debug, PartialEq, Eq, Drop)]
@@ -76,6 +79,26 @@ pub(crate) fn connect<L: Link>(alloc: Global, role: ConnRole, link: L) -> Option
     Conn::new(alloc, Counted::new(alloc, link), core).ok()
 }
 
+/// A bounded one.
+pub(crate) fn bounded<L: Link>(alloc: Global, role: ConnRole, link: L) -> Option<Bounded<L>> {
+    match connect(alloc, role, link) {
+        Some(conn) => Some(BoundedConn::new(conn)),
+        None => None,
+    }
+}
+
+/// Lends what was made. Whatever it is, it is let go of here alone: a function that owns a connection has to prove that
+/// of each way out.
+pub(crate) fn lend<T: Drop, F: FnOnce(&mut T) -> Option<bool> + Drop>(
+    made: Option<T>,
+    play: F,
+) -> Option<bool>
+    requires { F.IsAlwaysCallable play }
+{
+    let mut made = made?;
+    play(&mut made)
+}
+
 /// What polls gave.
 #[derive(Drop)]
 pub(crate) struct Gave {
@@ -118,6 +141,15 @@ pub(crate) enum Plan {
     ShutAt(u32),
 }
 
+/// Polls once, and tells by its kind what came of it.
+pub(crate) fn poll_said<L: Link>(task: &MockTask, conn: &mut End<L>) -> Poll<Option<Said>> {
+    match task.enter(|cx| conn.poll_next(cx)) {
+        Poll::Ready(Some(event)) => Poll::Ready(Some(kind_of(&event))),
+        Poll::Ready(None) => Poll::Ready(None),
+        Poll::Pending => Poll::Pending,
+    }
+}
+
 /// Polls once, and notes what came of it.
 pub(crate) fn poll_once<L: Link>(
     task: &MockTask,
@@ -125,25 +157,18 @@ pub(crate) fn poll_once<L: Link>(
     gave: &mut Gave,
 ) -> Option<Poll<Option<Said>>> {
     let before = conn.link().calls;
-    let polled = task.enter(|cx| conn.poll_next(cx));
+    let polled = poll_said(task, conn);
     let calls = conn.link().calls.saturating_sub(before);
     gave.most = gave.most.max(calls);
-    match &polled {
-        Poll::Ready(Some(event)) => {
-            let said = kind_of(event);
-            gave.said.push(said).ok()?;
-            Some(Poll::Ready(Some(said)))
-        }
-        Poll::Ready(None) => {
-            gave.has_ended = true;
-            Some(Poll::Ready(None))
-        }
+    match polled {
+        Poll::Ready(Some(said)) => gave.said.push(said).ok()?,
+        Poll::Ready(None) => gave.has_ended = true,
         Poll::Pending => {
             gave.least_pending = gave.least_pending.min(calls);
             gave.is_idle = gave.is_idle || !task.is_woken();
-            Some(Poll::Pending)
         }
     }
+    Some(polled)
 }
 
 /// Polls until the stream has ended or waits for the link, at most so many times.

@@ -1,6 +1,6 @@
 //! A read or a write that fails.
 
-use crate::ends::{End, Gave, Said, connect, drive, written};
+use crate::ends::{End, Gave, Said, connect, drive, lend, written};
 use crate::row_tests::{TOLD, begins_output, pipe, plan};
 use crate::scripts::failing_at;
 use conn_link::{Link, Pipe};
@@ -40,14 +40,14 @@ fn ends_so(alloc: Global, task: &MockTask, role: ConnRole, conn: &mut End<Pipe>)
     Some(is_right && is_over && gave.most <= 32 && begins_output(role, written(conn)))
 }
 
-fn end(alloc: Global, role: ConnRole, side: Side, count: u32) -> Option<End<Pipe>> {
+/// A pipe whose call behind so many fails.
+fn failing_pipe(alloc: Global, role: ConnRole, side: Side, count: u32) -> Option<Pipe> {
     let failing = failing_at(alloc, count, 9)?;
     let single = failing_at(alloc, 400, 9)?;
-    let pipe = match side {
-        Side::Reads => pipe(alloc, role, &failing, &single)?,
-        Side::Writes => pipe(alloc, role, &single, &failing)?,
-    };
-    connect(alloc, role, pipe)
+    match side {
+        Side::Reads => pipe(alloc, role, &failing, &single),
+        Side::Writes => pipe(alloc, role, &single, &failing),
+    }
 }
 
 /// The call behind so many fails.
@@ -58,8 +58,11 @@ fn fails_at(
     side: Side,
     count: u32,
 ) -> Option<bool> {
-    let mut conn = end(alloc, role, side, count)?;
-    ends_so(alloc, task, role, &mut conn)
+    let pipe = failing_pipe(alloc, role, side, count)?;
+    lend(
+        connect(alloc, role, pipe),
+        |conn| ends_so(alloc, task, role, conn),
+    )
 }
 
 #[test]

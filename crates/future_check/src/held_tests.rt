@@ -1,6 +1,6 @@
 //! Links over a socket that is held up, and a connection over one: nobody asks for another poll while it is.
 
-use crate::ends::{End, Plan, Said, connect, drive};
+use crate::ends::{End, Plan, Said, connect, drive, lend};
 use crate::held::{Held, Hold, held_link};
 use crate::scripts::answer_of;
 use crate::socket_tests::call;
@@ -85,12 +85,24 @@ fn ends_by(
     Some(is_woken && gave.is(&[last]) && is_once && is_over)
 }
 
+fn is_shut_so(
+    alloc: Global,
+    task: &MockTask,
+    conn: &mut End<SocketLink<Held>>,
+    holder: Hold,
+    last: Said,
+) -> Option<bool> {
+    let waits = is_asked_to_shut(alloc, task, conn);
+    drop(holder);
+    Some(waits? && ends_by(alloc, task, conn, last)?)
+}
+
 fn shuts_so(alloc: Global, task: &MockTask, fails: bool, last: Said) -> Option<bool> {
     let (link, holder) = held_link(alloc, true, fails, false)?;
-    let mut conn = connect(alloc, ConnRole::Dialer, link)?;
-    let waits = is_asked_to_shut(alloc, task, &mut conn)?;
-    drop(holder);
-    Some(waits && ends_by(alloc, task, &mut conn, last)?)
+    lend(
+        connect(alloc, ConnRole::Dialer, link),
+        |conn| is_shut_so(alloc, task, conn, holder, last),
+    )
 }
 
 #[test]

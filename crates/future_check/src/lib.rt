@@ -8,6 +8,8 @@ mod ends;
 #[cfg(test)]
 mod failing_tests;
 #[cfg(test)]
+mod flow_tests;
+#[cfg(test)]
 mod held;
 #[cfg(test)]
 mod held_tests;

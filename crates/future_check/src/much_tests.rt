@@ -1,6 +1,6 @@
 //! A connection whose link takes nothing for long: much output waits, and none of it is lost.
 
-use crate::ends::{End, Gave, Plan, Said, UPGRADE, connect, drive, poll_once, written};
+use crate::ends::{End, Gave, Plan, Said, UPGRADE, connect, drive, lend, poll_once, written};
 use crate::scripts::{PENDING, steps_of};
 use conn_link::Pipe;
 use futures::task::Poll;
@@ -28,12 +28,12 @@ fn pings(alloc: Global, flag: u8, count: u32) -> Option<Vec<u8>> {
     Some(bytes)
 }
 
-/// A listener whose other end sends Pings without end. The first two writes take nothing, the third a little; past the
-/// fourth it takes all.
-fn flooded(alloc: Global) -> Option<End<Pipe>> {
+/// The link of a listener whose other end sends Pings without end. The first two writes take nothing, the third a
+/// little; past the fourth it takes all.
+fn flood(alloc: Global) -> Option<Pipe> {
     let writes = steps_of(alloc, &[PENDING, PENDING, 200, PENDING])?;
-    let pipe = Pipe::new(alloc, pings(alloc, ASKS, 60_000)?, Vec::new(alloc), writes);
-    connect(alloc, ConnRole::Listener, pipe)
+    let input = pings(alloc, ASKS, 60_000)?;
+    Some(Pipe::new(alloc, input, Vec::new(alloc), writes))
 }
 
 fn sum(counts: &[usize]) -> usize {
@@ -67,8 +67,11 @@ fn waits_much(alloc: Global, task: &MockTask, conn: &mut End<Pipe>) -> Option<bo
 }
 
 fn loses_none(alloc: Global, task: &MockTask) -> Option<bool> {
-    let mut conn = flooded(alloc)?;
-    waits_much(alloc, task, &mut conn)
+    let pipe = flood(alloc)?;
+    lend(
+        connect(alloc, ConnRole::Listener, pipe),
+        |conn| waits_much(alloc, task, conn),
+    )
 }
 
 #[test]

@@ -1,10 +1,10 @@
 //! The upgrade and a ping, of either end, and how many calls of the link a poll makes.
 
-use crate::counted::Counted;
-use crate::ends::{End, Gave, Plan, Said, UPGRADE, connect, drive, poll_once, written};
+use crate::ends::{
+    Bounded, End, Gave, Plan, Said, UPGRADE, bounded, connect, drive, lend, poll_once, written,
+};
 use crate::quiet::Quiet;
 use crate::scripts::{PENDING, in_turn, steps_of};
-use bounded_conn::BoundedConn;
 use conn_link::Pipe;
 use futures::task::Poll;
 use futures::test::MockTask;
@@ -124,9 +124,10 @@ pub(crate) fn begins_output(role: ConnRole, bytes: &[u8]) -> bool {
     }
 }
 
-fn end(alloc: Global, role: ConnRole, cut: Cut) -> Option<End<Pipe>> {
-    let pipe = pipe(alloc, role, &reads(alloc, cut)?, &writes(alloc, cut)?)?;
-    connect(alloc, role, pipe)
+/// A pipe whose calls are cut so.
+fn cut_pipe(alloc: Global, role: ConnRole, cut: Cut) -> Option<Pipe> {
+    let (reads, writes) = (reads(alloc, cut)?, writes(alloc, cut)?);
+    pipe(alloc, role, &reads, &writes)
 }
 
 fn is_told(alloc: Global, task: &MockTask, role: ConnRole, conn: &mut End<Pipe>) -> Option<bool> {
@@ -135,8 +136,11 @@ fn is_told(alloc: Global, task: &MockTask, role: ConnRole, conn: &mut End<Pipe>)
 }
 
 fn plays(alloc: Global, task: &MockTask, role: ConnRole, cut: Cut) -> Option<bool> {
-    let mut conn = end(alloc, role, cut)?;
-    is_told(alloc, task, role, &mut conn)
+    let pipe = cut_pipe(alloc, role, cut)?;
+    lend(
+        connect(alloc, role, pipe),
+        |conn| is_told(alloc, task, role, conn),
+    )
 }
 
 #[test]
@@ -175,8 +179,11 @@ fn waits_behind_32(
 }
 
 fn asks_behind_32(alloc: Global, task: &MockTask, role: ConnRole) -> Option<bool> {
-    let mut conn = end(alloc, role, Cut::Bytes)?;
-    waits_behind_32(alloc, task, role, &mut conn)
+    let pipe = cut_pipe(alloc, role, Cut::Bytes)?;
+    lend(
+        connect(alloc, role, pipe),
+        |conn| waits_behind_32(alloc, task, role, conn),
+    )
 }
 
 #[test]
@@ -229,8 +236,11 @@ fn is_asked_once(
 }
 
 fn waits_quietly(alloc: Global, task: &MockTask, takes: bool) -> Option<bool> {
-    let mut conn = connect(alloc, ConnRole::Dialer, Quiet::new(takes, Vec::new(alloc)))?;
-    is_asked_once(alloc, task, &mut conn, takes)
+    let link = Quiet::new(takes, Vec::new(alloc));
+    lend(
+        connect(alloc, ConnRole::Dialer, link),
+        |conn| is_asked_once(alloc, task, conn, takes),
+    )
 }
 
 /// So too once it is up: where all that came was heard, and its link waits, a poll asks for no other.
@@ -247,40 +257,54 @@ fn is_idle_once_up(
 }
 
 /// Behind the event no poll asks for another by a waker that an earlier one has kept.
-fn wakes_no_more(alloc: Global, task: &MockTask) -> Option<bool> {
-    let link = Quiet::new(true, UPGRADE.to_vec(alloc).ok()?);
-    let mut conn = connect(alloc, ConnRole::Listener, link)?;
+fn is_woken_no_more(alloc: Global, task: &MockTask, conn: &mut End<Quiet>) -> Option<bool> {
     let mut gave = Gave::new(alloc);
     for _ in 0..20u32 {
-        if poll_once(task, &mut conn, &mut gave)? == Poll::Ready(Some(Said::Upgraded)) {
+        if poll_once(task, conn, &mut gave)? == Poll::Ready(Some(Said::Upgraded)) {
             break;
         }
     }
     for _ in 0..3u32 {
-        if !poll_once(task, &mut conn, &mut gave)?.is_pending() || task.is_woken() {
+        if !poll_once(task, conn, &mut gave)?.is_pending() || task.is_woken() {
             return Some(false);
         }
     }
     Some(true)
+}
+
+fn wakes_no_more(alloc: Global, task: &MockTask) -> Option<bool> {
+    let link = Quiet::new(true, UPGRADE.to_vec(alloc).ok()?);
+    lend(
+        connect(alloc, ConnRole::Listener, link),
+        |conn| is_woken_no_more(alloc, task, conn),
+    )
 }
 
 fn waits_once_up(alloc: Global, task: &MockTask, takes: bool) -> Option<bool> {
     let link = Quiet::new(takes, UPGRADE.to_vec(alloc).ok()?);
-    let mut conn = connect(alloc, ConnRole::Listener, link)?;
-    is_idle_once_up(alloc, task, &mut conn, takes)
+    lend(
+        connect(alloc, ConnRole::Listener, link),
+        |conn| is_idle_once_up(alloc, task, conn, takes),
+    )
 }
 
 /// So too where it is bounded: each poll waits for the link, and asks for no other.
-fn waits_bounded(alloc: Global, task: &MockTask, takes: bool) -> Option<bool> {
-    let link = Quiet::new(takes, Vec::new(alloc));
-    let mut conn = BoundedConn::new(connect(alloc, ConnRole::Dialer, link)?);
+fn is_idle_bounded(task: &MockTask, conn: &mut Bounded<Quiet>) -> bool {
     for _ in 0..3u32 {
         let polled = task.enter(|cx| conn.poll_next(cx));
         if !polled.is_pending() || task.is_woken() || conn.was_dropped() {
-            return Some(false);
+            return false;
         }
     }
-    Some(true)
+    true
+}
+
+fn waits_bounded(alloc: Global, task: &MockTask, takes: bool) -> Option<bool> {
+    let link = Quiet::new(takes, Vec::new(alloc));
+    lend(
+        bounded(alloc, ConnRole::Dialer, link),
+        |conn| Some(is_idle_bounded(task, conn)),
+    )
 }
 
 #[test]
@@ -330,8 +354,10 @@ fn are_all_told(alloc: Global, task: &MockTask, conn: &mut End<Pipe>) -> Option<
 fn tells_many(alloc: Global, task: &MockTask) -> Option<bool> {
     let reads = steps_of(alloc, &[UPGRADE_LEN])?;
     let pipe = Pipe::new(alloc, many_openings(alloc)?, reads, Vec::new(alloc));
-    let mut conn = connect(alloc, ConnRole::Listener, pipe)?;
-    are_all_told(alloc, task, &mut conn)
+    lend(
+        connect(alloc, ConnRole::Listener, pipe),
+        |conn| are_all_told(alloc, task, conn),
+    )
 }
 
 #[test]

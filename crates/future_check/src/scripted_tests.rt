@@ -1,6 +1,8 @@
 //! A thousand runs, each by steps of its own, against the core fed the same bytes directly.
 
-use crate::ends::{End, KEY, Plan, Said, UPGRADE, connect, drive, kind_of, protocols, written};
+use crate::ends::{
+    End, KEY, Plan, Said, UPGRADE, connect, drive, kind_of, lend, protocols, written,
+};
 use crate::row_tests::PINGS;
 use crate::scripts::{Random, random_codes, steps_of};
 use conn_core::{ConnAct, ConnAnswer, ConnRan, run};
@@ -174,8 +176,10 @@ fn follows_core(
 
 fn runs(alloc: Global, task: &MockTask, number: u32) -> Option<bool> {
     let Script { bytes, pipe, plan } = script_of(alloc, number)?;
-    let mut conn = connect(alloc, ConnRole::Listener, pipe)?;
-    follows_core(alloc, task, &mut conn, &bytes, plan)
+    lend(
+        connect(alloc, ConnRole::Listener, pipe),
+        |conn| follows_core(alloc, task, conn, &bytes, plan),
+    )
 }
 
 #[test]

@@ -54,6 +54,16 @@ pub(crate) fn in_turn(alloc: Global, first: u8, second: u8, count: u32) -> Optio
     Some(codes)
 }
 
+/// A call of this code, and then so many of the other.
+pub(crate) fn first_then(alloc: Global, first: u8, other: u8, count: u32) -> Option<Vec<u8>> {
+    let mut codes = Vec::new(alloc);
+    codes.push(first).ok()?;
+    for _ in 0..count {
+        codes.push(other).ok()?;
+    }
+    Some(codes)
+}
+
 /// So many calls of this code, and then one that fails.
 pub(crate) fn failing_at(alloc: Global, count: u32, code: u8) -> Option<Vec<u8>> {
     let mut codes = Vec::new(alloc);

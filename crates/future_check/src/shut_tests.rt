@@ -1,6 +1,6 @@
 //! `shut`: with output left, with the link pending, twice, and after a fault.
 
-use crate::ends::{End, Plan, Said, connect, drive, written};
+use crate::ends::{End, Plan, Said, connect, drive, lend, written};
 use crate::row_tests::{TOLD, begins_output, pipe, plan};
 use crate::scripts::{FAIL, PENDING, in_turn};
 use conn_link::Pipe;
@@ -33,8 +33,10 @@ fn is_written_out(
 fn shuts_at_once(alloc: Global, task: &MockTask, times: u32) -> Option<bool> {
     let writes = in_turn(alloc, PENDING, 1, 400)?;
     let pipe = pipe(alloc, ConnRole::Dialer, &[FAIL], &writes)?;
-    let mut conn = connect(alloc, ConnRole::Dialer, pipe)?;
-    is_written_out(alloc, task, &mut conn, times)
+    lend(
+        connect(alloc, ConnRole::Dialer, pipe),
+        |conn| is_written_out(alloc, task, conn, times),
+    )
 }
 
 /// `shut` before any poll of a run: what was told before is a front, then comes Shut, and all that the core wrote is
@@ -52,8 +54,10 @@ fn shuts_within(alloc: Global, task: &MockTask, poll: u32) -> Option<bool> {
     let reads = in_turn(alloc, 3, PENDING, 400)?;
     let writes = in_turn(alloc, PENDING, 5, 400)?;
     let pipe = pipe(alloc, ConnRole::Listener, &reads, &writes)?;
-    let mut conn = connect(alloc, ConnRole::Listener, pipe)?;
-    is_shut_at(alloc, task, &mut conn, poll)
+    lend(
+        connect(alloc, ConnRole::Listener, pipe),
+        |conn| is_shut_at(alloc, task, conn, poll),
+    )
 }
 
 /// Behind a fault `shut` changes nothing, and asks are refused.
@@ -68,8 +72,10 @@ fn stays_over(alloc: Global, task: &MockTask, conn: &mut End<Pipe>) -> Option<bo
 
 fn shuts_behind_a_fault(alloc: Global, task: &MockTask) -> Option<bool> {
     let pipe = pipe(alloc, ConnRole::Dialer, &[9, 9, FAIL], &[])?;
-    let mut conn = connect(alloc, ConnRole::Dialer, pipe)?;
-    stays_over(alloc, task, &mut conn)
+    lend(
+        connect(alloc, ConnRole::Dialer, pipe),
+        |conn| stays_over(alloc, task, conn),
+    )
 }
 
 /// Behind `shut`, where each write takes a byte, a poll asks for another exactly behind its 32nd call: 32 writes, and
@@ -87,8 +93,10 @@ fn is_shut_by_32(alloc: Global, task: &MockTask, conn: &mut End<Pipe>) -> Option
 fn shuts_by_32(alloc: Global, task: &MockTask) -> Option<bool> {
     let writes = in_turn(alloc, 1, 1, 100)?;
     let pipe = pipe(alloc, ConnRole::Dialer, &[FAIL], &writes)?;
-    let mut conn = connect(alloc, ConnRole::Dialer, pipe)?;
-    is_shut_by_32(alloc, task, &mut conn)
+    lend(
+        connect(alloc, ConnRole::Dialer, pipe),
+        |conn| is_shut_by_32(alloc, task, conn),
+    )
 }
 
 #[test]

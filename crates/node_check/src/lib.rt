@@ -1,5 +1,8 @@
-//! Tests of the command line of `node`: whole runs by their words, input, output, faults and status.
+//! Tests of what the program `node` can't show from outside: a node whose listings are frozen, and what is told where
+//! memory is wanting. `tools/test-node` runs the program itself.
 #![tactic(auto)]
 
 #[cfg(test)]
-mod node_tests;
+mod ending_tests;
+#[cfg(test)]
+mod frozen_tests;

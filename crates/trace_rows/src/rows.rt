@@ -76,6 +76,8 @@ pub struct Row {
 /// Flags of a frame of Data.
 const NONE: u16 = 0;
 
+const SYN: u16 = 1;
+
 const FIN: u16 = 4;
 
 const RST: u16 = 8;
@@ -158,7 +160,7 @@ static STREAMS: [Row; 10] = [
         ],
     },
     Row {
-        name: "a talk that breaks its stream alone",
+        name: "a talk that breaks its stream alone, in the frame that opens it",
         role: "listener",
         lines: &[
             Line::Upgrade,
@@ -166,8 +168,7 @@ static STREAMS: [Row; 10] = [
             Line::Feed(&[
                 Piece::Open(1),
                 Piece::Data(NONE, 1, &[Part::Header, Part::Ping, Part::Half]),
-                Piece::Open(3),
-                Piece::Data(NONE, 3, &[Part::Header, Part::Zero]),
+                Piece::Data(SYN, 3, &[Part::Header, Part::Zero]),
             ]),
             Line::Other(1, "out"),
             Line::Feed(&[Piece::Data(FIN, 1, &[Part::Half])]),

@@ -1,6 +1,6 @@
 use Rattle.std.proofs.Common.{refl}
 use Rattle.swarm_calls.proofs.Prefixes.{prefix_self}
-use Rattle.run_check.proofs.rows.FrozenLooking.renew.Goals as goal
+use Rattle.node_check.proofs.frozen_tests.FrozenLooking.renew.Goals as goal
 
 pub returns-clause-later : goal.returns-clause-later
 returns-clause-later g c = record {

@@ -1,5 +1,0 @@
-use Rattle.futures.specs.Task.{Keeps}
-use Rattle.run_check.proofs.clients.ServingFuture.poll.Given as goal
-
-abbrev pub invariant-loop : goal.invariant-loop
-invariant-loop g l = Keeps l.fn.cx l.cx
