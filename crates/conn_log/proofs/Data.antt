@@ -377,7 +377,7 @@ module _ {P H : Type 0} (step : H → HandlerCall → H → Type 0) (fails : H �
 
       -- both ends agree by a front of these bytes, and the handler takes the rest
       agreed_on : (outcome : Outcome H) (index : ℕ) (front more : List ℕ) (middle : Streaming H) → is_talking old.stage ≡ true
-          → (has : HasAgreed step fails is_closed is_finished role (items log) fed sent n makes none_made h.so_far bytes index front more middle)
+          → (has : HasAgreed step makes none_made h.so_far bytes index front more middle)
           → Takes step fails is_closed is_finished role (items log) fed sent n (record h.so_far { got = h.so_far.got ++ front; made = Some has.made }) more middle before outcome after new
           → Went making log (event.Agreed n index ∷ []) fed sent after now past n rest outcome
       agreed_on outcome index front more middle talks has took = by_making has.is_made where

@@ -1,5 +1,5 @@
 -- What a stream came to, by the answers of the calls below.
-use Rattle.std.proofs.Common.{◌≡◌, ◌⊎◌, inl, inr, ℕ, Bool, true, false, List, Some, Result, Ok, Err, refl, sym, ap, ◌∙◌, subst}
+use Rattle.std.proofs.Common.{◌≡◌, ◌⊎◌, inl, inr, ℕ, Bool, true, false, List, Some, Result, Ok, Err, refl, sym, ap, ◌∙◌, subst, take, drop}
 use Rattle.std.specs.Prelude.{IfOk, OnErr}
 use Rattle.handlers.specs.Calls.{HandlerCall, Asked}
 use Rattle.handlers.specs.declared.handler.HandlerFault.{HandlerFault}
@@ -10,9 +10,12 @@ use Rattle.streams.specs.declared.stop.Stop.TheVariants as stops
 use Rattle.streams.specs.declared.stage.Stage.{Stage}
 use Rattle.streams.specs.declared.stage.Stage.TheVariants as stages
 use Rattle.streams.specs.Streams.{Past}
-use Rattle.streams.specs.State.{Streaming, Stands, StandsAt, is_talking, handler_of, awaits_handler}
+use Rattle.streams.specs.State.{Streaming, Stands, StandsAt, is_talking, handler_of, awaits_handler, kind_of, Served, HandedOut}
 use Rattle.streams.specs.Stops.{FailsBy}
-use Rattle.serving.specs.Served.{AnswersCall}
+use Rattle.serving.specs.Served.{AnswersCall, IsKept}
+use Rattle.streams.specs.declared.heard.Heard.TheVariants.{Agreed}
+use Rattle.dispatch.specs.Dispatch.{Negotiates}
+use Rattle.routing.specs.Routing.{HasAgreed}
 use Rattle.routing.specs.declared.delivered.Outcome.{Outcome}
 use Rattle.routing.specs.declared.delivered.Outcome.TheVariants as outcomes
 
@@ -111,3 +114,42 @@ keeps_memory fails asked stages.Over stop serving done talking else = no_memory 
 
 pub not_both : {b : Bool} → b ≡ true → b ≡ false → ⊥
 not_both on off = absurd (let e : true ≡ false = sym on ∙ off in cc e)
+
+-- ---- where memory is wanting
+
+-- it doesn't talk where that is refused
+pub quiet_by : {H : Type 0} (stage : Stage H) → (is_talking stage ≡ true → ⊥) → is_talking stage ≡ false
+quiet_by (stages.Talking talk handler) not = absurd (not refl)
+quiet_by (stages.Agreed index) not = refl
+quiet_by (stages.Serving handler) not = refl
+quiet_by stages.Done not = refl
+quiet_by stages.Over not = refl
+
+pub failed : {A E P : Type 0} (r : Result A E) → P → OnErr r P
+failed (Ok a) p = tt
+failed (Err e) p = p
+
+pub behind_by : {A E P Q : Type 0} (r : Result A E) → (P → Q) → OnErr r P → OnErr r Q
+behind_by (Ok a) f p = tt
+behind_by (Err e) f p = f p
+
+-- kept behind a call that left its kind and what waits as they were
+pub kept_on : {H : Type 0} (old middle new : Streaming H) → middle.waiting ≡ old.waiting → kind_of middle.stage ≡ kind_of old.stage → IsKept middle new → IsKept old new
+kept_on old middle new waits kind kept none = kept_by (kept (waits ∙ none)) where
+  kept_by : (kind_of new.stage ≡ kind_of middle.stage) ⊎ ((kind_of middle.stage ≡ Served) × (kind_of new.stage ≡ HandedOut))
+      → (kind_of new.stage ≡ kind_of old.stage) ⊎ ((kind_of old.stage ≡ Served) × (kind_of new.stage ≡ HandedOut))
+  kept_by (inl same) = inl (same ∙ kind)
+  kept_by (inr out) = inr (sym kind ∙ out.0, out.1)
+
+-- ---- an agreement
+
+-- both ends agree, and the handler is there
+abbrev pub agreed_here : {H : Type 0} (step : H → HandlerCall → H → Type 0) (makes : ℕ → H → Type 0) (none_made : Type 0) (so_far : Past H) (bytes : List ℕ) (index used : ℕ) (middle : Streaming H)
+    → Negotiates step makes none_made so_far bytes (Ok (Agreed index used)) middle → HasAgreed step makes none_made so_far bytes index (take used bytes) (drop used bytes) middle
+agreed_here step makes none_made so_far bytes index used middle came = record {
+  agrees = came.0;
+  made = came.1.0;
+  is_made = came.1.1;
+  stands = came.1.2;
+  serving = ap kind_of came.2.1;
+}

@@ -15,11 +15,25 @@ use Rattle.streams.specs.declared.stop.Stop.TheVariants as stops
 use Rattle.streams.specs.declared.stage.Stage.TheVariants as stages
 use Rattle.streams.specs.Streams.{Past, with_call}
 use Rattle.streams.specs.State.{Streaming, Stands, is_talking, was_handed_out, answering, kind_of, Served}
-use Rattle.serving.specs.Served.{AnswersCall, Asking, Serves, GivesUp}
+use Rattle.serving.specs.Served.{AnswersCall, Asking, Serves, GivesUp, IsKept}
 use Rattle.dispatch.specs.Dispatch.{AgreesBy, IsMade}
 use Rattle.routing.specs.declared.delivered.Delivered.{Delivered}
 use Rattle.routing.specs.declared.delivered.Outcome.{Outcome}
 use Rattle.routing.specs.declared.delivered.Outcome.TheVariants.{Going, Done, Refused, Broken}
+
+-- ---- behind the talk
+
+module _ {H : Type 0} (step : H → HandlerCall → H → Type 0) (makes : ℕ → H → Type 0) (none_made : Type 0) where
+  -- By this front both ends agree on the protocol of this index, and its handler is there: so far this came then.
+  pub record HasAgreed (so_far : Past H) (bytes : List ℕ) (index : ℕ) (front rest : List ℕ) (middle : Streaming H)
+      : Type 0 where
+    pub agrees : AgreesBy so_far bytes index front rest
+    pub made : H
+    pub is_made : IsMade makes none_made so_far index made
+    pub stands : Stands step middle (record so_far { got = so_far.got ++ front; made = Some made })
+    pub serving : kind_of middle.stage ≡ Served
+
+-- ---- what came of it
 
 module _ {H : Type 0} (step : H → HandlerCall → H → Type 0) (fails : H → Asked → ℕ → Type 0)
     (is_closed is_finished : H → Bool) (role : Role) (past : List Item) (fed sent : List ℕ) (n : ℕ) where
@@ -70,16 +84,6 @@ module _ {H : Type 0} (step : H → HandlerCall → H → Type 0) (fails : H →
       outcome session stream)
 
   module _ (makes : ℕ → H → Type 0) (none_made : Type 0) where
-    -- By this front both ends agree on the protocol of this index, and the handler took the rest: so far this came
-    -- then.
-    pub record HasAgreed (so_far : Past H) (bytes : List ℕ) (index : ℕ) (front rest : List ℕ) (middle : Streaming H)
-        : Type 0 where
-      pub agrees : AgreesBy so_far bytes index front rest
-      pub made : H
-      pub is_made : IsMade makes none_made so_far index made
-      pub stands : Stands step middle (record so_far { got = so_far.got ++ front; made = Some made })
-      pub serving : kind_of middle.stage ≡ Served
-
     -- Why the stream is done with before it was served: nothing was done or made then, and it is over.
     abbrev pub Stops : Past H → List ℕ → Outcome H → Streaming H → Type 0
     Stops so_far bytes Refused stream =
@@ -104,7 +108,7 @@ module _ {H : Type 0} (step : H → HandlerCall → H → Type 0) (fails : H →
         ⊎ ((session ≡ before) × Stops so_far bytes outcome stream)
     InTalk so_far bytes before (Some index) outcome session stream =
         (front : List ℕ) × (rest : List ℕ) × (middle : Streaming H)
-        × ((has : HasAgreed so_far bytes index front rest middle)
+        × ((has : HasAgreed step makes none_made so_far bytes index front rest middle)
         × Takes (record so_far { got = so_far.got ++ front; made = Some has.made }) rest middle before outcome session
         stream)
 
@@ -114,3 +118,22 @@ module _ {H : Type 0} (step : H → HandlerCall → H → Type 0) (fails : H →
         (is_talking old.stage ≡ true → InTalk so_far bytes before delivered.agreed delivered.outcome session stream)
         × (is_talking old.stage ≡ false → (delivered.agreed ≡ None) × none_made
         × Takes so_far bytes old before delivered.outcome session stream)
+
+-- ---- where memory is wanting
+
+module _ {H : Type 0} (step : H → HandlerCall → H → Type 0) where
+  -- Memory is wanting behind a call: the handler answered it, or it was dropped, and the stream isn't given up.
+  abbrev pub RunsOutBehind : HandlerCall → Streaming H → Streaming H → Type 0
+  RunsOutBehind call old stream = AnswersCall step old.stage call × IsKept old stream
+
+  module _ (makes : ℕ → H → Type 0) (none_made : Type 0) where
+    -- Memory is wanting when the stream is served behind data: while nothing is decided it isn't given up; else its
+    -- handler took what stands behind the talk.
+    abbrev pub ServingRunsOut : Past H → List ℕ → Streaming H → Streaming H → Type 0
+    ServingRunsOut so_far bytes old stream =
+        (is_talking old.stage ≡ true
+        → ((middle : Streaming H) × Stands step middle (record so_far { got = so_far.got ++ bytes })
+        × (is_talking middle.stage ≡ true) × none_made × IsKept middle stream)
+        ⊎ ((index : ℕ) × (front : List ℕ) × (rest : List ℕ) × (middle : Streaming H)
+        × HasAgreed step makes none_made so_far bytes index front rest middle × RunsOutBehind (Take rest) middle stream))
+        × (is_talking old.stage ≡ false → none_made × RunsOutBehind (Take bytes) old stream)

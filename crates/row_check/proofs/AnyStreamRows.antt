@@ -6,7 +6,7 @@ use Rattle.yamux_session.specs.declared.event.Role.{Role}
 use Rattle.yamux_session.specs.History.{Item}
 use Rattle.yamux_session.specs.History.Item.{Did}
 use Rattle.streams.specs.Handled.{AskedLast}
-use Rattle.streams.specs.State.{Streaming, is_talking, handler_of, holds}
+use Rattle.streams.specs.State.{Streaming, is_talking, handler_of, holds, Kind, Ended, Served, HandedOut}
 use Rattle.streams.specs.Streams.{Past, IsAsking, with_call}
 use Rattle.serving.specs.Served.{MayBeAsked, Asking}
 use Rattle.row_check.specs.AnyStreamRows.{AnyStageRows, AnyHearingRows, AnyStandingRows, AnyServingRows, AnyDirectionRows, AnyRoutingRows}
@@ -19,6 +19,10 @@ or_on f g (inr b) = inr (g b)
 by_held : {H : Type 0} (held : Option H) → holds (λ handler. true) held ≡ is_some held
 by_held None = refl
 by_held (Some handler) = refl
+
+over_of_served : (Ended ≡ Served) ⊎ ((Served ≡ Served) × (Ended ≡ HandedOut)) → ⊥
+over_of_served (inl e) = absurd (cc e)
+over_of_served (inr e) = absurd (let it = e.1 in cc it)
 
 pub any_stages : {H : Type 0} → AnyStageRows H
 any_stages = record {
@@ -238,4 +242,12 @@ module _ {H : Type 0} (step : H → HandlerCall → H → Type 0) (fails : H →
     talk_agrees = λ so_far bytes before session index outcome stream. (λ h. h, λ h. h);
     delivers_in_talk = λ so_far bytes old stream before session delivered e. one_counts (is_talking old.stage) e;
     delivers = λ so_far bytes old stream before session delivered e. other_counts (is_talking old.stage) e;
+    kept = λ old stream none same _. inl same;
+    kept_and_handed_out = λ old stream none served out _. inr (served, out);
+    kept_is = λ old stream none h. h none;
+    not_kept = λ handler h. over_of_served (h refl);
+    any_way_behind_output = λ old stream some none. absurd (some none);
+    runs_out_behind = λ call old stream. (λ h. h, λ h. h);
+    runs_out_in_talk = λ so_far bytes old stream e. one_counts (is_talking old.stage) e;
+    runs_out = λ so_far bytes old stream e. other_counts (is_talking old.stage) e;
   }

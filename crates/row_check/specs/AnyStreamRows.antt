@@ -34,18 +34,18 @@ use Rattle.streams.specs.Handled.{AskedLast, Handled}
 use Rattle.streams.specs.Streams.{Past, fresh, and_call, with_call, IsGoing, HasAgreed, IsEarly, IsServed}
 use Rattle.streams.specs.State.{Streaming, Stands, is_talking, awaits_handler, handler_of, holds_handler, is_open}
 use Rattle.streams.specs.State.{has_closed}
-use Rattle.streams.specs.State.{has_finished, was_handed_out, answering, kind_of, InTalk, Awaiting, Served}
+use Rattle.streams.specs.State.{has_finished, was_handed_out, answering, kind_of, InTalk, Awaiting, Served, HandedOut}
 use Rattle.streams.specs.Hearing.{used_of, Hears, HasHeard, Moves, HasNoRoom, HasRunOut, RunsOut}
 use Rattle.streams.specs.Laws.{OneSplit}
 use Rattle.serving.specs.Served.{with_sent, IsDue, AreDue, Goes, IsSettled, HandsOut, Serves, GivesUp}
-use Rattle.serving.specs.Served.{MayBeAsked, Asking, MayGrow}
+use Rattle.serving.specs.Served.{MayBeAsked, Asking, MayGrow, IsKept}
 use Rattle.dispatch.specs.declared.direction.Direction.TheVariants.{Inbound, Outbound}
 use Rattle.dispatch.specs.Dispatch.{IsKnown, made_by, led_by, makes_once, AgreesBy, IsMade, Negotiates, MakingRunsOut}
 use Rattle.routing.specs.declared.delivered.Delivered.{Delivered}
 use Rattle.routing.specs.declared.delivered.Outcome.{Outcome}
 use Rattle.routing.specs.declared.delivered.Outcome.TheVariants as outcomes
 use Rattle.routing.specs.Routing.{Came, Fails, Hands, Takes, Ends, Stops, Delivers, HasAgreed as HasAgreedOn}
-use Rattle.routing.specs.Routing.{InTalk as RoutesInTalk}
+use Rattle.routing.specs.Routing.{InTalk as RoutesInTalk, RunsOutBehind, ServingRunsOut}
 
 -- What is asked of a stream: in each stage, whatever is held there
 pub record AnyStageRows (H : Type 0) : Type 0 where
@@ -377,7 +377,7 @@ module _ {H : Type 0} (step : H → HandlerCall → H → Type 0) (fails : H →
   fails_at = Fails step fails is_closed is_finished role past fed sent n
 
   abbrev pub agreed_on : Past H → List ℕ → ℕ → List ℕ → List ℕ → Streaming H → Type 0
-  agreed_on = HasAgreedOn step fails is_closed is_finished role past fed sent n makes none_made
+  agreed_on = HasAgreedOn step makes none_made
 
   abbrev pub stops_by : Past H → List ℕ → Outcome H → Streaming H → Type 0
   stops_by = Stops step fails is_closed is_finished role past fed sent n makes none_made
@@ -512,3 +512,26 @@ module _ {H : Type 0} (step : H → HandlerCall → H → Type 0) (fails : H →
         delivered session stream ↔ ((delivered.agreed ≡ None) × none_made
         × Takes step fails is_closed is_finished role past fed sent n so_far bytes old before delivered.outcome session
         stream)
+    -- where memory is wanting the stream isn't given up, unless what its talk wrote waited
+    pub kept : (old stream : Streaming H) → old.waiting ≡ [] → kind_of stream.stage ≡ kind_of old.stage
+        → IsKept old stream
+    pub kept_and_handed_out : (old stream : Streaming H) → old.waiting ≡ [] → kind_of old.stage ≡ Served
+        → kind_of stream.stage ≡ HandedOut → IsKept old stream
+    pub kept_is : (old stream : Streaming H) → old.waiting ≡ [] → IsKept old stream
+        → (kind_of stream.stage ≡ kind_of old.stage)
+        ⊎ ((kind_of old.stage ≡ Served) × (kind_of stream.stage ≡ HandedOut))
+    pub not_kept : (handler : H) → ¬ IsKept (record { waiting = []; stage = stages.Serving handler })
+        (record { waiting = []; stage = stages.Over })
+    pub any_way_behind_output : (old stream : Streaming H) → old.waiting ≢ [] → IsKept old stream
+    pub runs_out_behind : (call : HandlerCall) (old stream : Streaming H) → RunsOutBehind step call old stream
+        ↔ (((handler : H) → handler_of old.stage ≡ Some handler → (after : H) × step handler call after)
+        × IsKept old stream)
+    pub runs_out_in_talk : (so_far : Past H) (bytes : List ℕ) (old stream : Streaming H) → is_talking old.stage ≡ true
+        → ServingRunsOut step makes none_made so_far bytes old stream
+        ↔ (((middle : Streaming H) × Stands step middle (record so_far { got = so_far.got ++ bytes })
+        × (is_talking middle.stage ≡ true) × none_made × IsKept middle stream)
+        ⊎ ((index : ℕ) × (front rest : List ℕ) × (middle : Streaming H)
+        × agreed_on so_far bytes index front rest middle × RunsOutBehind step (Take rest) middle stream))
+    pub runs_out : (so_far : Past H) (bytes : List ℕ) (old stream : Streaming H) → is_talking old.stage ≡ false
+        → ServingRunsOut step makes none_made so_far bytes old stream
+        ↔ (none_made × RunsOutBehind step (Take bytes) old stream)

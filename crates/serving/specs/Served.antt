@@ -17,6 +17,7 @@ use Rattle.streams.specs.declared.stage.Stage.TheVariants.{Done}
 use Rattle.streams.specs.declared.stop.Stop.{Stop}
 use Rattle.streams.specs.Streams.{Past, IsServed, with_call}
 use Rattle.streams.specs.State.{Streaming, Stands, handler_of, is_open, has_closed, has_finished, was_handed_out}
+use Rattle.streams.specs.State.{Kind, Served, HandedOut, kind_of}
 use Rattle.streams.specs.Stops.{FailsBy}
 
 -- ---- the call by which a stream is served
@@ -143,6 +144,12 @@ pub record GivesUp {H : Type 0} (fails : H → Asked → ℕ → Type 0) (is_clo
   pub held : handler_of stream.stage ≡ Some handler
   pub unclosed : is_closed handler ≡ false
   pub fails_by : FailsBy fails handler (ToGive (credit - length stream.waiting)) stop
+
+-- Behind want of memory the stream is where it was, or its handler was handed out: it isn't given up, unless what its
+-- talk wrote waited, which is copied with what its handler gives.
+abbrev pub IsKept : {H : Type 0} → Streaming H → Streaming H → Type 0
+IsKept old stream = old.waiting ≡ [] → (kind_of stream.stage ≡ kind_of old.stage)
+    ⊎ ((kind_of old.stage ≡ Served) × (kind_of stream.stage ≡ HandedOut))
 
 -- Serving may send something on the stream: it is live, and this direction is open, or a window is given back.
 abbrev pub MayGrow : Role → List Item → ℕ → Type 0

@@ -10,7 +10,7 @@ ghost use Rattle.yamux_session.specs.State.{Stands as SessionStands, Whenever};
 ghost use Rattle.streams.specs.declared.stage.Stage.TheVariants.{Over};
 ghost use Rattle.streams.specs.Streams.{Past};
 ghost use Rattle.streams.specs.State.{Stands, Served, kind_of, was_handed_out};
-ghost use Rattle.serving.specs.Served.{Asking, Serves, GivesUp, MayGrow};
+ghost use Rattle.serving.specs.Served.{Asking, Serves, GivesUp, IsKept, MayGrow};
 ghost use Rattle.serving.specs.Steps.{Sends, WasAsked, Closes, Counts};
 
 use handlers::Handler;
@@ -34,6 +34,7 @@ fn send<H: Handler>(
     ensures fault { IfErr result (λ stop. stop ≢ Stop.OutOfMemory → (session.new ≡ session.old)
         × ((stream.new ≡ record stream.old { stage = Over }) × GivesUp H.fails H.is_closed stream.old credit stop)) }
     ensures kind { OnOk result (kind_of stream.new.stage ≡ kind_of stream.old.stage) }
+    ensures is_kept { result ≡ Err Stop.OutOfMemory → IsKept stream.old stream.new }
 {
     let bytes = stream.give(credit as usize)?;
     if bytes.is_empty() {
@@ -63,6 +64,7 @@ fn ask<H: Handler>(session: &mut Session, number: u32, stream: &mut Stream<H>) -
         × ((stream.new ≡ record stream.old { stage = Over }) × Whenever session.old (λ role past.
         (credit : ℕ) × (open_credit role past number ≡ Some credit)
         × GivesUp H.fails H.is_closed stream.old credit stop))) }
+    ensures is_kept { result ≡ Err Stop.OutOfMemory → IsKept stream.old stream.new }
 {
     acts_tell();
     let Some(credit) = session.credit(number) else {
@@ -161,6 +163,8 @@ pub fn serve<H: Handler>(
         (credit : ℕ) × (open_credit role past number ≡ Some credit)
         × GivesUp H.fails H.is_closed stream.old credit stop))) }
     ensures memory { result ≡ Err Stop.OutOfMemory → Whenever session.old (λ role past. MayGrow role past number) }
+    // So want of memory stands for no fault of the handler.
+    ensures is_kept { result ≡ Err Stop.OutOfMemory → IsKept stream.old stream.new }
 {
     acts_tell();
     let is_left = ask(session, number, stream)?;

@@ -1,10 +1,10 @@
-use Rattle.std.proofs.Common.{◌≡◌, ◌++◌, true, false, Some, Ok, refl, sym, ap, subst, inl, take, drop}
+use Rattle.std.proofs.Common.{◌≡◌, ◌++◌, true, false, Some, Ok, refl, sym, ap, subst, inl, inr, take, drop}
 use Rattle.streams.specs.declared.heard.Heard.{Heard}
-use Rattle.streams.specs.State.{is_talking, awaits_handler, kind_of}
+use Rattle.streams.specs.State.{is_talking, awaits_handler}
 use Rattle.dispatch.specs.Dispatch.{Negotiates, makes_once}
 use Rattle.routing.specs.declared.delivered.Delivered.{Delivered}
-use Rattle.routing.specs.Routing.{Delivers, HasAgreed}
-use Rattle.routing.proofs.Delivering.{not_both}
+use Rattle.routing.specs.Routing.{Delivers}
+use Rattle.routing.proofs.Delivering.{not_both, agreed_here, failed}
 use Rattle.routing.proofs.delivery.deliver.Goals as goal
 
 pub returns-then-not-talks-clause-delivers : goal.returns-then-not-talks-clause-delivers
@@ -54,13 +54,7 @@ returns-in_ok-outcome-in-Ok-Agreed-clause-delivers g c = λ role past fed sent s
     let came = subst (λ (heard : Heard). Negotiates H.steps makes none_made so_far bytes (Ok heard) middle) c.in-Ok-Agreed.field-0-is
     (c.in-Ok-Agreed.ensures.negotiates so_far stands talks known (λ e. cc e)) in
     let now = record so_far { got = so_far.got ++ take used bytes; made = Some came.1.0 } in
-    let has : HasAgreed H.steps H.fails H.is_closed H.is_finished role past fed sent c.args.number makes none_made so_far bytes index (take used bytes) (drop used bytes) middle = record {
-      agrees = came.0;
-      made = came.1.0;
-      is_made = came.1.1;
-      stands = came.1.2;
-      serving = ap kind_of came.2.1;
-    } in (
+    let has = agreed_here H.steps makes none_made so_far bytes index used middle came in (
       λ _. (
         take used bytes,
         drop used bytes,
@@ -69,3 +63,55 @@ returns-in_ok-outcome-in-Ok-Agreed-clause-delivers g c = λ role past fed sent s
       ),
       λ quiet. absurd (not_both talks quiet),
     )
+
+-- ---- where memory is wanting
+
+pub returns-in_err-outcome-clause-memory : goal.returns-in_err-outcome-clause-memory
+returns-in_err-outcome-clause-memory g c = λ so_far stands known.
+    let why = c.in_err-outcome.ensures.behind in
+    failed c.from_residual.result (inl (c.in_err-outcome.ensures.memory, (λ talks. absurd (not_both talks why.0), λ quiet. (refl, why.1))))
+
+pub returns-in_err-deliver_credit-in-Ok-Going-clause-memory : goal.returns-in_err-deliver_credit-in-Ok-Going-clause-memory
+returns-in_err-deliver_credit-in-Ok-Going-clause-memory g c = λ so_far stands known.
+    let H = g.P.H.Handler in
+    let P = g.P.Protocols in
+    let makes = makes_once P.makes_inbound P.makes_outbound P.leads_inbound P.leads_outbound c.args.direction c.args.peer c.args.protocols.now c.negotiate.new.protocols in
+    let none_made = c.negotiate.new.protocols ≡ c.args.protocols.now in
+    let talks : is_talking c.args.stream.now.stage ≡ true = sym c.if-not-talks.ensures in
+    let middle = c.negotiate.new.stream in
+    let came = subst (λ (heard : Heard). Negotiates H.steps makes none_made so_far c.args.bytes.now (Ok heard) middle) c.in-Ok-Going.field-0-is
+    (c.in-Ok-Going.ensures.negotiates so_far stands talks known (λ e. cc e)) in
+    failed c.from_residual-in_err-deliver_credit-in-Ok-Going.result
+    (inl (
+      c.in_err-deliver_credit-in-Ok-Going.ensures.memory,
+      (λ _. inl (middle, came.0, came.1, came.2, c.in_err-deliver_credit-in-Ok-Going.ensures.is_kept), λ quiet. absurd (not_both talks quiet)),
+    ))
+
+pub returns-in_err-outcome-in-Ok-Agreed-clause-memory : goal.returns-in_err-outcome-in-Ok-Agreed-clause-memory
+returns-in_err-outcome-in-Ok-Agreed-clause-memory g c = λ so_far stands known.
+    let H = g.P.H.Handler in
+    let P = g.P.Protocols in
+    let makes = makes_once P.makes_inbound P.makes_outbound P.leads_inbound P.leads_outbound c.args.direction c.args.peer c.args.protocols.now c.negotiate.new.protocols in
+    let none_made = c.negotiate.new.protocols ≡ c.args.protocols.now in
+    let bytes = c.args.bytes.now in
+    let talks : is_talking c.args.stream.now.stage ≡ true = sym c.if-not-talks.ensures in
+    let middle = c.negotiate.new.stream in
+    let index = c.in-Ok-Agreed.index in
+    let used = c.in-Ok-Agreed.used in
+    let came = subst (λ (heard : Heard). Negotiates H.steps makes none_made so_far bytes (Ok heard) middle) c.in-Ok-Agreed.field-0-is
+    (c.in-Ok-Agreed.ensures.negotiates so_far stands talks known (λ e. cc e)) in
+    failed c.from_residual-in_err-outcome-in-Ok-Agreed.result
+    (inl (
+      c.in_err-outcome-in-Ok-Agreed.ensures.memory,
+      (
+        λ _. inr (
+          index,
+          take used bytes,
+          drop used bytes,
+          middle,
+          agreed_here H.steps makes none_made so_far bytes index used middle came,
+          rw (sym c.behind.ensures) c.in_err-outcome-in-Ok-Agreed.ensures.behind.1,
+        ),
+        λ quiet. absurd (not_both talks quiet),
+      ),
+    ))
