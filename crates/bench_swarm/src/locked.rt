@@ -1,6 +1,7 @@
 //! The other side: a pool and an `Arc` of its listing under a plain mutex.
 
-use crate::plan::{Done, Pace, Plan, Rates, Work, is_over};
+use crate::plan::{Done, Pace, Plan, Rates, Work};
+use crate::race::{pass_time, race};
 use crate::{guest, other, peer};
 use peer_ids::PeerId;
 use pool_state::{Call, Config, Listing, Pool, Reply};
@@ -8,8 +9,8 @@ use std::alloc::Global;
 use std::io;
 use std::rt::Clock;
 use std::sync::{Arc, Mutex, Wait};
-use std::thread::{self, Threads, join, map_indices};
-use std::time::{Duration, Instant};
+use std::thread::{Threads, map_indices};
+use std::time::Instant;
 
 /// How many locks are taken and left.
 const LOCKS: u32 = 100_000;
@@ -52,30 +53,6 @@ fn come_and_go<R: Wait>(rt: &R, shown: &Mutex<Shown>, peer: PeerId) -> u64 {
         }
         _ => 1,
     }
-}
-
-/// Lets the time of the plan go by, with calls where the plan says so. Answers how many calls.
-fn pass_time<R: Wait + Clock>(
-    rt: &R,
-    shown: &Mutex<Shown>,
-    (plan, peer, pace): (&Plan, PeerId, &Pace),
-) -> u64 {
-    let mut calls: u64 = 0;
-    pace.begin();
-    if let Ok(start) = Instant::now(rt) {
-        for _ in rt.forever() {
-            if is_over(rt, plan, &start) {
-                break;
-            }
-            if plan.beside_calls {
-                calls = calls.saturating_add(come_and_go(rt, shown, peer));
-            } else {
-                thread::sleep(rt, Duration::from_millis(1));
-            }
-        }
-    }
-    pace.stop();
-    calls
 }
 
 /// Another owner of the listing, which is looked at without the lock.
@@ -133,25 +110,19 @@ pub fn rate<R: Threads + Wait + Clock + Sync>(
     config: Config,
     plan: &Plan,
 ) -> io::Result<Rates> {
-    let (shown, pace, guest) = (&filled(alloc, config, plan.rows)?, &Pace::new(), guest());
-    let (calls, time) = join(
+    let (shown, pace, guest) = (filled(alloc, config, plan.rows)?, &Pace::new(), guest());
+    let shown = &shown;
+    race(
         rt,
-        || pass_time(rt, shown, (plan, guest, pace)),
-        || {
-            pace.wait(rt);
-            let start = Instant::now(rt)?;
-            let done = map_indices(
-                rt,
-                alloc,
-                plan.threads,
-                &|_| { work(rt, shown, (plan, guest, pace)) },
-            )?;
-            let time = start.elapsed(rt)?.as_nanos();
-            Ok::<(Done, u128), io::Error>((Done::all(done.as_slice()), time))
-        },
-    );
-    let (done, nanos) = time?;
-    Rates::of(done, calls, nanos)
+        pace,
+        || pass_time(rt, plan, pace, || come_and_go(rt, shown, guest)),
+        || map_indices(
+            rt,
+            alloc,
+            plan.threads,
+            &|_| { work(rt, shown, (plan, guest, pace)) },
+        ),
+    )
 }
 
 /// How often a second a lock is taken and left.

@@ -4,6 +4,7 @@
 
 mod locked;
 mod plan;
+mod race;
 mod shared;
 
 use crate::plan::{Plan, Work};

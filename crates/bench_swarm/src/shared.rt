@@ -2,7 +2,8 @@
 
 ghost use Rattle.std.specs.Prelude.{◌≡◌, ◌+◌};
 
-use crate::plan::{Done, Pace, Plan, Rates, Work, is_over};
+use crate::plan::{Done, Pace, Plan, Rates, Work};
+use crate::race::{pass_time, race};
 use crate::{guest, other, peer};
 use peer_ids::PeerId;
 use pool_state::{Config, Reply};
@@ -12,8 +13,7 @@ use std::marker::Brand;
 use std::rt::Clock;
 use std::sync::Wait;
 use std::sync::ledger::Ledger;
-use std::thread::{self, Threads, join, map_vec};
-use std::time::{Duration, Instant};
+use std::thread::{Threads, map_vec};
 use swarm_calls::{BlankHistory, BlankLedgers, Eight, Identity, Ledgers, NoGate, Pass, Swarm};
 
 /// Admits a connection of the peer, and ends it. Answers how many calls that took.
@@ -32,36 +32,11 @@ fn come_and_go<J: Identity, L: Ledgers, R: Wait>(
     }
 }
 
-/// Lets the time of the plan go by, with calls where the plan says so. Answers how many calls.
-fn pass_time<J: Identity, L: Ledgers, R: Wait + Clock>(
-    rt: &R,
-    swarm: &Swarm<NoGate, J, L>,
-    pass: &mut Pass<J, L>,
-    (plan, peer, pace): (&Plan, PeerId, &Pace),
-) -> u64 {
-    let mut calls: u64 = 0;
-    pace.begin();
-    if let Ok(start) = Instant::now(rt) {
-        for _ in rt.forever() {
-            if is_over(rt, plan, &start) {
-                break;
-            }
-            if plan.beside_calls {
-                calls = calls.saturating_add(come_and_go(rt, swarm, pass, peer));
-            } else {
-                thread::sleep(rt, Duration::from_millis(1));
-            }
-        }
-    }
-    pace.stop();
-    calls
-}
-
-/// Does the work until it is told to stop.
+/// Does the work until it is told to stop. It borrows the pass, since a loop that owns one is dear to prove.
 fn work<J: Identity, L: Ledgers, R: Wait>(
     rt: &R,
     swarm: &Swarm<NoGate, J, L>,
-    mut pass: Pass<J, L>,
+    pass: &mut Pass<J, L>,
     (plan, peer, pace): (&Plan, PeerId, &Pace),
 ) -> Done {
     let mut done = Done::default();
@@ -71,13 +46,13 @@ fn work<J: Identity, L: Ledgers, R: Wait>(
         }
         match plan.work {
             Work::Borrow => {
-                swarm.renew(&mut pass);
+                swarm.renew(pass);
                 done.look(pass.listing());
             }
-            Work::Copy => done.look(&swarm.list(&mut pass)),
-            Work::Call => done.count(come_and_go(rt, swarm, &mut pass, peer), 0),
+            Work::Copy => done.look(&swarm.list(pass)),
+            Work::Call => done.count(come_and_go(rt, swarm, pass, peer), 0),
             Work::Refused => {
-                swarm.ask(rt, &mut pass, 0, 0);
+                swarm.ask(rt, pass, 0, 0);
                 done.count(1, 0);
             }
         }
@@ -91,14 +66,71 @@ fn fill<J: Identity, L: Ledgers, R: Wait>(
     swarm: &Swarm<NoGate, J, L>,
     pass: &mut Pass<J, L>,
     rows: u8,
-) -> io::Result<()> {
+) {
     for row in 0..rows {
         swarm.dial(rt, pass, Some(peer(row / 8 + 1)));
     }
-    Ok(())
 }
 
-/// How often a second the threads of the plan do their work, and calls are made beside them.
+/// How often a second the threads of the plan do their work, and calls are made beside them. It borrows the swarm, which
+/// `rate_of` alone lets go of.
+fn measure<
+    J: Identity + Send + Sync,
+    L1: Ledger + Send + Sync,
+    L2: Ledger + Send + Sync,
+    L3: Ledger + Send + Sync,
+    L4: Ledger + Send + Sync,
+    L5: Ledger + Send + Sync,
+    L6: Ledger + Send + Sync,
+    L7: Ledger + Send + Sync,
+    L8: Ledger + Send + Sync,
+    R: Threads + Wait + Clock + Sync,
+>(
+    rt: &R,
+    swarm: &Swarm<NoGate, J, Eight<L1, L2, L3, L4, L5, L6, L7, L8>>,
+    mut writer: Pass<J, Eight<L1, L2, L3, L4, L5, L6, L7, L8>>,
+    passes: Vec<Pass<J, Eight<L1, L2, L3, L4, L5, L6, L7, L8>>>,
+    plan: &Plan,
+) -> io::Result<Rates> {
+    let (pace, guest, writer) = (&Pace::new(), guest(), &mut writer);
+    fill(rt, swarm, writer, plan.rows);
+    race(
+        rt,
+        pace,
+        || pass_time(rt, plan, pace, || come_and_go(rt, swarm, writer, guest)),
+        || map_vec(
+            rt,
+            passes,
+            &|mut pass| work(rt, swarm, &mut pass, (plan, guest, pace)),
+        ),
+    )
+}
+
+/// The same, where the last pass is that of the thread beside.
+fn measure_all<
+    J: Identity + Send + Sync,
+    L1: Ledger + Send + Sync,
+    L2: Ledger + Send + Sync,
+    L3: Ledger + Send + Sync,
+    L4: Ledger + Send + Sync,
+    L5: Ledger + Send + Sync,
+    L6: Ledger + Send + Sync,
+    L7: Ledger + Send + Sync,
+    L8: Ledger + Send + Sync,
+    R: Threads + Wait + Clock + Sync,
+>(
+    rt: &R,
+    swarm: Swarm<NoGate, J, Eight<L1, L2, L3, L4, L5, L6, L7, L8>>,
+    mut passes: Vec<Pass<J, Eight<L1, L2, L3, L4, L5, L6, L7, L8>>>,
+    plan: &Plan,
+) -> io::Result<Rates> {
+    match passes.pop() {
+        Some(writer) => measure(rt, &swarm, writer, passes, plan),
+        None => Err(other()),
+    }
+}
+
+/// The same for a new swarm.
 fn rate_of<
     J: Identity + Send + Sync,
     L1: Ledger + Send + Sync,
@@ -131,33 +163,13 @@ fn rate_of<
     requires eighth { (ledgers.eighth.name ≡ L8.name) × (ledgers.eighth.parts ≡ L8.parts) }
 {
     let callers = plan.threads + 1;
-    let Ok((swarm, mut passes)) = Swarm::<NoGate, J, Eight<L1, L2, L3, L4, L5, L6, L7, L8>>::new(
+    let made = Swarm::<NoGate, J, Eight<L1, L2, L3, L4, L5, L6, L7, L8>>::new(
         rt, alloc, config, callers, NoGate, history, ledgers,
-    ) else {
-        return Err(other());
-    };
-    let Some(mut writer) = passes.pop() else {
-        return Err(other());
-    };
-    let (shared, pace, guest) = (&swarm, &Pace::new(), guest());
-    fill(rt, shared, &mut writer, plan.rows)?;
-    let (calls, time) = join(
-        rt,
-        || pass_time(rt, shared, &mut writer, (plan, guest, pace)),
-        || {
-            pace.wait(rt);
-            let start = Instant::now(rt)?;
-            let done = map_vec(
-                rt,
-                passes,
-                &|pass| work(rt, shared, pass, (plan, guest, pace)),
-            )?;
-            let time = start.elapsed(rt)?.as_nanos();
-            Ok::<(Done, u128), io::Error>((Done::all(done.as_slice()), time))
-        },
     );
-    let (done, nanos) = time?;
-    Rates::of(done, calls, nanos)
+    match made {
+        Ok((swarm, passes)) => measure_all(rt, swarm, passes, plan),
+        Err(_) => Err(other()),
+    }
 }
 
 /// The same with a new history and new ledgers.
