@@ -6,7 +6,7 @@ use crate::options::{BadOption, config_of, replay_command};
 use crate::trace::Traced;
 use crate::trace_options::{trace_command, traced_of};
 use clap::error::ErrorKind;
-use clap::{Arg, ArgAction, Command, Error};
+use clap::{Arg, ArgAction, ArgMatches, Command, Error};
 use pool_state::Config;
 use std::alloc::{AllocError, Global};
 
@@ -96,49 +96,63 @@ fn run_command<'a>(alloc: Global) -> Command<'a> {
     )
 }
 
-fn command<'a>(alloc: Global) -> Result<Command<'a>, AllocError> {
-    let mut command = node(alloc)?;
+/// The command with a subcommand. No step that can fail lets go of the command, which would cost a proof.
+fn add<'a>(
+    command: Command<'a>,
+    made: Result<Command<'a>, AllocError>,
+) -> Result<Command<'a>, AllocError> {
+    command.subcommand(made?)
+}
+
+/// The command with the subcommands of one word.
+fn with_worded<'a>(alloc: Global, command: Command<'a>) -> Result<Command<'a>, AllocError> {
+    let mut command = command;
     for it in &WORDED {
-        command = command.subcommand(with_word(alloc, it)?)?;
+        command = add(command, with_word(alloc, it))?;
     }
-    command = command.subcommand(replay_command(alloc)?)?;
-    command = command.subcommand(trace_command(alloc)?)?;
-    command = command.subcommand(run_command(alloc))?;
-    command = command.subcommand(listen_command(alloc)?)?;
-    command = command.subcommand(ping_command(alloc)?)?;
-    command.subcommand(identify_command(alloc)?)
+    Ok(command)
+}
+
+fn command<'a>(alloc: Global) -> Result<Command<'a>, AllocError> {
+    let command = with_worded(alloc, node(alloc)?)?;
+    let command = add(command, replay_command(alloc))?;
+    let command = add(command, trace_command(alloc))?;
+    let command = add(command, Ok(run_command(alloc)))?;
+    let command = add(command, listen_command(alloc))?;
+    let command = add(command, ping_command(alloc))?;
+    add(command, identify_command(alloc))
 }
 
 /// What the words ask for, where they are a good command line.
 fn parse<'a>(alloc: Global, words: &'a [&'a str]) -> Result<Result<Asked<'a>, BadOption>, Error> {
     let matches = command(alloc)?.try_get_matches_from(words)?;
+    Ok(asked_of(alloc, &matches))
+}
+
+/// What the words that were found ask for.
+fn asked_of<'a>(alloc: Global, matches: &ArgMatches<'a>) -> Result<Asked<'a>, BadOption> {
     let word = match matches.subcommand() {
         Some(("id", found)) => found.get_str("HEX").map(|hex| Asked::Id(hex)),
         Some(("hash", found)) => found.get_str("TEXT").map(|text| Asked::Hash(text)),
         Some(("addr", found)) => found.get_str("TEXT").map(|text| Asked::Addr(text)),
-        Some(("replay", found)) => {
-            return Ok(config_of(found).map(|config| Asked::Replay(config)));
-        }
-        Some(("run", _)) => return Ok(Ok(Asked::Run)),
+        Some(("replay", found)) => return config_of(found).map(|config| Asked::Replay(config)),
+        Some(("run", _)) => return Ok(Asked::Run),
         Some(("trace", found)) => {
-            return Ok(traced_of(alloc, found).map(|traced| Asked::Trace(traced)));
+            return traced_of(alloc, found).map(|traced| Asked::Trace(traced));
         }
         Some(("listen", found)) => {
-            return Ok(listener_of(alloc, found).map(|listener| Asked::Listen(listener)));
+            return listener_of(alloc, found).map(|listener| Asked::Listen(listener));
         }
         Some(("ping", found)) => {
-            return Ok(pinger_of(alloc, found).map(|dialer| Asked::Dial(dialer)));
+            return pinger_of(alloc, found).map(|dialer| Asked::Dial(dialer));
         }
         Some(("identify", found)) => {
-            return Ok(identifier_of(alloc, found).map(|dialer| Asked::Dial(dialer)));
+            return identifier_of(alloc, found).map(|dialer| Asked::Dial(dialer));
         }
         _ => None,
     };
-    match word {
-        Some(asked) => Ok(Ok(asked)),
-        // Each other subcommand has its word.
-        None => Ok(Err(BadOption::Number)),
-    }
+    // Each other subcommand has its word.
+    word.ok_or(BadOption::Number)
 }
 
 /// Reads the words behind the program's name.
@@ -147,8 +161,18 @@ pub fn read<'a>(alloc: Global, words: &'a [&'a str]) -> Result<Asked<'a>, Unaske
         Ok(Ok(asked)) => Ok(asked),
         Ok(Err(BadOption::OutOfMemory)) => Err(Unasked::OutOfMemory),
         Ok(Err(bad)) => Err(Unasked::BadOption(bad)),
-        Err(error) if error.kind() == ErrorKind::OutOfMemory => Err(Unasked::OutOfMemory),
-        Err(error) if error.use_stderr() => Err(Unasked::Bad(error)),
-        Err(error) => Err(Unasked::Told(error)),
+        Err(error) => Err(unasked_of(error)),
+    }
+}
+
+/// Why a command line asks for nothing that the parser refuses.
+fn unasked_of(error: Error) -> Unasked {
+    if error.kind() == ErrorKind::OutOfMemory {
+        return Unasked::OutOfMemory;
+    }
+    if error.use_stderr() {
+        Unasked::Bad(error)
+    } else {
+        Unasked::Told(error)
     }
 }
