@@ -213,12 +213,15 @@ fn is_silent(reader: &mut IdentifyIn) -> bool {
     matches!(reader.give(1), Err(HandlerFault { number: 1 }))
 }
 
+fn is_dead(reader: &mut IdentifyIn) -> bool {
+    is_over(reader) && reader.closed() && !reader.finished() && is_silent(reader)
+}
+
 /// Whether a reader has failed for good, and hands nothing out.
 fn has_failed(reader: IdentifyIn) -> bool {
     let mut reader = reader;
-    let is_over = is_over(&mut reader) && reader.closed() && !reader.finished();
-    let is_silent = is_silent(&mut reader);
-    reader.into_message().is_err() && is_over && is_silent
+    let is_dead = is_dead(&mut reader);
+    is_dead && !lent(reader.into_message().ok(), |_message| true)
 }
 
 fn is_refused(alloc: Global, stream: &[u8], size: usize, fault: IdentifyFault) -> bool {
@@ -230,10 +233,9 @@ fn is_refused(alloc: Global, stream: &[u8], size: usize, fault: IdentifyFault) -
 }
 
 fn reads(alloc: Global, input: &[u8], size: usize, said: &Said) -> bool {
-    match message(alloc, said) {
-        Some(message) => is_read(alloc, input, size, &message),
-        None => false,
-    }
+    lent(message(alloc, said), |message| {
+        is_read(alloc, input, size, message)
+    })
 }
 
 fn leads_to(alloc: Global, input: &[u8], size: usize, stream: &Stream) -> bool {
@@ -252,7 +254,7 @@ fn comes_to(alloc: Global, stream: &Stream, size: usize) -> bool {
 
 #[test]
 fn streams_however_cut(rt: HostRuntime) {
-    for (number, stream) in STREAMS.iter().enumerate() {
+    for (number, stream) in table(&STREAMS).iter().enumerate() {
         for size in [1, 3, 7, 64, 1000, 8194] {
             let held = comes_to(rt.alloc(), stream, size);
             assert!(rt; held, "row {number} in pieces of {size}");
@@ -390,14 +392,18 @@ static SENDINGS: [Sending; 13] = [
     },
 ];
 
+/// Whether just these bytes are given for this room.
+fn gives_just(sender: &mut IdentifyOut, room: usize, bytes: &[u8]) -> bool {
+    match sender.give(room) {
+        Ok(given) => given.as_slice() == bytes,
+        Err(_) => false,
+    }
+}
+
 /// Whether a sender, which is over once all was given, gives the next bytes for this room, in full.
 fn gives_next(sender: &mut IdentifyOut, room: usize, rest: &[u8]) -> bool {
     let is_over = sender.closed() && sender.finished();
-    let next = rest.get(..room.min(rest.len()));
-    match sender.give(room) {
-        Ok(given) => next == Some(given.as_slice()) && is_over == rest.is_empty(),
-        Err(_) => false,
-    }
+    is_over == rest.is_empty() && gives_just(sender, room, &rest[..room.min(rest.len())])
 }
 
 /// Whether a sender gives the bytes behind this place by these rooms. Gives the place that it came to.
@@ -450,15 +456,14 @@ fn plays(alloc: Global, message: &Identify, sending: &Sending) -> bool {
 }
 
 fn is_sent(alloc: Global, sending: &Sending) -> bool {
-    match message(alloc, &sending.said) {
-        Some(message) => plays(alloc, &message, sending),
-        None => false,
-    }
+    lent(message(alloc, &sending.said), |message| {
+        plays(alloc, message, sending)
+    })
 }
 
 #[test]
 fn messages_are_sent(rt: HostRuntime) {
-    for (number, sending) in SENDINGS.iter().enumerate() {
+    for (number, sending) in table(&SENDINGS).iter().enumerate() {
         assert!(rt; is_sent(rt.alloc(), sending), "row {number}");
     }
 }
@@ -532,15 +537,14 @@ fn writes_its_own(alloc: Global, message: &Identify) -> bool {
 }
 
 fn comes_back(alloc: Global, said: &Said, size: usize) -> bool {
-    match message(alloc, said) {
-        Some(message) => writes_its_own(alloc, &message) && is_back(alloc, &message, size),
-        None => false,
-    }
+    lent(message(alloc, said), |message| {
+        writes_its_own(alloc, message) && is_back(alloc, message, size)
+    })
 }
 
 #[test]
 fn what_is_sent_comes_back(rt: HostRuntime) {
-    for (number, said) in BACK.iter().enumerate() {
+    for (number, said) in table(&BACK).iter().enumerate() {
         for size in [1, 64, 1000, 20000] {
             let held = comes_back(rt.alloc(), said, size);
             assert!(rt; held, "row {number} in pieces of {size}");

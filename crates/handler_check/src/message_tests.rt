@@ -189,7 +189,7 @@ fn is_body(alloc: Global, body: &Body) -> bool {
 
 #[test]
 fn bodies_are_read_and_written(rt: HostRuntime) {
-    for (number, body) in BODIES.iter().enumerate() {
+    for (number, body) in table(&BODIES).iter().enumerate() {
         assert!(rt; is_body(rt.alloc(), body), "row {number}");
     }
 }

@@ -2,6 +2,7 @@
 
 ghost use Rattle.std.specs.Prelude.{◌<◌, length};
 
+use crate::said::lent;
 use handlers::{Handler, HandlerFault, Protocols};
 use identify_h::{Identify, IdentifyFault};
 use node_protocols::*;
@@ -75,12 +76,17 @@ fn is_text(part: &Option<Vec<u8>>, text: &str) -> bool {
     }
 }
 
+fn is_name(name: &Vec<u8>, other: &str) -> bool {
+    name.as_slice() == other.as_bytes()
+}
+
 fn are_names(list: &[Vec<u8>]) -> bool {
-    let mut held = list.len() == NAMES.len();
-    for (name, other) in list.iter().zip(&NAMES) {
-        held = held && name.as_slice() == other.as_bytes();
+    match list {
+        [one, two, three] => {
+            is_name(one, NAMES[0]) && is_name(two, NAMES[1]) && is_name(three, NAMES[2])
+        }
+        _ => false,
     }
-    held
 }
 
 fn is_key(key: &Option<PublicKey>, saying: &Saying) -> bool {
@@ -101,10 +107,7 @@ fn says(message: &Identify, saying: &Saying) -> bool {
 }
 
 fn has_read(reader: NodeHandler, saying: &Saying) -> bool {
-    match reader.into_message() {
-        Ok(message) => says(&message, saying),
-        Err(_) => false,
-    }
+    lent(reader.into_message().ok(), |message| says(message, saying))
 }
 
 /// Whether all that is sent is given for this room, and says this to the other end.

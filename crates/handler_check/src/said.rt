@@ -73,16 +73,34 @@ pub fn key(alloc: Global, kind: KeyType, len: usize) -> Option<PublicKey> {
     PublicKey::new(kind, vec![in alloc; 7u8; len].ok()?)
 }
 
-pub fn say(alloc: Global, message: &mut Identify, said: &Said) -> Option<()> {
-    if let Some((kind, len)) = said.key {
-        message.key = Some(key(alloc, kind, len)?);
+/// Puts what came into its place, if it came. What stood there is let go of here alone, whatever it is.
+fn put<T: Drop>(place: &mut T, came: Option<T>) -> bool {
+    match came {
+        Some(came) => {
+            *place = came;
+            true
+        }
+        None => false,
     }
-    message.listen = entries(alloc, said.listen).ok()?;
-    message.protocols = entries(alloc, said.protocols).ok()?;
-    message.observed = text(alloc, said.observed).ok()?;
-    message.version = text(alloc, said.version).ok()?;
-    message.agent = text(alloc, said.agent).ok()?;
-    Some(())
+}
+
+fn say_key(alloc: Global, message: &mut Identify, said: &Said) -> bool {
+    match said.key {
+        Some((kind, len)) => {
+            message.key = key(alloc, kind, len);
+            message.key.is_some()
+        }
+        None => true,
+    }
+}
+
+pub fn say(alloc: Global, message: &mut Identify, said: &Said) -> bool {
+    let are_listed = put(&mut message.listen, entries(alloc, said.listen).ok())
+        && put(&mut message.protocols, entries(alloc, said.protocols).ok());
+    let is_observed = put(&mut message.observed, text(alloc, said.observed).ok());
+    let is_version = put(&mut message.version, text(alloc, said.version).ok());
+    let is_agent = put(&mut message.agent, text(alloc, said.agent).ok());
+    say_key(alloc, message, said) && are_listed && is_observed && is_version && is_agent
 }
 
 /// There is none where memory is wanting, or a key of this length.
@@ -95,9 +113,10 @@ pub fn message(alloc: Global, said: &Said) -> Option<Identify> {
         version: None,
         agent: None,
     };
-    match say(alloc, &mut message, said) {
-        Some(()) => Some(message),
-        None => None,
+    if say(alloc, &mut message, said) {
+        Some(message)
+    } else {
+        None
     }
 }
 
@@ -131,5 +150,22 @@ pub fn is_joined(alloc: Global, bytes: &[u8], parts: Parts) -> bool {
     match joined(alloc, parts) {
         Ok(all) => all.as_slice() == bytes,
         Err(_) => false,
+    }
+}
+
+/// The rows of a table. A function that goes over these knows nothing of the table, and its proof is short: it would
+/// hold all rows, at each of its steps.
+pub fn table<T>(rows: &[T]) -> &[T] {
+    rows
+}
+
+/// Whether what was made, if it was, holds. Whatever it is, it is let go of here alone: else each function that owns it
+/// has to prove that of each way out.
+pub fn lent<T: Drop, F: FnOnce(&T) -> bool + Drop>(made: Option<T>, holds: F) -> bool
+    requires { F.IsAlwaysCallable holds }
+{
+    match made {
+        Some(made) => holds(&made),
+        None => false,
     }
 }
