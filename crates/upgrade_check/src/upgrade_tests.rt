@@ -438,11 +438,22 @@ fn is_played(came: &mut Came, alloc: Global, row: &Row, input: &[u8], way: (usiz
     is_heard && came.is_as(row) && is_joined(alloc, &came.output, row.output)
 }
 
-fn leads_to(alloc: Global, row: &Row, input: &[u8], way: (usize, bool)) -> bool {
-    match begin(alloc, row.role) {
-        Some(mut came) => is_played(&mut came, alloc, row, input, way),
+/// Lends what was made, if it was. Whatever it is, it is let go of here alone: a function that owns an upgrade has to
+/// prove that of each way out.
+fn lend<T: Drop, F: FnOnce(&mut T) -> bool + Drop>(made: Option<T>, play: F) -> bool
+    requires { F.IsAlwaysCallable play }
+{
+    match made {
+        Some(mut made) => play(&mut made),
         None => false,
     }
+}
+
+fn leads_to(alloc: Global, row: &Row, input: &[u8], way: (usize, bool)) -> bool {
+    lend(
+        begin(alloc, row.role),
+        |came| is_played(came, alloc, row, input, way),
+    )
 }
 
 /// Whether the row holds in pieces of this size, behind each of which output is taken, or at the end alone.
@@ -503,17 +514,15 @@ fn come_up(dialer: &mut Upgrade, listener: &mut Upgrade) -> bool {
 }
 
 fn meets_listener(alloc: Global, dialer: &mut Upgrade) -> bool {
-    match upgrade(alloc, ConnRole::Listener, OTHER_KEY) {
-        Some(mut listener) => come_up(dialer, &mut listener),
-        None => false,
-    }
+    lend(upgrade(alloc, ConnRole::Listener, OTHER_KEY), |listener| {
+        come_up(dialer, listener)
+    })
 }
 
 fn two_ends(alloc: Global) -> bool {
-    match upgrade(alloc, ConnRole::Dialer, OWN_KEY) {
-        Some(mut dialer) => meets_listener(alloc, &mut dialer),
-        None => false,
-    }
+    lend(upgrade(alloc, ConnRole::Dialer, OWN_KEY), |dialer| {
+        meets_listener(alloc, dialer)
+    })
 }
 
 #[test]
