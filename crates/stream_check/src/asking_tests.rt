@@ -4,6 +4,7 @@
 ghost use Rattle.std.specs.Prelude.{◌≡◌, [], ◌∷◌, ⊤, ◌==◌, ◌&&◌, false, codes};
 
 use crate::greeting::{KEY, OTHER, ROOM};
+use crate::lending::{came, holds, lend};
 use conn_core::ConnCore;
 use conn_log::ConnEvent;
 use handlers::{Handler, HandlerFault, Protocols};
@@ -177,17 +178,18 @@ fn is_told(event: &ConnEvent<Owing>, told: &Told) -> bool {
     }
 }
 
+fn is_told_alone(events: &[ConnEvent<Owing>], told: &Told) -> bool {
+    match events.first() {
+        Some(event) => events.len() == 1 && is_told(event, told),
+        None => false,
+    }
+}
+
 /// Whether the piece is told so, once the connection is up, with two handlers, each of which gave what there was room
 /// for.
 fn tells(core: &mut ConnCore<Owings>, piece: &[u8], told: &Told) -> bool {
-    let is_open = core.feed(OTHER).is_ok() && core.feed(OPENS).is_ok();
-    match core.feed(piece) {
-        Ok(events) => match events.first() {
-            Some(event) => is_open && events.len() == 1 && is_told(event, told),
-            None => false,
-        },
-        Err(_) => false,
-    }
+    let is_open = came(core.feed(OTHER)) && came(core.feed(OPENS));
+    is_open && holds(core.feed(piece), |events| is_told_alone(events, told))
 }
 
 fn listener(alloc: Global, protocols: Owings) -> Option<ConnCore<Owings>> {
@@ -197,20 +199,15 @@ fn listener(alloc: Global, protocols: Owings) -> Option<ConnCore<Owings>> {
     }
 }
 
-fn holds(alloc: Global, owed: usize, fails: bool, piece: &[u8], told: &Told) -> bool {
-    match listener(alloc, Owings { alloc, owed, fails }) {
-        Some(core) => {
-            let mut core = core;
-            tells(&mut core, piece, told)
-        }
-        None => false,
-    }
+fn is_so(alloc: Global, owed: usize, fails: bool, piece: &[u8], told: &Told) -> bool {
+    let core = listener(alloc, Owings { alloc, owed, fails });
+    lend(core, |core| tells(core, piece, told)) == Some(true)
 }
 
 #[test]
 fn a_handler_gives_before_it_hears_the_end(rt: HostRuntime) -> Result<(), Fail> {
     for (number, (owed, fails, piece, told)) in ROWS.iter().enumerate() {
-        let held = holds(rt.alloc(), *owed, *fails, *piece, told);
+        let held = is_so(rt.alloc(), *owed, *fails, *piece, told);
         assert!(rt; held, "row {number}");
     }
     Ok(())

@@ -4,6 +4,7 @@
 ghost use Rattle.std.specs.Prelude.{◌≡◌, [], ◌∷◌, ⊤, false, not, codes, if◌then◌else◌};
 
 use crate::greeting::{KEY, OTHER};
+use crate::lending::holds;
 use conn_core::*;
 use conn_log::ConnEvent;
 use handlers::{Handler, HandlerFault, Protocols};
@@ -351,28 +352,35 @@ fn is_as_said(ran: &ConnRan<Mute>, script: &Script) -> bool {
     is_answered && is_written && are_held(&ran.handlers, script.held)
 }
 
-fn holds(alloc: Global, script: &Script) -> bool {
-    let Ok(acts) = acts(alloc, script.does) else {
-        return false;
-    };
-    let Ok(key) = PublicKey::read(alloc, KEY) else {
-        return false;
-    };
+fn runs_as(alloc: Global, script: &Script, key: PublicKey, acts: &[ConnAct]) -> bool {
     let protocols = Mutes {
         alloc,
         is_known: script.is_known,
         gives_up: script.gives_up,
     };
-    match run(alloc, script.role, key, protocols, &acts) {
-        Ok(ran) => is_as_said(&ran, script),
+    holds(run(alloc, script.role, key, protocols, acts), |ran| {
+        is_as_said(ran, script)
+    })
+}
+
+fn runs_of(alloc: Global, script: &Script, acts: &[ConnAct]) -> bool {
+    match PublicKey::read(alloc, KEY) {
+        Ok(key) => runs_as(alloc, script, key, acts),
         Err(_) => false,
     }
+}
+
+fn is_so(alloc: Global, script: &Script) -> bool {
+    holds(
+        acts(alloc, script.does),
+        |acts| runs_of(alloc, script, acts),
+    )
 }
 
 #[test]
 fn runs(rt: HostRuntime) -> Result<(), Fail> {
     for (number, script) in SCRIPTS.iter().enumerate() {
-        assert!(rt; holds(rt.alloc(), script), "run {number}");
+        assert!(rt; is_so(rt.alloc(), script), "run {number}");
     }
     Ok(())
 }

@@ -1,6 +1,7 @@
 //! Streams of a connection that knows /x and /y. Its handlers note what they are handed.
 
 use crate::echo::{Echo, Echoes, NAMES};
+use crate::lending::lend;
 use crate::stopping::{Why, stop_for};
 use dispatch::*;
 use ms_select::SelectFault;
@@ -152,13 +153,10 @@ impl Came {
     /// was handed this.
     fn was_handed(&mut self, direction: Direction, bytes: &[u8]) -> bool {
         let is_told = self.stream.end().is_ok() && self.stream.give(1000).is_ok();
-        match self.stream.finish() {
-            Some(echo) => {
-                let is_made_so = echo.direction == direction && echo.index == 1;
-                is_told && is_made_so && echo.taken.as_slice() == bytes
-            }
-            None => false,
-        }
+        let is_handed = lend(self.stream.finish(), |echo| {
+            echo.direction == direction && echo.index == 1 && echo.taken.as_slice() == bytes
+        });
+        is_told && is_handed == Some(true)
     }
 
     fn plays(&mut self, script: &Script, size: usize) -> bool {
@@ -178,22 +176,23 @@ impl Came {
     }
 }
 
-fn holds(alloc: Global, script: &Script, size: usize) -> bool {
+fn fresh(alloc: Global, script: &Script) -> Option<Came> {
     match begun(alloc, script) {
-        Ok(stream) => {
-            let mut came = Came {
-                protocols: Echoes {
-                    alloc,
-                    most: script.most,
-                    out_of_memory: script.out_of_memory,
-                },
-                stream,
-                agreed: None,
-            };
-            came.plays(script, size)
-        }
-        Err(_) => false,
+        Ok(stream) => Some(Came {
+            protocols: Echoes {
+                alloc,
+                most: script.most,
+                out_of_memory: script.out_of_memory,
+            },
+            stream,
+            agreed: None,
+        }),
+        Err(_) => None,
     }
+}
+
+fn holds(alloc: Global, script: &Script, size: usize) -> bool {
+    lend(fresh(alloc, script), |came| came.plays(script, size)) == Some(true)
 }
 
 #[test]

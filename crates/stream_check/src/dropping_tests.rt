@@ -4,6 +4,7 @@
 ghost use Rattle.std.specs.Prelude.{◌≡◌, [], ◌∷◌, ⊤, false, codes};
 
 use crate::greeting::{KEY, OTHER, ROOM};
+use crate::lending::{came, holds, lend};
 use crate::stopping::{Why, stop_for};
 use conn_core::ConnCore;
 use conn_log::{ConnEvent, ConnFault};
@@ -304,37 +305,37 @@ fn is_told(event: &ConnEvent<Counting>, told: &Told) -> bool {
     }
 }
 
+fn is_told_alone(events: &[ConnEvent<Counting>], told: &Told) -> bool {
+    match events.first() {
+        Some(event) => events.len() == 1 && is_told(event, told),
+        None => false,
+    }
+}
+
 /// Whether this alone is told of these bytes, or of the end of the input.
 fn tells(core: &mut ConnCore<Countings>, last: Option<&[u8]>, told: &Told) -> bool {
-    let events = match last {
-        Some(bytes) => core.feed(bytes),
-        None => core.ended(),
-    };
-    match events {
-        Ok(events) => match events.first() {
-            Some(event) => events.len() == 1 && is_told(event, told),
-            None => false,
-        },
-        Err(_) => false,
+    match last {
+        Some(bytes) => holds(core.feed(bytes), |events| is_told_alone(events, told)),
+        None => holds(core.ended(), |events| is_told_alone(events, told)),
     }
 }
 
 /// A connection is up, with one handler: a dialer's is eager, and its talk goes on; a listener's has agreed.
 fn begins(core: &mut ConnCore<Countings>, role: ConnRole) -> bool {
-    let is_up = core.feed(OTHER).is_ok();
+    let is_up = came(core.feed(OTHER));
     match role {
         ConnRole::Dialer => is_up && core.ask(0).is_ok(),
-        ConnRole::Listener => is_up && core.feed(OPENS).is_ok(),
+        ConnRole::Listener => is_up && came(core.feed(OPENS)),
     }
 }
 
 /// Whether the handler sees those calls alone of what drops it, also where the connection ends behind that.
 fn sees(core: &mut ConnCore<Countings>, counts: &Cell<Counts>, row: &Row) -> bool {
     let (first, last, told, more) = row;
-    let is_fed = core.feed(*first).is_ok();
+    let is_fed = came(core.feed(*first));
     let before = counts.get();
     let is_told = tells(core, *last, told);
-    let _ = core.ended();
+    let _is_over = came(core.ended());
     let after = counts.get();
     let was_served = before.made == 1 && before.room == ROOM;
     let is_same = after.made == before.made && after.room == before.room;
@@ -359,27 +360,21 @@ fn connection(
 }
 
 fn holds_so(alloc: Global, role: ConnRole, counts: &Rc<Cell<Counts>>, row: &Row) -> bool {
-    match connection(alloc, role, counts) {
-        Some(core) => {
-            let mut core = core;
-            begins(&mut core, role) && sees(&mut core, counts, row)
-        }
-        None => false,
-    }
+    let core = connection(alloc, role, counts);
+    lend(core, |core| begins(core, role) && sees(core, counts, row)) == Some(true)
 }
 
-fn holds(alloc: Global, role: ConnRole, row: &Row) -> bool {
-    match Rc::new(alloc, Cell::new(NONE)) {
-        Ok(counts) => holds_so(alloc, role, &counts, row),
-        Err(_) => false,
-    }
+fn is_so(alloc: Global, role: ConnRole, row: &Row) -> bool {
+    holds(Rc::new(alloc, Cell::new(NONE)), |counts| {
+        holds_so(alloc, role, counts, row)
+    })
 }
 
 #[test]
 fn a_handler_that_is_dropped_sees_no_further_call(rt: HostRuntime) -> Result<(), Fail> {
     for (table, (role, rows)) in TABLES.iter().enumerate() {
         for (number, row) in rows.iter().enumerate() {
-            let held = holds(rt.alloc(), *role, row);
+            let held = is_so(rt.alloc(), *role, row);
             assert!(rt; held, "table {table}, row {number}");
         }
     }

@@ -14,6 +14,8 @@ mod echo;
 #[cfg(test)]
 mod greeting;
 #[cfg(test)]
+mod lending;
+#[cfg(test)]
 mod routing_tests;
 #[cfg(test)]
 mod serving_tests;

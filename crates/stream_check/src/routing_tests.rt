@@ -1,6 +1,7 @@
 //! Two sessions, one of which delivers to its stream 1 what comes. It knows /x and /y, each an echo.
 
 use crate::echo::{Echo, Echoes, NAMES};
+use crate::lending::{holds, lend, set};
 use crate::stopping::{Why, stop_for};
 use dispatch::Direction;
 use ms_select::SelectFault;
@@ -54,6 +55,18 @@ struct Script {
     steps: &'static [Step],
 }
 
+/// Whether the data of these events, joined, is this.
+fn is_data(alloc: Global, events: &[Event], data: &[u8]) -> bool {
+    let mut told = Vec::new(alloc);
+    let mut held = true;
+    for event in events {
+        if let Event::Payload(_, bytes) = event {
+            held = told.extend_from_slice(bytes.as_slice()).is_ok() && held;
+        }
+    }
+    held && told.as_slice() == data
+}
+
 /// The end that delivers, and the other one. Stream 1 was opened.
 #[derive(Drop)]
 struct Pair {
@@ -92,7 +105,7 @@ impl Pair {
         match delivered {
             Ok(delivered) => {
                 self.agreed = self.agreed.or(delivered.agreed);
-                self.outcome = delivered.outcome;
+                set(&mut self.outcome, delivered.outcome);
                 true
             }
             Err(_) => false,
@@ -108,7 +121,7 @@ impl Pair {
         };
         match outcome {
             Ok(outcome) => {
-                self.outcome = outcome;
+                set(&mut self.outcome, outcome);
                 true
             }
             Err(_) => false,
@@ -117,21 +130,21 @@ impl Pair {
 
     /// What the other end wrote comes, and is delivered.
     fn comes(&mut self) -> bool {
+        let told = self.own.feed(&self.other.take_output());
+        holds(told, |events| self.delivers_all(events))
+    }
+
+    fn delivers_all(&mut self, events: &[Event]) -> bool {
         let mut held = true;
-        match self.own.feed(&self.other.take_output()) {
-            Ok(events) => {
-                for event in &events {
-                    held = held
-                        && match event {
-                            Event::Payload(_, data) => self.delivers(data.as_slice()),
-                            Event::Ended(_) => self.goes_on(true),
-                            _ => true,
-                        };
-                }
-                held
-            }
-            Err(_) => false,
+        for event in events {
+            held = held
+                && match event {
+                    Event::Payload(_, data) => self.delivers(data.as_slice()),
+                    Event::Ended(_) => self.goes_on(true),
+                    _ => true,
+                };
         }
+        held
     }
 
     fn does(&mut self, does: &Does, size: usize) -> bool {
@@ -150,19 +163,8 @@ impl Pair {
 
     /// Whether the other end is told exactly this data.
     fn tells(&mut self, alloc: Global, data: &[u8]) -> bool {
-        let mut told = Vec::new(alloc);
-        let mut held = true;
-        match self.other.feed(&self.own.take_output()) {
-            Ok(events) => {
-                for event in &events {
-                    if let Event::Payload(_, bytes) = event {
-                        held = told.extend_from_slice(bytes.as_slice()).is_ok() && held;
-                    }
-                }
-                held && told.as_slice() == data
-            }
-            Err(_) => false,
-        }
+        let told = self.other.feed(&self.own.take_output());
+        holds(told, |events| is_data(alloc, events, data))
     }
 
     fn is_at(&self, place: &Place) -> bool {
@@ -339,14 +341,16 @@ fn two_ends(alloc: Global, script: &Script, stream: Stream<Echo>) -> Pair {
     }
 }
 
-fn rows_held(alloc: Global, script: &Script, size: usize) -> Option<usize> {
+fn fresh(alloc: Global, script: &Script) -> Option<Pair> {
     match begun(alloc, script.direction) {
-        Ok(stream) => {
-            let mut pair = two_ends(alloc, script, stream);
-            pair.plays(alloc, script.steps, size)
-        }
+        Ok(stream) => Some(two_ends(alloc, script, stream)),
         Err(_) => None,
     }
+}
+
+fn rows_held(alloc: Global, script: &Script, size: usize) -> Option<usize> {
+    let pair = fresh(alloc, script);
+    lend(pair, |pair| pair.plays(alloc, script.steps, size)).flatten()
 }
 
 #[test]

@@ -1,6 +1,7 @@
 //! Two sessions, one of which serves its stream 1 by an echo.
 
 use crate::echo::Echo;
+use crate::lending::{holds, lend};
 use crate::stopping::{Why, stop_for};
 use dispatch::Direction;
 use serving::*;
@@ -40,6 +41,20 @@ struct Step {
     left: Option<u32>,
 }
 
+/// How many bytes of data these events tell, and whether they tell the end.
+fn counts(events: &[Event]) -> (usize, bool) {
+    let mut count = 0usize;
+    let mut ended = false;
+    for event in events {
+        match event {
+            Event::Payload(_, data) => count = count.saturating_add(data.as_slice().len()),
+            Event::Ended(_) => ended = true,
+            _ => (),
+        }
+    }
+    (count, ended)
+}
+
 /// Two sessions with one stream, opened by the client, and the server's side of it. Both ends agree on /x.
 #[derive(Drop)]
 struct Pair {
@@ -77,21 +92,21 @@ impl Pair {
 
     /// The handler is told what came of it.
     fn hears(&mut self) -> bool {
+        let told = self.server.feed(&self.client.take_output());
+        holds(told, |events| self.takes(events))
+    }
+
+    fn takes(&mut self, events: &[Event]) -> bool {
         let mut held = true;
-        match self.server.feed(&self.client.take_output()) {
-            Ok(events) => {
-                for event in &events {
-                    held = held
-                        && match event {
-                            Event::Payload(_, data) => self.stream.take(data.as_slice()).is_ok(),
-                            Event::Ended(_) => self.stream.end().is_ok(),
-                            _ => true,
-                        };
-                }
-                held
-            }
-            Err(_) => false,
+        for event in events {
+            held = held
+                && match event {
+                    Event::Payload(_, data) => self.stream.take(data.as_slice()).is_ok(),
+                    Event::Ended(_) => self.stream.end().is_ok(),
+                    _ => true,
+                };
         }
+        held
     }
 
     fn serves(&mut self, served: &Served) -> bool {
@@ -104,23 +119,8 @@ impl Pair {
 
     /// Whether the client is told so many bytes, and the end or not.
     fn tells(&mut self, told: usize, is_end: bool) -> bool {
-        let mut count = 0usize;
-        let mut ended = false;
-        match self.client.feed(&self.server.take_output()) {
-            Ok(events) => {
-                for event in &events {
-                    match event {
-                        Event::Payload(_, data) => count = count.saturating_add(
-                            data.as_slice().len(),
-                        ),
-                        Event::Ended(_) => ended = true,
-                        _ => (),
-                    }
-                }
-                count == told && ended == is_end
-            }
-            Err(_) => false,
-        }
+        let came = self.client.feed(&self.server.take_output());
+        holds(came, |events| counts(events) == (told, is_end))
     }
 
     /// How many steps hold, from the first on, if both ends agree.
@@ -240,14 +240,15 @@ fn two_ends(alloc: Global, stream: Stream<Echo>) -> Pair {
     }
 }
 
-fn rows_held(alloc: Global, failing: u8, steps: &[Step]) -> Option<usize> {
+fn fresh(alloc: Global) -> Option<Pair> {
     match Stream::answer(alloc, &["/x"]) {
-        Ok(stream) => {
-            let mut pair = two_ends(alloc, stream);
-            pair.plays(alloc, failing, steps)
-        }
+        Ok(stream) => Some(two_ends(alloc, stream)),
         Err(_) => None,
     }
+}
+
+fn rows_held(alloc: Global, failing: u8, steps: &[Step]) -> Option<usize> {
+    lend(fresh(alloc), |pair| pair.plays(alloc, failing, steps)).flatten()
 }
 
 #[test]

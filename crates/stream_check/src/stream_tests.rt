@@ -1,6 +1,7 @@
 //! Streams by themselves: whole ones however cut, single calls in and out of turn, and why they stop in words.
 
 use crate::echo::Echo;
+use crate::lending::lend;
 use crate::stopping::{Why, stop_for};
 use dispatch::Direction;
 use handlers::HandlerFault;
@@ -120,6 +121,13 @@ static ROWS: [Row; 7] = [
     },
 ];
 
+/// Whether a handler was handed this, was called so first, and was told the end last.
+fn was_handed(handler: &Echo, taken: &[u8], first: u8) -> bool {
+    let is_last = handler.calls.ends_with(b"e");
+    let is_first = handler.calls.as_slice().first() == Some(&first);
+    handler.taken.as_slice() == taken && is_last && is_first
+}
+
 /// What came of a stream.
 #[derive(Drop)]
 struct Came {
@@ -163,17 +171,13 @@ impl Came {
         let is_held = self.stream.finish().is_none();
         let is_told = self.stream.end() == Ok(()) && self.gives(1000);
         let is_whole = self.stream.closed() && self.stream.finished() && self.gives(1000);
-        let is_as = match self.stream.finish() {
-            Some(handler) => {
-                let is_last = handler.calls.ends_with(b"e");
-                let is_first = handler.calls.as_slice().first() == Some(&first);
-                handler.taken.as_slice() == taken && is_last && is_first
-            }
-            None => false,
-        };
+        let is_as = lend(
+            self.stream.finish(),
+            |handler| was_handed(handler, taken, first),
+        );
         let is_over = self.stream.closed() && !self.stream.finished();
         let is_dropped = self.stream.take(b"late") == Ok(()) && self.stream.end() == Ok(());
-        is_open && is_held && is_told && is_whole && is_as && is_over && is_dropped
+        is_open && is_held && is_told && is_whole && is_as == Some(true) && is_over && is_dropped
     }
 
     /// Plays the pieces, behind each of which it asks for output, and then gives the rest byte by byte.
@@ -200,21 +204,31 @@ impl Came {
         };
         held && is_ended && self.agreed == row.agreed && self.stop == stop
     }
+
+    fn is_written(&self, row: &Row) -> bool {
+        self.output.as_slice() == row.output
+    }
+
+    fn is_as(&mut self, alloc: Global, row: &Row, size: usize, room: usize) -> bool {
+        self.plays(alloc, row, size, room) && self.is_written(row)
+    }
+}
+
+fn fresh(alloc: Global, begins: &Begins) -> Option<Came> {
+    match begun(alloc, begins) {
+        Ok(stream) => Some(Came {
+            stream,
+            agreed: None,
+            stop: None,
+            output: Vec::new(alloc),
+        }),
+        Err(_) => None,
+    }
 }
 
 fn holds(alloc: Global, row: &Row, size: usize, room: usize) -> bool {
-    match begun(alloc, &row.begins) {
-        Ok(stream) => {
-            let mut came = Came {
-                stream,
-                agreed: None,
-                stop: None,
-                output: Vec::new(alloc),
-            };
-            came.plays(alloc, row, size, room) && came.output.as_slice() == row.output
-        }
-        Err(_) => false,
-    }
+    let came = fresh(alloc, &row.begins);
+    lend(came, |came| came.is_as(alloc, row, size, room)) == Some(true)
 }
 
 #[test]
@@ -548,13 +562,8 @@ fn steps_held(stream: &mut Stream<Echo>, steps: &[Step]) -> usize {
 }
 
 fn rows_held(alloc: Global, script: &Script) -> Option<usize> {
-    match begun(alloc, &script.begins) {
-        Ok(stream) => {
-            let mut stream = stream;
-            Some(steps_held(&mut stream, script.steps))
-        }
-        Err(_) => None,
-    }
+    let stream = begun(alloc, &script.begins).ok();
+    lend(stream, |stream| steps_held(stream, script.steps))
 }
 
 #[test]
