@@ -80,15 +80,49 @@ pub(crate) fn connect<L: Link>(alloc: Global, role: ConnRole, link: L) -> Option
 }
 
 /// A bounded one.
-pub(crate) fn bounded<L: Link>(alloc: Global, role: ConnRole, link: L) -> Option<Bounded<L>> {
+fn bounded<L: Link>(alloc: Global, role: ConnRole, link: L) -> Option<Bounded<L>> {
     match connect(alloc, role, link) {
         Some(conn) => Some(BoundedConn::new(conn)),
         None => None,
     }
 }
 
-/// Lends what was made. Whatever it is, it is let go of here alone: a function that owns a connection has to prove that
-/// of each way out.
+/// What is played on a connection over a link.
+pub(crate) trait Play<L: Link> {
+    /// Whether it goes as it must; None where memory is refused.
+    fn play(self, alloc: Global, task: &MockTask, conn: &mut End<L>) -> Option<bool>;
+}
+
+/// What is played on a bounded one.
+pub(crate) trait PlayBounded<L: Link> {
+    fn play_bounded(self, task: &MockTask, conn: &mut Bounded<L>) -> Option<bool>;
+}
+
+/// Plays on a new connection over this link, and lets it go: each function that does is dear to prove.
+pub(crate) fn play_on<L: Link, P: Play<L> + Drop>(
+    alloc: Global,
+    task: &MockTask,
+    role: ConnRole,
+    link: Option<L>,
+    play: P,
+) -> Option<bool> {
+    let mut conn = connect(alloc, role, link?)?;
+    play.play(alloc, task, &mut conn)
+}
+
+/// The same on a bounded one.
+pub(crate) fn play_bounded<L: Link, P: PlayBounded<L> + Drop>(
+    alloc: Global,
+    task: &MockTask,
+    role: ConnRole,
+    link: Option<L>,
+    play: P,
+) -> Option<bool> {
+    let mut conn = bounded(alloc, role, link?)?;
+    play.play_bounded(task, &mut conn)
+}
+
+/// Lends what was made, and lets it go, whatever it is.
 pub(crate) fn lend<T: Drop, F: FnOnce(&mut T) -> Option<bool> + Drop>(
     made: Option<T>,
     play: F,

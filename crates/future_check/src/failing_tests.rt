@@ -1,6 +1,6 @@
 //! A read or a write that fails.
 
-use crate::ends::{End, Gave, Said, connect, drive, lend, written};
+use crate::ends::{End, Gave, Play, Said, drive, play_on, written};
 use crate::row_tests::{TOLD, begins_output, pipe, plan};
 use crate::scripts::failing_at;
 use conn_link::{Link, Pipe};
@@ -50,6 +50,16 @@ fn failing_pipe(alloc: Global, role: ConnRole, side: Side, count: u32) -> Option
     }
 }
 
+/// An end of this role whose link fails.
+#[derive(Clone, Copy, Drop)]
+struct Failing(ConnRole);
+
+impl Play<Pipe> for Failing {
+    fn play(self, alloc: Global, task: &MockTask, conn: &mut End<Pipe>) -> Option<bool> {
+        ends_so(alloc, task, self.0, conn)
+    }
+}
+
 /// The call behind so many fails.
 fn fails_at(
     alloc: Global,
@@ -58,11 +68,8 @@ fn fails_at(
     side: Side,
     count: u32,
 ) -> Option<bool> {
-    let pipe = failing_pipe(alloc, role, side, count)?;
-    lend(
-        connect(alloc, role, pipe),
-        |conn| ends_so(alloc, task, role, conn),
-    )
+    let pipe = failing_pipe(alloc, role, side, count);
+    play_on(alloc, task, role, pipe, Failing(role))
 }
 
 #[test]

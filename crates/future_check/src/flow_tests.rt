@@ -1,6 +1,8 @@
 //! A connection at the sizes that its code names.
 
-use crate::ends::{Bounded, End, Said, UPGRADE, bounded, connect, lend, poll_said, written};
+use crate::ends::{
+    Bounded, End, Play, PlayBounded, Said, UPGRADE, play_bounded, play_on, poll_said, written,
+};
 use crate::row_tests::PINGS;
 use crate::scripts::{FAIL, PENDING, first_then, steps_of};
 use bounded_conn::MOST_WAITING;
@@ -53,6 +55,26 @@ fn open_pipe(alloc: Global, input: Vec<u8>) -> Pipe {
     Pipe::new(alloc, input, Vec::new(alloc), Vec::new(alloc))
 }
 
+/// The upgrade comes by one read, so many pings by the next, and the end in the same poll.
+fn two_reads(alloc: Global, count: u32) -> Option<Pipe> {
+    let reads = steps_of(alloc, &[UPGRADE_LEN, 240])?;
+    Some(Pipe::new(alloc, input(alloc, PING, count)?, reads, Vec::new(alloc)))
+}
+
+/// Each read fails.
+fn failing(alloc: Global) -> Option<Pipe> {
+    let reads = steps_of(alloc, &[FAIL, FAIL])?;
+    Some(Pipe::new(alloc, input(alloc, PING, 1)?, reads, Vec::new(alloc)))
+}
+
+/// A link that has failed before.
+fn failed_before(alloc: Global, task: &MockTask) -> Option<Pipe> {
+    let mut pipe = failing(alloc)?;
+    let mut buffer = [0; 4];
+    let first = task.enter(|cx| pipe.poll_read(cx, &mut buffer));
+    (first.is_ready() && pipe.failures() == 1).then_some(pipe)
+}
+
 /// How often the pong was written behind the upgrade, where nothing else was.
 fn pongs(conn: &End<Pipe>) -> Option<usize> {
     let rest = written(conn).strip_prefix(UPGRADE)?;
@@ -74,42 +96,6 @@ fn is_answered(task: &MockTask, conn: &mut End<Pipe>, count: usize) -> bool {
     gave == [UPGRADED, SHUT, THE_END] && pongs(conn) == Some(count)
 }
 
-/// 9,689 bytes come, more than a read asks for at once.
-fn answers_much(alloc: Global, task: &MockTask) -> Option<bool> {
-    let pipe = open_pipe(alloc, input(alloc, PING, 800)?);
-    lend(
-        connect(alloc, ConnRole::Listener, pipe),
-        |conn| Some(is_answered(task, conn, 800)),
-    )
-}
-
-#[test]
-fn more_than_a_buffer_comes_at_once(rt: HostRuntime) -> Result<(), Fail> {
-    let task = MockTask::new(&rt)?;
-    let held = answers_much(rt.alloc(), &task) == Some(true);
-    assert!(rt; held, "9,689 bytes");
-    Ok(())
-}
-
-/// The upgrade comes by one read, the pings by the next, and the end in the same poll: little output is written before
-/// the end is read.
-fn answers_before_the_end(alloc: Global, task: &MockTask) -> Option<bool> {
-    let reads = steps_of(alloc, &[UPGRADE_LEN, 240])?;
-    let pipe = Pipe::new(alloc, input(alloc, PING, 20)?, reads, Vec::new(alloc));
-    lend(
-        connect(alloc, ConnRole::Listener, pipe),
-        |conn| Some(is_answered(task, conn, 20)),
-    )
-}
-
-#[test]
-fn answers_come_before_the_end(rt: HostRuntime) -> Result<(), Fail> {
-    let task = MockTask::new(&rt)?;
-    let held = answers_before_the_end(rt.alloc(), &task) == Some(true);
-    assert!(rt; held, "20 pings");
-    Ok(())
-}
-
 /// An ask while an event is held still takes memory, and is answered.
 fn is_asked_while_one_is_held(task: &MockTask, conn: &mut End<Pipe>) -> bool {
     let first = poll_said(task, conn);
@@ -117,35 +103,11 @@ fn is_asked_while_one_is_held(task: &MockTask, conn: &mut End<Pipe>) -> bool {
     first == UPGRADED && asked == Ok(2) && poll_said(task, conn) == AGREED
 }
 
-fn asks_while_one_is_held(alloc: Global, task: &MockTask) -> Option<bool> {
-    let pipe = open_pipe(alloc, input(alloc, PINGS.get(..62)?, 1)?);
-    lend(
-        connect(alloc, ConnRole::Listener, pipe),
-        |conn| Some(is_asked_while_one_is_held(task, conn)),
-    )
-}
-
-#[test]
-fn an_ask_while_an_event_is_held(rt: HostRuntime) -> Result<(), Fail> {
-    let task = MockTask::new(&rt)?;
-    let held = asks_while_one_is_held(rt.alloc(), &task) == Some(true);
-    assert!(rt; held, "an ask");
-    Ok(())
-}
-
 /// The link of a dialer whose other end comes up at once, and then sends credit so many times, a byte at a time.
 fn credits(alloc: Global, count: u32) -> Option<Pipe> {
     let steps = first_then(alloc, UPGRADE_LEN, 1, count.saturating_mul(13))?;
     let reads = steps_of(alloc, &steps)?;
     Some(Pipe::new(alloc, input(alloc, CREDIT, count)?, reads, Vec::new(alloc)))
-}
-
-/// A dialer over such a link.
-fn dialer(alloc: Global, count: u32) -> Option<End<Pipe>> {
-    match credits(alloc, count) {
-        Some(pipe) => connect(alloc, ConnRole::Dialer, pipe),
-        None => None,
-    }
 }
 
 /// How many streams could be opened, each with the next number of a dialer.
@@ -166,16 +128,6 @@ fn opens_all(task: &MockTask, conn: &mut End<Pipe>) -> bool {
     is_up && count == 256 && conn.ask(PROTOCOL) == Err(ConnRefused::StreamsFull)
 }
 
-#[test]
-fn all_streams_of_an_end(rt: HostRuntime) -> Result<(), Fail> {
-    let task = MockTask::new(&rt)?;
-    assert_eq!(rt;
-        lend(dialer(rt.alloc(), 20), |conn| Some(opens_all(&task, conn))),
-        Some(true)
-    );
-    Ok(())
-}
-
 /// What waits is written before more is read, however much can be read.
 fn writes_first(task: &MockTask, conn: &mut End<Pipe>) -> bool {
     let is_up = poll_said(task, conn) == UPGRADED;
@@ -185,67 +137,21 @@ fn writes_first(task: &MockTask, conn: &mut End<Pipe>) -> bool {
     is_up && count == 40 && is_much && gave == NOTHING && conn.waiting() == 0
 }
 
-#[test]
-fn output_does_not_wait_for_input(rt: HostRuntime) -> Result<(), Fail> {
-    let task = MockTask::new(&rt)?;
-    assert_eq!(rt;
-        lend(
-            dialer(rt.alloc(), 20),
-            |conn| Some(writes_first(&task, conn))
-        ),
-        Some(true)
-    );
-    Ok(())
-}
-
 /// 2,000 reads of a byte each, and then the end.
-fn reads_on(task: &MockTask, conn: &mut End<Pipe>) -> Option<bool> {
+fn reads_on(task: &MockTask, conn: &mut End<Pipe>) -> bool {
     let is_up = poll_said(task, conn) == UPGRADED;
     for _poll in 0..100 {
         let gave = poll_said(task, conn);
         if gave != NOTHING {
-            return Some(is_up && gave == SHUT);
+            return is_up && gave == SHUT;
         }
     }
-    None
-}
-
-#[test]
-fn many_reads(rt: HostRuntime) -> Result<(), Fail> {
-    let task = MockTask::new(&rt)?;
-    assert_eq!(rt;
-        lend(dialer(rt.alloc(), 167), |conn| reads_on(&task, conn)),
-        Some(true)
-    );
-    Ok(())
+    false
 }
 
 /// Two polls give the failure, and the end.
 fn is_failed(task: &MockTask, conn: &mut End<Pipe>) -> bool {
     [poll_said(task, conn), poll_said(task, conn)] == [LINK_FAULT, THE_END]
-}
-
-/// A link that has failed before: its next failure is told.
-fn fails_again(alloc: Global, task: &MockTask) -> Option<bool> {
-    let reads = steps_of(alloc, &[FAIL, FAIL])?;
-    let mut pipe = Pipe::new(alloc, input(alloc, PING, 1)?, reads, Vec::new(alloc));
-    let mut buffer = [0; 4];
-    let first = task.enter(|cx| pipe.poll_read(cx, &mut buffer));
-    if !first.is_ready() || pipe.failures() != 1 {
-        return Some(false);
-    }
-    lend(
-        connect(alloc, ConnRole::Listener, pipe),
-        |conn| Some(is_failed(task, conn)),
-    )
-}
-
-#[test]
-fn a_link_that_has_failed_before(rt: HostRuntime) -> Result<(), Fail> {
-    let task = MockTask::new(&rt)?;
-    let held = fails_again(rt.alloc(), &task) == Some(true);
-    assert!(rt; held, "the next failure");
-    Ok(())
 }
 
 /// A link that takes nothing, and whose other end sends so many Pings.
@@ -279,22 +185,6 @@ fn is_dropped(task: &MockTask, conn: &mut Bounded<Pipe>) -> Option<bool> {
     Some(is_bounded && ends && refuses && conn.waiting() == 0)
 }
 
-fn drops_it(alloc: Global, task: &MockTask) -> Option<bool> {
-    let pipe = flood(alloc, 360_000)?;
-    lend(
-        bounded(alloc, ConnRole::Listener, pipe),
-        |conn| is_dropped(task, conn),
-    )
-}
-
-#[test]
-fn too_much_waits(rt: HostRuntime) -> Result<(), Fail> {
-    let task = MockTask::new(&rt)?;
-    let held = drops_it(rt.alloc(), &task) == Some(true);
-    assert!(rt; held, "4 MiB");
-    Ok(())
-}
-
 /// An ask while much output waits still takes memory, and is answered.
 fn is_asked_while_much_waits(task: &MockTask, conn: &mut End<Pipe>) -> bool {
     let gave = [poll_said(task, conn), poll_said(task, conn)];
@@ -302,18 +192,92 @@ fn is_asked_while_much_waits(task: &MockTask, conn: &mut End<Pipe>) -> bool {
     gave == [UPGRADED, NOTHING] && is_much && conn.ask(PROTOCOL) == Ok(2)
 }
 
-fn asks_while_much_waits(alloc: Global, task: &MockTask) -> Option<bool> {
-    let pipe = flood(alloc, 60_000)?;
-    lend(
-        connect(alloc, ConnRole::Listener, pipe),
-        |conn| Some(is_asked_while_much_waits(task, conn)),
-    )
+/// What is played on an end over a pipe.
+#[derive(Clone, Copy, Debug, Drop)]
+enum Flow {
+    /// 9,689 bytes come, more than a read asks for at once.
+    AnswersMuch,
+    /// 20 pings come right before the end: little output is written before the end is read.
+    AnswersBeforeTheEnd,
+    AsksWhileOneIsHeld,
+    OpensAllStreams,
+    WritesBeforeItReads,
+    ReadsOften,
+    /// The link has failed before: its next failure is told.
+    FailsAgain,
+    AsksWhileMuchWaits,
+}
+
+/// Which end each is played on.
+static FLOWS: [(ConnRole, Flow); 8] = [
+    (ConnRole::Listener, Flow::AnswersMuch),
+    (ConnRole::Listener, Flow::AnswersBeforeTheEnd),
+    (ConnRole::Listener, Flow::AsksWhileOneIsHeld),
+    (ConnRole::Dialer, Flow::OpensAllStreams),
+    (ConnRole::Dialer, Flow::WritesBeforeItReads),
+    (ConnRole::Dialer, Flow::ReadsOften),
+    (ConnRole::Listener, Flow::FailsAgain),
+    (ConnRole::Listener, Flow::AsksWhileMuchWaits),
+];
+
+impl Flow {
+    fn pipe(self, alloc: Global, task: &MockTask) -> Option<Pipe> {
+        match self {
+            Flow::AnswersMuch => Some(open_pipe(alloc, input(alloc, PING, 800)?)),
+            Flow::AnswersBeforeTheEnd => two_reads(alloc, 20),
+            Flow::AsksWhileOneIsHeld => {
+                Some(open_pipe(alloc, input(alloc, PINGS.get(..62)?, 1)?))
+            }
+            Flow::OpensAllStreams | Flow::WritesBeforeItReads => credits(alloc, 20),
+            Flow::ReadsOften => credits(alloc, 167),
+            Flow::FailsAgain => failed_before(alloc, task),
+            Flow::AsksWhileMuchWaits => flood(alloc, 60_000),
+        }
+    }
+}
+
+impl Play<Pipe> for Flow {
+    fn play(self, _alloc: Global, task: &MockTask, conn: &mut End<Pipe>) -> Option<bool> {
+        let holds = match self {
+            Flow::AnswersMuch => is_answered(task, conn, 800),
+            Flow::AnswersBeforeTheEnd => is_answered(task, conn, 20),
+            Flow::AsksWhileOneIsHeld => is_asked_while_one_is_held(task, conn),
+            Flow::OpensAllStreams => opens_all(task, conn),
+            Flow::WritesBeforeItReads => writes_first(task, conn),
+            Flow::ReadsOften => reads_on(task, conn),
+            Flow::FailsAgain => is_failed(task, conn),
+            Flow::AsksWhileMuchWaits => is_asked_while_much_waits(task, conn),
+        };
+        Some(holds)
+    }
 }
 
 #[test]
-fn an_ask_while_much_waits(rt: HostRuntime) -> Result<(), Fail> {
+fn sizes_of_one_end(rt: HostRuntime) -> Result<(), Fail> {
     let task = MockTask::new(&rt)?;
-    let held = asks_while_much_waits(rt.alloc(), &task) == Some(true);
-    assert!(rt; held, "an ask");
+    for (role, flow) in FLOWS.iter() {
+        let pipe = flow.pipe(rt.alloc(), &task);
+        let held = play_on(rt.alloc(), &task, *role, pipe, *flow) == Some(true);
+        assert!(rt; held, "{flow:?}");
+    }
+    Ok(())
+}
+
+/// A bounded listener whose link takes nothing.
+#[derive(Clone, Copy, Drop)]
+struct Flooded;
+
+impl PlayBounded<Pipe> for Flooded {
+    fn play_bounded(self, task: &MockTask, conn: &mut Bounded<Pipe>) -> Option<bool> {
+        is_dropped(task, conn)
+    }
+}
+
+#[test]
+fn too_much_waits(rt: HostRuntime) -> Result<(), Fail> {
+    let task = MockTask::new(&rt)?;
+    let pipe = flood(rt.alloc(), 360_000);
+    let held = play_bounded(rt.alloc(), &task, ConnRole::Listener, pipe, Flooded);
+    assert_eq!(rt; held, Some(true), "4 MiB");
     Ok(())
 }

@@ -1,6 +1,6 @@
 //! A connection whose link takes nothing for long: much output waits, and none of it is lost.
 
-use crate::ends::{End, Gave, Plan, Said, UPGRADE, connect, drive, lend, poll_once, written};
+use crate::ends::{End, Gave, Plan, Play, Said, UPGRADE, drive, play_on, poll_once, written};
 use crate::scripts::{PENDING, steps_of};
 use conn_link::Pipe;
 use futures::task::Poll;
@@ -66,12 +66,18 @@ fn waits_much(alloc: Global, task: &MockTask, conn: &mut End<Pipe>) -> Option<bo
     Some(is_right && conn.waiting() == 0 && is_answered(alloc, conn)?)
 }
 
+/// A listener whose other end floods it.
+#[derive(Clone, Copy, Drop)]
+struct Flooded;
+
+impl Play<Pipe> for Flooded {
+    fn play(self, alloc: Global, task: &MockTask, conn: &mut End<Pipe>) -> Option<bool> {
+        waits_much(alloc, task, conn)
+    }
+}
+
 fn loses_none(alloc: Global, task: &MockTask) -> Option<bool> {
-    let pipe = flood(alloc)?;
-    lend(
-        connect(alloc, ConnRole::Listener, pipe),
-        |conn| waits_much(alloc, task, conn),
-    )
+    play_on(alloc, task, ConnRole::Listener, flood(alloc), Flooded)
 }
 
 #[test]

@@ -1,7 +1,8 @@
 //! The upgrade and a ping, of either end, and how many calls of the link a poll makes.
 
 use crate::ends::{
-    Bounded, End, Gave, Plan, Said, UPGRADE, bounded, connect, drive, lend, poll_once, written,
+    Bounded, End, Gave, Plan, Play, PlayBounded, Said, UPGRADE, drive, play_bounded, play_on,
+    poll_once, written,
 };
 use crate::quiet::Quiet;
 use crate::scripts::{PENDING, in_turn, steps_of};
@@ -135,12 +136,25 @@ fn is_told(alloc: Global, task: &MockTask, role: ConnRole, conn: &mut End<Pipe>)
     Some(gave.is(&TOLD) && !gave.is_idle && begins_output(role, written(conn)))
 }
 
-fn plays(alloc: Global, task: &MockTask, role: ConnRole, cut: Cut) -> Option<bool> {
-    let pipe = cut_pipe(alloc, role, cut)?;
-    lend(
-        connect(alloc, role, pipe),
-        |conn| is_told(alloc, task, role, conn),
-    )
+/// What is played on an end over a pipe.
+#[derive(Clone, Copy, Drop)]
+enum Row {
+    /// The upgrade and a ping of an end of this role.
+    Told(ConnRole),
+    /// The same, where a poll asks for another behind its 32nd call.
+    Behind32(ConnRole),
+    /// Many events of one read.
+    Many,
+}
+
+impl Play<Pipe> for Row {
+    fn play(self, alloc: Global, task: &MockTask, conn: &mut End<Pipe>) -> Option<bool> {
+        match self {
+            Row::Told(role) => is_told(alloc, task, role, conn),
+            Row::Behind32(role) => waits_behind_32(alloc, task, role, conn),
+            Row::Many => are_all_told(alloc, task, conn),
+        }
+    }
 }
 
 #[test]
@@ -155,7 +169,8 @@ fn the_upgrade_and_a_ping(rt: HostRuntime) -> Result<(), Fail> {
         (ConnRole::Listener, Cut::Bytes),
     ];
     for (row, (role, cut)) in rows.iter().enumerate() {
-        let held = plays(rt.alloc(), &task, *role, *cut) == Some(true);
+        let pipe = cut_pipe(rt.alloc(), *role, *cut);
+        let held = play_on(rt.alloc(), &task, *role, pipe, Row::Told(*role)) == Some(true);
         assert!(rt; held, "row {row}");
     }
     Ok(())
@@ -178,19 +193,12 @@ fn waits_behind_32(
     Some(has_waited && has_written && rest.is(&TOLD) && rest.least_pending == 32 && rest.most == 32)
 }
 
-fn asks_behind_32(alloc: Global, task: &MockTask, role: ConnRole) -> Option<bool> {
-    let pipe = cut_pipe(alloc, role, Cut::Bytes)?;
-    lend(
-        connect(alloc, role, pipe),
-        |conn| waits_behind_32(alloc, task, role, conn),
-    )
-}
-
 #[test]
 fn thirty_two_calls(rt: HostRuntime) -> Result<(), Fail> {
     let task = MockTask::new(&rt)?;
     for role in [ConnRole::Dialer, ConnRole::Listener] {
-        let held = asks_behind_32(rt.alloc(), &task, role) == Some(true);
+        let pipe = cut_pipe(rt.alloc(), role, Cut::Bytes);
+        let held = play_on(rt.alloc(), &task, role, pipe, Row::Behind32(role)) == Some(true);
         assert!(rt; held, "calls of a poll");
     }
     Ok(())
@@ -235,14 +243,6 @@ fn is_asked_once(
     Some(is_right && stays_idle && is_shut)
 }
 
-fn waits_quietly(alloc: Global, task: &MockTask, takes: bool) -> Option<bool> {
-    let link = Quiet::new(takes, Vec::new(alloc));
-    lend(
-        connect(alloc, ConnRole::Dialer, link),
-        |conn| is_asked_once(alloc, task, conn, takes),
-    )
-}
-
 /// So too once it is up: where all that came was heard, and its link waits, a poll asks for no other.
 fn is_idle_once_up(
     alloc: Global,
@@ -272,22 +272,6 @@ fn is_woken_no_more(alloc: Global, task: &MockTask, conn: &mut End<Quiet>) -> Op
     Some(true)
 }
 
-fn wakes_no_more(alloc: Global, task: &MockTask) -> Option<bool> {
-    let link = Quiet::new(true, UPGRADE.to_vec(alloc).ok()?);
-    lend(
-        connect(alloc, ConnRole::Listener, link),
-        |conn| is_woken_no_more(alloc, task, conn),
-    )
-}
-
-fn waits_once_up(alloc: Global, task: &MockTask, takes: bool) -> Option<bool> {
-    let link = Quiet::new(takes, UPGRADE.to_vec(alloc).ok()?);
-    lend(
-        connect(alloc, ConnRole::Listener, link),
-        |conn| is_idle_once_up(alloc, task, conn, takes),
-    )
-}
-
 /// So too where it is bounded: each poll waits for the link, and asks for no other.
 fn is_idle_bounded(task: &MockTask, conn: &mut Bounded<Quiet>) -> bool {
     for _ in 0..3u32 {
@@ -299,27 +283,78 @@ fn is_idle_bounded(task: &MockTask, conn: &mut Bounded<Quiet>) -> bool {
     true
 }
 
-fn waits_bounded(alloc: Global, task: &MockTask, takes: bool) -> Option<bool> {
-    let link = Quiet::new(takes, Vec::new(alloc));
-    lend(
-        bounded(alloc, ConnRole::Dialer, link),
-        |conn| Some(is_idle_bounded(task, conn)),
-    )
+/// What is played over a link that waits, which takes bytes or doesn't.
+#[derive(Clone, Copy, Debug, Drop)]
+enum Waiting {
+    /// It is asked once a poll.
+    Asked(bool),
+    /// So too once the connection is up.
+    Up(bool),
+    /// No kept waker asks for another poll.
+    Woken,
+    /// So too where the connection is bounded.
+    Bounded(bool),
+}
+
+impl Waiting {
+    /// The link, which gives the upgrade where the connection comes up.
+    fn link(self, alloc: Global) -> Option<Quiet> {
+        let upgrade = UPGRADE.to_vec(alloc).ok()?;
+        Some(match self {
+            Waiting::Asked(takes) | Waiting::Bounded(takes) => Quiet::new(takes, Vec::new(alloc)),
+            Waiting::Up(takes) => Quiet::new(takes, upgrade),
+            Waiting::Woken => Quiet::new(true, upgrade),
+        })
+    }
+
+    fn role(self) -> ConnRole {
+        match self {
+            Waiting::Asked(_) | Waiting::Bounded(_) => ConnRole::Dialer,
+            Waiting::Up(_) | Waiting::Woken => ConnRole::Listener,
+        }
+    }
+
+    fn holds(self, alloc: Global, task: &MockTask) -> bool {
+        let (role, link) = (self.role(), self.link(alloc));
+        let held = match self {
+            Waiting::Bounded(_) => play_bounded(alloc, task, role, link, self),
+            _ => play_on(alloc, task, role, link, self),
+        };
+        held == Some(true)
+    }
+}
+
+impl Play<Quiet> for Waiting {
+    fn play(self, alloc: Global, task: &MockTask, conn: &mut End<Quiet>) -> Option<bool> {
+        match self {
+            Waiting::Asked(takes) => is_asked_once(alloc, task, conn, takes),
+            Waiting::Up(takes) => is_idle_once_up(alloc, task, conn, takes),
+            Waiting::Woken => is_woken_no_more(alloc, task, conn),
+            Waiting::Bounded(_) => None,
+        }
+    }
+}
+
+impl PlayBounded<Quiet> for Waiting {
+    fn play_bounded(self, task: &MockTask, conn: &mut Bounded<Quiet>) -> Option<bool> {
+        Some(is_idle_bounded(task, conn))
+    }
 }
 
 #[test]
 fn a_link_that_waits(rt: HostRuntime) -> Result<(), Fail> {
     let task = MockTask::new(&rt)?;
-    for takes in [true, false] {
-        let held = waits_quietly(rt.alloc(), &task, takes) == Some(true);
-        assert!(rt; held, "a link that takes bytes: {takes}");
-        let up = waits_once_up(rt.alloc(), &task, takes) == Some(true);
-        assert!(rt; up, "once it is up, over a link that takes bytes: {takes}");
-        let bounded = waits_bounded(rt.alloc(), &task, takes) == Some(true);
-        assert!(rt; bounded, "a bounded one, whose link takes bytes: {takes}");
+    for waiting in [
+        Waiting::Asked(true),
+        Waiting::Asked(false),
+        Waiting::Up(true),
+        Waiting::Up(false),
+        Waiting::Bounded(true),
+        Waiting::Bounded(false),
+        Waiting::Woken,
+    ] {
+        assert!(rt; waiting.holds(rt.alloc(), &task), "{waiting:?}");
     }
-    let held = wakes_no_more(rt.alloc(), &task) == Some(true);
-    assert!(rt; held, "behind the event");
     Ok(())
 }
 
@@ -351,18 +386,16 @@ fn are_all_told(alloc: Global, task: &MockTask, conn: &mut End<Pipe>) -> Option<
     Some(is_right && conn.ask(2) == Ok(2))
 }
 
-fn tells_many(alloc: Global, task: &MockTask) -> Option<bool> {
+fn many_pipe(alloc: Global) -> Option<Pipe> {
     let reads = steps_of(alloc, &[UPGRADE_LEN])?;
-    let pipe = Pipe::new(alloc, many_openings(alloc)?, reads, Vec::new(alloc));
-    lend(
-        connect(alloc, ConnRole::Listener, pipe),
-        |conn| are_all_told(alloc, task, conn),
-    )
+    Some(Pipe::new(alloc, many_openings(alloc)?, reads, Vec::new(alloc)))
 }
 
 #[test]
 fn many_events_of_a_read(rt: HostRuntime) -> Result<(), Fail> {
     let task = MockTask::new(&rt)?;
-    assert_eq!(rt; tells_many(rt.alloc(), &task), Some(true));
+    let pipe = many_pipe(rt.alloc());
+    let held = play_on(rt.alloc(), &task, ConnRole::Listener, pipe, Row::Many);
+    assert_eq!(rt; held, Some(true));
     Ok(())
 }

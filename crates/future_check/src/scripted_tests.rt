@@ -1,7 +1,7 @@
 //! A thousand runs, each by steps of its own, against the core fed the same bytes directly.
 
 use crate::ends::{
-    End, KEY, Plan, Said, UPGRADE, connect, drive, kind_of, lend, protocols, written,
+    End, KEY, Plan, Play, Said, UPGRADE, drive, kind_of, play_on, protocols, written,
 };
 use crate::row_tests::PINGS;
 use crate::scripts::{Random, random_codes, steps_of};
@@ -174,12 +174,23 @@ fn follows_core(
     Some(is_told && is_written && is_over && gave.most <= 32)
 }
 
+/// A listener that hears these bytes.
+#[derive(Drop)]
+struct Hearing {
+    bytes: Vec<u8>,
+    plan: Plan,
+}
+
+impl Play<Pipe> for Hearing {
+    fn play(self, alloc: Global, task: &MockTask, conn: &mut End<Pipe>) -> Option<bool> {
+        follows_core(alloc, task, conn, &self.bytes, self.plan)
+    }
+}
+
 fn runs(alloc: Global, task: &MockTask, number: u32) -> Option<bool> {
     let Script { bytes, pipe, plan } = script_of(alloc, number)?;
-    lend(
-        connect(alloc, ConnRole::Listener, pipe),
-        |conn| follows_core(alloc, task, conn, &bytes, plan),
-    )
+    let hearing = Hearing { bytes, plan };
+    play_on(alloc, task, ConnRole::Listener, Some(pipe), hearing)
 }
 
 #[test]

@@ -1,6 +1,6 @@
 //! `shut`: with output left, with the link pending, twice, and after a fault.
 
-use crate::ends::{End, Plan, Said, connect, drive, lend, written};
+use crate::ends::{End, Plan, Play, Said, drive, play_on, written};
 use crate::row_tests::{TOLD, begins_output, pipe, plan};
 use crate::scripts::{FAIL, PENDING, in_turn};
 use conn_link::Pipe;
@@ -30,15 +30,6 @@ fn is_written_out(
     Some(is_right && begins_output(ConnRole::Dialer, written(conn)))
 }
 
-fn shuts_at_once(alloc: Global, task: &MockTask, times: u32) -> Option<bool> {
-    let writes = in_turn(alloc, PENDING, 1, 400)?;
-    let pipe = pipe(alloc, ConnRole::Dialer, &[FAIL], &writes)?;
-    lend(
-        connect(alloc, ConnRole::Dialer, pipe),
-        |conn| is_written_out(alloc, task, conn, times),
-    )
-}
-
 /// `shut` before any poll of a run: what was told before is a front, then comes Shut, and all that the core wrote is
 /// written. Where the run was over already, nothing changes.
 fn is_shut_at(alloc: Global, task: &MockTask, conn: &mut End<Pipe>, poll: u32) -> Option<bool> {
@@ -50,16 +41,6 @@ fn is_shut_at(alloc: Global, task: &MockTask, conn: &mut End<Pipe>, poll: u32) -
     Some(is_told && gave.has_ended && gave.most <= 32 && is_written)
 }
 
-fn shuts_within(alloc: Global, task: &MockTask, poll: u32) -> Option<bool> {
-    let reads = in_turn(alloc, 3, PENDING, 400)?;
-    let writes = in_turn(alloc, PENDING, 5, 400)?;
-    let pipe = pipe(alloc, ConnRole::Listener, &reads, &writes)?;
-    lend(
-        connect(alloc, ConnRole::Listener, pipe),
-        |conn| is_shut_at(alloc, task, conn, poll),
-    )
-}
-
 /// Behind a fault `shut` changes nothing, and asks are refused.
 fn stays_over(alloc: Global, task: &MockTask, conn: &mut End<Pipe>) -> Option<bool> {
     let gave = drive(alloc, task, conn, plan(ConnRole::Dialer), 100)?;
@@ -68,14 +49,6 @@ fn stays_over(alloc: Global, task: &MockTask, conn: &mut End<Pipe>) -> Option<bo
     let is_over = later.is(&[]) && !conn.link().link.is_shut();
     let is_refused = conn.ask(2) == Err(ConnRefused::Failed);
     Some(gave.is(&[Said::Fault(ConnFault::Link)]) && is_over && is_refused)
-}
-
-fn shuts_behind_a_fault(alloc: Global, task: &MockTask) -> Option<bool> {
-    let pipe = pipe(alloc, ConnRole::Dialer, &[9, 9, FAIL], &[])?;
-    lend(
-        connect(alloc, ConnRole::Dialer, pipe),
-        |conn| stays_over(alloc, task, conn),
-    )
 }
 
 /// Behind `shut`, where each write takes a byte, a poll asks for another exactly behind its 32nd call: 32 writes, and
@@ -90,28 +63,82 @@ fn is_shut_by_32(alloc: Global, task: &MockTask, conn: &mut End<Pipe>) -> Option
     Some(has_waited && rest.is(&[Said::Shut]) && calls == left.saturating_add(1))
 }
 
-fn shuts_by_32(alloc: Global, task: &MockTask) -> Option<bool> {
-    let writes = in_turn(alloc, 1, 1, 100)?;
-    let pipe = pipe(alloc, ConnRole::Dialer, &[FAIL], &writes)?;
-    lend(
-        connect(alloc, ConnRole::Dialer, pipe),
-        |conn| is_shut_by_32(alloc, task, conn),
-    )
+/// When `shut` is called.
+#[derive(Clone, Copy, Debug, Drop)]
+enum When {
+    /// So many times before the first poll.
+    AtOnce(u32),
+    /// Before the poll of this number.
+    Within(u32),
+    BehindAFault,
+    /// Before the first poll, where each write takes a byte.
+    By32,
+}
+
+impl When {
+    fn role(self) -> ConnRole {
+        match self {
+            When::Within(_) => ConnRole::Listener,
+            _ => ConnRole::Dialer,
+        }
+    }
+
+    /// The codes of the writes of its pipe.
+    fn writes(self, alloc: Global) -> Option<Vec<u8>> {
+        match self {
+            When::AtOnce(_) => in_turn(alloc, PENDING, 1, 400),
+            When::Within(_) => in_turn(alloc, PENDING, 5, 400),
+            When::BehindAFault => in_turn(alloc, 1, 1, 0),
+            When::By32 => in_turn(alloc, 1, 1, 100),
+        }
+    }
+
+    fn pipe(self, alloc: Global) -> Option<Pipe> {
+        let writes = self.writes(alloc)?;
+        match self {
+            When::Within(_) => {
+                pipe(
+                    alloc,
+                    self.role(),
+                    &in_turn(alloc, 3, PENDING, 400)?,
+                    &writes,
+                )
+            }
+            When::BehindAFault => pipe(alloc, self.role(), &[9, 9, FAIL], &writes),
+            When::AtOnce(_) | When::By32 => pipe(alloc, self.role(), &[FAIL], &writes),
+        }
+    }
+
+    fn holds(self, alloc: Global, task: &MockTask) -> bool {
+        play_on(alloc, task, self.role(), self.pipe(alloc), self) == Some(true)
+    }
+}
+
+impl Play<Pipe> for When {
+    fn play(self, alloc: Global, task: &MockTask, conn: &mut End<Pipe>) -> Option<bool> {
+        match self {
+            When::AtOnce(times) => is_written_out(alloc, task, conn, times),
+            When::Within(poll) => is_shut_at(alloc, task, conn, poll),
+            When::BehindAFault => stays_over(alloc, task, conn),
+            When::By32 => is_shut_by_32(alloc, task, conn),
+        }
+    }
 }
 
 #[test]
 fn shut(rt: HostRuntime) -> Result<(), Fail> {
     let task = MockTask::new(&rt)?;
-    for times in 1..3u32 {
-        let held = shuts_at_once(rt.alloc(), &task, times) == Some(true);
-        assert!(rt; held, "called {times} times");
+    for when in [
+        When::AtOnce(1),
+        When::AtOnce(2),
+        When::BehindAFault,
+        When::By32,
+    ] {
+        assert!(rt; when.holds(rt.alloc(), &task), "{when:?}");
     }
-    assert_eq!(rt; shuts_behind_a_fault(rt.alloc(), &task), Some(true));
-    assert_eq!(rt; shuts_by_32(rt.alloc(), &task), Some(true));
     for turn in 0..60u32 {
-        let poll = turn.saturating_mul(3);
-        let held = shuts_within(rt.alloc(), &task, poll) == Some(true);
-        assert!(rt; held, "before poll {poll}");
+        let when = When::Within(turn.saturating_mul(3));
+        assert!(rt; when.holds(rt.alloc(), &task), "{when:?}");
     }
     Ok(())
 }
