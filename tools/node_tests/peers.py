@@ -3,7 +3,6 @@ import contextlib
 import functools
 import re
 import socket
-import struct
 import subprocess
 import threading
 from concurrent.futures import ThreadPoolExecutor
@@ -25,6 +24,7 @@ from node_tests.runs import (
     await_that,
     expect,
     expect_ran,
+    frame,
     listening,
     outcome,
     pongs,
@@ -506,11 +506,6 @@ def peers_of_other_makes_are_served():
         expect(all(part in heard for part in AWAITS), heard)
         node.await_line("gone 1")
         node.expect_end(f"conn 1 listener {ID_11}", "gone 1")
-
-
-def frame(kind, flags, stream, length):
-    """The head of a frame (yamux, "Framing")."""
-    return struct.pack(">BBHII", 0, kind, flags, stream, length)
 
 
 def pings_of(turn):

@@ -5,6 +5,7 @@ import os
 import re
 import signal
 import socket
+import struct
 import subprocess
 import threading
 import time
@@ -46,6 +47,11 @@ def upgrade(key):
 
 # How many bytes that is.
 UP = 151
+
+
+def frame(kind, flags, stream, length):
+    """The head of a frame (yamux, "Framing")."""
+    return struct.pack(">BBHII", 0, kind, flags, stream, length)
 
 
 # ---- what is tried, and what is got

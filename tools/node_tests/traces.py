@@ -2,11 +2,10 @@
 
 What each prints stands in traces.txt, below its name, as it was reckoned by hand."""
 import functools
-import struct
 from pathlib import Path
 from typing import NamedTuple
 
-from node_tests.runs import HELLO, Row, expect, expect_ran, run, upgrade
+from node_tests.runs import HELLO, Row, expect, expect_ran, frame, run, upgrade
 
 # The sizes of the pieces in which rows are cut.
 SIZES = (1, 7, 13)
@@ -38,10 +37,6 @@ ZEROS = bytes(32)
 def says(key):
     """An identify message with this key, version `v` and agent `x`."""
     return b"\x2c\x0a\x24\x08\x01\x12\x20" + key + b"\x2a\x01v\x32\x01x"
-
-
-def frame(kind, flags, stream, length):
-    return struct.pack(">BBHII", 0, kind, flags, stream, length)
 
 
 def data(flags, stream, payload):
