@@ -2,9 +2,11 @@
 import contextlib
 import functools
 import re
+import resource
 import socket
 import subprocess
 import threading
+import time
 from concurrent.futures import ThreadPoolExecutor
 from typing import NamedTuple
 
@@ -222,6 +224,26 @@ def a_table_that_is_full_for_a_while():
         expect_ran(run(["ping", node.addr]), 0, pongs(1))
         status, lines = node.end()
         expect(status == 0 and re.fullmatch(rf"conn \d+ listener {DIALER}", lines[3]), f"{status} {lines}")
+
+
+def a_table_of_descriptors_that_is_full_for_a_while():
+    """Who comes then waits, and the node doesn't spin. Once a descriptor is free it is served."""
+    with listening() as node:
+        with node.dialed() as first:
+            first.sendall(upgrade(KEY_11))
+            node.await_line(f"conn 1 listener {ID_11}")
+            most = node.descriptors()
+            resource.prlimit(node.process.pid, resource.RLIMIT_NOFILE, (most, most))
+            with node.dialed() as second:
+                second.sendall(upgrade(KEY_11))
+                before = node.processor_time()
+                time.sleep(1)
+                spent = node.processor_time() - before
+                expect(spent < 0.2 and node.descriptors() == most, f"{spent} s, {node.lines}")
+                first.close()
+                node.await_line(f"conn 2 listener {ID_11}")
+        node.await_line("gone 2")
+        node.expect_end(f"conn 1 listener {ID_11}", "gone 1", f"conn 2 listener {ID_11}", "gone 2")
 
 
 def listen_as_itself():
@@ -612,6 +634,7 @@ TESTS = [
     keys_of_their_own,
     one_who_meets_itself,
     a_table_that_is_full_for_a_while,
+    a_table_of_descriptors_that_is_full_for_a_while,
     listen_as_itself,
     another_peer_and_an_address_in_use,
     an_address_right_behind_its_use,

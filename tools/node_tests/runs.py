@@ -216,6 +216,11 @@ class Listener:
         """How many descriptors it has open."""
         return len(os.listdir(f"/proc/{self.process.pid}/fd"))
 
+    def processor_time(self):
+        """How many seconds of processor time it has taken, its own and the system's."""
+        words = Path(f"/proc/{self.process.pid}/stat").read_text().rpartition(")")[2].split()
+        return (int(words[11]) + int(words[12])) / os.sysconf("SC_CLK_TCK")
+
     def end(self):
         """Ends its input, and gives its status and its lines once it has ended. It tells no faults."""
         self.process.stdin.close()

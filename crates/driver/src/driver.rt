@@ -95,7 +95,8 @@ impl<'a, N: Net, C: Caller> Driver<'a, N, C> {
     }
 
     /// Does all that is to be done now, but for what its owner is to see first: behind a connection that became live,
-    /// and behind what a peer said of itself, it goes on in the next call.
+    /// and behind what a peer said of itself, it goes on in the next call. Where a socket that has come can't be taken,
+    /// the next call tries it, which its owner makes by a tick of its own.
     pub fn work(&mut self, cx: &mut Context<'_>)
         ensures { Keeps cx.old cx.new }
     {
@@ -115,8 +116,8 @@ impl<'a, N: Net, C: Caller> Driver<'a, N, C> {
             };
             match listener.poll_accept(cx) {
                 Poll::Ready(Ok((stream, _addr))) => self.seat(stream),
-                Poll::Ready(Err(_)) => break,
-                Poll::Pending => return,
+                // Descriptors are wanting, say. The next call tries again, and asks for none, so nothing spins.
+                Poll::Ready(Err(_)) | Poll::Pending => return,
             }
         }
         let _again: Poll<()> = cx.yield_now();
