@@ -1,7 +1,7 @@
 //! An end of a connection.
 
 ghost use Rattle.std.specs.Prelude.{length, take, ◌<◌, ◌≤◌, IfOk, IfErr, OnOk, OnErr, None, Ok, Err};
-ghost use Rattle.std.specs.Prelude.{◌≡◌, ◌≢◌, ℕ, Bool, true, false, List, [], ◌∷◌, ◌++◌};
+ghost use Rattle.std.specs.Prelude.{◌≡◌, ◌≢◌, ℕ, Bool, true, false, List, [], ◌∷◌, ◌++◌, if◌then◌else◌};
 ghost use Rattle.peer_ids.specs.Key.{Key};
 ghost use Rattle.conn_log.specs.declared.event.ConnEvent.{ConnEvent};
 ghost use Rattle.conn_log.specs.declared.event.ConnEvent.TheVariants as event;
@@ -75,40 +75,41 @@ fn collect(output: &mut Vec<u8>, session: &mut Session) -> Result<(), ConnRefuse
 }
 
 /// Takes what came to a connection that is up, and tells what it led to; what the session wrote goes behind what waits.
-/// Where the other end broke the rules of the session, a Fault is told last, and the connection is over.
+/// Where the other end broke the rules of the session, a Fault is told last. Answers whether the connection goes on:
+/// its session stays where it is, since it is large, and this is called for each piece.
 fn go_on<P: Protocols>(
-    mux: Mux<P>,
+    mux: &mut Mux<P>,
     output: &mut Vec<u8>,
     piece: &Bytes,
     told: &mut Vec<ConnEvent<P::H>>,
-) -> Result<Phase<P>, ConnRefused>
+) -> Result<bool, ConnRefused>
     ensures goes { (role : ConnRole) (own : Key) (start : P) (input taken : List ℕ) (asked : List (ℕ × ℕ))
         (before : List (ConnEvent P.H)) → IsUpWith P.H.steps P.H.fails P.H.is_closed P.H.is_finished P.makes_inbound
         P.makes_outbound P.listed P.is_eager P.leads_inbound P.leads_outbound start role own input asked
-        (before ++ told.old.items) (taken ++ output.old.items) mux
-        → IfOk result (λ phase. Connects P.H.steps P.H.fails P.H.is_closed P.H.is_finished P.makes_inbound
+        (before ++ told.old.items) (taken ++ output.old.items) mux.old
+        → IfOk result (λ is_up. Connects P.H.steps P.H.fails P.H.is_closed P.H.is_finished P.makes_inbound
         P.makes_outbound P.listed P.is_eager P.leads_inbound P.leads_outbound start role own (input ++ piece.now) false
-        asked (before ++ told.new.items) taken phase [] output.new.items) }
+        asked (before ++ told.new.items) taken (if is_up then Phase.Up mux.new else Phase.Over) []
+        output.new.items) }
     ensures memory { OnErr result (result ≡ Err ConnRefused.OutOfMemory) }
     ensures waits { OnErr result (Grows output.old.items output.new.items) }
     ensures wrote { (role : ConnRole) (own : Key) (start : P) (input taken : List ℕ) (asked : List (ℕ × ℕ))
         (before : List (ConnEvent P.H)) → IsUpWith P.H.steps P.H.fails P.H.is_closed P.H.is_finished P.makes_inbound
         P.makes_outbound P.listed P.is_eager P.leads_inbound P.leads_outbound start role own input asked
-        (before ++ told.old.items) (taken ++ output.old.items) mux
+        (before ++ told.old.items) (taken ++ output.old.items) mux.old
         → OnErr result (WroteOn P.H.steps P.H.fails P.H.is_closed P.H.is_finished P.makes_inbound P.makes_outbound
         P.listed P.is_eager P.leads_inbound P.leads_outbound start role own input piece.now asked before
         (taken ++ output.new.items)) }
 {
-    let mut mux = mux;
     let Ok(()) = mux.feed(piece, told) else {
         return Err(ConnRefused::OutOfMemory);
     };
     collect(output, &mut mux.session)?;
     if mux.session.has_failed() {
         tell(told, ConnEvent::Fault(ConnFault::Mux))?;
-        return Ok(Phase::Over);
+        return Ok(false);
     }
-    Ok(Phase::Up(mux))
+    Ok(true)
 }
 
 /// The connection has come up: it tells so first, and what follows in the piece is the session's.
@@ -142,7 +143,12 @@ fn come_up<P: Protocols>(
     let Ok(rest) = piece.slice(used..) else {
         return Err(ConnRefused::OutOfMemory);
     };
-    go_on(mux, output, &rest, told)
+    let mut mux = mux;
+    match go_on(&mut mux, output, &rest, told) {
+        Ok(true) => Ok(Phase::Up(mux)),
+        Ok(false) => Ok(Phase::Over),
+        Err(refused) => Err(refused),
+    }
 }
 
 /// Opens a stream for the protocol of this index; what the session wrote goes behind what waits.
@@ -229,38 +235,44 @@ fn bring_up<P: Protocols>(
     }
 }
 
-/// Takes what came, unless the connection is over.
+/// Takes what came, unless the connection is over. Want of memory may leave any phase.
 fn take_on<P: Protocols>(
     alloc: Global,
     role: ConnRole,
-    phase: Phase<P>,
+    phase: &mut Phase<P>,
     output: &mut Vec<u8>,
     piece: &Bytes,
     told: &mut Vec<ConnEvent<P::H>>,
-) -> Result<Phase<P>, ConnRefused>
+) -> Result<(), ConnRefused>
     ensures goes { (own : Key) (start : P) (input taken : List ℕ) (asked : List (ℕ × ℕ)) (before : List (ConnEvent P.H))
         → Connects P.H.steps P.H.fails P.H.is_closed P.H.is_finished P.makes_inbound P.makes_outbound P.listed
-        P.is_eager P.leads_inbound P.leads_outbound start role own input false asked before taken phase told.old.items
-        output.old.items → is_over phase ≡ false
-        → IfOk result (λ now. Connects P.H.steps P.H.fails P.H.is_closed P.H.is_finished P.makes_inbound
+        P.is_eager P.leads_inbound P.leads_outbound start role own input false asked before taken phase.old
+        told.old.items output.old.items → is_over phase.old ≡ false
+        → OnOk result (Connects P.H.steps P.H.fails P.H.is_closed P.H.is_finished P.makes_inbound
         P.makes_outbound P.listed P.is_eager P.leads_inbound P.leads_outbound start role own (input ++ piece.now) false
-        asked (before ++ told.new.items) taken now [] output.new.items) }
+        asked (before ++ told.new.items) taken phase.new [] output.new.items) }
     ensures memory { OnErr result (result ≡ Err ConnRefused.OutOfMemory) }
-    ensures waits { OnErr result (Grows (waiting_in phase output.old.items) output.new.items) }
+    ensures waits { OnErr result (Grows (waiting_in phase.old output.old.items) output.new.items) }
     ensures wrote { (own : Key) (start : P) (input taken : List ℕ) (asked : List (ℕ × ℕ))
         (before : List (ConnEvent P.H)) → Connects P.H.steps P.H.fails P.H.is_closed P.H.is_finished P.makes_inbound
         P.makes_outbound P.listed P.is_eager P.leads_inbound P.leads_outbound start role own input false asked before
-        taken phase told.old.items output.old.items → is_over phase ≡ false
+        taken phase.old told.old.items output.old.items → is_over phase.old ≡ false
         → OnErr result (Wrote P.H.steps P.H.fails P.H.is_closed P.H.is_finished P.makes_inbound P.makes_outbound
         P.listed P.is_eager P.leads_inbound P.leads_outbound start role own input piece.now asked before
         (taken ++ output.new.items)) }
 {
-    match phase {
-        Phase::Upgrading(upgrade, protocols) => {
-            bring_up(alloc, role, upgrade, protocols, output, piece, told)
+    if let Phase::Up(mux) = phase {
+        if !go_on(mux, output, piece, told)? {
+            *phase = Phase::Over;
         }
-        Phase::Up(mux) => go_on(mux, output, piece, told),
-        Phase::Over | Phase::Spent => Err(ConnRefused::OutOfMemory),
+        return Ok(());
+    }
+    match mem::replace(phase, Phase::Spent) {
+        Phase::Upgrading(upgrade, protocols) => {
+            *phase = bring_up(alloc, role, upgrade, protocols, output, piece, told)?;
+            Ok(())
+        }
+        _ => Err(ConnRefused::OutOfMemory),
     }
 }
 
@@ -332,17 +344,21 @@ impl<P: Protocols> ConnCore<P> {
         if self.is_over() {
             return Err(ConnRefused::Failed);
         }
-        let phase = mem::replace(&mut self.phase, Phase::Spent);
         let mut told = mem::replace(&mut self.owed, Vec::new(self.alloc));
-        self.phase = take_on(
+        match take_on(
             self.alloc,
             self.role,
-            phase,
+            &mut self.phase,
             &mut self.output,
             &piece,
             &mut told,
-        )?;
-        Ok(told)
+        ) {
+            Ok(()) => Ok(told),
+            Err(refused) => {
+                self.phase = Phase::Spent;
+                Err(refused)
+            }
+        }
     }
 
     /// The same, of bytes that are copied once.

@@ -166,10 +166,12 @@ module _ {P H : Type 0} (protocols : ProtocolsGhosts P H) (handler : HandlerGhos
     heard = λ core held it. (sym (ap (λ l. drop 1 l) it.moved.0), sym it.moved.1);
     told = λ core one other it. (it.stands, it.goes_on);
     kept = λ core unspent asked one other it. it.kept unspent;
+    wrote = λ core asked held it. subst (λ (t : List ℕ). Core it.given it.ended asked held (t ++ it.left) it.core) (sym (ap (λ l. drop 1 l) it.moved.1)) it.stands;
+    wrote_on = λ core unspent asked held it. subst (λ (t : List ℕ). Core it.given it.ended (asked ++ it.opened) held (t ++ (it.left ++ it.more)) core) (sym (ap (λ l. drop 1 l) it.moved.1)) (it.kept unspent);
     over = λ core unspent held it. still_going core unspent held it;
     missing = λ core unspent key input taken stands it.
         told_once lines protocols handler start role own input it.given false it.ended [] ([] ++ it.opened) key taken (it.took ++ (it.left ++ it.more)) core stands (it.kept unspent);
-    ended_there = λ core unspent held it. let e : ◌≡◌ {A = Bool} false true = it.unended unspent refl in cc e;
+    ended_there = λ core unspent asked held it. let e : ◌≡◌ {A = Bool} false true = it.unended unspent refl in cc e;
     spent = λ core other spent held it. record {
       given = it.given;
       lost = it.lost;

@@ -69,6 +69,14 @@ module _ {P H : Type 0} (protocols : ProtocolsGhosts P H) (handler : HandlerGhos
     pub kept : (core : ConnCore P H) → is_spent core.phase ≡ false → (asked : List (ℕ × ℕ)) (one other : ConnEvent H)
         (it : parts (line [] []) asked (one ∷ []) (line [] []) core (other ∷ []))
         → core_stands it.given it.ended (asked ++ it.opened) (one ∷ other ∷ []) (it.took ++ (it.left ++ it.more)) core
+    -- what the link took is the first part of what that core wrote, which opened the streams that were asked for; and of
+    -- what its own core wrote, unless memory was refused to it
+    pub wrote : (core : ConnCore P H) (asked : List (ℕ × ℕ)) (held : List (ConnEvent H))
+        (it : parts (line [] (8 ∷ [])) asked [] (line (2 ∷ []) (8 ∷ 9 ∷ [])) core held)
+        → core_stands it.given it.ended asked held (9 ∷ it.left) it.core
+    pub wrote_on : (core : ConnCore P H) → is_spent core.phase ≡ false → (asked : List (ℕ × ℕ))
+        (held : List (ConnEvent H)) (it : parts (line [] (8 ∷ [])) asked [] (line (2 ∷ []) (8 ∷ 9 ∷ [])) core held)
+        → core_stands it.given it.ended (asked ++ it.opened) held (9 ∷ (it.left ++ it.more)) core
     -- so it goes on
     pub over : (core : ConnCore P H) → is_spent core.phase ≡ false → (held : List (ConnEvent H))
         → parts (line [] []) [] [] (line [] []) core held → is_over core.phase ≡ false
@@ -76,8 +84,8 @@ module _ {P H : Type 0} (protocols : ProtocolsGhosts P H) (handler : HandlerGhos
     pub missing : (core : ConnCore P H) → is_spent core.phase ≡ false → (key : Key) (input taken : List ℕ)
         → core_stands input false [] (event.Upgraded key ∷ []) taken core
         → ¬ parts (line [] []) [] [] (line input []) core []
-    pub ended_there : (core : ConnCore P H) → is_spent core.phase ≡ false → (held : List (ConnEvent H))
-        → ¬ parts (line [] []) [] [] (ended [] []) core held
+    pub ended_there : (core : ConnCore P H) → is_spent core.phase ≡ false → (asked : List (ℕ × ℕ))
+        (held : List (ConnEvent H)) → ¬ parts (line [] []) asked [] (ended [] []) core held
     -- and of one to which memory was refused nothing is known
     pub spent : (core other : ConnCore P H) → is_spent other.phase ≡ true → (held : List (ConnEvent H))
         → parts (line [] []) [] [] (line (2 ∷ []) []) core held → parts (line [] []) [] [] (line (2 ∷ []) []) other held

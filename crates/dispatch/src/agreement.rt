@@ -1,7 +1,7 @@
 //! The talk of a stream, and the handler that is made behind it.
 
 ghost use Rattle.std.specs.Prelude.{◌≡◌, ◌≢◌, ℕ, ◌<◌, ◌≤◌, true, false, length, Ok, Err};
-ghost use Rattle.std.specs.Prelude.{IfOk, IfErr, OnOk};
+ghost use Rattle.std.specs.Prelude.{IfOk, IfErr, OnOk, OnErr};
 ghost use Rattle.streams.specs.declared.stage.Stage.TheVariants.{Serving, Over};
 ghost use Rattle.streams.specs.Streams.{Past};
 ghost use Rattle.streams.specs.Stops.{not_now};
@@ -26,6 +26,7 @@ fn make<P: Protocols>(
     ensures made { IfOk result (makes_once P.makes_inbound P.makes_outbound P.leads_inbound P.leads_outbound direction
         peer protocols.old protocols.new index) }
     ensures refused { index < length (P.listed protocols.old) → IfErr result (λ stop. stop ≡ Stop.OutOfMemory) }
+    ensures kept { OnErr result (protocols.new ≡ protocols.old) }
 {
     if index >= protocols.names().len() {
         return Err(Stop::Broken(Cause::Select(SelectFault::Failed)));
@@ -57,6 +58,7 @@ fn serve<P: Protocols>(
         × (protocols.new ≡ protocols.old) }
     ensures refused { index < length (P.listed protocols.old) → IfErr result (λ stop. (stop ≡ Stop.OutOfMemory)
         × (awaits_handler stream.old.stage ≡ true)) }
+    ensures kept { OnErr result (protocols.new ≡ protocols.old) }
 {
     if !stream.awaits_handler() {
         return Ok(());
@@ -89,6 +91,8 @@ pub fn negotiate<P: Protocols>(
     ensures memory { (so_far : Past P.H) → Stands P.H.steps stream.old so_far → is_talking stream.old.stage ≡ true
         → IsKnown (P.listed protocols.old) direction so_far.side → result ≡ Err Stop.OutOfMemory
         → MakingRunsOut P.H.steps so_far stream.old bytes.now stream.new.waiting }
+    // No handler was made then, or was handed anything.
+    ensures kept { OnErr result (protocols.new ≡ protocols.old) }
     ensures out_of_turn { is_talking stream.old.stage ≡ false
         → (result ≡ Err not_now) × (stream.new ≡ stream.old) × (protocols.new ≡ protocols.old) }
     ensures over { is_talking stream.old.stage ≡ true → result ≡ Ok Heard.Refused → stream.new.stage ≡ Over }

@@ -1,6 +1,6 @@
 //! What makes handlers.
 
-ghost use Rattle.std.specs.Prelude.{◌≡◌, ℕ, Bool, ◌<◌, List, length, map, IfOk};
+ghost use Rattle.std.specs.Prelude.{◌≡◌, ℕ, Bool, ◌<◌, List, length, map, IfOk, OnErr};
 ghost use Rattle.std.specs.List.{All};
 ghost use Rattle.handlers.specs.Names.{IsName};
 
@@ -42,26 +42,28 @@ pub trait Protocols: Drop {
         requires { index < length (listed self.now) }
         ensures { result ≡ is_eager self.now index };
 
-    /// Makes the handler of a stream that the peer opened. Its only refusal is want of memory.
+    /// Makes the handler of a stream that the peer opened. Its only refusal is want of memory, and changes nothing.
     fn inbound(&mut self, index: usize, peer: PeerId) -> Result<Self::H, AllocError>
         requires { index < length (listed self.old) }
         ensures names { listed self.new ≡ listed self.old }
         ensures eager { is_eager self.new ≡ is_eager self.old }
         ensures made { IfOk result (makes_inbound self.old index peer) }
         ensures step { IfOk result (λ handler. leads_inbound self.old index peer handler self.new) }
+        ensures refused { OnErr result (self.new ≡ self.old) }
         // What may be made later might have been made before.
         ensures kept_inbound { (at : ℕ) (to : List ℕ) (handler : Self.H) → makes_inbound self.new at to handler
             → makes_inbound self.old at to handler }
         ensures kept_outbound { (at : ℕ) (to : List ℕ) (handler : Self.H) → makes_outbound self.new at to handler
             → makes_outbound self.old at to handler };
 
-    /// Makes the handler of a stream that this end opened. Its only refusal is want of memory.
+    /// Makes the handler of a stream that this end opened. Its only refusal is want of memory, and changes nothing.
     fn outbound(&mut self, index: usize, peer: PeerId) -> Result<Self::H, AllocError>
         requires { index < length (listed self.old) }
         ensures names { listed self.new ≡ listed self.old }
         ensures eager { is_eager self.new ≡ is_eager self.old }
         ensures made { IfOk result (makes_outbound self.old index peer) }
         ensures step { IfOk result (λ handler. leads_outbound self.old index peer handler self.new) }
+        ensures refused { OnErr result (self.new ≡ self.old) }
         // What may be made later might have been made before.
         ensures kept_inbound { (at : ℕ) (to : List ℕ) (handler : Self.H) → makes_inbound self.new at to handler
             → makes_inbound self.old at to handler }

@@ -72,6 +72,12 @@ module _ {H : Type 0} (step : H → HandlerCall → H → Type 0) where
       → ((handler : H) → old ≡ stages.Serving handler → (after : H) × (new ≡ stages.Serving after) × step handler call after) → AnswersCall step old call
   answers_by call old new talks steps handler held = let it = steps handler (serves_by old talks handler held) in (it.0, it.2)
 
+  -- and is held on
+  pub goes_by : (call : HandlerCall) (old new : Stage H) → is_talking old ≡ false
+      → ((handler : H) → old ≡ stages.Serving handler → (after : H) × (new ≡ stages.Serving after) × step handler call after)
+      → (handler : H) → handler_of old ≡ Some handler → (after : H) × (handler_of new ≡ Some after) × step handler call after
+  goes_by call old new talks steps handler held = let it = steps handler (serves_by old talks handler held) in (it.0, ap handler_of it.1, it.2)
+
 abbrev broken_by : {H : Type 0} → Cause → Outcome H
 broken_by why = outcomes.Broken why
 
@@ -129,17 +135,9 @@ pub failed : {A E P : Type 0} (r : Result A E) → P → OnErr r P
 failed (Ok a) p = tt
 failed (Err e) p = p
 
-pub behind_by : {A E P Q : Type 0} (r : Result A E) → (P → Q) → OnErr r P → OnErr r Q
-behind_by (Ok a) f p = tt
-behind_by (Err e) f p = f p
-
--- kept behind a call that left its kind and what waits as they were
-pub kept_on : {H : Type 0} (old middle new : Streaming H) → middle.waiting ≡ old.waiting → kind_of middle.stage ≡ kind_of old.stage → IsKept middle new → IsKept old new
-kept_on old middle new waits kind kept none = kept_by (kept (waits ∙ none)) where
-  kept_by : (kind_of new.stage ≡ kind_of middle.stage) ⊎ ((kind_of middle.stage ≡ Served) × (kind_of new.stage ≡ HandedOut))
-      → (kind_of new.stage ≡ kind_of old.stage) ⊎ ((kind_of old.stage ≡ Served) × (kind_of new.stage ≡ HandedOut))
-  kept_by (inl same) = inl (same ∙ kind)
-  kept_by (inr out) = inr (sym kind ∙ out.0, out.1)
+pub behind_both : {A E P Q R : Type 0} (r : Result A E) → (P → Q → R) → OnErr r P → OnErr r Q → OnErr r R
+behind_both (Ok a) f p q = tt
+behind_both (Err e) f p q = f p q
 
 -- ---- an agreement
 

@@ -9,13 +9,13 @@ use Rattle.talks.specs.Talks.{IsTurnedDown, Faults}
 use Rattle.yamux_session.specs.declared.event.Role.{Role}
 use Rattle.yamux_session.specs.History.{Item}
 use Rattle.yamux_session.specs.Acts.{open_credit}
-use Rattle.yamux_session.specs.State.{State}
+use Rattle.yamux_session.specs.State.{State, Whenever}
 use Rattle.streams.specs.declared.stop.Cause.TheVariants as causes
 use Rattle.streams.specs.declared.stop.Stop.TheVariants as stops
 use Rattle.streams.specs.declared.stage.Stage.TheVariants as stages
 use Rattle.streams.specs.Streams.{Past, with_call}
-use Rattle.streams.specs.State.{Streaming, Stands, is_talking, was_handed_out, answering, kind_of, Served}
-use Rattle.serving.specs.Served.{AnswersCall, Asking, Serves, GivesUp, IsKept}
+use Rattle.streams.specs.State.{Streaming, Stands, is_talking, was_handed_out, answering, handler_of, kind_of, Served}
+use Rattle.serving.specs.Served.{AnswersCall, Asking, Serves, GivesUp, IsKept, WasAnswered}
 use Rattle.dispatch.specs.Dispatch.{AgreesBy, IsMade}
 use Rattle.routing.specs.declared.delivered.Delivered.{Delivered}
 use Rattle.routing.specs.declared.delivered.Outcome.{Outcome}
@@ -121,10 +121,19 @@ module _ {H : Type 0} (step : H → HandlerCall → H → Type 0) (fails : H →
 
 -- ---- where memory is wanting
 
-module _ {H : Type 0} (step : H → HandlerCall → H → Type 0) where
-  -- Memory is wanting behind a call: the handler answered it, or it was dropped, and the stream isn't given up.
+module _ {H : Type 0} (step : H → HandlerCall → H → Type 0) (is_closed : H → Bool) (session : State) (n : ℕ) where
+  -- Memory is wanting when a stream is served: its handler answered when it was asked, and the stream isn't given up.
+  abbrev pub RunsOutServing : Streaming H → Streaming H → Type 0
+  RunsOutServing old stream =
+      Whenever session (λ role past. WasAnswered step is_closed role past n old) × IsKept old stream
+
+  -- Memory is wanting behind a call: the handler answered it, or it was dropped, and then the stream was served.
   abbrev pub RunsOutBehind : HandlerCall → Streaming H → Streaming H → Type 0
-  RunsOutBehind call old stream = AnswersCall step old.stage call × IsKept old stream
+  RunsOutBehind call old stream = (middle : Streaming H) × (middle.waiting ≡ old.waiting)
+      × (kind_of middle.stage ≡ kind_of old.stage)
+      × ((handler : H) → handler_of old.stage ≡ Some handler
+      → (after : H) × (handler_of middle.stage ≡ Some after) × step handler call after)
+      × RunsOutServing middle stream
 
   module _ (makes : ℕ → H → Type 0) (none_made : Type 0) where
     -- Memory is wanting when the stream is served behind data: while nothing is decided it isn't given up; else its
@@ -133,7 +142,7 @@ module _ {H : Type 0} (step : H → HandlerCall → H → Type 0) where
     ServingRunsOut so_far bytes old stream =
         (is_talking old.stage ≡ true
         → ((middle : Streaming H) × Stands step middle (record so_far { got = so_far.got ++ bytes })
-        × (is_talking middle.stage ≡ true) × none_made × IsKept middle stream)
+        × (is_talking middle.stage ≡ true) × none_made × RunsOutServing middle stream)
         ⊎ ((index : ℕ) × (front : List ℕ) × (rest : List ℕ) × (middle : Streaming H)
         × HasAgreed step makes none_made so_far bytes index front rest middle × RunsOutBehind (Take rest) middle stream))
         × (is_talking old.stage ≡ false → none_made × RunsOutBehind (Take bytes) old stream)

@@ -9,7 +9,7 @@ ghost use Rattle.yamux_session.specs.Data.{written};
 ghost use Rattle.yamux_session.specs.State.{Stands as SessionStands, Whenever};
 ghost use Rattle.streams.specs.Streams.{Past};
 ghost use Rattle.streams.specs.State.{Stands, is_talking, awaits_handler};
-ghost use Rattle.serving.specs.Served.{IsKept, MayGrow};
+ghost use Rattle.serving.specs.Served.{IsKept, MayGrow, WasAnswered};
 ghost use Rattle.dispatch.specs.Dispatch.{IsKnown, MakingRunsOut, makes_once};
 ghost use Rattle.streams.specs.declared.stop.Cause.{Cause};
 ghost use Rattle.routing.specs.Routing.{Came, Takes, Ends, Delivers, RunsOutBehind, ServingRunsOut};
@@ -51,6 +51,9 @@ pub fn deliver_credit<H: Handler>(
         Came H.steps H.fails H.is_closed H.is_finished role past fed sent number so_far stream.old session.old
         outcome session.new stream.new) }
     ensures memory { OnErr result (Whenever session.old (λ role past. MayGrow role past number)) }
+    // So want of memory stands for no fault of the handler: it has answered, and its stream isn't given up.
+    ensures answered { OnErr result (Whenever session.old (λ role past.
+        WasAnswered H.steps H.is_closed role past number stream.old)) }
     ensures is_kept { OnErr result (IsKept stream.old stream.new) }
 {
     match serve(session, number, stream) {
@@ -75,7 +78,7 @@ fn taken<H: Handler>(
         session.old outcome session.new stream.new) }
     ensures memory { OnErr result (Whenever session.old (λ role past. MayGrow role past number)) }
     ensures behind { OnErr result ((is_talking stream.old.stage ≡ false)
-        × RunsOutBehind H.steps (Take bytes.now) stream.old stream.new) }
+        × RunsOutBehind H.steps H.is_closed session.old number (Take bytes.now) stream.old stream.new) }
 {
     match stream.take(bytes) {
         Ok(()) => deliver_credit(session, number, stream),
@@ -101,7 +104,7 @@ pub fn deliver_end<H: Handler>(
     ensures memory { OnErr result (Whenever session.old (λ role past. MayGrow role past number)) }
     // So want of memory stands for no fault of the handler, and for no end within the talk.
     ensures behind { OnErr result ((is_talking stream.old.stage ≡ false)
-        × RunsOutBehind H.steps End stream.old stream.new) }
+        × RunsOutBehind H.steps H.is_closed session.old number End stream.old stream.new) }
 {
     match stream.end() {
         Ok(()) => deliver_credit(session, number, stream),
@@ -144,11 +147,11 @@ pub fn deliver<P: Protocols>(
     ensures memory { (so_far : Past P.H) → Stands P.H.steps stream.old so_far
         → IsKnown (P.listed protocols.old) direction so_far.side → OnErr result
         ((Whenever session.old (λ role past. MayGrow role past number)
-        × ServingRunsOut P.H.steps (makes_once P.makes_inbound P.makes_outbound P.leads_inbound P.leads_outbound
-        direction peer protocols.old protocols.new) (protocols.new ≡ protocols.old) so_far bytes.now stream.old
-        stream.new)
-        ⊎ ((is_talking stream.old.stage ≡ true)
-        × ((waiting : List ℕ) × MakingRunsOut P.H.steps so_far stream.old bytes.now waiting))) }
+        × ServingRunsOut P.H.steps P.H.is_closed session.old number
+        (makes_once P.makes_inbound P.makes_outbound P.leads_inbound P.leads_outbound direction peer protocols.old
+        protocols.new) (protocols.new ≡ protocols.old) so_far bytes.now stream.old stream.new)
+        ⊎ ((is_talking stream.old.stage ≡ true) × (protocols.new ≡ protocols.old)
+        × MakingRunsOut P.H.steps so_far stream.old bytes.now stream.new.waiting)) }
 {
     if !stream.talks() {
         let outcome = taken(session, number, stream, bytes)?;

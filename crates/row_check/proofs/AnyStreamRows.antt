@@ -247,7 +247,11 @@ module _ {H : Type 0} (step : H → HandlerCall → H → Type 0) (fails : H →
     kept_is = λ old stream none h. h none;
     not_kept = λ handler h. over_of_served (h refl);
     any_way_behind_output = λ old stream some none. absurd (some none);
-    runs_out_behind = λ call old stream. (λ h. h, λ h. h);
-    runs_out_in_talk = λ so_far bytes old stream e. one_counts (is_talking old.stage) e;
-    runs_out = λ so_far bytes old stream e. other_counts (is_talking old.stage) e;
+    answers_ask = λ amount stream. (λ h. h, λ h. h);
+    answers_nothing = λ handler h. (h refl handler refl refl).2;
+    answered = λ stream. (λ h. h, λ h. h);
+    runs_out_serving = λ before old stream. (λ h. h, λ h. h);
+    runs_out_behind = λ before call old stream. (λ h. h, λ h. h);
+    runs_out_in_talk = λ before so_far bytes old stream e. one_counts (is_talking old.stage) e;
+    runs_out = λ before so_far bytes old stream e. other_counts (is_talking old.stage) e;
   }

@@ -46,6 +46,8 @@ mod AnyLogRows
 mod AnyRestRows
 mod AnyStepRows
 mod AnyRouteRows
+mod PlacedRows
+mod RoutedRows
 mod AnyStreamRows
 mod AnyConnRows
 mod AnyPromiseRows

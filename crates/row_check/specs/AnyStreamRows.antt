@@ -20,7 +20,7 @@ use Rattle.yamux_session.specs.Openings.{is_live, closed}
 use Rattle.yamux_session.specs.Windows.{credit, untaken, given_back}
 use Rattle.yamux_session.specs.Data.{written}
 use Rattle.yamux_session.specs.Acts.{open_credit}
-use Rattle.yamux_session.specs.State.{State, Stands as SessionStands}
+use Rattle.yamux_session.specs.State.{State, Stands as SessionStands, Whenever}
 use Rattle.streams.specs.declared.heard.Heard.{Heard}
 use Rattle.streams.specs.declared.heard.Heard.TheVariants as heard
 use Rattle.streams.specs.declared.stage.Stage.{Stage}
@@ -38,14 +38,14 @@ use Rattle.streams.specs.State.{has_finished, was_handed_out, answering, kind_of
 use Rattle.streams.specs.Hearing.{used_of, Hears, HasHeard, Moves, HasNoRoom, HasRunOut, RunsOut}
 use Rattle.streams.specs.Laws.{OneSplit}
 use Rattle.serving.specs.Served.{with_sent, IsDue, AreDue, Goes, IsSettled, HandsOut, Serves, GivesUp}
-use Rattle.serving.specs.Served.{MayBeAsked, Asking, MayGrow, IsKept}
+use Rattle.serving.specs.Served.{MayBeAsked, Asking, MayGrow, IsKept, AnswersAsk, WasAnswered}
 use Rattle.dispatch.specs.declared.direction.Direction.TheVariants.{Inbound, Outbound}
 use Rattle.dispatch.specs.Dispatch.{IsKnown, made_by, led_by, makes_once, AgreesBy, IsMade, Negotiates, MakingRunsOut}
 use Rattle.routing.specs.declared.delivered.Delivered.{Delivered}
 use Rattle.routing.specs.declared.delivered.Outcome.{Outcome}
 use Rattle.routing.specs.declared.delivered.Outcome.TheVariants as outcomes
 use Rattle.routing.specs.Routing.{Came, Fails, Hands, Takes, Ends, Stops, Delivers, HasAgreed as HasAgreedOn}
-use Rattle.routing.specs.Routing.{InTalk as RoutesInTalk, RunsOutBehind, ServingRunsOut}
+use Rattle.routing.specs.Routing.{InTalk as RoutesInTalk, RunsOutServing, RunsOutBehind, ServingRunsOut}
 
 -- What is asked of a stream: in each stage, whatever is held there
 pub record AnyStageRows (H : Type 0) : Type 0 where
@@ -523,15 +523,32 @@ module _ {H : Type 0} (step : H → HandlerCall → H → Type 0) (fails : H →
     pub not_kept : (handler : H) → ¬ IsKept (record { waiting = []; stage = stages.Serving handler })
         (record { waiting = []; stage = stages.Over })
     pub any_way_behind_output : (old stream : Streaming H) → old.waiting ≢ [] → IsKept old stream
-    pub runs_out_behind : (call : HandlerCall) (old stream : Streaming H) → RunsOutBehind step call old stream
-        ↔ (((handler : H) → handler_of old.stage ≡ Some handler → (after : H) × step handler call after)
-        × IsKept old stream)
-    pub runs_out_in_talk : (so_far : Past H) (bytes : List ℕ) (old stream : Streaming H) → is_talking old.stage ≡ true
-        → ServingRunsOut step makes none_made so_far bytes old stream
+    -- its handler answers when it is asked for as many bytes as there is credit
+    pub answers_ask : (amount : ℕ) (stream : Streaming H) → AnswersAsk step is_closed amount stream
+        ↔ (stream.waiting ≡ [] → (handler : H) → handler_of stream.stage ≡ Some handler → is_closed handler ≡ false
+        → (after : H) × (bytes : List ℕ) × step handler (Give amount bytes) after)
+    pub answers_nothing : (handler : H) → ¬ AnswersAsk {H = H} (λ before call now. ⊥) (λ it. false) 5
+        (record { waiting = []; stage = stages.Serving handler })
+    pub answered : (stream : Streaming H) → WasAnswered step is_closed role past n stream
+        ↔ ((amount : ℕ) → open_credit role past n ≡ Some amount → AnswersAsk step is_closed amount stream)
+    pub runs_out_serving : (before : State) (old stream : Streaming H)
+        → RunsOutServing step is_closed before n old stream
+        ↔ (Whenever before (λ role past. WasAnswered step is_closed role past n old) × IsKept old stream)
+    pub runs_out_behind : (before : State) (call : HandlerCall) (old stream : Streaming H)
+        → RunsOutBehind step is_closed before n call old stream
+        ↔ ((middle : Streaming H) × (middle.waiting ≡ old.waiting) × (kind_of middle.stage ≡ kind_of old.stage)
+        × ((handler : H) → handler_of old.stage ≡ Some handler
+        → (after : H) × (handler_of middle.stage ≡ Some after) × step handler call after)
+        × RunsOutServing step is_closed before n middle stream)
+    pub runs_out_in_talk : (before : State) (so_far : Past H) (bytes : List ℕ) (old stream : Streaming H)
+        → is_talking old.stage ≡ true
+        → ServingRunsOut step is_closed before n makes none_made so_far bytes old stream
         ↔ (((middle : Streaming H) × Stands step middle (record so_far { got = so_far.got ++ bytes })
-        × (is_talking middle.stage ≡ true) × none_made × IsKept middle stream)
+        × (is_talking middle.stage ≡ true) × none_made × RunsOutServing step is_closed before n middle stream)
         ⊎ ((index : ℕ) × (front rest : List ℕ) × (middle : Streaming H)
-        × agreed_on so_far bytes index front rest middle × RunsOutBehind step (Take rest) middle stream))
-    pub runs_out : (so_far : Past H) (bytes : List ℕ) (old stream : Streaming H) → is_talking old.stage ≡ false
-        → ServingRunsOut step makes none_made so_far bytes old stream
-        ↔ (none_made × RunsOutBehind step (Take bytes) old stream)
+        × agreed_on so_far bytes index front rest middle
+        × RunsOutBehind step is_closed before n (Take rest) middle stream))
+    pub runs_out : (before : State) (so_far : Past H) (bytes : List ℕ) (old stream : Streaming H)
+        → is_talking old.stage ≡ false
+        → ServingRunsOut step is_closed before n makes none_made so_far bytes old stream
+        ↔ (none_made × RunsOutBehind step is_closed before n (Take bytes) old stream)

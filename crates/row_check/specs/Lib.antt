@@ -48,6 +48,8 @@ pub mod AnyLogRows
 pub mod AnyRestRows
 pub mod AnyStepRows
 pub mod AnyRouteRows
+pub mod PlacedRows
+pub mod RoutedRows
 pub mod AnyStreamRows
 pub mod AnyConnRows
 pub mod AnyPromiseRows

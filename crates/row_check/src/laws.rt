@@ -56,11 +56,16 @@ ghost use Rattle.row_check.specs.AnyStreamRows.{AnyDirectionRows, AnyRoutingRows
 ghost use Rattle.row_check.specs.AnyPromiseRows.{AnyOrderRows, AnyPromiseRows};
 ghost use Rattle.row_check.specs.AnyRouteRows.{AnyRouteToldRows, AnyBoardRows, AnyBoardMakingRows, AnyRouteRows};
 ghost use Rattle.row_check.specs.AnyStepRows.{AnyTalkStepRows, AnyStepRows};
+ghost use Rattle.row_check.specs.PlacedRows.{EndPlaceRows, ServedPlaceRows, AtRestRows};
+ghost use Rattle.row_check.specs.RoutedRows.{WantingRows, RoutedRows, StoppedRows, SpentRows};
+ghost use Rattle.yamux_session.specs.Rows.{two_bytes, all_written};
 ghost use Rattle.yamux_session.specs.History.{Item};
 ghost use Rattle.std.specs.Prelude.{◌≡◌, ℕ, Bool, true, List};
 ghost use Rattle.peer_ids.specs.Key.{Key};
 ghost use Rattle.upgrade.specs.declared.role.ConnRole.{ConnRole};
 ghost use Rattle.yamux_session.specs.declared.event.Role.{Role};
+ghost use Rattle.yamux_session.specs.declared.event.Role.TheVariants.{Client, Server};
+ghost use Rattle.yamux_session.specs.State.{State, Stands as SessionStands};
 
 use handlers::{Handler, Protocols};
 use node_protocols::Payloads;
@@ -352,4 +357,19 @@ pub fn any_route_rows<P: Protocols>()
 pub fn any_step_rows<H: Handler>()
     ensures talks { AnyTalkStepRows H }
     ensures steps { (was_done : Bool) → AnyStepRows H.steps H.is_closed H.is_finished was_done }
+{}
+
+/// The definitions of which entries may stand where, and of where a stream is at rest, say of worked lists what they are to say.
+pub fn placed_rows()
+    ensures ends { EndPlaceRows }
+    ensures served { ServedPlaceRows }
+    ensures rests { AtRestRows }
+{}
+
+/// The definitions of what a stream makes of what came say of worked streams what they are to say.
+pub fn routed_rows()
+    ensures want { (fed sent : List ℕ) (session : State) → SessionStands Server two_bytes fed sent session → WantingRows session }
+    ensures routed { (fed sent : List ℕ) (before session : State) → RoutedRows fed sent before session }
+    ensures stopped { (fed sent : List ℕ) (before session : State) → StoppedRows fed sent before session }
+    ensures spent { (fed sent : List ℕ) (session : State) → SessionStands Client all_written fed sent session → SpentRows session }
 {}

@@ -10,6 +10,7 @@ use Rattle.yamux_session.specs.History.Item.{Did}
 use Rattle.yamux_session.specs.History.Act.{Start, Write, Taken, Close, Reset}
 use Rattle.yamux_session.specs.Openings.{is_live, closed}
 use Rattle.yamux_session.specs.Windows.{credit, untaken, given_back}
+use Rattle.yamux_session.specs.Acts.{open_credit}
 use Rattle.yamux_session.specs.Data.{written}
 use Rattle.yamux_session.specs.State.{State, Stands as SessionStands}
 use Rattle.streams.specs.declared.stage.Stage.{Stage}
@@ -150,6 +151,18 @@ pub record GivesUp {H : Type 0} (fails : H → Asked → ℕ → Type 0) (is_clo
 abbrev pub IsKept : {H : Type 0} → Streaming H → Streaming H → Type 0
 IsKept old stream = old.waiting ≡ [] → (kind_of stream.stage ≡ kind_of old.stage)
     ⊎ ((kind_of old.stage ≡ Served) × (kind_of stream.stage ≡ HandedOut))
+
+-- The handler that a stream holds answers when it is asked for as many bytes as there is credit, unless it is closed, or
+-- what its talk wrote waits.
+abbrev pub AnswersAsk : {H : Type 0} → (H → HandlerCall → H → Type 0) → (H → Bool) → ℕ → Streaming H → Type 0
+AnswersAsk step is_closed credit stream = stream.waiting ≡ [] → (handler : _) → handler_of stream.stage ≡ Some handler
+    → is_closed handler ≡ false → (after : _) × (bytes : List ℕ) × step handler (Give credit bytes) after
+
+-- and so where this direction is open
+abbrev pub WasAnswered : {H : Type 0} → (H → HandlerCall → H → Type 0) → (H → Bool) → Role → List Item → ℕ → Streaming H
+    → Type 0
+WasAnswered step is_closed role past n stream = (credit : ℕ) → open_credit role past n ≡ Some credit
+    → AnswersAsk step is_closed credit stream
 
 -- Serving may send something on the stream: it is live, and this direction is open, or a window is given back.
 abbrev pub MayGrow : Role → List Item → ℕ → Type 0

@@ -10,7 +10,7 @@ ghost use Rattle.yamux_session.specs.State.{Stands as SessionStands, Whenever};
 ghost use Rattle.streams.specs.declared.stage.Stage.TheVariants.{Over};
 ghost use Rattle.streams.specs.Streams.{Past};
 ghost use Rattle.streams.specs.State.{Stands, Served, kind_of, was_handed_out};
-ghost use Rattle.serving.specs.Served.{Asking, Serves, GivesUp, IsKept, MayGrow};
+ghost use Rattle.serving.specs.Served.{Asking, Serves, GivesUp, IsKept, MayGrow, AnswersAsk, WasAnswered};
 ghost use Rattle.serving.specs.Steps.{Sends, WasAsked, Closes, Counts};
 
 use handlers::Handler;
@@ -35,6 +35,8 @@ fn send<H: Handler>(
         × ((stream.new ≡ record stream.old { stage = Over }) × GivesUp H.fails H.is_closed stream.old credit stop)) }
     ensures kind { OnOk result (kind_of stream.new.stage ≡ kind_of stream.old.stage) }
     ensures is_kept { result ≡ Err Stop.OutOfMemory → IsKept stream.old stream.new }
+    ensures answered { IfOk result (λ wrote. AnswersAsk H.steps H.is_closed credit stream.old) }
+    ensures memory { result ≡ Err Stop.OutOfMemory → AnswersAsk H.steps H.is_closed credit stream.old }
 {
     let bytes = stream.give(credit as usize)?;
     if bytes.is_empty() {
@@ -65,6 +67,10 @@ fn ask<H: Handler>(session: &mut Session, number: u32, stream: &mut Stream<H>) -
         (credit : ℕ) × (open_credit role past number ≡ Some credit)
         × GivesUp H.fails H.is_closed stream.old credit stop))) }
     ensures is_kept { result ≡ Err Stop.OutOfMemory → IsKept stream.old stream.new }
+    ensures answered { OnOk result (Whenever session.old (λ role past.
+        WasAnswered H.steps H.is_closed role past number stream.old)) }
+    ensures memory { result ≡ Err Stop.OutOfMemory → Whenever session.old (λ role past.
+        WasAnswered H.steps H.is_closed role past number stream.old) }
 {
     acts_tell();
     let Some(credit) = session.credit(number) else {
@@ -163,7 +169,9 @@ pub fn serve<H: Handler>(
         (credit : ℕ) × (open_credit role past number ≡ Some credit)
         × GivesUp H.fails H.is_closed stream.old credit stop))) }
     ensures memory { result ≡ Err Stop.OutOfMemory → Whenever session.old (λ role past. MayGrow role past number) }
-    // So want of memory stands for no fault of the handler.
+    // So want of memory stands for no fault of the handler: it has answered, and its stream isn't given up.
+    ensures answered { result ≡ Err Stop.OutOfMemory → Whenever session.old (λ role past.
+        WasAnswered H.steps H.is_closed role past number stream.old) }
     ensures is_kept { result ≡ Err Stop.OutOfMemory → IsKept stream.old stream.new }
 {
     acts_tell();

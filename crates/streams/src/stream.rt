@@ -265,6 +265,10 @@ impl<H: Handler> Stream<H> {
             × FailsBy H.fails handler (ToGive room) stop) }
         ensures memory { result ≡ Err Stop.OutOfMemory → (0 < count) × (count ≤ length self.old.waiting) }
     {
+        // Behind the talk nothing waits any more, and what the handler gives is handed on as it is.
+        if count == 0 {
+            return Ok(self.stage.ask(self.alloc, room)?);
+        }
         let front = front_of(self.alloc, &self.waiting, count)?;
         let given = self.stage.ask(self.alloc, room)?;
         Ok(joined(front, given)?)

@@ -79,7 +79,9 @@ pub(crate) fn drop_front(waiting: &mut Vec<u8>, count: usize)
     requires { count ≤ length waiting.old.items }
     ensures { waiting.new.items ≡ drop count waiting.old.items }
 {
-    waiting.drain(..count);
+    if count > 0 {
+        waiting.drain(..count);
+    }
 }
 
 /// These bytes, and the others behind them.

@@ -28,7 +28,7 @@ returns-then-has_failed-clause-goes g c = λ role own start input taken asked be
     let piece = c.args.piece.now in
     let failed : c.feed.new.self.session.failed ≡ true = sym (ap (λ (s : State). s.failed) c.in_ok-collect.ensures.rest) ∙ sym c.has_failed.ensures ∙ c.if-has_failed.true in
     let it = up_breaks H.steps H.fails H.is_closed H.is_finished makes.makes_inbound makes.makes_outbound makes.listed makes.is_eager makes.leads_inbound makes.leads_outbound start role own
-    input piece taken c.args.output.now.items c.collect.new.output.items asked before c.args.told.now.items c.feed.new.told.items c.args.mux c.feed.new.self upw c.in-Ok.ensures.faults failed c.in_ok-collect.ensures.moved in (
+    input piece taken c.args.output.now.items c.collect.new.output.items asked before c.args.told.now.items c.feed.new.told.items c.args.mux.now c.feed.new.self upw c.in-Ok.ensures.faults failed c.in_ok-collect.ensures.moved in (
       refl,
       Session (subst (λ (t : List (ConnEvent _)). IsFaulty H.steps H.fails H.is_closed H.is_finished makes.makes_inbound makes.makes_outbound makes.listed makes.is_eager makes.leads_inbound makes.leads_outbound start role own
           (input ++ piece) asked (before ++ t) (taken ++ c.collect.new.output.items)) (sym c.in_ok-tell.ensures.told) it),
@@ -38,7 +38,7 @@ pub returns-in_default-clause-wrote : goal.returns-in_default-clause-wrote
 returns-in_default-clause-wrote g c = λ role own start input taken asked before upw.
     let H = g.P.H.Handler in
     let makes = g.P.Protocols in
-    let mux = c.args.mux in
+    let mux = c.args.mux.now in
     wrote_up H.steps H.fails H.is_closed H.is_finished makes.makes_inbound makes.makes_outbound makes.listed makes.is_eager makes.leads_inbound makes.leads_outbound start role own
     input c.args.piece.now asked before c.args.told.now.items (taken ++ c.args.output.now.items) mux.session (tree.get nat_cmp mux.board.streams) mux.board.past.items upw.3.0
 
@@ -46,7 +46,7 @@ pub returns-in_err-collect-clause-wrote : goal.returns-in_err-collect-clause-wro
 returns-in_err-collect-clause-wrote g c = λ role own start input taken asked before upw.
     let H = g.P.H.Handler in
     let makes = g.P.Protocols in
-    let mux = c.args.mux in
+    let mux = c.args.mux.now in
     if_err c.from_residual.result
     (subst (λ (t : List ℕ). WroteOn H.steps H.fails H.is_closed H.is_finished makes.makes_inbound makes.makes_outbound makes.listed makes.is_eager makes.leads_inbound makes.leads_outbound start role own
     input c.args.piece.now asked before (taken ++ t)) (sym c.in_err-collect.ensures.kept)
@@ -61,13 +61,13 @@ returns-in_err-tell-clause-wrote g c = λ role own start input taken asked befor
     if_err c.from_residual-in_err-tell.result
     (Over (c.feed.new.told.items ++ event.Fault fault.Mux ∷ [])
     (Session (up_breaks H.steps H.fails H.is_closed H.is_finished makes.makes_inbound makes.makes_outbound makes.listed makes.is_eager makes.leads_inbound makes.leads_outbound start role own
-    input c.args.piece.now taken c.args.output.now.items c.collect.new.output.items asked before c.args.told.now.items c.feed.new.told.items c.args.mux c.feed.new.self upw c.in-Ok.ensures.faults failed c.in_ok-collect.ensures.moved)))
+    input c.args.piece.now taken c.args.output.now.items c.collect.new.output.items asked before c.args.told.now.items c.feed.new.told.items c.args.mux.now c.feed.new.self upw c.in-Ok.ensures.faults failed c.in_ok-collect.ensures.moved)))
 
 pub returns-clause-goes : goal.returns-clause-goes
 returns-clause-goes g c = λ role own start input taken asked before upw.
     let H = g.P.H.Handler in
     let makes = g.P.Protocols in
-    let mux = c.args.mux in
+    let mux = c.args.mux.now in
     let board = mux.board in
     let piece = c.args.piece.now in
     let up = upw.3.0 in

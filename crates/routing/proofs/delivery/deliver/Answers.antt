@@ -84,7 +84,10 @@ returns-in_err-deliver_credit-in-Ok-Going-clause-memory g c = λ so_far stands k
     failed c.from_residual-in_err-deliver_credit-in-Ok-Going.result
     (inl (
       c.in_err-deliver_credit-in-Ok-Going.ensures.memory,
-      (λ _. inl (middle, came.0, came.1, came.2, c.in_err-deliver_credit-in-Ok-Going.ensures.is_kept), λ quiet. absurd (not_both talks quiet)),
+      (
+        λ _. inl (middle, came.0, came.1, came.2, (c.in_err-deliver_credit-in-Ok-Going.ensures.answered, c.in_err-deliver_credit-in-Ok-Going.ensures.is_kept)),
+        λ quiet. absurd (not_both talks quiet),
+      ),
     ))
 
 pub returns-in_err-outcome-in-Ok-Agreed-clause-memory : goal.returns-in_err-outcome-in-Ok-Agreed-clause-memory

@@ -40,3 +40,6 @@ returns-in-Ok-Some-clause-came g c = λ role past fed sent so_far at stands e.
           (c.in-Ok-Some.ensures.serves role past fed sent so_far at stands e),
       subst (λ (h : Option _). IfSome h (λ it. kind_of c.args.stream.now.stage ≡ Served)) some c.in-Ok-Some.ensures.served,
     )
+
+pub returns-in-Err-clause-answered : goal.returns-in-Err-clause-answered
+returns-in-Err-clause-answered g c = ran_out c.in-Err.stop c.stopped.result c.stopped.ensures.memory (λ is. c.in-Err.ensures.answered (ap Err is))

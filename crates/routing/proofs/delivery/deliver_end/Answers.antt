@@ -4,7 +4,7 @@ use Rattle.streams.specs.Streams.{with_call}
 use Rattle.streams.specs.State.{answering}
 use Rattle.routing.specs.declared.delivered.Outcome.TheVariants as outcomes
 use Rattle.routing.specs.Routing.{Came, Ends}
-use Rattle.routing.proofs.Delivering.{answered, answers_by, broken, quiet, handler_failed, over_by, keeps_memory, ran_out, same_stop, stop_is, same_cause, quiet_by, behind_by, kept_on}
+use Rattle.routing.proofs.Delivering.{answered, answers_by, broken, quiet, handler_failed, over_by, keeps_memory, ran_out, same_stop, stop_is, same_cause, quiet_by, behind_both, goes_by}
 use Rattle.routing.proofs.delivery.deliver_end.Goals as goal
 
 pub returns-in-Ok-clause-ends : goal.returns-in-Ok-clause-ends
@@ -54,15 +54,18 @@ pub returns-in-Ok-clause-behind : goal.returns-in-Ok-clause-behind
 returns-in-Ok-clause-behind g c =
     let H = g.H.Handler in
     let talks = quiet_by c.args.stream.now.stage (λ talks. let no = (c.in-Ok.ensures.in_talk talks).0 in cc no) in
-    behind_by c.deliver_credit.result
-    (λ kept. (
+    behind_both c.deliver_credit.result
+    (λ answered kept. (
       talks,
       (
-        answers_by H.steps End c.args.stream.now.stage c.end.new.self.stage talks c.in-Ok.ensures.step,
-        kept_on c.args.stream.now c.end.new.self c.deliver_credit.new.stream c.end.ensures.kept c.in-Ok.ensures.kind kept,
+        c.end.new.self,
+        c.end.ensures.kept,
+        c.in-Ok.ensures.kind,
+        goes_by H.steps End c.args.stream.now.stage c.end.new.self.stage talks c.in-Ok.ensures.step,
+        (answered, kept),
       ),
     ))
-    c.deliver_credit.ensures.is_kept
+    c.deliver_credit.ensures.answered c.deliver_credit.ensures.is_kept
 
 pub returns-in-Err-clause-behind : goal.returns-in-Err-clause-behind
 returns-in-Err-clause-behind g c =

@@ -3,7 +3,7 @@ use Rattle.handlers.specs.Calls.{Take, ToTake}
 use Rattle.streams.specs.Streams.{with_call}
 use Rattle.streams.specs.State.{answering}
 use Rattle.routing.specs.Routing.{Came, Takes}
-use Rattle.routing.proofs.Delivering.{answered, answers_by, broken, quiet, handler_failed, over_by, keeps_memory, ran_out, same_stop, quiet_by, behind_by, kept_on}
+use Rattle.routing.proofs.Delivering.{answered, answers_by, broken, quiet, handler_failed, over_by, keeps_memory, ran_out, same_stop, quiet_by, behind_both, goes_by}
 use Rattle.routing.proofs.delivery.taken.Goals as goal
 
 pub returns-in-Ok-clause-takes : goal.returns-in-Ok-clause-takes
@@ -47,15 +47,18 @@ pub returns-in-Ok-clause-behind : goal.returns-in-Ok-clause-behind
 returns-in-Ok-clause-behind g c =
     let H = g.H.Handler in
     let talks = quiet_by c.args.stream.now.stage (λ talks. let no = (c.in-Ok.ensures.out_of_turn (inl talks)).0 in cc no) in
-    behind_by c.deliver_credit.result
-    (λ kept. (
+    behind_both c.deliver_credit.result
+    (λ answered kept. (
       talks,
       (
-        answers_by H.steps (Take c.args.bytes.now) c.args.stream.now.stage c.take.new.self.stage talks c.in-Ok.ensures.step,
-        kept_on c.args.stream.now c.take.new.self c.deliver_credit.new.stream c.take.ensures.kept c.in-Ok.ensures.kind kept,
+        c.take.new.self,
+        c.take.ensures.kept,
+        c.in-Ok.ensures.kind,
+        goes_by H.steps (Take c.args.bytes.now) c.args.stream.now.stage c.take.new.self.stage talks c.in-Ok.ensures.step,
+        (answered, kept),
       ),
     ))
-    c.deliver_credit.ensures.is_kept
+    c.deliver_credit.ensures.answered c.deliver_credit.ensures.is_kept
 
 pub returns-in-Err-clause-behind : goal.returns-in-Err-clause-behind
 returns-in-Err-clause-behind g c =

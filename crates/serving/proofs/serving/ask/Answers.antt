@@ -1,6 +1,7 @@
-use Rattle.std.proofs.Common.{sym, ◌∙◌, subst}
+use Rattle.std.proofs.Common.{◌≡◌, ℕ, Some, sym, ◌∙◌, subst}
 use Rattle.yamux_session.specs.State.{State, Stands as SessionStands}
 use Rattle.streams.specs.State.{was_handed_out}
+use Rattle.serving.specs.Served.{AnswersAsk}
 use Rattle.serving.proofs.Going.{not_asked, was_asked}
 use Rattle.serving.proofs.Refusals.{no_more, not_both_credits}
 use Rattle.serving.proofs.serving.ask.Goals as goal
@@ -42,3 +43,25 @@ pub returns-in-Err-clause-fault : goal.returns-in-Err-clause-fault
 returns-in-Err-clause-fault g c = λ other.
     let it = c.in-Err.ensures.fault other in
     (it.0, (it.1.0, λ role past fed sent at. (c.in-Some.credit, sym (c.in-Some.ensures.live role past fed sent at), it.1.1)))
+
+same_amount : {a b : ℕ} → Some a ≡ Some b → a ≡ b
+same_amount e = cc e
+
+pub returns-in_default-clause-answered : goal.returns-in_default-clause-answered
+returns-in_default-clause-answered g c = λ role past fed sent at credit some.
+    absurd (let both = c.in_default.ensures.live role past fed sent at ∙ some in cc both)
+
+pub returns-in-Ok-true-clause-answered : goal.returns-in-Ok-true-clause-answered
+returns-in-Ok-true-clause-answered g c = λ role past fed sent at credit some.
+    subst (λ (k : ℕ). AnswersAsk g.H.Handler.steps g.H.Handler.is_closed k c.args.stream.now)
+    (same_amount (c.in-Some.ensures.live role past fed sent at ∙ some)) c.in-Ok-true.ensures.answered
+
+pub returns-in-Ok-false-clause-answered : goal.returns-in-Ok-false-clause-answered
+returns-in-Ok-false-clause-answered g c = λ role past fed sent at credit some.
+    subst (λ (k : ℕ). AnswersAsk g.H.Handler.steps g.H.Handler.is_closed k c.args.stream.now)
+    (same_amount (c.in-Some.ensures.live role past fed sent at ∙ some)) c.in-Ok-false.ensures.answered
+
+pub returns-in-Err-clause-memory : goal.returns-in-Err-clause-memory
+returns-in-Err-clause-memory g c = λ e role past fed sent at credit some.
+    subst (λ (k : ℕ). AnswersAsk g.H.Handler.steps g.H.Handler.is_closed k c.args.stream.now)
+    (same_amount (c.in-Some.ensures.live role past fed sent at ∙ some)) (c.in-Err.ensures.memory e)

@@ -1,5 +1,6 @@
 use Rattle.std.proofs.Common.{◌≡◌, ◌≢◌, Bool, true, Option, Some, None, sym, ap, ◌∙◌, subst}
 use Rattle.std.specs.Prelude.{IfNone}
+use Rattle.std.proofs.lemmas.Result.{err_from_is_err_and}
 use Rattle.yamux_session.specs.Acts.{open_credit}
 use Rattle.yamux_session.specs.State.{State, Stands as SessionStands}
 use Rattle.streams.specs.Streams.{with_call}
@@ -61,3 +62,8 @@ returns-clause-serves g c = λ role past fed sent so_far at stands e.
       was_settled g.H.Handler.steps g.H.Handler.is_closed g.H.Handler.is_finished done seen windows role past fed sent n came c.finish-handler.result
           c.close.new.session c.count_taken.new.session c.finish-handler.new.self w out (c.in_ok-count_taken.ensures.counts role w.goes.now fed sent w.goes.session_stands left),
     )
+
+pub returns-in_err-is_left-clause-answered : goal.returns-in_err-is_left-clause-answered
+returns-in_err-is_left-clause-answered g c = λ e.
+    let p = err_from_is_err_and c.from_residual.result c.from_residual.ensures.1 in
+    c.in_err-is_left.ensures.memory (cc (e, p.1, p.2))
