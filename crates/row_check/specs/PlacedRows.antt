@@ -49,8 +49,8 @@ pub record ServedPlaceRows : Type 0 where
 
 -- of the client's connection: stream 2 is at rest so
 abbrev pub rests : List (Entry ℕ) → Streaming ℕ → Type 0
-rests log stream = IsAtRest (λ before call now. now ≡ before) (λ handler. false) (λ handler. false) (x ∷ y ∷ []) Client log
-    2 stream
+rests log stream =
+    IsAtRest (λ before call now. now ≡ before) (λ handler. false) (λ handler. false) (x ∷ y ∷ []) Client log 2 stream
 
 -- where a stream isn't at rest
 pub record AtRestRows : Type 0 where

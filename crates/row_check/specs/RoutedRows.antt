@@ -67,8 +67,10 @@ pub record WantingRows (session : State) : Type 0 where
   pub other_room : (stream : Streaming ℕ) → ¬ RunsOutServing Gives5 never session 1 (serving_of [] 0) stream
   -- it is the handler behind the call that was asked
   pub taken : RunsOutBehind Takes7 never session 1 (Take (7 ∷ [])) (serving_of [] 0) (serving_of [] 1)
-  pub not_taken : (stream : Streaming ℕ) → ¬ RunsOutBehind Takes7 never session 1 (Take (8 ∷ [])) (serving_of [] 0) stream
-  pub not_asked : (stream : Streaming ℕ) → ¬ RunsOutBehind TakesOnly never session 1 (Take (7 ∷ [])) (serving_of [] 0) stream
+  pub not_taken : (stream : Streaming ℕ)
+      → ¬ RunsOutBehind Takes7 never session 1 (Take (8 ∷ [])) (serving_of [] 0) stream
+  pub not_asked : (stream : Streaming ℕ)
+      → ¬ RunsOutBehind TakesOnly never session 1 (Take (7 ∷ [])) (serving_of [] 0) stream
   pub given_up : (waiting : List ℕ)
       → ¬ RunsOutBehind Takes7 never session 1 (Take (7 ∷ [])) (serving_of [] 0) (over_of waiting)
   -- by the bytes by which both ends agree it is handed what stands behind them
@@ -104,8 +106,9 @@ pub record RoutedRows (fed sent : List ℕ) (before session : State) : Type 0 wh
       → (delivered.agreed ≡ Some 2) × (delivered.outcome ≡ broken_by 3) × (session ≡ before)
       × (stream.stage ≡ stages.Over)
   -- the end fails the handler that serves, and what waits stays
-  pub end_fails : (so_far : Past ℕ) (outcome : Outcome ℕ) (stream : Streaming ℕ) → Ends answers_none fails_so never never
-      Server two_bytes fed sent 1 so_far (serving_of (9 ∷ []) 0) before outcome session stream
+  pub end_fails : (so_far : Past ℕ) (outcome : Outcome ℕ) (stream : Streaming ℕ)
+      → Ends answers_none fails_so never never Server two_bytes fed sent 1 so_far (serving_of (9 ∷ []) 0) before
+      outcome session stream
       → (outcome ≡ broken_by 4) × (session ≡ before) × (stream.stage ≡ stages.Over) × (stream.waiting ≡ 9 ∷ [])
   pub end_in_talk : (talk : Talking) (so_far : Past ℕ) (outcome : Outcome ℕ) (stream : Streaming ℕ)
       → Ends answers_none fails_so never never Server two_bytes fed sent 1 so_far (talking_of (9 ∷ []) talk) before

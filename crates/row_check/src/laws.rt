@@ -359,7 +359,8 @@ pub fn any_step_rows<H: Handler>()
     ensures steps { (was_done : Bool) → AnyStepRows H.steps H.is_closed H.is_finished was_done }
 {}
 
-/// The definitions of which entries may stand where, and of where a stream is at rest, say of worked lists what they are to say.
+/// The definitions of which entries may stand where, and of where a stream is at rest, say of worked lists what they
+/// are to say.
 pub fn placed_rows()
     ensures ends { EndPlaceRows }
     ensures served { ServedPlaceRows }
@@ -368,8 +369,10 @@ pub fn placed_rows()
 
 /// The definitions of what a stream makes of what came say of worked streams what they are to say.
 pub fn routed_rows()
-    ensures want { (fed sent : List ℕ) (session : State) → SessionStands Server two_bytes fed sent session → WantingRows session }
+    ensures want { (fed sent : List ℕ) (session : State) → SessionStands Server two_bytes fed sent session
+        → WantingRows session }
     ensures routed { (fed sent : List ℕ) (before session : State) → RoutedRows fed sent before session }
     ensures stopped { (fed sent : List ℕ) (before session : State) → StoppedRows fed sent before session }
-    ensures spent { (fed sent : List ℕ) (session : State) → SessionStands Client all_written fed sent session → SpentRows session }
+    ensures spent { (fed sent : List ℕ) (session : State) → SessionStands Client all_written fed sent session
+        → SpentRows session }
 {}
