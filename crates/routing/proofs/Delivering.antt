@@ -1,5 +1,5 @@
 -- What a stream came to, by the answers of the calls below.
-use Rattle.std.proofs.Common.{◌≡◌, ◌⊎◌, inl, inr, ℕ, Bool, true, false, List, Some, Result, Ok, Err, refl, sym, ap, ◌∙◌, subst, take, drop}
+use Rattle.std.proofs.Common.{◌≡◌, ◌⊎◌, inl, inr, ◌||◌, ℕ, Bool, true, false, List, Some, Result, Ok, Err, refl, sym, ap, ◌∙◌, subst, take, drop}
 use Rattle.std.specs.Prelude.{IfOk, OnErr}
 use Rattle.handlers.specs.Calls.{HandlerCall, Asked}
 use Rattle.handlers.specs.declared.handler.HandlerFault.{HandlerFault}
@@ -10,9 +10,12 @@ use Rattle.streams.specs.declared.stop.Stop.TheVariants as stops
 use Rattle.streams.specs.declared.stage.Stage.{Stage}
 use Rattle.streams.specs.declared.stage.Stage.TheVariants as stages
 use Rattle.streams.specs.Streams.{Past}
-use Rattle.streams.specs.State.{Streaming, Stands, StandsAt, is_talking, handler_of, awaits_handler, kind_of, Served, HandedOut}
+use Rattle.streams.specs.State.{Streaming, Stands, StandsAt, is_talking, is_over, handler_of, awaits_handler, kind_of}
 use Rattle.streams.specs.Stops.{FailsBy}
-use Rattle.serving.specs.Served.{AnswersCall, IsKept}
+use Rattle.yamux_session.specs.declared.event.Role.{Role}
+use Rattle.yamux_session.specs.History.{Item}
+use Rattle.yamux_session.specs.State.{State, Stands as SessionStands}
+use Rattle.serving.specs.Served.{AnswersCall}
 use Rattle.streams.specs.declared.heard.Heard.TheVariants.{Agreed}
 use Rattle.dispatch.specs.Dispatch.{Negotiates}
 use Rattle.routing.specs.Routing.{HasAgreed}
@@ -135,9 +138,26 @@ pub failed : {A E P : Type 0} (r : Result A E) → P → OnErr r P
 failed (Ok a) p = tt
 failed (Err e) p = p
 
-pub behind_both : {A E P Q R : Type 0} (r : Result A E) → (P → Q → R) → OnErr r P → OnErr r Q → OnErr r R
-behind_both (Ok a) f p q = tt
-behind_both (Err e) f p q = f p q
+pub on_err : {A E P Q : Type 0} (r : Result A E) → (P → Q) → OnErr r P → OnErr r Q
+on_err (Ok a) f p = tt
+on_err (Err e) f p = f p
+
+-- ---- where nothing is done
+
+none_of : {H : Type 0} (step : H → HandlerCall → H → Type 0) (stage : Stage H) (so_far : Past H) (waiting : List ℕ) (failed : Bool) → failed ≡ false
+    → StandsAt step stage so_far waiting → awaits_handler stage ≡ false → failed || (is_over stage || awaits_handler stage) ≡ true → ⊥
+none_of step (stages.Talking talk handler) so_far waiting false going s awaits e = absurd (cc e)
+none_of step (stages.Agreed index) so_far waiting false going s awaits e = absurd (cc awaits)
+none_of step (stages.Serving handler) so_far waiting false going s awaits e = absurd (cc e)
+none_of step stages.Done so_far waiting false going s awaits e = absurd (cc e)
+none_of step stages.Over so_far waiting false going s awaits e = absurd s
+none_of step stage so_far waiting true going s awaits e = absurd (cc going)
+
+-- a session that stands hasn't failed, and a stream that stands isn't over
+pub never_idle : {H : Type 0} (step : H → HandlerCall → H → Type 0) (role : Role) (past : List Item) (fed sent : List ℕ) (session : State) (x : Streaming H) (so_far : Past H)
+    → SessionStands role past fed sent session → Stands step x so_far → awaits_handler x.stage ≡ false
+    → session.failed || (is_over x.stage || awaits_handler x.stage) ≡ true → ⊥
+never_idle step role past fed sent session x so_far at stands awaits e = none_of step x.stage so_far x.waiting session.failed at.going stands awaits e
 
 -- ---- an agreement
 

@@ -9,13 +9,14 @@ use Rattle.talks.specs.Talks.{IsTurnedDown, Faults}
 use Rattle.yamux_session.specs.declared.event.Role.{Role}
 use Rattle.yamux_session.specs.History.{Item}
 use Rattle.yamux_session.specs.Acts.{open_credit}
-use Rattle.yamux_session.specs.State.{State, Whenever}
+use Rattle.yamux_session.specs.State.{State}
 use Rattle.streams.specs.declared.stop.Cause.TheVariants as causes
 use Rattle.streams.specs.declared.stop.Stop.TheVariants as stops
 use Rattle.streams.specs.declared.stage.Stage.TheVariants as stages
 use Rattle.streams.specs.Streams.{Past, with_call}
 use Rattle.streams.specs.State.{Streaming, Stands, is_talking, was_handed_out, answering, handler_of, kind_of, Served}
-use Rattle.serving.specs.Served.{AnswersCall, Asking, Serves, GivesUp, IsKept, WasAnswered}
+use Rattle.serving.specs.Served.{AnswersCall, Asking, Serves, GivesUp, WasAnswered}
+use Rattle.serving.specs.Wanting.{RunsOut}
 use Rattle.dispatch.specs.Dispatch.{AgreesBy, IsMade}
 use Rattle.routing.specs.declared.delivered.Delivered.{Delivered}
 use Rattle.routing.specs.declared.delivered.Outcome.{Outcome}
@@ -121,28 +122,42 @@ module _ {H : Type 0} (step : H → HandlerCall → H → Type 0) (fails : H →
 
 -- ---- where memory is wanting
 
-module _ {H : Type 0} (step : H → HandlerCall → H → Type 0) (is_closed : H → Bool) (session : State) (n : ℕ) where
-  -- Memory is wanting when a stream is served: its handler answered when it was asked, and the stream isn't given up.
-  abbrev pub RunsOutServing : Streaming H → Streaming H → Type 0
-  RunsOutServing old stream =
-      Whenever session (λ role past. WasAnswered step is_closed role past n old) × IsKept old stream
+module _ {H : Type 0} (step : H → HandlerCall → H → Type 0) (is_closed is_finished : H → Bool) (role : Role)
+    (past : List Item) (fed sent : List ℕ) (n : ℕ) (before : State) where
+  -- Memory is wanting when a stream is served, whose handler answered when it was asked.
+  abbrev pub RunsOutServing : Past H → Streaming H → State → Streaming H → Type 0
+  RunsOutServing so_far old session stream = WasAnswered step is_closed role past n old
+      × RunsOut step is_closed is_finished (was_handed_out old.stage) role past fed sent n so_far old before session
+      stream
 
   -- Memory is wanting behind a call: the handler answered it, or it was dropped, and then the stream was served.
-  abbrev pub RunsOutBehind : HandlerCall → Streaming H → Streaming H → Type 0
-  RunsOutBehind call old stream = (middle : Streaming H) × (middle.waiting ≡ old.waiting)
-      × (kind_of middle.stage ≡ kind_of old.stage)
+  abbrev pub RunsOutBehind : HandlerCall → Past H → Streaming H → State → Streaming H → Type 0
+  RunsOutBehind call so_far old session stream = (middle : Streaming H) × Stands step middle so_far
+      × (middle.waiting ≡ old.waiting) × (kind_of middle.stage ≡ kind_of old.stage)
       × ((handler : H) → handler_of old.stage ≡ Some handler
       → (after : H) × (handler_of middle.stage ≡ Some after) × step handler call after)
-      × RunsOutServing middle stream
+      × RunsOutServing so_far middle session stream
+
+  -- behind data for the handler
+  abbrev pub RunsOutTaking : Past H → List ℕ → Streaming H → State → Streaming H → Type 0
+  RunsOutTaking so_far bytes old = RunsOutBehind (Take bytes)
+      (with_call (record so_far { got = so_far.got ++ bytes; left = None }) (answering old.stage (Take bytes))) old
+
+  -- behind the end
+  abbrev pub RunsOutEnding : Past H → Streaming H → State → Streaming H → Type 0
+  RunsOutEnding so_far old = RunsOutBehind End
+      (with_call (record so_far { ended = true; left = None }) (answering old.stage End)) old
 
   module _ (makes : ℕ → H → Type 0) (none_made : Type 0) where
-    -- Memory is wanting when the stream is served behind data: while nothing is decided it isn't given up; else its
-    -- handler took what stands behind the talk.
-    abbrev pub ServingRunsOut : Past H → List ℕ → Streaming H → Streaming H → Type 0
-    ServingRunsOut so_far bytes old stream =
+    -- Memory is wanting when the stream is served behind data: while nothing is decided, or once its handler took what
+    -- stands behind the talk.
+    abbrev pub ServingRunsOut : Past H → List ℕ → Streaming H → State → Streaming H → Type 0
+    ServingRunsOut so_far bytes old session stream =
         (is_talking old.stage ≡ true
         → ((middle : Streaming H) × Stands step middle (record so_far { got = so_far.got ++ bytes })
-        × (is_talking middle.stage ≡ true) × none_made × RunsOutServing middle stream)
+        × (is_talking middle.stage ≡ true) × none_made
+        × RunsOutServing (record so_far { got = so_far.got ++ bytes }) middle session stream)
         ⊎ ((index : ℕ) × (front : List ℕ) × (rest : List ℕ) × (middle : Streaming H)
-        × HasAgreed step makes none_made so_far bytes index front rest middle × RunsOutBehind (Take rest) middle stream))
-        × (is_talking old.stage ≡ false → none_made × RunsOutBehind (Take bytes) old stream)
+        × ((has : HasAgreed step makes none_made so_far bytes index front rest middle)
+        × RunsOutTaking (record so_far { got = so_far.got ++ front; made = Some has.made }) rest middle session stream)))
+        × (is_talking old.stage ≡ false → none_made × RunsOutTaking so_far bytes old session stream)

@@ -35,6 +35,7 @@ any_stages = record {
   serving = λ test handler. (refl, refl, refl);
   done = λ test. (refl, refl, refl);
   over = λ test. (refl, refl, refl);
+  over_alone = λ talk held index handler. (refl, refl, refl, refl, refl);
   holds_is = λ stage. by_held (handler_of stage);
   is_fresh = λ side made. refl;
   answers = λ talk held handler index call. (refl, refl, refl, refl, refl);
@@ -242,16 +243,24 @@ module _ {H : Type 0} (step : H → HandlerCall → H → Type 0) (fails : H →
     talk_agrees = λ so_far bytes before session index outcome stream. (λ h. h, λ h. h);
     delivers_in_talk = λ so_far bytes old stream before session delivered e. one_counts (is_talking old.stage) e;
     delivers = λ so_far bytes old stream before session delivered e. other_counts (is_talking old.stage) e;
-    kept = λ old stream none same _. inl same;
-    kept_and_handed_out = λ old stream none served out _. inr (served, out);
-    kept_is = λ old stream none h. h none;
-    not_kept = λ handler h. over_of_served (h refl);
-    any_way_behind_output = λ old stream some none. absurd (some none);
-    answers_ask = λ amount stream. (λ h. h, λ h. h);
-    answers_nothing = λ handler h. (h refl handler refl refl).2;
     answered = λ stream. (λ h. h, λ h. h);
-    runs_out_serving = λ before old stream. (λ h. h, λ h. h);
-    runs_out_behind = λ before call old stream. (λ h. h, λ h. h);
-    runs_out_in_talk = λ before so_far bytes old stream e. one_counts (is_talking old.stage) e;
-    runs_out = λ before so_far bytes old stream e. other_counts (is_talking old.stage) e;
+    answers_nothing = λ handler h. (h handler refl refl).2;
+    kept = λ old stream. (λ h. h, λ h. h);
+    not_kept = λ handler waiting h. over_of_served h;
+    closing_sends = λ m. (λ h. h, λ h. h);
+    taking_sends = λ m count. (λ h. h, λ h. h);
+    sends_no_other = λ m code pieces. (λ h. h, λ h. h, λ h. h, λ h. h);
+    unwritten = λ so_far room amount stream bytes left some is_open within no_room stands.
+        record { bytes = bytes; some = some; credit = amount; is_open = is_open; within = within; no_room = no_room; left = left; stands = stands };
+    unwritten_is = λ so_far room stream u. (u.bytes, u.credit, u.left, u.some, u.is_open, u.within, u.no_room, u.stands);
+    undone = λ was_done so_far session stream act goes due sends no_room. record { goes = goes; act = act; due = due; sends = sends; no_room = no_room };
+    undone_is = λ was_done so_far session stream u. (u.act, (u.goes, u.due, u.sends), u.no_room);
+    asking_runs_out = λ so_far before session old stream. (λ h. h, λ h. h);
+    no_room = λ was_done so_far before session old stream. (λ h. h, λ h. h);
+    runs_out_serving = λ so_far before session old stream. (λ h. h, λ h. h);
+    runs_out_behind = λ call so_far before session old stream. (λ h. h, λ h. h);
+    runs_out_taking = λ bytes so_far before session old stream. (λ h. h, λ h. h);
+    runs_out_ending = λ so_far before session old stream. (λ h. h, λ h. h);
+    runs_out_in_talk = λ before session so_far bytes old stream e. one_counts (is_talking old.stage) e;
+    runs_out = λ before session so_far bytes old stream e. other_counts (is_talking old.stage) e;
   }

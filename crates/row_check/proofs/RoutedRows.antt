@@ -1,11 +1,11 @@
 -- The worked rows of what a stream makes of what came.
-use Rattle.std.proofs.Common.{◌≡◌, ◌⊎◌, inl, inr, ℕ, true, false, List, [], ◌∷◌, ◌++◌, Option, Some, None, refl, sym, ap, ◌∙◌, subst, arith, Result, Ok, Err}
+use Rattle.std.proofs.Common.{◌≡◌, ◌⊎◌, inl, inr, ℕ, ◌<◌, true, false, List, [], ◌∷◌, ◌++◌, Option, Some, None, refl, sym, ap, ◌∙◌, subst, arith, Result, Ok, Err}
 use Rattle.ms_select.specs.declared.answer.Answer.{Answer}
 use Rattle.ms_select.specs.declared.answer.Answer.TheVariants as answer
 use Rattle.ms_select.specs.declared.fault.SelectFault.{SelectFault}
 use Rattle.ms_select.specs.declared.fault.SelectFault.TheVariants.{BadHeader, NotProposed}
 use Rattle.ms_select.specs.Rows.{header_bytes, x_bytes, y_bytes, na_bytes}
-use Rattle.handlers.specs.Calls.{HandlerCall, Take, End, Asked, ToTake, ToEnd}
+use Rattle.handlers.specs.Calls.{HandlerCall, Take, Give, End, Asked, ToTake, ToEnd}
 use Rattle.talks.specs.Rows.{asks, question}
 use Rattle.talks.specs.State.{Talking}
 use Rattle.handlers.specs.Calls.{Arises}
@@ -14,21 +14,21 @@ use Rattle.handlers.proofs.Rows.{handed_rows}
 use Rattle.talks.specs.Talks.{ComesTo, IsTurnedDown, Faults}
 use Rattle.talks.proofs.Outcomes.{one_outcome, by_all}
 use Rattle.talks.proofs.Rows.{ask_rows}
-use Rattle.yamux_session.specs.declared.event.Role.TheVariants.{Client, Server}
-use Rattle.yamux_session.specs.Rows.{two_bytes, all_written}
-use Rattle.yamux_session.specs.State.{State, Stands as SessionStands}
+use Rattle.yamux_session.specs.declared.event.Role.TheVariants.{Server}
+use Rattle.yamux_session.specs.Rows.{two_bytes}
+use Rattle.yamux_session.specs.State.{State}
 use Rattle.streams.specs.declared.stage.Stage.{Stage}
 use Rattle.streams.specs.declared.stage.Stage.TheVariants as stages
 use Rattle.streams.specs.declared.stop.Cause.TheVariants as causes
 use Rattle.streams.specs.Streams.{Past, with_call, and_call, IsServed}
-use Rattle.streams.specs.State.{Streaming, Kind, Served, HandedOut, Ended, StandsAt, kind_of, handler_of, answering}
+use Rattle.streams.specs.State.{Streaming, Stands, Kind, Served, HandedOut, Ended, StandsAt, kind_of, handler_of, answering}
 use Rattle.streams.specs.Rows.{calls, served_past}
 use Rattle.serving.specs.Served.{with_sent}
 use Rattle.dispatch.specs.Dispatch.{IsMade}
 use Rattle.routing.specs.declared.delivered.Outcome.{Outcome}
 use Rattle.routing.specs.declared.delivered.Outcome.TheVariants as outcomes
-use Rattle.routing.specs.Routing.{Takes, Fails, Hands, InTalk, HasAgreed, RunsOutServing, RunsOutBehind, ServingRunsOut}
-use Rattle.row_check.specs.RoutedRows.{WantingRows, RoutedRows, StoppedRows, SpentRows, Gives5, serving_of, over_of, talking_of, asking, never, Takes7, TakesOnly, makes_0, answers_none, fails_so, broken_by}
+use Rattle.routing.specs.Routing.{Takes, Fails, Hands, InTalk, HasAgreed}
+use Rattle.row_check.specs.RoutedRows.{WantingRows, RoutedRows, StoppedRows, SpentRows, agreed, runs_out_taking, runs_out, serving_of, over_of, talking_of, asking, never, Takes7, TakesOnly, makes_0, answers_none, fails_so, broken_by}
 
 number_of : (a b : ℕ) → Some a ≡ Some b → b ≡ a
 number_of a b e = cc e
@@ -70,48 +70,103 @@ agrees_there step = record {
   serving = refl;
 }
 
-module _ (fed sent : List ℕ) (session : State) (at : SessionStands Server two_bytes fed sent session) where
-  unasked : (stream : Streaming ℕ) → ¬ RunsOutServing Takes7 never session 1 (serving_of [] 0) stream
-  unasked stream h = let answer = h.0 Server two_bytes fed sent at 262144 refl refl 0 refl refl in one_is_not_zero answer.2.0
+-- its handler was handed a 7
+handed_there : Stands Takes7 (serving_of [] 1) (with_call (record agreed { got = agreed.got ++ 7 ∷ []; left = None }) (Some (Take (7 ∷ []))))
+handed_there = record {
+  index = 2;
+  rest = 7 ∷ [];
+  gave = [];
+  made = 0;
+  agreed = record { first = header_bytes ++ x_bytes; output = question; got_is = refl; agrees = ask_rows.agreed; sent_is = refl };
+  made_is = refl;
+  handled = record {
+    was_handed = record { calls = Take (7 ∷ []) ∷ []; arises = (1, (refl, refl, refl), refl); joined = refl; ends = refl };
+    calls_are = refl;
+    gave_is = refl;
+    asked = tt;
+  };
+}
 
-  other_room : (stream : Streaming ℕ) → ¬ RunsOutServing Gives5 never session 1 (serving_of [] 0) stream
-  other_room stream h = let room = (h.0 Server two_bytes fed sent at 262144 refl refl 0 refl refl).2.0 in omega (arith, room)
+-- and gave a 9
+gave_there : Stands Takes7 (serving_of [] 1) (record (with_call (record agreed { got = agreed.got ++ 7 ∷ []; left = None }) (Some (Take (7 ∷ [])))) {
+  sent = question ++ 9 ∷ [];
+  calls = Take (7 ∷ []) ∷ Give 262144 (9 ∷ []) ∷ [];
+  left = Some 262143;
+})
+gave_there = record {
+  index = 2;
+  rest = 7 ∷ [];
+  gave = 9 ∷ [];
+  made = 0;
+  agreed = record { first = header_bytes ++ x_bytes; output = question; got_is = refl; agrees = ask_rows.agreed; sent_is = refl };
+  made_is = refl;
+  handled = record {
+    was_handed = record { calls = Take (7 ∷ []) ∷ Give 262144 (9 ∷ []) ∷ []; arises = (1, (refl, refl, refl), (1, (refl, refl, refl), refl)); joined = refl; ends = refl };
+    calls_are = refl;
+    gave_is = refl;
+    asked = record { before = Take (7 ∷ []) ∷ []; room = 262144; bytes = 9 ∷ []; calls_are = refl; left_is = refl };
+  };
+}
 
-  taken : RunsOutBehind Takes7 never session 1 (Take (7 ∷ [])) (serving_of [] 0) (serving_of [] 1)
-  taken = (
+never_over : {A B C D E Waits : Type 0} (kind : Kind) → kind ≡ Served → (Waits → ⊥)
+    → (A × ((B × Waits × C) ⊎ ((Ended ≡ kind) × D))) ⊎ (((Ended ≡ kind) ⊎ ((kind ≡ Served) × (Ended ≡ HandedOut))) × E) → ⊥
+never_over kind is none (inl (a, inl b)) = none b.1
+never_over kind is none (inl (a, inr b)) = ended_of_served kind is (inl b.0)
+never_over kind is none (inr b) = ended_of_served kind is b.0
+
+never_copied : {A B C D Waits : Type 0} → (Waits → ⊥) → A × ((B × Waits × C) ⊎ ((Ended ≡ Served) × D)) → ⊥
+never_copied none (a, inl b) = none b.1
+never_copied none (a, inr b) = absurd (let e = b.0 in cc e)
+
+without_credit : {A B C D : Type 0} → A × ((B × C × ((amount : ℕ) × (Some 0 ≡ Some amount) × (0 < amount))) ⊎ ((Ended ≡ Served) × D)) → ⊥
+without_credit (a, inl b) = let it = number_of 0 b.2.0 b.2.1 in let some = b.2.2 in omega (arith, it, some)
+without_credit (a, inr b) = absurd (let e = b.0 in cc e)
+
+module _ (fed sent : List ℕ) (before session : State) where
+  taken : before.room < 13 → runs_out_taking Takes7 fed sent before agreed (7 ∷ []) (serving_of [] 0) before (serving_of [] 1)
+  unfolding handed_there gave_there
+  taken short = (
     serving_of [] 1,
+    handed_there,
     refl,
     refl,
     λ handler held. (1, refl, (number_of 0 handler held, refl, refl)),
-    (λ role past fed sent there credit there_is none handler held unclosed. (1, [], (number_of 1 handler held, refl, refl)), λ none. inl refl),
+    (
+      λ amount some handler held unclosed. (1, 9 ∷ [], (number_of 1 handler held, refl, refl)),
+      inl (
+        refl,
+        inr (
+          refl,
+          (
+            Some (Give 262144 (9 ∷ [])),
+            (refl, refl, refl, refl, λ handler held. (1, (number_of 1 handler held, refl, refl))),
+            record { bytes = 9 ∷ []; some = λ e. cc e; credit = 262144; is_open = refl; within = omega (arith); no_room = short; left = Some 262143; stands = gave_there },
+          ),
+        ),
+      ),
+    ),
   )
 
-  not_taken : (stream : Streaming ℕ) → ¬ RunsOutBehind Takes7 never session 1 (Take (8 ∷ [])) (serving_of [] 0) stream
-  not_taken stream h = absurd (let other = (h.3 0 refl).2.1 in cc other)
+  not_asked : (so_far : Past ℕ) (stream : Streaming ℕ) → ¬ runs_out_taking TakesOnly fed sent before so_far (7 ∷ []) (serving_of [] 0) session stream
+  not_asked so_far stream h = let behind = h.4 0 refl in (h.5.0 262144 refl behind.0 behind.1 refl).2
 
-  not_asked : (stream : Streaming ℕ) → ¬ RunsOutBehind TakesOnly never session 1 (Take (7 ∷ [])) (serving_of [] 0) stream
-  not_asked stream h =
-      let behind = h.3 0 refl in
-      (h.4.0 Server two_bytes fed sent at 262144 refl h.1 behind.0 behind.1 refl).2
+  nothing_made : (talk : Talking) (stream : Streaming ℕ) → ¬ runs_out (λ index handler. ⊥) fed sent before asking (x_bytes ++ 7 ∷ []) (talking_of [] talk) session stream
+  nothing_made talk stream h = by_neither (h.0 refl) (λ a. a.3) (λ a. by_neither a.4.0.is_made (λ b. b.1) (λ b. b.1))
 
-  given_up : (waiting : List ℕ) → ¬ RunsOutBehind Takes7 never session 1 (Take (7 ∷ [])) (serving_of [] 0) (over_of waiting)
-  given_up waiting h = ended_of_served (kind_of h.0.stage) h.2 (h.4.1 h.1)
-
-  rest_taken : (talk : Talking) → ServingRunsOut Takes7 never session 1 makes_0 ⊥ asking (x_bytes ++ 7 ∷ []) (talking_of [] talk) (serving_of [] 1)
-  rest_taken talk = (λ talks. inr (2, x_bytes, 7 ∷ [], serving_of [] 0, agrees_there Takes7, taken), λ quiet. absurd (cc quiet))
-
-  nothing_made : (talk : Talking) (stream : Streaming ℕ) → ¬ ServingRunsOut Takes7 never session 1 (λ index handler. ⊥) ⊥ asking (x_bytes ++ 7 ∷ []) (talking_of [] talk) stream
-  nothing_made talk stream h = by_neither (h.0 refl) (λ a. a.3) (λ a. by_neither a.4.is_made (λ b. b.1) (λ b. b.1))
-
-  pub want_rows : WantingRows session
+  pub want_rows : WantingRows fed sent before session
+  unfolding agrees_there
   want_rows = record {
-    unasked = unasked;
-    other_room = other_room;
+    unasked = λ so_far stream h. one_is_not_zero (h.0 262144 refl 0 refl refl).2.0;
+    other_room = λ so_far stream h. (let room = (h.0 262144 refl 0 refl refl).2.0 in omega (arith, room));
+    unasked_behind_output = λ so_far stream h. (let room = (h.0 262144 refl 0 refl refl).2.0 in omega (arith, room));
     taken = taken;
-    not_taken = not_taken;
+    not_taken = λ so_far stream h. absurd (let other = (h.4 0 refl).2.1 in cc other);
     not_asked = not_asked;
-    given_up = given_up;
-    rest_taken = rest_taken;
+    given_up = λ so_far waiting h. never_over (kind_of h.0.stage) h.3 (λ waits. waits h.2) h.5.1;
+    uncopied = λ so_far. (refl, inl (refl, λ e. cc e, (262144, refl, omega (arith))));
+    nothing_to_copy = λ so_far h. never_copied (λ waits. waits refl) h;
+    session_stays = λ so_far old stream h. h.0;
+    rest_taken = λ talk short. (λ talks. inr (2, x_bytes, 7 ∷ [], serving_of [] 0, (agrees_there Takes7, taken short)), λ quiet. absurd (cc quiet));
     nothing_made = nothing_made;
     made_behind = λ stream h. (h.1 refl).0;
   }
@@ -218,7 +273,9 @@ module _ (fed sent : List ℕ) (before session : State) where
     handed_once = handed_once;
   }
 
-pub spent_rows : (fed sent : List ℕ) (session : State) → SessionStands Client all_written fed sent session → SpentRows session
-spent_rows fed sent session at = record {
-  unasked = λ stream h. (h.0 Client all_written fed sent at 0 refl refl 0 refl refl).2;
+pub spent_rows : (fed sent : List ℕ) (before session : State) → SpentRows fed sent before session
+spent_rows fed sent before session = record {
+  unasked = λ so_far stream h. (h.0 0 refl 0 refl refl).2;
+  unasked_behind_output = λ so_far stream h. (h.0 0 refl 0 refl refl).2;
+  nothing_to_copy = λ so_far waiting h. without_credit h;
 }

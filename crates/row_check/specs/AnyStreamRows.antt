@@ -19,8 +19,8 @@ use Rattle.yamux_session.specs.History.Act.{Start, Write, Taken, Close, Reset}
 use Rattle.yamux_session.specs.Openings.{is_live, closed}
 use Rattle.yamux_session.specs.Windows.{credit, untaken, given_back}
 use Rattle.yamux_session.specs.Data.{written}
-use Rattle.yamux_session.specs.Acts.{open_credit}
-use Rattle.yamux_session.specs.State.{State, Stands as SessionStands, Whenever}
+use Rattle.yamux_session.specs.Acts.{open_credit, frames_length}
+use Rattle.yamux_session.specs.State.{State, Stands as SessionStands}
 use Rattle.streams.specs.declared.heard.Heard.{Heard}
 use Rattle.streams.specs.declared.heard.Heard.TheVariants as heard
 use Rattle.streams.specs.declared.stage.Stage.{Stage}
@@ -33,19 +33,21 @@ use Rattle.streams.specs.Stops.{FailsBy}
 use Rattle.streams.specs.Handled.{AskedLast, Handled}
 use Rattle.streams.specs.Streams.{Past, fresh, and_call, with_call, IsGoing, HasAgreed, IsEarly, IsServed}
 use Rattle.streams.specs.State.{Streaming, Stands, is_talking, awaits_handler, handler_of, holds_handler, is_open}
-use Rattle.streams.specs.State.{has_closed}
+use Rattle.streams.specs.State.{Answered, is_over, has_closed}
 use Rattle.streams.specs.State.{has_finished, was_handed_out, answering, kind_of, InTalk, Awaiting, Served, HandedOut}
 use Rattle.streams.specs.Hearing.{used_of, Hears, HasHeard, Moves, HasNoRoom, HasRunOut, RunsOut}
 use Rattle.streams.specs.Laws.{OneSplit}
 use Rattle.serving.specs.Served.{with_sent, IsDue, AreDue, Goes, IsSettled, HandsOut, Serves, GivesUp}
-use Rattle.serving.specs.Served.{MayBeAsked, Asking, MayGrow, IsKept, AnswersAsk, WasAnswered}
+use Rattle.serving.specs.Served.{MayBeAsked, Asking, MayGrow, WasAnswered}
+use Rattle.serving.specs.Wanting.{SendsFrame, IsKept, IsUnwritten, IsUndone, AskingRunsOut, RunsOut as HasNoRoomLeft}
 use Rattle.dispatch.specs.declared.direction.Direction.TheVariants.{Inbound, Outbound}
 use Rattle.dispatch.specs.Dispatch.{IsKnown, made_by, led_by, makes_once, AgreesBy, IsMade, Negotiates, MakingRunsOut}
 use Rattle.routing.specs.declared.delivered.Delivered.{Delivered}
 use Rattle.routing.specs.declared.delivered.Outcome.{Outcome}
 use Rattle.routing.specs.declared.delivered.Outcome.TheVariants as outcomes
 use Rattle.routing.specs.Routing.{Came, Fails, Hands, Takes, Ends, Stops, Delivers, HasAgreed as HasAgreedOn}
-use Rattle.routing.specs.Routing.{InTalk as RoutesInTalk, RunsOutServing, RunsOutBehind, ServingRunsOut}
+use Rattle.routing.specs.Routing.{InTalk as RoutesInTalk, RunsOutServing, RunsOutBehind, RunsOutTaking}
+use Rattle.routing.specs.Routing.{RunsOutEnding, ServingRunsOut}
 
 -- What is asked of a stream: in each stage, whatever is held there
 pub record AnyStageRows (H : Type 0) : Type 0 where
@@ -74,6 +76,10 @@ pub record AnyStageRows (H : Type 0) : Type 0 where
       × (has_finished test stages.Done ≡ false)
   pub over : (test : H → Bool) → (is_open test stages.Over ≡ false) × (has_closed test stages.Over ≡ true)
       × (has_finished test stages.Over ≡ false)
+  pub over_alone : (talk : Talking) (held : Option H) (index : ℕ) (handler : H)
+      → (is_over (stages.Talking talk held) ≡ false) × (is_over {H = H} (stages.Agreed index) ≡ false)
+      × (is_over (stages.Serving handler) ≡ false) × (is_over {H = H} stages.Done ≡ false)
+      × (is_over {H = H} stages.Over ≡ true)
   pub holds_is : (stage : Stage H) → holds_handler stage ≡ is_some (handler_of stage)
   pub is_fresh : (side : Side) (made : Option H)
       → fresh side made
@@ -512,43 +518,94 @@ module _ {H : Type 0} (step : H → HandlerCall → H → Type 0) (fails : H →
         delivered session stream ↔ ((delivered.agreed ≡ None) × none_made
         × Takes step fails is_closed is_finished role past fed sent n so_far bytes old before delivered.outcome session
         stream)
-    -- where memory is wanting the stream isn't given up, unless what its talk wrote waited
-    pub kept : (old stream : Streaming H) → old.waiting ≡ [] → kind_of stream.stage ≡ kind_of old.stage
-        → IsKept old stream
-    pub kept_and_handed_out : (old stream : Streaming H) → old.waiting ≡ [] → kind_of old.stage ≡ Served
-        → kind_of stream.stage ≡ HandedOut → IsKept old stream
-    pub kept_is : (old stream : Streaming H) → old.waiting ≡ [] → IsKept old stream
-        → (kind_of stream.stage ≡ kind_of old.stage)
-        ⊎ ((kind_of old.stage ≡ Served) × (kind_of stream.stage ≡ HandedOut))
-    pub not_kept : (handler : H) → ¬ IsKept (record { waiting = []; stage = stages.Serving handler })
-        (record { waiting = []; stage = stages.Over })
-    pub any_way_behind_output : (old stream : Streaming H) → old.waiting ≢ [] → IsKept old stream
-    -- its handler answers when it is asked for as many bytes as there is credit
-    pub answers_ask : (amount : ℕ) (stream : Streaming H) → AnswersAsk step is_closed amount stream
-        ↔ (stream.waiting ≡ [] → (handler : H) → handler_of stream.stage ≡ Some handler → is_closed handler ≡ false
-        → (after : H) × (bytes : List ℕ) × step handler (Give amount bytes) after)
-    pub answers_nothing : (handler : H) → ¬ AnswersAsk {H = H} (λ before call now. ⊥) (λ it. false) 5
-        (record { waiting = []; stage = stages.Serving handler })
+    -- its handler answers when it is asked for as many bytes as there is credit behind what waits
     pub answered : (stream : Streaming H) → WasAnswered step is_closed role past n stream
-        ↔ ((amount : ℕ) → open_credit role past n ≡ Some amount → AnswersAsk step is_closed amount stream)
-    pub runs_out_serving : (before : State) (old stream : Streaming H)
-        → RunsOutServing step is_closed before n old stream
-        ↔ (Whenever before (λ role past. WasAnswered step is_closed role past n old) × IsKept old stream)
-    pub runs_out_behind : (before : State) (call : HandlerCall) (old stream : Streaming H)
-        → RunsOutBehind step is_closed before n call old stream
-        ↔ ((middle : Streaming H) × (middle.waiting ≡ old.waiting) × (kind_of middle.stage ≡ kind_of old.stage)
+        ↔ ((amount : ℕ) → open_credit role past n ≡ Some amount → (handler : H)
+        → handler_of stream.stage ≡ Some handler → is_closed handler ≡ false
+        → (after : H) × (bytes : List ℕ) × step handler (Give (amount - length stream.waiting) bytes) after)
+    pub answers_nothing : (handler : H)
+        → ¬ Answered {H = H} (λ before call now. ⊥) (λ it. false) (stages.Serving handler) 5
+    -- where memory is wanting for what is due behind that, the stream isn't given up
+    pub kept : (old stream : Streaming H) → IsKept old stream ↔ ((kind_of stream.stage ≡ kind_of old.stage)
+        ⊎ ((kind_of old.stage ≡ Served) × (kind_of stream.stage ≡ HandedOut)))
+    pub not_kept : (handler : H) (waiting : List ℕ)
+        → ¬ IsKept (record { waiting = waiting; stage = stages.Serving handler })
+        (record { waiting = waiting; stage = stages.Over })
+    -- the acts that ask for the room of a frame
+    pub closing_sends : (m : ℕ) → SendsFrame role past (Close m) ↔ (open_credit role past m ≢ None)
+    pub taking_sends : (m count : ℕ) → SendsFrame role past (Taken m count)
+        ↔ (0 < given_back role m past (Did (Taken m count)))
+    pub sends_no_other : (m code : ℕ) (pieces : List (List ℕ)) → ¬ SendsFrame role past (Write m pieces)
+        × ¬ SendsFrame role past (Start m) × ¬ SendsFrame role past (Reset m)
+        × ¬ SendsFrame role past (Act.GoAway code)
+    -- what the stream gave finds no room
+    pub unwritten : (so_far : Past H) (room amount : ℕ) (stream : Streaming H) (bytes : List ℕ) (left : Option ℕ)
+        → bytes ≢ [] → open_credit role past n ≡ Some amount → length bytes ≤ amount
+        → room < frames_length (length bytes)
+        → Stands step stream (record so_far { sent = so_far.sent ++ bytes; left = left })
+        → IsUnwritten step role past n so_far room stream
+    pub unwritten_is : (so_far : Past H) (room : ℕ) (stream : Streaming H)
+        → IsUnwritten step role past n so_far room stream
+        → (bytes : List ℕ) × (amount : ℕ) × (left : Option ℕ) × (bytes ≢ []) × (open_credit role past n ≡ Some amount)
+        × (length bytes ≤ amount) × (room < frames_length (length bytes))
+        × Stands step stream (record so_far { sent = so_far.sent ++ bytes; left = left })
+    -- the act that is due next finds none
+    pub undone : (was_done : Bool) (so_far : Past H) (session : State) (stream : Streaming H) (act : Act)
+        → (goes : Goes step is_closed is_finished was_done role past fed sent n so_far session stream)
+        → IsDue step is_closed is_finished was_done role goes.now n so_far act → SendsFrame role goes.now act
+        → session.room < 12 → IsUndone step is_closed is_finished was_done role past fed sent n so_far session stream
+    pub undone_is : (was_done : Bool) (so_far : Past H) (session : State) (stream : Streaming H)
+        → IsUndone step is_closed is_finished was_done role past fed sent n so_far session stream
+        → (act : Act) × ((goes : Goes step is_closed is_finished was_done role past fed sent n so_far session stream)
+        × IsDue step is_closed is_finished was_done role goes.now n so_far act × SendsFrame role goes.now act)
+        × (session.room < 12)
+    pub asking_runs_out : (so_far : Past H) (before session : State) (old stream : Streaming H)
+        → AskingRunsOut step role past n is_closed so_far old before session stream ↔ ((session ≡ before)
+        × (((stream ≡ record old { stage = stages.Over }) × (old.waiting ≢ [])
+        × ((amount : ℕ) × (open_credit role past n ≡ Some amount) × (0 < amount)))
+        ⊎ ((kind_of stream.stage ≡ kind_of old.stage)
+        × asked_so old so_far (λ now. IsUnwritten step role past n now before.room stream))))
+    pub no_room : (was_done : Bool) (so_far : Past H) (before session : State) (old stream : Streaming H)
+        → HasNoRoomLeft step is_closed is_finished was_done role past fed sent n so_far old before session stream
+        ↔ (AskingRunsOut step role past n is_closed so_far old before session stream
+        ⊎ (IsKept old stream × asked_so old so_far (λ now.
+        IsUndone step is_closed is_finished was_done role past fed sent n now session stream)))
+    pub runs_out_serving : (so_far : Past H) (before session : State) (old stream : Streaming H)
+        → RunsOutServing step is_closed is_finished role past fed sent n before so_far old session stream
+        ↔ (WasAnswered step is_closed role past n old
+        × HasNoRoomLeft step is_closed is_finished (was_handed_out old.stage) role past fed sent n so_far old before
+        session stream)
+    pub runs_out_behind : (call : HandlerCall) (so_far : Past H) (before session : State) (old stream : Streaming H)
+        → RunsOutBehind step is_closed is_finished role past fed sent n before call so_far old session stream
+        ↔ ((middle : Streaming H) × Stands step middle so_far × (middle.waiting ≡ old.waiting)
+        × (kind_of middle.stage ≡ kind_of old.stage)
         × ((handler : H) → handler_of old.stage ≡ Some handler
         → (after : H) × (handler_of middle.stage ≡ Some after) × step handler call after)
-        × RunsOutServing step is_closed before n middle stream)
-    pub runs_out_in_talk : (before : State) (so_far : Past H) (bytes : List ℕ) (old stream : Streaming H)
+        × RunsOutServing step is_closed is_finished role past fed sent n before so_far middle session stream)
+    pub runs_out_taking : (bytes : List ℕ) (so_far : Past H) (before session : State) (old stream : Streaming H)
+        → RunsOutTaking step is_closed is_finished role past fed sent n before so_far bytes old session stream
+        ↔ RunsOutBehind step is_closed is_finished role past fed sent n before (Take bytes)
+        (with_call (record so_far { got = so_far.got ++ bytes; left = None }) (answering old.stage (Take bytes))) old
+        session stream
+    pub runs_out_ending : (so_far : Past H) (before session : State) (old stream : Streaming H)
+        → RunsOutEnding step is_closed is_finished role past fed sent n before so_far old session stream
+        ↔ RunsOutBehind step is_closed is_finished role past fed sent n before End
+        (with_call (record so_far { ended = true; left = None }) (answering old.stage End)) old session stream
+    pub runs_out_in_talk : (before session : State) (so_far : Past H) (bytes : List ℕ) (old stream : Streaming H)
         → is_talking old.stage ≡ true
-        → ServingRunsOut step is_closed before n makes none_made so_far bytes old stream
+        → ServingRunsOut step is_closed is_finished role past fed sent n before makes none_made so_far bytes old
+        session stream
         ↔ (((middle : Streaming H) × Stands step middle (record so_far { got = so_far.got ++ bytes })
-        × (is_talking middle.stage ≡ true) × none_made × RunsOutServing step is_closed before n middle stream)
+        × (is_talking middle.stage ≡ true) × none_made
+        × RunsOutServing step is_closed is_finished role past fed sent n before
+        (record so_far { got = so_far.got ++ bytes }) middle session stream)
         ⊎ ((index : ℕ) × (front rest : List ℕ) × (middle : Streaming H)
-        × agreed_on so_far bytes index front rest middle
-        × RunsOutBehind step is_closed before n (Take rest) middle stream))
-    pub runs_out : (before : State) (so_far : Past H) (bytes : List ℕ) (old stream : Streaming H)
+        × ((has : agreed_on so_far bytes index front rest middle)
+        × RunsOutTaking step is_closed is_finished role past fed sent n before
+        (record so_far { got = so_far.got ++ front; made = Some has.made }) rest middle session stream)))
+    pub runs_out : (before session : State) (so_far : Past H) (bytes : List ℕ) (old stream : Streaming H)
         → is_talking old.stage ≡ false
-        → ServingRunsOut step is_closed before n makes none_made so_far bytes old stream
-        ↔ (none_made × RunsOutBehind step is_closed before n (Take bytes) old stream)
+        → ServingRunsOut step is_closed is_finished role past fed sent n before makes none_made so_far bytes old
+        session stream
+        ↔ (none_made × RunsOutTaking step is_closed is_finished role past fed sent n before so_far bytes old session
+        stream)

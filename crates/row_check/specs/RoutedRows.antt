@@ -1,15 +1,15 @@
 -- Worked rows of what a stream makes of what came (multistream-select 1.0, "Protocol Negotiation"; when its handler is
 -- called, and what want of memory may stand for, is this project's profile): of the stream 1 of a server, to which two
 -- bytes came. Handlers are numbers.
-use Rattle.std.specs.Prelude.{◌≡◌, ℕ, Bool, false, List, [], ◌∷◌, ◌++◌, Option, Some, None}
+use Rattle.std.specs.Prelude.{◌≡◌, ℕ, ◌<◌, Bool, false, List, [], ◌∷◌, ◌++◌, Option, Some, None}
 use Rattle.ms_select.specs.declared.fault.SelectFault.TheVariants.{BadHeader, NotProposed}
 use Rattle.ms_select.specs.Rows.{header_bytes, x_bytes, y_bytes, na_bytes}
 use Rattle.handlers.specs.Calls.{HandlerCall, Take, Give, End, Asked, ToTake, ToGive, ToEnd}
 use Rattle.handlers.specs.Rows.{Noting}
 use Rattle.talks.specs.Rows.{asks, question}
 use Rattle.talks.specs.State.{Talking}
-use Rattle.yamux_session.specs.declared.event.Role.TheVariants.{Server}
-use Rattle.yamux_session.specs.Rows.{two_bytes}
+use Rattle.yamux_session.specs.declared.event.Role.TheVariants.{Client, Server}
+use Rattle.yamux_session.specs.Rows.{two_bytes, all_written}
 use Rattle.yamux_session.specs.State.{State}
 use Rattle.streams.specs.declared.stage.Stage.TheVariants as stages
 use Rattle.streams.specs.declared.stop.Cause.TheVariants as causes
@@ -19,7 +19,8 @@ use Rattle.streams.specs.Rows.{calls, served_past}
 use Rattle.routing.specs.declared.delivered.Delivered.{Delivered}
 use Rattle.routing.specs.declared.delivered.Outcome.{Outcome}
 use Rattle.routing.specs.declared.delivered.Outcome.TheVariants.{Going, Done, Refused, Broken}
-use Rattle.routing.specs.Routing.{Came, Takes, Ends, Stops, Delivers, RunsOutServing, RunsOutBehind, ServingRunsOut}
+use Rattle.serving.specs.Wanting.{AskingRunsOut}
+use Rattle.routing.specs.Routing.{Came, Takes, Ends, Stops, Delivers, RunsOutServing, RunsOutTaking, ServingRunsOut}
 
 abbrev pub serving_of : List ℕ → ℕ → Streaming ℕ
 serving_of waiting handler = record { waiting = waiting; stage = stages.Serving handler }
@@ -37,10 +38,10 @@ asking = record (fresh asks None) { got = header_bytes; sent = question }
 abbrev pub never : ℕ → Bool
 never handler = false
 
--- a handler that is handed a 7 while it is 0, and answers nothing else before; then it is 1, and gives nothing
+-- a handler that is handed a 7 while it is 0, and answers nothing else before; then it is 1, and gives a 9
 abbrev pub Takes7 : ℕ → HandlerCall → ℕ → Type 0
 Takes7 before (Take bytes) now = (before ≡ 0) × (bytes ≡ 7 ∷ []) × (now ≡ 1)
-Takes7 before (Give room bytes) now = (before ≡ 1) × (bytes ≡ []) × (now ≡ 1)
+Takes7 before (Give room bytes) now = (before ≡ 1) × (bytes ≡ 9 ∷ []) × (now ≡ 1)
 Takes7 before End now = ⊥
 
 -- one that takes anything, and answers nothing when it is asked for bytes
@@ -59,28 +60,58 @@ Gives5 before End now = ⊥
 abbrev pub makes_0 : ℕ → ℕ → Type 0
 makes_0 index handler = (index ≡ 2) × (handler ≡ 0)
 
+-- it has heard x, too, and the handler 0 was made
+abbrev pub agreed : Past ℕ
+agreed = record asking { got = header_bytes ++ x_bytes; made = Some 0 }
+
+abbrev pub runs_out_serving : (ℕ → HandlerCall → ℕ → Type 0) → List ℕ → List ℕ → State → Past ℕ → Streaming ℕ → State
+    → Streaming ℕ → Type 0
+runs_out_serving step fed sent = RunsOutServing step never never Server two_bytes fed sent 1
+
+abbrev pub runs_out_taking : (ℕ → HandlerCall → ℕ → Type 0) → List ℕ → List ℕ → State → Past ℕ → List ℕ → Streaming ℕ
+    → State → Streaming ℕ → Type 0
+runs_out_taking step fed sent = RunsOutTaking step never never Server two_bytes fed sent 1
+
+abbrev pub runs_out : (ℕ → ℕ → Type 0) → List ℕ → List ℕ → State → Past ℕ → List ℕ → Streaming ℕ → State → Streaming ℕ
+    → Type 0
+runs_out makes fed sent before = ServingRunsOut Takes7 never never Server two_bytes fed sent 1 before makes ⊥
+
 -- What want of memory may stand for, where the stream is served: its handler answered what came, and then answered when
--- it was asked, and the stream isn't given up.
-pub record WantingRows (session : State) : Type 0 where
-  pub unasked : (stream : Streaming ℕ) → ¬ RunsOutServing Takes7 never session 1 (serving_of [] 0) stream
+-- it was asked.
+pub record WantingRows (fed sent : List ℕ) (before session : State) : Type 0 where
+  pub unasked : (so_far : Past ℕ) (stream : Streaming ℕ)
+      → ¬ runs_out_serving Takes7 fed sent before so_far (serving_of [] 0) session stream
   -- for as many bytes as there is credit
-  pub other_room : (stream : Streaming ℕ) → ¬ RunsOutServing Gives5 never session 1 (serving_of [] 0) stream
-  -- it is the handler behind the call that was asked
-  pub taken : RunsOutBehind Takes7 never session 1 (Take (7 ∷ [])) (serving_of [] 0) (serving_of [] 1)
-  pub not_taken : (stream : Streaming ℕ)
-      → ¬ RunsOutBehind Takes7 never session 1 (Take (8 ∷ [])) (serving_of [] 0) stream
-  pub not_asked : (stream : Streaming ℕ)
-      → ¬ RunsOutBehind TakesOnly never session 1 (Take (7 ∷ [])) (serving_of [] 0) stream
-  pub given_up : (waiting : List ℕ)
-      → ¬ RunsOutBehind Takes7 never session 1 (Take (7 ∷ [])) (serving_of [] 0) (over_of waiting)
+  pub other_room : (so_far : Past ℕ) (stream : Streaming ℕ)
+      → ¬ runs_out_serving Gives5 fed sent before so_far (serving_of [] 0) session stream
+  -- also where something waits, behind which there is less
+  pub unasked_behind_output : (so_far : Past ℕ) (stream : Streaming ℕ)
+      → ¬ runs_out_serving Gives5 fed sent before so_far (serving_of (9 ∷ []) 0) session stream
+  -- it is the handler behind the call that was asked, and its one byte needs room for 13
+  pub taken : before.room < 13
+      → runs_out_taking Takes7 fed sent before agreed (7 ∷ []) (serving_of [] 0) before (serving_of [] 1)
+  pub not_taken : (so_far : Past ℕ) (stream : Streaming ℕ)
+      → ¬ runs_out_taking Takes7 fed sent before so_far (8 ∷ []) (serving_of [] 0) session stream
+  pub not_asked : (so_far : Past ℕ) (stream : Streaming ℕ)
+      → ¬ runs_out_taking TakesOnly fed sent before so_far (7 ∷ []) (serving_of [] 0) session stream
+  -- while nothing waits the stream isn't given up
+  pub given_up : (so_far : Past ℕ) (waiting : List ℕ)
+      → ¬ runs_out_taking Takes7 fed sent before so_far (7 ∷ []) (serving_of [] 0) session (over_of waiting)
+  -- what waits is copied, and then the stream is over, and nothing was done
+  pub uncopied : (so_far : Past ℕ) → AskingRunsOut TakesOnly Server two_bytes 1 never so_far (serving_of (9 ∷ []) 0)
+      before before (over_of (9 ∷ []))
+  pub nothing_to_copy : (so_far : Past ℕ) → ¬ AskingRunsOut TakesOnly Server two_bytes 1 never so_far (serving_of [] 0)
+      before session (over_of [])
+  pub session_stays : (so_far : Past ℕ) (old stream : Streaming ℕ)
+      → AskingRunsOut TakesOnly Server two_bytes 1 never so_far old before session stream → session ≡ before
   -- by the bytes by which both ends agree it is handed what stands behind them
-  pub rest_taken : (talk : Talking) → ServingRunsOut Takes7 never session 1 makes_0 ⊥ asking (x_bytes ++ 7 ∷ [])
-      (talking_of [] talk) (serving_of [] 1)
+  pub rest_taken : (talk : Talking) → before.room < 13
+      → runs_out makes_0 fed sent before asking (x_bytes ++ 7 ∷ []) (talking_of [] talk) before (serving_of [] 1)
   -- and its handler was made, or nothing was
-  pub nothing_made : (talk : Talking) (stream : Streaming ℕ) → ¬ ServingRunsOut Takes7 never session 1
-      (λ index handler. ⊥) ⊥ asking (x_bytes ++ 7 ∷ []) (talking_of [] talk) stream
-  pub made_behind : (stream : Streaming ℕ) → ¬ ServingRunsOut Takes7 never session 1 makes_0 ⊥ asking (7 ∷ [])
-      (serving_of [] 0) stream
+  pub nothing_made : (talk : Talking) (stream : Streaming ℕ) → ¬ runs_out (λ index handler. ⊥) fed sent before asking
+      (x_bytes ++ 7 ∷ []) (talking_of [] talk) session stream
+  pub made_behind : (stream : Streaming ℕ)
+      → ¬ runs_out makes_0 fed sent before asking (7 ∷ []) (serving_of [] 0) session stream
 
 -- a handler that answers nothing, and fails by 3 at a 7, by 4 at the end, and by 5 where it is asked for 262143 bytes
 abbrev pub answers_none : ℕ → HandlerCall → ℕ → Type 0
@@ -141,6 +172,12 @@ pub record StoppedRows (fed sent : List ℕ) (before session : State) : Type 0 w
       served_past (3 ∷ []) (record { waiting = waiting; stage = stages.Serving handler }) before Going session stream
       → (gave : Option HandlerCall) × (stream.stage ≡ stages.Serving (and_call (calls ++ Take (3 ∷ []) ∷ []) gave))
 
--- Of the stream 1 of a client that has written all its credit: its handler is asked also where no credit is left.
-pub record SpentRows (session : State) : Type 0 where
-  pub unasked : (stream : Streaming ℕ) → ¬ RunsOutServing TakesOnly never session 1 (serving_of [] 0) stream
+-- Of the stream 1 of a client that has written all its credit: its handler is asked also where no credit is left, and
+-- nothing is copied.
+pub record SpentRows (fed sent : List ℕ) (before session : State) : Type 0 where
+  pub unasked : (so_far : Past ℕ) (stream : Streaming ℕ) → ¬ RunsOutServing TakesOnly never never Client all_written fed
+      sent 1 before so_far (serving_of [] 0) session stream
+  pub unasked_behind_output : (so_far : Past ℕ) (stream : Streaming ℕ) → ¬ RunsOutServing TakesOnly never never Client
+      all_written fed sent 1 before so_far (serving_of (9 ∷ []) 0) session stream
+  pub nothing_to_copy : (so_far : Past ℕ) (waiting : List ℕ) → ¬ AskingRunsOut TakesOnly Client all_written 1 never
+      so_far (serving_of (9 ∷ []) 0) before session (over_of waiting)

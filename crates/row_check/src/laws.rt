@@ -58,14 +58,12 @@ ghost use Rattle.row_check.specs.AnyRouteRows.{AnyRouteToldRows, AnyBoardRows, A
 ghost use Rattle.row_check.specs.AnyStepRows.{AnyTalkStepRows, AnyStepRows};
 ghost use Rattle.row_check.specs.PlacedRows.{EndPlaceRows, ServedPlaceRows, AtRestRows};
 ghost use Rattle.row_check.specs.RoutedRows.{WantingRows, RoutedRows, StoppedRows, SpentRows};
-ghost use Rattle.yamux_session.specs.Rows.{two_bytes, all_written};
 ghost use Rattle.yamux_session.specs.History.{Item};
 ghost use Rattle.std.specs.Prelude.{◌≡◌, ℕ, Bool, true, List};
 ghost use Rattle.peer_ids.specs.Key.{Key};
 ghost use Rattle.upgrade.specs.declared.role.ConnRole.{ConnRole};
 ghost use Rattle.yamux_session.specs.declared.event.Role.{Role};
-ghost use Rattle.yamux_session.specs.declared.event.Role.TheVariants.{Client, Server};
-ghost use Rattle.yamux_session.specs.State.{State, Stands as SessionStands};
+ghost use Rattle.yamux_session.specs.State.{State};
 
 use handlers::{Handler, Protocols};
 use node_protocols::Payloads;
@@ -369,10 +367,8 @@ pub fn placed_rows()
 
 /// The definitions of what a stream makes of what came say of worked streams what they are to say.
 pub fn routed_rows()
-    ensures want { (fed sent : List ℕ) (session : State) → SessionStands Server two_bytes fed sent session
-        → WantingRows session }
+    ensures want { (fed sent : List ℕ) (before session : State) → WantingRows fed sent before session }
     ensures routed { (fed sent : List ℕ) (before session : State) → RoutedRows fed sent before session }
     ensures stopped { (fed sent : List ℕ) (before session : State) → StoppedRows fed sent before session }
-    ensures spent { (fed sent : List ℕ) (session : State) → SessionStands Client all_written fed sent session
-        → SpentRows session }
+    ensures spent { (fed sent : List ℕ) (before session : State) → SpentRows fed sent before session }
 {}

@@ -20,7 +20,8 @@ use Rattle.streams.specs.declared.stage.Stage.TheVariants as stages
 use Rattle.streams.specs.Streams.{Past, IsServed, with_call}
 use Rattle.streams.specs.State.{Streaming, Stands, StandsAt, is_open, has_closed, has_finished, was_handed_out}
 use Rattle.serving.specs.Served.{Asking, Goes, GaveAll, HasGiven, HasSent, HandsOut, Serves, with_sent}
-use Rattle.serving.specs.Steps.{Sends, WasAsked, WasClosed, Closes, Counts}
+use Rattle.serving.specs.Wanting.{IsUndone}
+use Rattle.serving.specs.Steps.{Sends, WasAsked, WasClosed, Closes, Counts, CloseRunsOut, CountRunsOut}
 use Rattle.serving.proofs.Acts.{taken_keeps, none_left, has_written, is_closed_then, closing_writes_nothing, closing_keeps_credit, closing_takes_nothing}
 use Rattle.serving.proofs.Refusals.{open_with, not_open, not_used_up, some_left, nothing_left}
 
@@ -242,6 +243,18 @@ module _ {H : Type 0} (step : H → HandlerCall → H → Type 0) (is_closed is_
       by_closed true is = inl (is, sent)
       by_closed false is = inr (some, gave is some)
 
+    -- closing is due, where the stream gives no more
+    closing_is_due : (role : Role) (past : List Item) (fed sent : List ℕ) (n : ℕ) (so_far : Past H) (handler : Option H) (before : State) (x : Streaming H)
+        → (a : WasAsked step is_closed is_finished was_done role past fed sent n so_far before x)
+        → HandsOut step is_closed is_finished (with_sent role a.goes.now n so_far a.goes.left) handler x
+        → (handler ≡ None → was_handed_out x.stage ≡ true → was_done ≡ true)
+        → IfSome handler (λ it. is_closed it ≡ false → a.goes.left ≡ Some (credit role a.goes.now n))
+        → (length x.waiting == 0) && has_closed is_closed x.stage ≡ true → is_live role a.goes.now n ≡ true → closed role a.goes.now n ≡ false
+        → HasGiven step is_closed is_finished was_done role a.goes.now n so_far
+    closing_is_due role past fed sent n so_far handler before x a out out_before asked_last is_over live unclosed =
+        let given = both x.waiting (has_closed is_closed x.stage) is_over in
+        has_given role a.goes.now n so_far a.goes.left handler x out out_before asked_last a.goes.stream_stands given.0 (a.asked live unclosed) given.1
+
     pub was_closed : (role : Role) (past : List Item) (fed sent : List ℕ) (n : ℕ) (so_far : Past H) (handler : Option H) (before session : State) (x : Streaming H)
         → (a : WasAsked step is_closed is_finished was_done role past fed sent n so_far before x)
         → HandsOut step is_closed is_finished (with_sent role a.goes.now n so_far a.goes.left) handler x
@@ -286,7 +299,7 @@ module _ {H : Type 0} (step : H → HandlerCall → H → Type 0) (is_closed is_
               (
                 refl,
                 subst (λ (t : List Item). HasGiven step is_closed is_finished was_done role t n so_far) a.goes.now_is
-                    (has_given role a.goes.now n so_far a.goes.left handler x out out_before (asked_last live unclosed) a.goes.stream_stands given.0 (a.asked live unclosed) given.1),
+                    (closing_is_due role past fed sent n so_far handler before x a out out_before (asked_last live unclosed) is_over live unclosed),
               ),
               a.goes.due,
             );
@@ -319,6 +332,17 @@ module _ {H : Type 0} (step : H → HandlerCall → H → Type 0) (is_closed is_
     credit_left : (shut : Bool) (amount : ℕ) → (0 < amount) ⊎ (shut ≡ true) → shut ≡ false → 0 < amount
     credit_left shut amount (inl some) unclosed = some
     credit_left shut amount (inr over) unclosed = absurd (not_both over unclosed)
+
+    -- what came is due to be taken
+    taking_is_due : (role : Role) (past : List Item) (fed sent : List ℕ) (n : ℕ) (so_far : Past H) (handler : Option H) (before : State) (x : Streaming H)
+        → (a : WasClosed step is_closed is_finished was_done role past fed sent n so_far handler before x)
+        → (handler ≡ None → was_handed_out x.stage ≡ true → was_done ≡ true)
+        → open_credit role a.goes.now n ≢ Some 0 → is_live role a.goes.now n ≡ true
+        → ((closed role a.goes.now n ≡ true) × HasSent step is_closed is_finished was_done role a.goes.now n so_far)
+        ⊎ ((0 < credit role a.goes.now n) × GaveAll step is_closed is_finished was_done role a.goes.now n so_far)
+    taking_is_due role past fed sent n so_far handler before x a out_before not_none live =
+        may_take role a.goes.now n so_far (some_left role a.goes.now n not_none live) (record { stream = x; left = a.goes.left; stands = a.goes.stream_stands }) (λ unclosed some.
+        gave_all role a.goes.now n so_far a.goes.left handler x a.handed_out out_before (a.asked_still live unclosed) a.goes.stream_stands (a.none_waits live unclosed some) (a.asked live unclosed))
 
     -- and what came was counted as taken
     pub was_settled : (role : Role) (past : List Item) (fed sent : List ℕ) (n : ℕ) (so_far : Past H) (handler : Option H) (before session : State) (x : Streaming H)
@@ -365,8 +389,7 @@ module _ {H : Type 0} (step : H → HandlerCall → H → Type 0) (is_closed is_
                 refl,
                 ap (λ (t : List Item). untaken role t n) a.goes.now_is,
                 subst (λ (t : List Item). ((closed role t n ≡ true) × HasSent step is_closed is_finished was_done role t n so_far) ⊎ ((0 < credit role t n) × GaveAll step is_closed is_finished was_done role t n so_far)) a.goes.now_is
-                    (may_take role a.goes.now n so_far (some_left role a.goes.now n not_none live) (record { stream = x; left = a.goes.left; stands = a.goes.stream_stands }) (λ unclosed some.
-                    gave_all role a.goes.now n so_far a.goes.left handler x a.handed_out out_before (a.asked_still live unclosed) a.goes.stream_stands (a.none_waits live unclosed some) (a.asked live unclosed))),
+                    (taking_is_due role past fed sent n so_far handler before x a out_before not_none live),
               ),
               a.goes.due,
             );
@@ -386,3 +409,50 @@ module _ {H : Type 0} (step : H → HandlerCall → H → Type 0) (is_closed is_
           closed_by = λ unclosed is. a.closed_by unclosed (sym k.closed_is ∙ is);
           taken_by = λ unclosed differs. subst (λ (c : ℕ). 0 < c) (sym k.credit_is) (credit_left (closed role a.goes.now n) _ (some_left role a.goes.now n not_none live) (sym k.closed_is ∙ unclosed));
         }
+
+    -- acts were done, and session and stream stand there
+    goes_still : (role : Role) (past : List Item) (fed sent : List ℕ) (n : ℕ) (so_far : Past H) (before session : State) (x : Streaming H)
+        → session ≡ before → Goes step is_closed is_finished was_done role past fed sent n so_far before x
+        → Goes step is_closed is_finished was_done role past fed sent n so_far session x
+    goes_still role past fed sent n so_far before session x same g = record {
+      acts = g.acts;
+      now = g.now;
+      now_is = g.now_is;
+      due = g.due;
+      session_stands = subst (λ (s : State). SessionStands role g.now fed sent s) (sym same) g.session_stands;
+      left = g.left;
+      stream_stands = g.stream_stands;
+    }
+
+    -- this direction isn't closed, for which memory is wanting
+    pub unclosed_then : (role : Role) (past : List Item) (fed sent : List ℕ) (n : ℕ) (so_far : Past H) (handler : Option H) (before session : State) (x : Streaming H)
+        → (a : WasAsked step is_closed is_finished was_done role past fed sent n so_far before x)
+        → HandsOut step is_closed is_finished (with_sent role a.goes.now n so_far a.goes.left) handler x
+        → (handler ≡ None → was_handed_out x.stage ≡ true → was_done ≡ true)
+        → (is_live role a.goes.now n ≡ true → closed role a.goes.now n ≡ false
+        → IfSome handler (λ it. is_closed it ≡ false → a.goes.left ≡ Some (credit role a.goes.now n)))
+        → CloseRunsOut role a.goes.now n ((length x.waiting == 0) && has_closed is_closed x.stage) before session
+        → IsUndone step is_closed is_finished was_done role past fed sent n so_far session x
+    unfolding goes_still
+    unclosed_then role past fed sent n so_far handler before session x a out out_before asked_last (same, is_over, live, unclosed, no_room) = record {
+      goes = goes_still role past fed sent n so_far before session x same a.goes;
+      act = Close n;
+      due = (refl, closing_is_due role past fed sent n so_far handler before x a out out_before (asked_last live unclosed) is_over live unclosed);
+      sends = λ none. absurd (not_both (not_open role a.goes.now n none live) unclosed);
+      no_room = subst (λ (s : State). s.room < 12) (sym same) no_room;
+    }
+
+    -- what came isn't taken, for which memory is wanting
+    pub untaken_then : (role : Role) (past : List Item) (fed sent : List ℕ) (n : ℕ) (so_far : Past H) (handler : Option H) (before session : State) (x : Streaming H)
+        → (a : WasClosed step is_closed is_finished was_done role past fed sent n so_far handler before x)
+        → (handler ≡ None → was_handed_out x.stage ≡ true → was_done ≡ true)
+        → CountRunsOut role a.goes.now n before session
+        → IsUndone step is_closed is_finished was_done role past fed sent n so_far session x
+    unfolding goes_still
+    untaken_then role past fed sent n so_far handler before session x a out_before (same, not_none, live, sends, no_room) = record {
+      goes = goes_still role past fed sent n so_far before session x same a.goes;
+      act = Taken n (untaken role a.goes.now n);
+      due = (refl, refl, taking_is_due role past fed sent n so_far handler before x a out_before not_none live);
+      sends = sends;
+      no_room = subst (λ (s : State). s.room < 12) (sym same) no_room;
+    }

@@ -9,7 +9,7 @@ use Rattle.yamux_session.specs.History.Item.{Did}
 use Rattle.yamux_session.specs.History.Act.{Taken}
 use Rattle.yamux_session.specs.Openings.{is_live, closed}
 use Rattle.yamux_session.specs.Windows.{credit, untaken, given_back}
-use Rattle.yamux_session.specs.Acts.{open_credit, stream_refusal, IsRefusedFor}
+use Rattle.yamux_session.specs.Acts.{open_credit, stream_refusal, direction_refusal, IsRefusedFor}
 use Rattle.serving.specs.Served.{MayGrow}
 
 -- the stream is live, and may be written to
@@ -88,6 +88,23 @@ memory_by false StreamsFull e other = absurd (cc e)
 pub for_memory : (role : Role) (past : List Item) (n : ℕ) (refused : ActRefused) → IsRefusedFor (stream_refusal role past n) refused → refused ≢ NoStream
     → (refused ≡ OutOfMemory) × (is_live role past n ≡ true)
 for_memory role past n refused e other = memory_by (is_live role past n) refused e other
+
+memory_alone : (live shut : Bool) (amount n : ℕ) (refused : ActRefused) → IsRefusedFor (cond live (cond shut (Some Ended) None) (Some NoStream)) refused
+    → cond (live && not shut) (Some amount) None ≡ Some n → refused ≡ OutOfMemory
+memory_alone true false amount n OutOfMemory why e = refl
+memory_alone true false amount n NoStream why e = absurd (cc why)
+memory_alone true false amount n Failed why e = absurd (cc why)
+memory_alone true false amount n Ended why e = absurd (cc why)
+memory_alone true false amount n GoneAway why e = absurd (cc why)
+memory_alone true false amount n StreamsExhausted why e = absurd (cc why)
+memory_alone true false amount n StreamsFull why e = absurd (cc why)
+memory_alone true true amount n refused why e = absurd (cc e)
+memory_alone false shut amount n refused why e = absurd (cc e)
+
+-- so is a write, or a close, where this direction is open
+pub open_for_memory : (role : Role) (past : List Item) (n amount : ℕ) (refused : ActRefused) → IsRefusedFor (direction_refusal role past n) refused
+    → open_credit role past n ≡ Some amount → refused ≡ OutOfMemory
+open_for_memory role past n amount refused why e = memory_alone (is_live role past n) (closed role past n) (credit role past n) amount refused why e
 
 pub all_of : {k : ℕ} → k ≤ 262144 → min 18446744073709551615 k ≡ k
 all_of h = omega arith

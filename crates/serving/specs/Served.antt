@@ -17,8 +17,8 @@ use Rattle.streams.specs.declared.stage.Stage.{Stage}
 use Rattle.streams.specs.declared.stage.Stage.TheVariants.{Done}
 use Rattle.streams.specs.declared.stop.Stop.{Stop}
 use Rattle.streams.specs.Streams.{Past, IsServed, with_call}
-use Rattle.streams.specs.State.{Streaming, Stands, handler_of, is_open, has_closed, has_finished, was_handed_out}
-use Rattle.streams.specs.State.{Kind, Served, HandedOut, kind_of}
+use Rattle.streams.specs.State.{Streaming, Stands, Answered, handler_of, is_open, has_closed, has_finished}
+use Rattle.streams.specs.State.{was_handed_out}
 use Rattle.streams.specs.Stops.{FailsBy}
 
 -- ---- the call by which a stream is served
@@ -146,23 +146,12 @@ pub record GivesUp {H : Type 0} (fails : H → Asked → ℕ → Type 0) (is_clo
   pub unclosed : is_closed handler ≡ false
   pub fails_by : FailsBy fails handler (ToGive (credit - length stream.waiting)) stop
 
--- Behind want of memory the stream is where it was, or its handler was handed out: it isn't given up, unless what its
--- talk wrote waited, which is copied with what its handler gives.
-abbrev pub IsKept : {H : Type 0} → Streaming H → Streaming H → Type 0
-IsKept old stream = old.waiting ≡ [] → (kind_of stream.stage ≡ kind_of old.stage)
-    ⊎ ((kind_of old.stage ≡ Served) × (kind_of stream.stage ≡ HandedOut))
-
--- The handler that a stream holds answers when it is asked for as many bytes as there is credit, unless it is closed, or
--- what its talk wrote waits.
-abbrev pub AnswersAsk : {H : Type 0} → (H → HandlerCall → H → Type 0) → (H → Bool) → ℕ → Streaming H → Type 0
-AnswersAsk step is_closed credit stream = stream.waiting ≡ [] → (handler : _) → handler_of stream.stage ≡ Some handler
-    → is_closed handler ≡ false → (after : _) × (bytes : List ℕ) × step handler (Give credit bytes) after
-
--- and so where this direction is open
+-- The handler that a stream holds answers when it is asked for as many bytes as there is credit behind what waits, unless
+-- it is closed, where this direction is open.
 abbrev pub WasAnswered : {H : Type 0} → (H → HandlerCall → H → Type 0) → (H → Bool) → Role → List Item → ℕ → Streaming H
     → Type 0
 WasAnswered step is_closed role past n stream = (credit : ℕ) → open_credit role past n ≡ Some credit
-    → AnswersAsk step is_closed credit stream
+    → Answered step is_closed stream.stage (credit - length stream.waiting)
 
 -- Serving may send something on the stream: it is live, and this direction is open, or a window is given back.
 abbrev pub MayGrow : Role → List Item → ℕ → Type 0

@@ -8,7 +8,7 @@ use Rattle.yamux_session.specs.History.{Item, Act}
 use Rattle.yamux_session.specs.History.Item.{Did}
 use Rattle.yamux_session.specs.History.Act.{Write, Taken, Close}
 use Rattle.yamux_session.specs.Openings.{is_live, closed}
-use Rattle.yamux_session.specs.Windows.{credit, untaken}
+use Rattle.yamux_session.specs.Windows.{credit, untaken, given_back}
 use Rattle.yamux_session.specs.Acts.{open_credit}
 use Rattle.yamux_session.specs.State.{State, Stands as SessionStands}
 use Rattle.streams.specs.Streams.{Past}
@@ -35,12 +35,23 @@ Closes role past fed sent n over old session =
     ⊎ ((over ≡ true) × (is_live role past n ≡ true) × (closed role past n ≡ false)
     × SessionStands role (Did (Close n) ∷ past) fed sent session)
 
+-- or it is open and due to be closed, and the frame finds no room
+abbrev pub CloseRunsOut : Role → List Item → ℕ → Bool → State → State → Type 0
+CloseRunsOut role past n over old session = (session ≡ old) × (over ≡ true) × (is_live role past n ≡ true)
+    × (closed role past n ≡ false) × (old.room < 12)
+
 -- all that came was taken, where credit is left or this direction is closed; else nothing was done
 abbrev pub Counts : Role → List Item → List ℕ → List ℕ → ℕ → State → State → Type 0
 Counts role past fed sent n old session =
     ((session ≡ old) × ((open_credit role past n ≡ Some 0) ⊎ (is_live role past n ≡ false)))
     ⊎ ((open_credit role past n ≢ Some 0) × (is_live role past n ≡ true)
     × SessionStands role (Did (Taken n (untaken role past n)) ∷ past) fed sent session)
+
+-- or what came is due to be taken, and the frame that gives a window back finds no room
+abbrev pub CountRunsOut : Role → List Item → ℕ → State → State → Type 0
+CountRunsOut role past n old session = (session ≡ old) × (open_credit role past n ≢ Some 0)
+    × (is_live role past n ≡ true) × (0 < given_back role n past (Did (Taken n (untaken role past n))))
+    × (old.room < 12)
 
 module _ {H : Type 0} (step : H → HandlerCall → H → Type 0) (is_closed is_finished : H → Bool) (was_done : Bool) where
   -- The stream was asked with all the credit, where this direction is open.

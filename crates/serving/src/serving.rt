@@ -1,7 +1,7 @@
 //! Serving a stream of a session.
 
-ghost use Rattle.std.specs.Prelude.{◌≡◌, ◌≢◌, ℕ, ◌<◌, true, false, List};
-ghost use Rattle.std.specs.Prelude.{Option, Some, None, Ok, Err, IfOk, IfErr, IfSome, OnOk, IsOk};
+ghost use Rattle.std.specs.Prelude.{◌≡◌, ◌≢◌, ◌||◌, ℕ, ◌-◌, ◌<◌, true, false, List, length};
+ghost use Rattle.std.specs.Prelude.{Option, Some, None, Ok, Err, IfOk, IfErr, IfSome, OnOk, OnErr, IsOk};
 ghost use Rattle.yamux_session.specs.declared.event.Role.{Role};
 ghost use Rattle.yamux_session.specs.History.{Item};
 ghost use Rattle.yamux_session.specs.Acts.{open_credit};
@@ -9,9 +9,10 @@ ghost use Rattle.yamux_session.specs.Data.{written};
 ghost use Rattle.yamux_session.specs.State.{Stands as SessionStands, Whenever};
 ghost use Rattle.streams.specs.declared.stage.Stage.TheVariants.{Over};
 ghost use Rattle.streams.specs.Streams.{Past};
-ghost use Rattle.streams.specs.State.{Stands, Served, kind_of, was_handed_out};
-ghost use Rattle.serving.specs.Served.{Asking, Serves, GivesUp, IsKept, MayGrow, AnswersAsk, WasAnswered};
-ghost use Rattle.serving.specs.Steps.{Sends, WasAsked, Closes, Counts};
+ghost use Rattle.streams.specs.State.{Stands, Answered, Served, is_over, kind_of, was_handed_out};
+ghost use Rattle.serving.specs.Served.{Asking, Serves, GivesUp, MayGrow, WasAnswered};
+ghost use Rattle.serving.specs.Wanting.{AskingRunsOut, RunsOut};
+ghost use Rattle.serving.specs.Steps.{Sends, WasAsked, Closes, Counts, CloseRunsOut, CountRunsOut};
 
 use handlers::Handler;
 use streams::{Stop, Stream};
@@ -34,9 +35,14 @@ fn send<H: Handler>(
     ensures fault { IfErr result (λ stop. stop ≢ Stop.OutOfMemory → (session.new ≡ session.old)
         × ((stream.new ≡ record stream.old { stage = Over }) × GivesUp H.fails H.is_closed stream.old credit stop)) }
     ensures kind { OnOk result (kind_of stream.new.stage ≡ kind_of stream.old.stage) }
-    ensures is_kept { result ≡ Err Stop.OutOfMemory → IsKept stream.old stream.new }
-    ensures answered { IfOk result (λ wrote. AnswersAsk H.steps H.is_closed credit stream.old) }
-    ensures memory { result ≡ Err Stop.OutOfMemory → AnswersAsk H.steps H.is_closed credit stream.old }
+    ensures answered { OnOk result
+        (Answered H.steps H.is_closed stream.old.stage (credit - length stream.old.waiting)) }
+    ensures memory { result ≡ Err Stop.OutOfMemory
+        → Answered H.steps H.is_closed stream.old.stage (credit - length stream.old.waiting) }
+    ensures runs_out { (role : Role) (past : List Item) (fed sent : List ℕ) (so_far : Past H)
+        → SessionStands role past fed sent session.old → open_credit role past number ≡ Some credit
+        → Stands H.steps stream.old so_far → result ≡ Err Stop.OutOfMemory
+        → AskingRunsOut H.steps role past number H.is_closed so_far stream.old session.old session.new stream.new }
 {
     let bytes = stream.give(credit as usize)?;
     if bytes.is_empty() {
@@ -66,11 +72,14 @@ fn ask<H: Handler>(session: &mut Session, number: u32, stream: &mut Stream<H>) -
         × ((stream.new ≡ record stream.old { stage = Over }) × Whenever session.old (λ role past.
         (credit : ℕ) × (open_credit role past number ≡ Some credit)
         × GivesUp H.fails H.is_closed stream.old credit stop))) }
-    ensures is_kept { result ≡ Err Stop.OutOfMemory → IsKept stream.old stream.new }
     ensures answered { OnOk result (Whenever session.old (λ role past.
         WasAnswered H.steps H.is_closed role past number stream.old)) }
     ensures memory { result ≡ Err Stop.OutOfMemory → Whenever session.old (λ role past.
         WasAnswered H.steps H.is_closed role past number stream.old) }
+    ensures runs_out { (role : Role) (past : List Item) (fed sent : List ℕ) (so_far : Past H)
+        → SessionStands role past fed sent session.old → Stands H.steps stream.old so_far
+        → result ≡ Err Stop.OutOfMemory
+        → AskingRunsOut H.steps role past number H.is_closed so_far stream.old session.old session.new stream.new }
 {
     acts_tell();
     let Some(credit) = session.credit(number) else {
@@ -90,6 +99,8 @@ fn close(session: &mut Session, number: u32, over: bool) -> Result<(), Stop>
     ensures kept { Whenever session.old (λ role past. open_credit role past number ≡ None
         → IsOk result × (session.new ≡ session.old)) }
     ensures memory { IfErr result (λ stop. stop ≡ Stop.OutOfMemory) }
+    ensures runs_out { OnErr result (Whenever session.old (λ role past.
+        CloseRunsOut role past number over session.old session.new)) }
 {
     if !over {
         return Ok(());
@@ -133,6 +144,9 @@ fn count_taken(session: &mut Session, number: u32, is_left: bool) -> Result<(), 
         → OnOk result (Counts role past fed sent number session.old session.new) }
     ensures memory { IfErr result (λ stop. (stop ≡ Stop.OutOfMemory)
         × Whenever session.old (λ role past. MayGrow role past number)) }
+    ensures runs_out { OnErr result (Whenever session.old (λ role past.
+        (is_left ≡ true → open_credit role past number ≢ Some 0)
+        → CountRunsOut role past number session.old session.new)) }
 {
     untaken_limit();
     if !is_left && !may_take(session, number) {
@@ -149,7 +163,8 @@ fn count_taken(session: &mut Session, number: u32, is_left: bool) -> Result<(), 
 /// counted as taken, unless the credit is used up. It is called once data or its end was handed to the stream, and
 /// whenever the credit has grown.
 ///
-/// A handler that gives up leaves the session as it was; the stream is over then.
+/// A handler that gives up leaves the session as it was; the stream is over then. Where the session has failed, or the
+/// stream is over, nothing is done.
 pub fn serve<H: Handler>(
     session: &mut Session,
     number: u32,
@@ -169,11 +184,21 @@ pub fn serve<H: Handler>(
         (credit : ℕ) × (open_credit role past number ≡ Some credit)
         × GivesUp H.fails H.is_closed stream.old credit stop))) }
     ensures memory { result ≡ Err Stop.OutOfMemory → Whenever session.old (λ role past. MayGrow role past number) }
-    // So want of memory stands for no fault of the handler: it has answered, and its stream isn't given up.
+    // So want of memory stands for no fault of the handler: it has answered.
     ensures answered { result ≡ Err Stop.OutOfMemory → Whenever session.old (λ role past.
         WasAnswered H.steps H.is_closed role past number stream.old) }
-    ensures is_kept { result ≡ Err Stop.OutOfMemory → IsKept stream.old stream.new }
+    // It says what was done until then, and for what memory is wanting.
+    ensures runs_out { (role : Role) (past : List Item) (fed sent : List ℕ) (so_far : Past H)
+        → SessionStands role past fed sent session.old → Stands H.steps stream.old so_far
+        → so_far.sent ≡ written role past number → result ≡ Err Stop.OutOfMemory
+        → RunsOut H.steps H.is_closed H.is_finished (was_handed_out stream.old.stage) role past fed sent number
+        so_far stream.old session.old session.new stream.new }
+    ensures idle { session.old.failed || is_over stream.old.stage ≡ true
+        → (result ≡ Ok None) × (session.new ≡ session.old) × (stream.new ≡ stream.old) }
 {
+    if session.has_failed() || stream.is_over() {
+        return Ok(None);
+    }
     acts_tell();
     let is_left = ask(session, number, stream)?;
     let handler = stream.finish();

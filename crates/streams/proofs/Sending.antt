@@ -5,7 +5,7 @@ use Rattle.handlers.specs.Calls.{HandlerCall, Give}
 use Rattle.streams.specs.declared.stage.Stage.{Stage}
 use Rattle.streams.specs.declared.stage.Stage.TheVariants as stages
 use Rattle.streams.specs.Streams.{Past, with_call}
-use Rattle.streams.specs.State.{Streaming, Stands, StandsAt, is_open, is_talking, handler_of}
+use Rattle.streams.specs.State.{Streaming, Stands, StandsAt, Answered, is_open, is_talking, handler_of}
 use Rattle.streams.specs.Giving.{Gives, StageGives}
 use Rattle.streams.proofs.Giving.{Parts, stepped, order_of, was_asked, none_asked, front_sent}
 
@@ -101,6 +101,11 @@ module _ {H : Type 0} (step : H → HandlerCall → H → Type 0) (closed : H �
       (g.0, ap handler_of g.1, ap is_talking g.1, stepped step closed handler g.0 rest given (ap not unclosed) went)
   asked_step stages.Done new handler rest given e unclosed g = absurd cc
   asked_step stages.Over new handler rest given e unclosed g = absurd cc
+
+  -- so it answers
+  pub answers_on : (old new : Stage H) (rest : ℕ) (given : List ℕ) → StageGives step closed old rest new given → Answered step closed old rest
+  answers_on old new rest given g handler held unclosed =
+      let it = asked_step old new handler rest given held unclosed g in (it.0, given, it.3)
 
   pub step_on : (x : Streaming H) (old new : Stage H) (handler : H) (waiting front left given bytes : List ℕ) (room count : ℕ) → x ≡ record { waiting = waiting; stage = old }
       → Sent waiting front left given bytes room count → handler_of x.stage ≡ Some handler → closed handler ≡ false → StageGives step closed old (room - count) new given

@@ -1,8 +1,8 @@
 -- A stream as its owner sees it, and where it stands.
 -- Source: multistream-select 1.0, "Protocol Negotiation"; that a stream is told its data in pieces is this project's
 -- profile.
-use Rattle.std.specs.Prelude.{ℕ, Bool, true, false, not, List, Option, Some, None}
-use Rattle.handlers.specs.Calls.{HandlerCall}
+use Rattle.std.specs.Prelude.{◌≡◌, ℕ, Bool, true, false, not, List, Option, Some, None}
+use Rattle.handlers.specs.Calls.{HandlerCall, Give}
 use Rattle.streams.specs.declared.stage.Stage.{Stage}
 use Rattle.streams.specs.declared.stage.Stage.TheVariants.{Talking, Agreed, Serving, Done, Over}
 use Rattle.streams.specs.Streams.{Past, IsTalking, AwaitsHandler, IsServed, IsDone}
@@ -89,6 +89,14 @@ was_handed_out (Serving handler) = false
 was_handed_out Done = true
 was_handed_out Over = false
 
+-- it was refused, or given up
+abbrev pub is_over : {H : Type 0} → Stage H → Bool
+is_over (Talking talk handler) = false
+is_over (Agreed index) = false
+is_over (Serving handler) = false
+is_over Done = false
+is_over Over = true
+
 -- the handler that serves it answers a call; where it was handed out what comes is dropped
 abbrev pub answering : {H : Type 0} → Stage H → HandlerCall → Option HandlerCall
 answering (Talking talk handler) call = None
@@ -96,6 +104,11 @@ answering (Agreed index) call = None
 answering (Serving handler) call = Some call
 answering Done call = None
 answering Over call = None
+
+-- the handler that is held answers when it is asked for so many bytes, unless it is closed
+abbrev pub Answered : {H : Type 0} → (H → HandlerCall → H → Type 0) → (H → Bool) → Stage H → ℕ → Type 0
+Answered step closed stage room = (handler : _) → handler_of stage ≡ Some handler → closed handler ≡ false
+    → (after : _) × (bytes : List ℕ) × step handler (Give room bytes) after
 
 -- ---- where it is, without what is held there
 

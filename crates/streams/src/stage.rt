@@ -3,7 +3,7 @@
 ghost use Rattle.std.specs.Prelude.{◌≡◌, Some, true, false, Ok, IfOk, IfErr, OnOk};
 ghost use Rattle.handlers.specs.Calls.{ToGive};
 ghost use Rattle.streams.specs.State.{is_talking, awaits_handler, handler_of, has_closed, has_finished, was_handed_out};
-ghost use Rattle.streams.specs.State.{holds_handler, kind_of};
+ghost use Rattle.streams.specs.State.{is_over, holds_handler, kind_of};
 ghost use Rattle.streams.specs.Giving.{Gives, StageGives};
 ghost use Rattle.streams.specs.InTalk.{stage_by};
 
@@ -86,6 +86,12 @@ impl<H: Handler> Stage<H> {
         ensures { result ≡ was_handed_out self.now }
     {
         matches!(self, Stage::Done)
+    }
+
+    pub(crate) fn is_over(&self) -> bool
+        ensures { result ≡ is_over self.now }
+    {
+        matches!(self, Stage::Over)
     }
 
     pub(crate) fn holds_handler(&self) -> bool

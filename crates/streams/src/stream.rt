@@ -14,7 +14,7 @@ ghost use Rattle.streams.specs.Streams.{Past, IsEarly, fresh, with_call};
 ghost use Rattle.streams.specs.Stops.{FailsBy, not_now};
 ghost use Rattle.streams.specs.State.{Stands, is_talking, awaits_handler, answering};
 ghost use Rattle.streams.specs.State.{handler_of, holds_handler, is_open, has_closed, has_finished, was_handed_out};
-ghost use Rattle.streams.specs.State.{kind_of};
+ghost use Rattle.streams.specs.State.{is_over, kind_of, Answered};
 ghost use Rattle.streams.specs.Giving.{StageGives};
 ghost use Rattle.streams.specs.Hearing.{HasHeard, Moves, RunsOut, used_of};
 
@@ -152,6 +152,13 @@ impl<H: Handler> Stream<H> {
         self.stage.was_handed_out()
     }
 
+    /// Whether it has ended: it was refused, or broken.
+    pub fn is_over(&self) -> bool
+        ensures { result ≡ is_over self.now.stage }
+    {
+        self.stage.is_over()
+    }
+
     /// The talk takes data. Nothing behind the bytes by which both ends agree is read: it is the handler's.
     pub fn hear(&mut self, bytes: &[u8]) -> Result<Heard, Stop>
         ensures out_of_turn { is_talking self.old.stage ≡ false → (result ≡ Err not_now) × (self.new ≡ self.old) }
@@ -264,13 +271,15 @@ impl<H: Handler> Stream<H> {
             × (handler_of self.old.stage ≡ Some handler) × (H.is_closed handler ≡ false)
             × FailsBy H.fails handler (ToGive room) stop) }
         ensures memory { result ≡ Err Stop.OutOfMemory → (0 < count) × (count ≤ length self.old.waiting) }
+        ensures answered { result ≡ Err Stop.OutOfMemory → Answered H.steps H.is_closed self.old.stage room }
     {
+        // The handler is asked before memory is, so that want of memory stands for none of its faults.
+        let given = self.stage.ask(self.alloc, room)?;
         // Behind the talk nothing waits any more, and what the handler gives is handed on as it is.
         if count == 0 {
-            return Ok(self.stage.ask(self.alloc, room)?);
+            return Ok(given);
         }
         let front = front_of(self.alloc, &self.waiting, count)?;
-        let given = self.stage.ask(self.alloc, room)?;
         Ok(joined(front, given)?)
     }
 
@@ -301,6 +310,9 @@ impl<H: Handler> Stream<H> {
             × (handler_of self.old.stage ≡ Some handler) × (H.is_closed handler ≡ false)
             × FailsBy H.fails handler (ToGive (room - length self.old.waiting)) stop) }
         ensures memory { result ≡ Err Stop.OutOfMemory → (0 < room) × (self.old.waiting ≢ []) }
+        // So want of memory stands for no fault of the handler: one that isn't closed has answered.
+        ensures answered { result ≡ Err Stop.OutOfMemory
+            → Answered H.steps H.is_closed self.old.stage (room - length self.old.waiting) }
         ensures ends { OnErr result (self.new ≡ record self.old { stage = Stage.Over }) }
     {
         let count = room.min(self.waiting.len());

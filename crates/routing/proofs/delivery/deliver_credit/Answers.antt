@@ -43,3 +43,8 @@ returns-in-Ok-Some-clause-came g c = λ role past fed sent so_far at stands e.
 
 pub returns-in-Err-clause-answered : goal.returns-in-Err-clause-answered
 returns-in-Err-clause-answered g c = ran_out c.in-Err.stop c.stopped.result c.stopped.ensures.memory (λ is. c.in-Err.ensures.answered (ap Err is))
+
+pub returns-in-Err-clause-runs_out : goal.returns-in-Err-clause-runs_out
+returns-in-Err-clause-runs_out g c = λ role past fed sent so_far at stands e.
+    ran_out c.in-Err.stop c.stopped.result c.stopped.ensures.memory
+    (λ is. (c.in-Err.ensures.answered (ap Err is) role past fed sent at, c.in-Err.ensures.runs_out role past fed sent so_far at stands e (ap Err is)))

@@ -1,10 +1,12 @@
-use Rattle.std.proofs.Common.{inl, inr, ◌++◌, None, refl}
+use Rattle.std.proofs.Common.{◌≡◌, inl, inr, ◌++◌, None, refl}
 use Rattle.handlers.specs.Calls.{Take, ToTake}
+use Rattle.streams.specs.declared.stop.Stop.TheVariants as stops
 use Rattle.streams.specs.Streams.{with_call}
 use Rattle.streams.specs.State.{answering}
 use Rattle.routing.specs.Routing.{Came, Takes}
-use Rattle.routing.proofs.Delivering.{answered, answers_by, broken, quiet, handler_failed, over_by, keeps_memory, ran_out, same_stop, quiet_by, behind_both, goes_by}
+use Rattle.routing.proofs.Delivering.{answered, answers_by, broken, quiet, handler_failed, over_by, keeps_memory, ran_out, same_stop, quiet_by, on_err, goes_by}
 use Rattle.routing.proofs.delivery.taken.Goals as goal
+use Rattle.routing.proofs.delivery.taken.Goals.{After-stopped}
 
 pub returns-in-Ok-clause-takes : goal.returns-in-Ok-clause-takes
 returns-in-Ok-clause-takes g c = λ role past fed sent so_far at stands going talks awaits e.
@@ -34,36 +36,36 @@ returns-in-Err-clause-takes g c = λ role past fed sent so_far at stands going t
       c.take.ensures.kept,
     ))
 
-pub returns-in-Err-clause-memory : goal.returns-in-Err-clause-memory
-returns-in-Err-clause-memory g c =
-    let H = g.H.Handler in
-    ran_out c.in-Err.stop c.stopped.result c.stopped.ensures.memory
-    (λ is. absurd (keeps_memory H.fails (ToTake c.args.bytes.now) c.args.stream.now.stage c.in-Err.stop (λ handler serves. (c.in-Err.ensures.fault handler serves).1)
+-- a handler that is handed data stops for no want of memory
+never_short : (g : Rattle.routing.proofs.delivery.taken.Given.Over) (c : After-stopped g) → c.in-Err.stop ≡ stops.OutOfMemory → ⊥
+never_short g c = keeps_memory g.H.Handler.fails (ToTake c.args.bytes.now) c.args.stream.now.stage c.in-Err.stop (λ handler serves. (c.in-Err.ensures.fault handler serves).1)
     (λ done. absurd (let ok = (c.in-Err.ensures.done done).0 in cc ok)) (λ talks. same_stop (c.in-Err.ensures.out_of_turn (inl talks)).0)
-    (λ else. same_stop (c.in-Err.ensures.out_of_turn (inr else)).0) is))
+    (λ else. same_stop (c.in-Err.ensures.out_of_turn (inr else)).0)
+
+pub returns-in-Err-clause-memory : goal.returns-in-Err-clause-memory
+returns-in-Err-clause-memory g c = ran_out c.in-Err.stop c.stopped.result c.stopped.ensures.memory (λ is. absurd (never_short g c is))
+
+pub returns-in-Err-clause-runs_out : goal.returns-in-Err-clause-runs_out
+returns-in-Err-clause-runs_out g c = λ role past fed sent so_far at stands going e.
+    ran_out c.in-Err.stop c.stopped.result c.stopped.ensures.memory (λ is. absurd (never_short g c is))
 
 -- a handler that answers the call serves the stream, and it is where it was
-pub returns-in-Ok-clause-behind : goal.returns-in-Ok-clause-behind
-returns-in-Ok-clause-behind g c =
+pub returns-in-Ok-clause-runs_out : goal.returns-in-Ok-clause-runs_out
+returns-in-Ok-clause-runs_out g c = λ role past fed sent so_far at stands going e.
     let H = g.H.Handler in
     let talks = quiet_by c.args.stream.now.stage (λ talks. let no = (c.in-Ok.ensures.out_of_turn (inl talks)).0 in cc no) in
-    behind_both c.deliver_credit.result
-    (λ answered kept. (
+    let now = with_call (record so_far { got = so_far.got ++ c.args.bytes.now; left = None }) (answering c.args.stream.now.stage (Take c.args.bytes.now)) in
+    let there = c.in-Ok.ensures.stands so_far stands going in
+    on_err c.deliver_credit.result
+    (λ runs_out. (
       talks,
       (
         c.take.new.self,
+        there,
         c.take.ensures.kept,
         c.in-Ok.ensures.kind,
         goes_by H.steps (Take c.args.bytes.now) c.args.stream.now.stage c.take.new.self.stage talks c.in-Ok.ensures.step,
-        (answered, kept),
+        runs_out,
       ),
     ))
-    c.deliver_credit.ensures.answered c.deliver_credit.ensures.is_kept
-
-pub returns-in-Err-clause-behind : goal.returns-in-Err-clause-behind
-returns-in-Err-clause-behind g c =
-    let H = g.H.Handler in
-    ran_out c.in-Err.stop c.stopped.result c.stopped.ensures.memory
-    (λ is. absurd (keeps_memory H.fails (ToTake c.args.bytes.now) c.args.stream.now.stage c.in-Err.stop (λ handler serves. (c.in-Err.ensures.fault handler serves).1)
-    (λ done. absurd (let ok = (c.in-Err.ensures.done done).0 in cc ok)) (λ talks. same_stop (c.in-Err.ensures.out_of_turn (inl talks)).0)
-    (λ else. same_stop (c.in-Err.ensures.out_of_turn (inr else)).0) is))
+    (c.deliver_credit.ensures.runs_out role past fed sent now at there e)

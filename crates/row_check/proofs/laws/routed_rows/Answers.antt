@@ -2,7 +2,7 @@ use Rattle.row_check.proofs.RoutedRows.{want_rows, routed_rows, stopped_rows, sp
 use Rattle.row_check.proofs.laws.routed_rows.Goals as goal
 
 pub returns-clause-want : goal.returns-clause-want
-returns-clause-want c = λ fed sent session at. want_rows fed sent session at
+returns-clause-want c = λ fed sent before session. want_rows fed sent before session
 
 pub returns-clause-routed : goal.returns-clause-routed
 returns-clause-routed c = λ fed sent before session. routed_rows fed sent before session
@@ -11,4 +11,4 @@ pub returns-clause-stopped : goal.returns-clause-stopped
 returns-clause-stopped c = λ fed sent before session. stopped_rows fed sent before session
 
 pub returns-clause-spent : goal.returns-clause-spent
-returns-clause-spent c = λ fed sent session at. spent_rows fed sent session at
+returns-clause-spent c = λ fed sent before session. spent_rows fed sent before session

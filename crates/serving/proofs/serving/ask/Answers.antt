@@ -1,7 +1,8 @@
-use Rattle.std.proofs.Common.{◌≡◌, ℕ, Some, sym, ◌∙◌, subst}
+use Rattle.std.proofs.Common.{◌≡◌, ℕ, ◌-◌, length, Bool, Option, Some, sym, ◌∙◌, subst}
+use Rattle.handlers.specs.Calls.{HandlerCall}
 use Rattle.yamux_session.specs.State.{State, Stands as SessionStands}
-use Rattle.streams.specs.State.{was_handed_out}
-use Rattle.serving.specs.Served.{AnswersAsk}
+use Rattle.streams.specs.declared.stage.Stage.{Stage}
+use Rattle.streams.specs.State.{Answered, was_handed_out}
 use Rattle.serving.proofs.Going.{not_asked, was_asked}
 use Rattle.serving.proofs.Refusals.{no_more, not_both_credits}
 use Rattle.serving.proofs.serving.ask.Goals as goal
@@ -44,8 +45,11 @@ returns-in-Err-clause-fault g c = λ other.
     let it = c.in-Err.ensures.fault other in
     (it.0, (it.1.0, λ role past fed sent at. (c.in-Some.credit, sym (c.in-Some.ensures.live role past fed sent at), it.1.1)))
 
-same_amount : {a b : ℕ} → Some a ≡ Some b → a ≡ b
-same_amount e = cc e
+-- what is left is what the session says is left
+answered_as : {H : Type 0} (step : H → HandlerCall → H → Type 0) (is_closed : H → Bool) (stage : Stage H) (waits amount credit : ℕ) (there : Option ℕ) → Some amount ≡ there → there ≡ Some credit
+    → Answered step is_closed stage (amount - waits) → Answered step is_closed stage (credit - waits)
+answered_as step is_closed stage waits amount credit there is some answers =
+    subst (λ (k : ℕ). Answered step is_closed stage (k - waits)) (let e : Some amount ≡ Some credit = is ∙ some in cc e) answers
 
 pub returns-in_default-clause-answered : goal.returns-in_default-clause-answered
 returns-in_default-clause-answered g c = λ role past fed sent at credit some.
@@ -53,15 +57,16 @@ returns-in_default-clause-answered g c = λ role past fed sent at credit some.
 
 pub returns-in-Ok-true-clause-answered : goal.returns-in-Ok-true-clause-answered
 returns-in-Ok-true-clause-answered g c = λ role past fed sent at credit some.
-    subst (λ (k : ℕ). AnswersAsk g.H.Handler.steps g.H.Handler.is_closed k c.args.stream.now)
-    (same_amount (c.in-Some.ensures.live role past fed sent at ∙ some)) c.in-Ok-true.ensures.answered
+    answered_as g.H.Handler.steps g.H.Handler.is_closed c.args.stream.now.stage (length c.args.stream.now.waiting) c.in-Some.credit credit _ (c.in-Some.ensures.live role past fed sent at) some c.in-Ok-true.ensures.answered
 
 pub returns-in-Ok-false-clause-answered : goal.returns-in-Ok-false-clause-answered
 returns-in-Ok-false-clause-answered g c = λ role past fed sent at credit some.
-    subst (λ (k : ℕ). AnswersAsk g.H.Handler.steps g.H.Handler.is_closed k c.args.stream.now)
-    (same_amount (c.in-Some.ensures.live role past fed sent at ∙ some)) c.in-Ok-false.ensures.answered
+    answered_as g.H.Handler.steps g.H.Handler.is_closed c.args.stream.now.stage (length c.args.stream.now.waiting) c.in-Some.credit credit _ (c.in-Some.ensures.live role past fed sent at) some c.in-Ok-false.ensures.answered
 
 pub returns-in-Err-clause-memory : goal.returns-in-Err-clause-memory
 returns-in-Err-clause-memory g c = λ e role past fed sent at credit some.
-    subst (λ (k : ℕ). AnswersAsk g.H.Handler.steps g.H.Handler.is_closed k c.args.stream.now)
-    (same_amount (c.in-Some.ensures.live role past fed sent at ∙ some)) (c.in-Err.ensures.memory e)
+    answered_as g.H.Handler.steps g.H.Handler.is_closed c.args.stream.now.stage (length c.args.stream.now.waiting) c.in-Some.credit credit _ (c.in-Some.ensures.live role past fed sent at) some (c.in-Err.ensures.memory e)
+
+pub returns-in-Err-clause-runs_out : goal.returns-in-Err-clause-runs_out
+returns-in-Err-clause-runs_out g c = λ role past fed sent so_far at stands e.
+    c.in-Err.ensures.runs_out role past fed sent so_far at (sym (c.in-Some.ensures.live role past fed sent at)) stands e

@@ -8,7 +8,7 @@ use Rattle.yamux_session.specs.Acts.{open_credit, stream_refusal, IsRefusedFor}
 use Rattle.yamux_session.specs.State.{Stands as SessionStands}
 use Rattle.streams.specs.declared.stop.Stop.{Stop}
 use Rattle.serving.proofs.Refusals.{all_of, is_live_by, not_live, for_memory}
-use Rattle.serving.proofs.Sending.{on_ok}
+use Rattle.serving.proofs.Sending.{on_ok, on_err}
 use Rattle.serving.proofs.serving.count_taken.Goals as goal
 use Rattle.serving.proofs.serving.count_taken.Goals.{else-not-is_left-via-then-not-is_left+else-not-may_take, else-not-is_left-via-else-not-is_left}
 
@@ -48,3 +48,19 @@ returns-in-Err-clause-memory c =
           (m.1, inr (subst (λ (k : ℕ). 0 < given_back role c.args.number past (Did (Taken c.args.number k))) all (c.in-Err.ensures.memory m.0 role past fed sent at))),
     ))
     c.unless_gone.ensures.why
+
+pub returns-in-Err-clause-runs_out : goal.returns-in-Err-clause-runs_out
+returns-in-Err-clause-runs_out c =
+    on_err c.unless_gone.result c.unless_gone.ensures.why (λ stop why role past fed sent at left.
+    let all = all_of (c.untaken_limit.ensures role past c.args.number at.answered at.no_fault at.frames.reads.frames_are) in
+    let m = for_memory role past c.args.number c.in-Err.refused (c.in-Err.ensures.refused role past fed sent at) why.1 in
+    let due : open_credit role past c.args.number ≢ Some 0 = elim c.else-not-is_left.branch [
+      | else-not-is_left-via-then-not-is_left+else-not-may_take w ↦ w.if-not-may_take.ensures.due role past fed sent at refl
+      | else-not-is_left-via-else-not-is_left w ↦ left w.if-not-is_left.false
+    ] in (
+      c.in-Err.ensures.err,
+      due,
+      m.1,
+      subst (λ (k : ℕ). 0 < given_back role c.args.number past (Did (Taken c.args.number k))) all (c.in-Err.ensures.memory m.0 role past fed sent at),
+      c.in-Err.ensures.room m.0,
+    ))

@@ -1,12 +1,14 @@
-use Rattle.std.proofs.Common.{◌≡◌, ◌≢◌, Bool, true, Option, Some, None, sym, ap, ◌∙◌, subst}
-use Rattle.std.specs.Prelude.{IfNone}
+use Rattle.std.proofs.Common.{◌≡◌, ◌≢◌, inl, inr, Bool, true, Option, Some, None, sym, ap, ◌∙◌, subst}
+use Rattle.std.specs.Prelude.{IfSome, IfNone}
 use Rattle.std.proofs.lemmas.Result.{err_from_is_err_and}
 use Rattle.yamux_session.specs.Acts.{open_credit}
 use Rattle.yamux_session.specs.State.{State, Stands as SessionStands}
 use Rattle.streams.specs.Streams.{with_call}
 use Rattle.streams.specs.State.{Streaming, kind_of, was_handed_out}
-use Rattle.serving.specs.Steps.{Closes}
-use Rattle.serving.proofs.Going.{has_finished_on, was_closed, left_on, was_settled}
+use Rattle.streams.specs.declared.stage.Stage.TheVariants as stages
+use Rattle.serving.specs.Wanting.{IsKept}
+use Rattle.serving.specs.Steps.{Closes, CloseRunsOut}
+use Rattle.serving.proofs.Going.{has_finished_on, was_closed, left_on, was_settled, unclosed_then, untaken_then}
 use Rattle.serving.proofs.Refusals.{grows_unless}
 use Rattle.serving.proofs.StageKinds.{same_handed}
 use Rattle.serving.proofs.serving.serve.Goals as goal
@@ -44,23 +46,87 @@ returns-clause-serves g c = λ role past fed sent so_far at stands e.
     let seen = c.acts_tell.ensures.seen in
     let windows = c.acts_tell.ensures.windows in
     let asked = c.in_ok-is_left.ensures.asks role past fed sent so_far at stands e in
-    let a = asked.2 in
     let came = with_call so_far asked.0 in
     let h = has_finished_on g.H.Handler.steps g.H.Handler.is_closed g.H.Handler.is_finished done seen windows role past fed sent n came c.ask.new.session c.finish-handler.result
-    c.ask.new.stream c.finish-handler.new.self a c.finish-handler.ensures.handed_out c.finish-handler.ensures.none c.finish-handler.ensures.stands in
+    c.ask.new.stream c.finish-handler.new.self asked.2 c.finish-handler.ensures.handed_out c.finish-handler.ensures.none c.finish-handler.ensures.stands in
     let now = h.was_asked.goes.now in
+    let out = out_before _ c.finish-handler.result c.args.stream.now c.ask.new.stream c.finish-handler.new.self c.in_ok-is_left.ensures.kind c.finish-handler.ensures.none in
     let closes = subst (λ (over : Bool). Closes role now fed sent n over c.ask.new.session c.close.new.session) c.closed.ensures
     (c.in_ok-close.ensures.closes role now fed sent h.was_asked.goes.session_stands) in
-    let out = out_before _ c.finish-handler.result c.args.stream.now c.ask.new.stream c.finish-handler.new.self c.in_ok-is_left.ensures.kind c.finish-handler.ensures.none in
     let w = was_closed g.H.Handler.steps g.H.Handler.is_closed g.H.Handler.is_finished done seen windows role past fed sent n came c.finish-handler.result
-    c.ask.new.session c.close.new.session c.finish-handler.new.self h.was_asked h.handed_out
-    out h.asked_last closes in
+    c.ask.new.session c.close.new.session c.finish-handler.new.self h.was_asked h.handed_out out h.asked_last closes in
     let left : c.in_ok-is_left.is_left ≡ true → open_credit role w.goes.now n ≢ Some 0 = λ is_left. left_on g.H.Handler.steps g.H.Handler.is_closed g.H.Handler.is_finished done seen windows role past fed sent n came c.finish-handler.result
     c.ask.new.session c.close.new.session now c.finish-handler.new.self closes (c.in_ok-is_left.ensures.left is_left) w in (
       asked.0,
       asked.1,
       was_settled g.H.Handler.steps g.H.Handler.is_closed g.H.Handler.is_finished done seen windows role past fed sent n came c.finish-handler.result
           c.close.new.session c.count_taken.new.session c.finish-handler.new.self w out (c.in_ok-count_taken.ensures.counts role w.goes.now fed sent w.goes.session_stands left),
+    )
+
+-- behind a handler that is handed out the stream isn't given up
+kept_by : {H : Type 0} (Finished : H → Type 0) (P : Type 0) (handler : Option H) (old mid new : Streaming H) → kind_of mid.stage ≡ kind_of old.stage
+    → IfSome handler (λ it. (mid.stage ≡ stages.Serving it) × Finished it × (new ≡ record mid { stage = stages.Done }))
+    → IfNone handler (P × (new ≡ mid)) → IsKept old new
+kept_by Finished P None old mid new kind some none = inl (ap (λ (x : Streaming _). kind_of x.stage) none.1 ∙ kind)
+kept_by Finished P (Some it) old mid new kind some none = inr (sym kind ∙ ap kind_of some.0, ap (λ (x : Streaming _). kind_of x.stage) some.2)
+
+pub returns-in_err-is_left-clause-runs_out : goal.returns-in_err-is_left-clause-runs_out
+returns-in_err-is_left-clause-runs_out g c = λ role past fed sent so_far at stands sent_is e.
+    let p = err_from_is_err_and c.from_residual.result c.from_residual.ensures.1 in
+    inl (c.in_err-is_left.ensures.runs_out role past fed sent so_far at stands (cc (e, p.1, p.2)))
+
+-- where the direction is due to be closed
+pub returns-in_err-close-clause-runs_out : goal.returns-in_err-close-clause-runs_out
+returns-in_err-close-clause-runs_out g c = λ role past fed sent so_far at stands e wanting.
+    let n = c.args.number in
+    let done = was_handed_out c.args.stream.now.stage in
+    let seen = c.acts_tell.ensures.seen in
+    let windows = c.acts_tell.ensures.windows in
+    let asked = c.in_ok-is_left.ensures.asks role past fed sent so_far at stands e in
+    let came = with_call so_far asked.0 in
+    let h = has_finished_on g.H.Handler.steps g.H.Handler.is_closed g.H.Handler.is_finished done seen windows role past fed sent n came c.ask.new.session c.finish-handler.result
+    c.ask.new.stream c.finish-handler.new.self asked.2 c.finish-handler.ensures.handed_out c.finish-handler.ensures.none c.finish-handler.ensures.stands in
+    let now = h.was_asked.goes.now in
+    let out = out_before _ c.finish-handler.result c.args.stream.now c.ask.new.stream c.finish-handler.new.self c.in_ok-is_left.ensures.kind c.finish-handler.ensures.none in
+    let short = subst (λ (over : Bool). CloseRunsOut role now n over c.ask.new.session c.close.new.session) c.closed.ensures
+    (c.in_err-close.ensures.runs_out role now fed sent h.was_asked.goes.session_stands) in
+    inr (
+      kept_by (λ it. g.H.Handler.is_finished it ≡ true) _ c.finish-handler.result c.args.stream.now c.ask.new.stream c.finish-handler.new.self c.in_ok-is_left.ensures.kind c.finish-handler.ensures.handed_out c.finish-handler.ensures.none,
+      (
+        asked.0,
+        asked.1,
+        unclosed_then g.H.Handler.steps g.H.Handler.is_closed g.H.Handler.is_finished done seen windows role past fed sent n came c.finish-handler.result
+            c.ask.new.session c.close.new.session c.finish-handler.new.self h.was_asked h.handed_out out h.asked_last short,
+      ),
+    )
+
+-- where what came is due to be taken
+pub returns-in_err-count_taken-clause-runs_out : goal.returns-in_err-count_taken-clause-runs_out
+returns-in_err-count_taken-clause-runs_out g c = λ role past fed sent so_far at stands e wanting.
+    let n = c.args.number in
+    let done = was_handed_out c.args.stream.now.stage in
+    let seen = c.acts_tell.ensures.seen in
+    let windows = c.acts_tell.ensures.windows in
+    let asked = c.in_ok-is_left.ensures.asks role past fed sent so_far at stands e in
+    let came = with_call so_far asked.0 in
+    let h = has_finished_on g.H.Handler.steps g.H.Handler.is_closed g.H.Handler.is_finished done seen windows role past fed sent n came c.ask.new.session c.finish-handler.result
+    c.ask.new.stream c.finish-handler.new.self asked.2 c.finish-handler.ensures.handed_out c.finish-handler.ensures.none c.finish-handler.ensures.stands in
+    let now = h.was_asked.goes.now in
+    let out = out_before _ c.finish-handler.result c.args.stream.now c.ask.new.stream c.finish-handler.new.self c.in_ok-is_left.ensures.kind c.finish-handler.ensures.none in
+    let closes = subst (λ (over : Bool). Closes role now fed sent n over c.ask.new.session c.close.new.session) c.closed.ensures
+    (c.in_ok-close.ensures.closes role now fed sent h.was_asked.goes.session_stands) in
+    let w = was_closed g.H.Handler.steps g.H.Handler.is_closed g.H.Handler.is_finished done seen windows role past fed sent n came c.finish-handler.result
+    c.ask.new.session c.close.new.session c.finish-handler.new.self h.was_asked h.handed_out out h.asked_last closes in
+    let left : c.in_ok-is_left.is_left ≡ true → open_credit role w.goes.now n ≢ Some 0 = λ is_left. left_on g.H.Handler.steps g.H.Handler.is_closed g.H.Handler.is_finished done seen windows role past fed sent n came c.finish-handler.result
+    c.ask.new.session c.close.new.session now c.finish-handler.new.self closes (c.in_ok-is_left.ensures.left is_left) w in
+    inr (
+      kept_by (λ it. g.H.Handler.is_finished it ≡ true) _ c.finish-handler.result c.args.stream.now c.ask.new.stream c.finish-handler.new.self c.in_ok-is_left.ensures.kind c.finish-handler.ensures.handed_out c.finish-handler.ensures.none,
+      (
+        asked.0,
+        asked.1,
+        untaken_then g.H.Handler.steps g.H.Handler.is_closed g.H.Handler.is_finished done seen windows role past fed sent n came c.finish-handler.result
+            c.close.new.session c.count_taken.new.session c.finish-handler.new.self w out (c.in_err-count_taken.ensures.runs_out role w.goes.now fed sent w.goes.session_stands left),
+      ),
     )
 
 pub returns-in_err-is_left-clause-answered : goal.returns-in_err-is_left-clause-answered
