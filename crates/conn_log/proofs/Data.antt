@@ -471,10 +471,10 @@ module _ {P H : Type 0} (step : H → HandlerCall → H → Type 0) (fails : H �
             }
 
       in_talk : (agreed_by : Option ℕ) (outcome : Outcome H) → is_talking old.stage ≡ true
-          → InTalk step fails is_closed is_finished role (items log) fed sent n makes none_made h.so_far bytes before agreed_by outcome after new
+          → InTalk step fails is_closed is_finished role (items log) fed sent n makes none_made h.so_far bytes old before agreed_by outcome after new
           → Went making log (agreement n agreed_by) fed sent after now past n rest outcome
       in_talk None outcome talks (inl it) = undecided outcome it.0 talks it.1 it.2 it.3 it.4
-      in_talk None outcome talks (inr it) = decided outcome talks it.0 it.1
+      in_talk None outcome talks (inr it) = decided outcome talks it.0 it.2
       in_talk (Some index) outcome talks it = agreed_on outcome index it.0 it.1 it.2 talks it.3.0 it.3.1
 
       pub delivered_to : (delivered : Delivered H) → Delivers step fails is_closed is_finished role (items log) fed sent n makes none_made h.so_far bytes old before delivered after new

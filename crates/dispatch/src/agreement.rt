@@ -1,6 +1,6 @@
 //! The talk of a stream, and the handler that is made behind it.
 
-ghost use Rattle.std.specs.Prelude.{◌≡◌, ◌≢◌, ℕ, ◌<◌, ◌≤◌, true, false, length, Ok, Err};
+ghost use Rattle.std.specs.Prelude.{◌≡◌, ◌≢◌, ℕ, ◌<◌, ◌≤◌, true, false, List, ◌++◌, length, Ok, Err};
 ghost use Rattle.std.specs.Prelude.{IfOk, IfErr, OnOk, OnErr};
 ghost use Rattle.streams.specs.declared.stage.Stage.TheVariants.{Serving, Over};
 ghost use Rattle.streams.specs.Streams.{Past};
@@ -59,6 +59,7 @@ fn serve<P: Protocols>(
     ensures refused { index < length (P.listed protocols.old) → IfErr result (λ stop. (stop ≡ Stop.OutOfMemory)
         × (awaits_handler stream.old.stage ≡ true)) }
     ensures kept { OnErr result (protocols.new ≡ protocols.old) }
+    ensures waits { stream.new.waiting ≡ stream.old.waiting }
 {
     if !stream.awaits_handler() {
         return Ok(());
@@ -96,6 +97,8 @@ pub fn negotiate<P: Protocols>(
     ensures out_of_turn { is_talking stream.old.stage ≡ false
         → (result ≡ Err not_now) × (stream.new ≡ stream.old) × (protocols.new ≡ protocols.old) }
     ensures over { is_talking stream.old.stage ≡ true → result ≡ Ok Heard.Refused → stream.new.stage ≡ Over }
+    // Whatever it comes to, what waited waits, and perhaps more behind it.
+    ensures waits { (more : List ℕ) × (stream.new.waiting ≡ stream.old.waiting ++ more) }
 {
     let heard = stream.hear(bytes)?;
     if let Heard::Agreed { index, .. } = heard {

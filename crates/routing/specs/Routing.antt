@@ -100,14 +100,15 @@ module _ {H : Type 0} (step : H → HandlerCall → H → Type 0) (fails : H →
     Stops so_far bytes Going stream = ⊥
     Stops so_far bytes (Done handler) stream = ⊥
 
-    -- while it talks: nothing is decided, or both ends agree, or it stops
-    abbrev pub InTalk : Past H → List ℕ → State → Option ℕ → Outcome H → State → Streaming H → Type 0
-    InTalk so_far bytes before None outcome session stream =
+    -- while it talks: nothing is decided, or both ends agree, or it stops, and what its talk wrote waits
+    abbrev pub InTalk : Past H → List ℕ → Streaming H → State → Option ℕ → Outcome H → State → Streaming H → Type 0
+    InTalk so_far bytes old before None outcome session stream =
         ((middle : Streaming H) × Stands step middle (record so_far { got = so_far.got ++ bytes })
         × (is_talking middle.stage ≡ true) × none_made
         × Came (record so_far { got = so_far.got ++ bytes }) middle before outcome session stream)
-        ⊎ ((session ≡ before) × Stops so_far bytes outcome stream)
-    InTalk so_far bytes before (Some index) outcome session stream =
+        ⊎ ((session ≡ before) × ((more : List ℕ) × (stream.waiting ≡ old.waiting ++ more))
+        × Stops so_far bytes outcome stream)
+    InTalk so_far bytes old before (Some index) outcome session stream =
         (front : List ℕ) × (rest : List ℕ) × (middle : Streaming H)
         × ((has : HasAgreed step makes none_made so_far bytes index front rest middle)
         × Takes (record so_far { got = so_far.got ++ front; made = Some has.made }) rest middle before outcome session
@@ -116,7 +117,8 @@ module _ {H : Type 0} (step : H → HandlerCall → H → Type 0) (fails : H →
     -- What came of data.
     abbrev pub Delivers : Past H → List ℕ → Streaming H → State → Delivered H → State → Streaming H → Type 0
     Delivers so_far bytes old before delivered session stream =
-        (is_talking old.stage ≡ true → InTalk so_far bytes before delivered.agreed delivered.outcome session stream)
+        (is_talking old.stage ≡ true
+        → InTalk so_far bytes old before delivered.agreed delivered.outcome session stream)
         × (is_talking old.stage ≡ false → (delivered.agreed ≡ None) × none_made
         × Takes so_far bytes old before delivered.outcome session stream)
 

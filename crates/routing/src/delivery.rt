@@ -1,6 +1,6 @@
 //! Delivering what came to one stream.
 
-ghost use Rattle.std.specs.Prelude.{◌≡◌, ◌⊎◌, ◌||◌, ℕ, ◌≤◌, true, false, List, length, drop, Some, None};
+ghost use Rattle.std.specs.Prelude.{◌≡◌, ◌⊎◌, ◌||◌, ℕ, ◌≤◌, true, false, List, ◌++◌, length, drop, Some, None};
 ghost use Rattle.std.specs.Prelude.{Ok, IfOk, OnErr};
 ghost use Rattle.handlers.specs.Calls.{Take, End};
 ghost use Rattle.yamux_session.specs.declared.event.Role.{Role};
@@ -195,6 +195,7 @@ fn heard<P: Protocols>(
         (makes_once P.makes_inbound P.makes_outbound P.leads_inbound P.leads_outbound direction peer protocols.old
         protocols.new) (protocols.new ≡ protocols.old) so_far bytes.now stream.old session.new stream.new)
         ⊎ ((is_talking stream.old.stage ≡ true) × (protocols.new ≡ protocols.old) × (session.new ≡ session.old)
+        × ((more : List ℕ) × (stream.new.waiting ≡ stream.old.waiting ++ more))
         × MakingRunsOut P.H.steps so_far stream.old bytes.now stream.new.waiting)) }
 {
     if !stream.talks() {
@@ -247,6 +248,7 @@ pub fn deliver<P: Protocols>(
         (makes_once P.makes_inbound P.makes_outbound P.leads_inbound P.leads_outbound direction peer protocols.old
         protocols.new) (protocols.new ≡ protocols.old) so_far bytes.now stream.old session.new stream.new)
         ⊎ ((is_talking stream.old.stage ≡ true) × (protocols.new ≡ protocols.old) × (session.new ≡ session.old)
+        × ((more : List ℕ) × (stream.new.waiting ≡ stream.old.waiting ++ more))
         × MakingRunsOut P.H.steps so_far stream.old bytes.now stream.new.waiting)) }
     ensures idle { session.old.failed || (is_over stream.old.stage || awaits_handler stream.old.stage) ≡ true
         → (result ≡ Ok (record { agreed = None; outcome = Outcome.Going })) × (session.new ≡ session.old)

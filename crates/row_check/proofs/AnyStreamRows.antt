@@ -239,8 +239,8 @@ module _ {H : Type 0} (step : H → HandlerCall → H → Type 0) (fails : H →
     stops_refused = λ so_far bytes stream. (λ h. h, λ h. h);
     stops_broken = λ so_far bytes fault stream. (λ h. h, λ h. h);
     stops_so_alone = λ so_far bytes fault handler stream. (λ h. h, λ h. h, λ h. h, λ h. h, λ h. h);
-    talks_on = λ so_far bytes before session outcome stream. (λ h. h, λ h. h);
-    talk_agrees = λ so_far bytes before session index outcome stream. (λ h. h, λ h. h);
+    talks_on = λ so_far bytes before session outcome old stream. (λ h. h, λ h. h);
+    talk_agrees = λ so_far bytes before session index outcome old stream. (λ h. h, λ h. h);
     delivers_in_talk = λ so_far bytes old stream before session delivered e. one_counts (is_talking old.stage) e;
     delivers = λ so_far bytes old stream before session delivered e. other_counts (is_talking old.stage) e;
     answered = λ stream. (λ h. h, λ h. h);

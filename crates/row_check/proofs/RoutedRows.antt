@@ -187,18 +187,18 @@ module _ (fed sent : List ℕ) (before session : State) where
       let held = held_by old.stage is in absurd (a.3 held.0 (ap handler_of held.1)).1
   fails_alone call asked so_far old stream outcome is (inr f) = f
 
-  alone : (agreed : Option ℕ) (outcome : Outcome ℕ) (stream : Streaming ℕ)
-      → InTalk answers_none fails_so never never Server two_bytes fed sent 1 makes_0 ⊥ asking (x_bytes ++ 7 ∷ []) before agreed outcome session stream
+  alone : (old : Streaming ℕ) (agreed : Option ℕ) (outcome : Outcome ℕ) (stream : Streaming ℕ)
+      → InTalk answers_none fails_so never never Server two_bytes fed sent 1 makes_0 ⊥ asking (x_bytes ++ 7 ∷ []) old before agreed outcome session stream
       → (agreed ≡ Some 2) × (outcome ≡ broken_by 3) × (session ≡ before) × (stream.stage ≡ stages.Over)
-  alone None outcome stream (inl a) = absurd a.3
-  alone None outcomes.Going stream (inr s) = absurd s.1
-  alone None (outcomes.Done handler) stream (inr s) = absurd s.1
-  alone None outcomes.Refused stream (inr s) = absurd s.1.5
-  alone None (outcomes.Broken (causes.Select fault)) stream (inr s) = absurd s.1.2
-  alone None (outcomes.Broken (causes.Handler fault)) stream (inr s) = absurd s.1
-  alone None (outcomes.Broken causes.Reset) stream (inr s) = absurd s.1
-  alone None (outcomes.Broken causes.Ended) stream (inr s) = absurd s.1
-  alone (Some index) outcome stream (front, rest, middle, both) =
+  alone old None outcome stream (inl a) = absurd a.3
+  alone old None outcomes.Going stream (inr s) = absurd s.2
+  alone old None (outcomes.Done handler) stream (inr s) = absurd s.2
+  alone old None outcomes.Refused stream (inr s) = absurd s.2.5
+  alone old None (outcomes.Broken (causes.Select fault)) stream (inr s) = absurd s.2.2
+  alone old None (outcomes.Broken (causes.Handler fault)) stream (inr s) = absurd s.2
+  alone old None (outcomes.Broken causes.Reset) stream (inr s) = absurd s.2
+  alone old None (outcomes.Broken causes.Ended) stream (inr s) = absurd s.2
+  alone old (Some index) outcome stream (front, rest, middle, both) =
       let has = both.0 in
       let made = made_so asking index has.made has.is_made in
       let f = fails_alone (Take rest) (ToTake rest) (with_call (record asking { got = asking.got ++ front ++ rest; made = Some has.made; left = None }) (answering middle.stage (Take rest))) middle stream outcome has.serving both.1 in
@@ -210,7 +210,7 @@ module _ (fed sent : List ℕ) (before session : State) where
       λ talks. (x_bytes, 7 ∷ [], serving_of [] 0, (agrees_there answers_none, inr (refl, (0, record { number = 3 }, refl, (refl, refl), refl), refl, refl))),
       λ quiet. absurd (cc quiet),
     );
-    rest_fails_alone = λ talk delivered stream h. alone delivered.agreed delivered.outcome stream (h.0 refl);
+    rest_fails_alone = λ talk delivered stream h. alone (talking_of [] talk) delivered.agreed delivered.outcome stream (h.0 refl);
     end_fails = λ so_far outcome stream h.
         let f = fails_alone End ToEnd (with_call (record so_far { ended = true; left = None }) (Some End)) (serving_of (9 ∷ []) 0) stream outcome refl (h.1 refl) in
         (f.1.4 ∙ ap (λ (n : ℕ). broken_by n) f.1.3, f.0, f.2, f.3);
@@ -270,6 +270,8 @@ module _ (fed sent : List ℕ) (before session : State) where
     other_fault = λ stream s. no_other_fault s.1.0 s.1.1;
     goes_on = λ so_far c. absurd (let no = c.1 in cc no);
     done_in_talk = λ so_far talk handler stream c. absurd (let no = c.1 in cc no);
+    unsent = λ talk. inr (refl, ([], refl), (na_bytes, [], question, refl, ask_rows.turned_down, tt, refl));
+    unsent_is_kept = λ talk h. by_neither h (λ a. a.4) (λ s. absurd (let none = s.1.1 in cc none));
     handed_once = handed_once;
   }
 

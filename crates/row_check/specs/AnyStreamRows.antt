@@ -388,7 +388,7 @@ module _ {H : Type 0} (step : H → HandlerCall → H → Type 0) (fails : H →
   abbrev pub stops_by : Past H → List ℕ → Outcome H → Streaming H → Type 0
   stops_by = Stops step fails is_closed is_finished role past fed sent n makes none_made
 
-  abbrev pub in_talk : Past H → List ℕ → State → Option ℕ → Outcome H → State → Streaming H → Type 0
+  abbrev pub in_talk : Past H → List ℕ → Streaming H → State → Option ℕ → Outcome H → State → Streaming H → Type 0
   in_talk = RoutesInTalk step fails is_closed is_finished role past fed sent n makes none_made
 
   -- What comes of data and of the end, while a stream talks and behind it
@@ -498,20 +498,21 @@ module _ {H : Type 0} (step : H → HandlerCall → H → Type 0) (fails : H →
         × ¬ stops_by so_far bytes (outcomes.Broken causes.Ended) stream
         × ¬ stops_by so_far bytes outcomes.Going stream × ¬ stops_by so_far bytes (outcomes.Done handler) stream
     pub talks_on : (so_far : Past H) (bytes : List ℕ) (before session : State) (outcome : Outcome H)
-        (stream : Streaming H) → in_talk so_far bytes before None outcome session stream
+        (old stream : Streaming H) → in_talk so_far bytes old before None outcome session stream
         ↔ (((middle : Streaming H) × Stands step middle (record so_far { got = so_far.got ++ bytes })
         × (is_talking middle.stage ≡ true) × none_made
         × came_to (record so_far { got = so_far.got ++ bytes }) middle before outcome session stream)
-        ⊎ ((session ≡ before) × stops_by so_far bytes outcome stream))
+        ⊎ ((session ≡ before) × ((more : List ℕ) × (stream.waiting ≡ old.waiting ++ more))
+        × stops_by so_far bytes outcome stream))
     pub talk_agrees : (so_far : Past H) (bytes : List ℕ) (before session : State) (index : ℕ) (outcome : Outcome H)
-        (stream : Streaming H) → in_talk so_far bytes before (Some index) outcome session stream
+        (old stream : Streaming H) → in_talk so_far bytes old before (Some index) outcome session stream
         ↔ ((front rest : List ℕ) × (middle : Streaming H) × ((has : agreed_on so_far bytes index front rest middle)
         × Takes step fails is_closed is_finished role past fed sent n
         (record so_far { got = so_far.got ++ front; made = Some has.made }) rest middle before outcome session stream))
     pub delivers_in_talk : (so_far : Past H) (bytes : List ℕ) (old stream : Streaming H) (before session : State)
         (delivered : Delivered H) → is_talking old.stage ≡ true
         → Delivers step fails is_closed is_finished role past fed sent n makes none_made so_far bytes old before
-        delivered session stream ↔ in_talk so_far bytes before delivered.agreed delivered.outcome session stream
+        delivered session stream ↔ in_talk so_far bytes old before delivered.agreed delivered.outcome session stream
     pub delivers : (so_far : Past H) (bytes : List ℕ) (old stream : Streaming H) (before session : State)
         (delivered : Delivered H) → is_talking old.stage ≡ false
         → Delivers step fails is_closed is_finished role past fed sent n makes none_made so_far bytes old before

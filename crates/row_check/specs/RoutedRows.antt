@@ -20,7 +20,8 @@ use Rattle.routing.specs.declared.delivered.Delivered.{Delivered}
 use Rattle.routing.specs.declared.delivered.Outcome.{Outcome}
 use Rattle.routing.specs.declared.delivered.Outcome.TheVariants.{Going, Done, Refused, Broken}
 use Rattle.serving.specs.Wanting.{AskingRunsOut}
-use Rattle.routing.specs.Routing.{Came, Takes, Ends, Stops, Delivers, RunsOutServing, RunsOutTaking, ServingRunsOut}
+use Rattle.routing.specs.Routing.{Came, Takes, Ends, Stops, InTalk, Delivers}
+use Rattle.routing.specs.Routing.{RunsOutServing, RunsOutTaking, ServingRunsOut}
 
 abbrev pub serving_of : List ℕ → ℕ → Streaming ℕ
 serving_of waiting handler = record { waiting = waiting; stage = stages.Serving handler }
@@ -166,6 +167,11 @@ pub record StoppedRows (fed sent : List ℕ) (before session : State) : Type 0 w
   pub done_in_talk : (so_far : Past ℕ) (talk : Talking) (handler : ℕ) (stream : Streaming ℕ)
       → ¬ Came answers_none fails_so never never Server two_bytes fed sent 1 so_far (talking_of [] talk) before
       (Done handler) session stream
+  -- what waits of a stream that stops in its talk waits on
+  pub unsent : (talk : Talking) → InTalk answers_none fails_so never never Server two_bytes fed sent 1 makes_0 (Unit {0})
+      asking na_bytes (talking_of (9 ∷ []) talk) before None Refused before (over_of (9 ∷ []))
+  pub unsent_is_kept : (talk : Talking) → ¬ InTalk answers_none fails_so never never Server two_bytes fed sent 1
+      makes_0 (Unit {0}) asking na_bytes (talking_of (9 ∷ []) talk) before None Refused before (over_of [])
   -- a handler that notes its calls is handed the data once, and then asked at most once
   pub handed_once : (handler : List HandlerCall) (waiting : List ℕ) (stream : Streaming (List HandlerCall))
       → Takes Noting (λ handler asked number. ⊥) (λ handler. false) (λ handler. false) Server two_bytes fed sent 1
