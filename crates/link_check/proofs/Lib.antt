@@ -1,0 +1,3 @@
+mod SocketRows
+mod BoundRows
+mod OverLinkRows

@@ -1,0 +1,4 @@
+-- cited by laws
+pub mod SocketRows
+pub mod BoundRows
+pub mod OverLinkRows
