@@ -1,3 +1,4 @@
+mod LinkRows
 mod SocketRows
 mod BoundRows
 mod OverLinkRows

@@ -1,4 +1,5 @@
 -- cited by laws
+pub mod LinkRows
 pub mod SocketRows
 pub mod BoundRows
 pub mod OverLinkRows

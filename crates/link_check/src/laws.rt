@@ -1,9 +1,12 @@
 //! What the definitions of links, and of connections over them, say: of any, and of worked ones. Each is a function with
 //! an empty body, whose contract is the rows.
 
-ghost use Rattle.std.specs.Prelude.{ℕ};
+ghost use Rattle.std.specs.Prelude.{◌≡◌, ℕ, List, [], ◌++◌};
 ghost use Rattle.peer_ids.specs.Key.{Key};
 ghost use Rattle.upgrade.specs.declared.role.ConnRole.{ConnRole};
+ghost use Rattle.conn_link.specs.Calling.{Call};
+ghost use Rattle.socket_link.specs.Steps.{Step};
+ghost use Rattle.link_check.specs.LinkRows.{AnyLinkRows, AnyAnswerRows, AnyLogRows, AnyStepRows, LinkRows};
 ghost use Rattle.link_check.specs.SocketRows.{AnySocketRows, SocketRows, AnyCallRows, AskingRows, AnyPipeRows, PipeRows};
 ghost use Rattle.link_check.specs.BoundRows.{AnyBoundRows, BoundRows, KeptRows, answers, rises};
 ghost use Rattle.link_check.specs.OverLinkRows.{AnyJoinRows, AnyEndRows, AnyStayRows, AnyCarryRows, AnyPollRows};
@@ -12,6 +15,44 @@ ghost use Rattle.link_check.specs.OverLinkRows.{AnyWaitRows, PollEndRows, OverRo
 use conn_link::Link;
 use handlers::Protocols;
 use socket_link::Socket;
+
+/// The definitions of what the calls of a link answer and move, and of what every link promises, say what they are to
+/// say.
+pub fn link_rows<L: Link>()
+    ensures any { AnyLinkRows L.moves L.calls L.has_ended L.is_shut }
+    ensures answers { AnyAnswerRows }
+    ensures logs { AnyLogRows }
+    ensures steps { AnyStepRows }
+    ensures links { LinkRows }
+{}
+
+/// What every link promises, word by word.
+pub fn link_laws<L: Link>()
+    ensures moves_nothing { (link : L) → L.moves link [] [] link }
+    ensures moves_on { (first mid last : L) (given taken given_next taken_next : List ℕ)
+        → L.moves first given taken mid → L.moves mid given_next taken_next last
+        → L.moves first (given ++ given_next) (taken ++ taken_next) last }
+    ensures stays_ended { (first last : L) (given taken : List ℕ) → L.moves first given taken last → L.has_ended first
+        → (given ≡ []) × L.has_ended last }
+    ensures stays_shut { (first last : L) (given taken : List ℕ) → L.moves first given taken last → L.is_shut first
+        → L.is_shut last }
+    ensures calls_none { (link : L) → L.calls link [] link }
+    ensures calls_on { (first mid last : L) (log next : List Call) → L.calls first log mid → L.calls mid next last
+        → L.calls first (log ++ next) last }
+{}
+
+/// And so every socket.
+pub fn socket_laws<S: Socket>()
+    ensures moves_nothing { (socket : S) → S.moves socket [] [] socket }
+    ensures moves_on { (first mid last : S) (given taken given_next taken_next : List ℕ)
+        → S.moves first given taken mid → S.moves mid given_next taken_next last
+        → S.moves first (given ++ given_next) (taken ++ taken_next) last }
+    ensures stays_shut { (first last : S) (given taken : List ℕ) → S.moves first given taken last → S.is_shut first
+        → S.is_shut last }
+    ensures steps_none { (socket : S) → S.steps socket [] socket }
+    ensures steps_on { (first mid last : S) (log next : List Step) → S.steps first log mid → S.steps mid next last
+        → S.steps first (log ++ next) last }
+{}
 
 /// The definitions of links over sockets, and of pipes, say what they are to say.
 pub fn socket_rows<S: Socket>()
