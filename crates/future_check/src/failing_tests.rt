@@ -1,8 +1,7 @@
 //! A read or a write that fails.
 
-use crate::ends::{End, Gave, Play, Said, drive, play_on, written};
 use crate::row_tests::{TOLD, begins_output, pipe, plan};
-use crate::scripts::failing_at;
+use conn_ends::{End, Gave, Play, Said, drive, failing_at, play_on, written};
 use conn_link::{Link, Pipe};
 use conn_log::ConnFault;
 use futures::test::MockTask;

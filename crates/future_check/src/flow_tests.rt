@@ -1,11 +1,11 @@
 //! A connection at the sizes that its code names.
 
-use crate::ends::{
-    Bounded, End, Play, PlayBounded, Said, UPGRADE, play_bounded, play_on, poll_said, written,
-};
 use crate::row_tests::PINGS;
-use crate::scripts::{FAIL, PENDING, first_then, steps_of};
 use bounded_conn::MOST_WAITING;
+use conn_ends::{
+    Bounded, End, FAIL, PENDING, Play, PlayBounded, Said, UPGRADE, first_then, play_bounded,
+    play_on, poll_said, steps_of, written,
+};
 use conn_link::{Link, Pipe};
 use conn_log::{ConnFault, ConnRefused};
 use futures::task::Poll;

@@ -1,9 +1,6 @@
-//! Links over a socket that is held up, and a connection over one: nobody asks for another poll while it is.
+//! A connection over a socket that is held up while it is shut: nobody asks for another poll while it is.
 
-use crate::ends::{End, Plan, Said, connect, drive, lend};
-use crate::held::{Held, Hold, held_link};
-use crate::scripts::answer_of;
-use crate::socket_tests::call;
+use conn_ends::{End, Held, Hold, Plan, Said, connect, drive, held_link, lend};
 use conn_link::Link;
 use conn_log::ConnFault;
 use futures::test::MockTask;
@@ -11,45 +8,6 @@ use socket_link::SocketLink;
 use std::alloc::Global;
 use std::test::*;
 use upgrade::ConnRole;
-
-/// A call of a held socket is pending and asks for no other poll. It has registered: letting go wakes the task. Then
-/// it answers so, and what failed is counted.
-fn waits_so<L: Link>(task: &MockTask, link: &mut L, holder: Hold, kind: u8, answer: u8) -> bool {
-    let first = call(task, link, kind);
-    let again = call(task, link, kind);
-    let is_calm = first.is_pending() && again.is_pending() && !task.is_woken();
-    drop(holder);
-    let is_woken = task.is_woken();
-    let is_right = call(task, link, kind) == answer_of(answer) && !task.is_woken();
-    let failed = if answer == b'f' { 1 } else { 0 };
-    is_calm && is_woken && is_right && link.failures() == failed
-}
-
-fn is_held(alloc: Global, task: &MockTask, fails: bool, kind: u8, answer: u8) -> Option<bool> {
-    let (mut link, holder) = held_link(alloc, false, fails, false)?;
-    Some(waits_so(task, &mut link, holder, kind, answer))
-}
-
-/// One that says first that it is ready, and then isn't, is asked again, and waits.
-fn is_held_behind_a_try(alloc: Global, task: &MockTask, kind: u8) -> Option<bool> {
-    let (mut link, holder) = held_link(alloc, false, false, true)?;
-    Some(waits_so(task, &mut link, holder, kind, b'4'))
-}
-
-#[test]
-fn a_socket_that_waits(rt: HostRuntime) -> Result<(), Fail> {
-    let task = MockTask::new(&rt)?;
-    for (kind, answer) in [(b'r', b'4'), (b'w', b'4'), (b's', b'0')] {
-        let held = is_held(rt.alloc(), &task, false, kind, answer) == Some(true);
-        let fails = is_held(rt.alloc(), &task, true, kind, b'f') == Some(true);
-        assert!(rt; held && fails, "call {kind}");
-    }
-    for kind in [b'r', b'w'] {
-        let held = is_held_behind_a_try(rt.alloc(), &task, kind) == Some(true);
-        assert!(rt; held, "call {kind} of a socket that isn't ready");
-    }
-    Ok(())
-}
 
 /// Behind `shut` a link whose shutting waits is asked once in each poll, none of which asks for another.
 fn is_asked_to_shut(

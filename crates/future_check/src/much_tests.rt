@@ -1,7 +1,8 @@
 //! A connection whose link takes nothing for long: much output waits, and none of it is lost.
 
-use crate::ends::{End, Gave, Plan, Play, Said, UPGRADE, drive, play_on, poll_once, written};
-use crate::scripts::{PENDING, steps_of};
+use conn_ends::{
+    End, Gave, PENDING, Plan, Play, Said, UPGRADE, drive, play_on, poll_once, steps_of, written,
+};
 use conn_link::Pipe;
 use futures::task::Poll;
 use futures::test::MockTask;

@@ -1,11 +1,9 @@
 //! The upgrade and a ping, of either end, and how many calls of the link a poll makes.
 
-use crate::ends::{
-    Bounded, End, Gave, Plan, Play, PlayBounded, Said, UPGRADE, drive, play_bounded, play_on,
-    poll_once, written,
+use conn_ends::{
+    Bounded, End, Gave, PENDING, Plan, Play, PlayBounded, Quiet, Said, UPGRADE, drive, in_turn,
+    play_bounded, play_on, poll_once, steps_of, written,
 };
-use crate::quiet::Quiet;
-use crate::scripts::{PENDING, in_turn, steps_of};
 use conn_link::Pipe;
 use futures::task::Poll;
 use futures::test::MockTask;

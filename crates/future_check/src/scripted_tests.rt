@@ -1,11 +1,11 @@
 //! A thousand runs, each by steps of its own, against the core fed the same bytes directly.
 
-use crate::ends::{
-    End, KEY, Plan, Play, Said, UPGRADE, drive, kind_of, play_on, protocols, written,
-};
 use crate::row_tests::PINGS;
-use crate::scripts::{Random, random_codes, steps_of};
 use conn_core::{ConnAct, ConnAnswer, ConnRan, run};
+use conn_ends::{
+    End, KEY, Plan, Play, Random, Said, UPGRADE, drive, kind_of, play_on, protocols, random_codes,
+    steps_of, written,
+};
 use conn_link::{Link, Pipe};
 use conn_log::ConnFault;
 use futures::test::MockTask;

@@ -1,8 +1,7 @@
 //! `shut`: with output left, with the link pending, twice, and after a fault.
 
-use crate::ends::{End, Plan, Play, Said, drive, play_on, written};
 use crate::row_tests::{TOLD, begins_output, pipe, plan};
-use crate::scripts::{FAIL, PENDING, in_turn};
+use conn_ends::{End, FAIL, PENDING, Plan, Play, Said, drive, in_turn, play_on, written};
 use conn_link::Pipe;
 use conn_log::{ConnFault, ConnRefused};
 use futures::test::MockTask;

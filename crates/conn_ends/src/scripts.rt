@@ -9,10 +9,10 @@ use futures::task::Poll;
 use std::alloc::Global;
 
 /// The code of a call that is pending.
-pub(crate) const PENDING: u8 = 0;
+pub const PENDING: u8 = 0;
 
 /// The code of a call that fails. Any other stands for a call that moves so many bytes at most.
-pub(crate) const FAIL: u8 = 255;
+pub const FAIL: u8 = 255;
 
 fn step_of(code: u8) -> PipeStep
     ensures { CanGo result }
@@ -25,7 +25,7 @@ fn step_of(code: u8) -> PipeStep
 }
 
 /// The steps that these codes stand for.
-pub(crate) fn steps_of(alloc: Global, codes: &[u8]) -> Option<Vec<PipeStep>>
+pub fn steps_of(alloc: Global, codes: &[u8]) -> Option<Vec<PipeStep>>
     ensures { IfSome result (λ steps. All CanGo steps.items) }
 {
     let mut steps = Vec::new(alloc);
@@ -36,7 +36,7 @@ pub(crate) fn steps_of(alloc: Global, codes: &[u8]) -> Option<Vec<PipeStep>>
 }
 
 /// What a call answers: a digit stands for so many bytes, p for a call that is pending, f for one that fails.
-pub(crate) fn answer_of(letter: u8) -> Poll<Result<usize, LinkFault>> {
+pub fn answer_of(letter: u8) -> Poll<Result<usize, LinkFault>> {
     match letter {
         b'p' => Poll::Pending,
         b'f' => Poll::Ready(Err(LinkFault)),
@@ -45,7 +45,7 @@ pub(crate) fn answer_of(letter: u8) -> Poll<Result<usize, LinkFault>> {
 }
 
 /// So many times these two codes in turn.
-pub(crate) fn in_turn(alloc: Global, first: u8, second: u8, count: u32) -> Option<Vec<u8>> {
+pub fn in_turn(alloc: Global, first: u8, second: u8, count: u32) -> Option<Vec<u8>> {
     let mut codes = Vec::new(alloc);
     for _ in 0..count {
         codes.push(first).ok()?;
@@ -55,7 +55,7 @@ pub(crate) fn in_turn(alloc: Global, first: u8, second: u8, count: u32) -> Optio
 }
 
 /// A call of this code, and then so many of the other.
-pub(crate) fn first_then(alloc: Global, first: u8, other: u8, count: u32) -> Option<Vec<u8>> {
+pub fn first_then(alloc: Global, first: u8, other: u8, count: u32) -> Option<Vec<u8>> {
     let mut codes = Vec::new(alloc);
     codes.push(first).ok()?;
     for _ in 0..count {
@@ -65,7 +65,7 @@ pub(crate) fn first_then(alloc: Global, first: u8, other: u8, count: u32) -> Opt
 }
 
 /// So many calls of this code, and then one that fails.
-pub(crate) fn failing_at(alloc: Global, count: u32, code: u8) -> Option<Vec<u8>> {
+pub fn failing_at(alloc: Global, count: u32, code: u8) -> Option<Vec<u8>> {
     let mut codes = Vec::new(alloc);
     for _ in 0..count {
         codes.push(code).ok()?;
@@ -76,13 +76,13 @@ pub(crate) fn failing_at(alloc: Global, count: u32, code: u8) -> Option<Vec<u8>>
 
 /// Numbers that look random (the multiplier and the increment of Knuth's MMIX).
 #[derive(Clone, Copy, Debug, PartialEq, Eq)]
-pub(crate) struct Random {
-    pub(crate) state: u64,
+pub struct Random {
+    pub state: u64,
 }
 
 impl Random {
     /// The next number below `end`; 0 where that is 0.
-    pub(crate) fn below(&mut self, end: u32) -> u32 {
+    pub fn below(&mut self, end: u32) -> u32 {
         self.state = self
             .state
             .wrapping_mul(6_364_136_223_846_793_005)
@@ -92,13 +92,13 @@ impl Random {
     }
 
     /// The next byte below `end`, which is at least 1.
-    pub(crate) fn byte_below(&mut self, end: u8) -> u8 {
+    pub fn byte_below(&mut self, end: u8) -> u8 {
         u8::try_from(self.below(u32::from(end))).unwrap_or(0)
     }
 }
 
 /// Some calls: most move up to `most` bytes, some are pending, and, where that is wanted, the last one fails.
-pub(crate) fn random_codes(
+pub fn random_codes(
     alloc: Global,
     random: &mut Random,
     count: u32,

@@ -8,7 +8,7 @@ use futures::task::{Context, Poll, Source, Waker};
 /// A link whose reads give these bytes, one by one, and then wait for ever at a source. Its writes wait too, or take
 /// all that they are offered.
 #[derive(Drop)]
-pub(crate) struct Quiet {
+pub struct Quiet {
     first: Vec<u8>,
     given: usize,
     source: Source,
@@ -18,7 +18,8 @@ pub(crate) struct Quiet {
 }
 
 impl Quiet {
-    pub(crate) fn new(takes: bool, first: Vec<u8>) -> Quiet {
+    /// A link that was asked for nothing yet.
+    pub fn new(takes: bool, first: Vec<u8>) -> Quiet {
         Quiet {
             first,
             given: 0,

@@ -13,11 +13,11 @@ use std::alloc::Global;
 use std::io;
 
 /// What holds a socket up, until it is dropped.
-pub(crate) type Hold = Receiver<()>;
+pub type Hold = Receiver<()>;
 
 /// A socket whose calls wait while it is held up. Then they move all that they can, or say that it failed.
 #[derive(Drop)]
-pub(crate) struct Held {
+pub struct Held {
     hold: Sender<()>,
     /// It isn't held up for writes, and takes all that it is offered.
     takes: bool,
@@ -98,7 +98,7 @@ impl Socket for Held {
 }
 
 /// A link over a socket that is held up, and what holds it.
-pub(crate) fn held_link(
+pub fn held_link(
     alloc: Global,
     takes: bool,
     fails: bool,

@@ -1,6 +1,6 @@
 //! A pipe by itself: what its calls answer by their steps.
 
-use crate::scripts::{FAIL, PENDING, answer_of, steps_of};
+use conn_ends::{FAIL, PENDING, answer_of, steps_of};
 use conn_link::{Link, Pipe};
 use futures::task::Poll;
 use futures::test::MockTask;

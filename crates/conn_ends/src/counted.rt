@@ -8,16 +8,17 @@ use std::alloc::Global;
 
 /// A link, and what was asked of it.
 #[derive(Drop)]
-pub(crate) struct Counted<L: Link> {
-    pub(crate) link: L,
+pub struct Counted<L: Link> {
+    pub link: L,
     /// How many reads, writes and shuts.
-    pub(crate) calls: u32,
+    pub calls: u32,
     /// How many bytes each read gave, but those that failed or were pending; 0 at the end of the input.
-    pub(crate) given: Vec<usize>,
+    pub given: Vec<usize>,
 }
 
 impl<L: Link> Counted<L> {
-    pub(crate) fn new(alloc: Global, link: L) -> Counted<L>
+    /// A link of which nothing was asked yet.
+    pub fn new(alloc: Global, link: L) -> Counted<L>
         ensures { result.link ≡ link }
     {
         Counted {

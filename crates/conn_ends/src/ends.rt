@@ -17,10 +17,10 @@ use std::alloc::Global;
 use upgrade::ConnRole;
 
 /// The message of a key (Secp256k1, of one byte), which both ends have here.
-pub(crate) const KEY: &[u8] = b"\x08\x02\x12\x01\x05";
+pub const KEY: &[u8] = b"\x08\x02\x12\x01\x05";
 
 /// What each end sends until the connection is up.
-pub(crate) const UPGRADE: &[u8] = b"\x13/multistream/1.0.0\n\x11/plaintext/2.0.0\n\
+pub const UPGRADE: &[u8] = b"\x13/multistream/1.0.0\n\x11/plaintext/2.0.0\n\
     \x10\x0a\x07\0\x05\x08\x02\x12\x01\x05\x12\x05\x08\x02\x12\x01\x05\x13/multistream/1.0.0\n\x0d/yamux/1.0.0\n";
 
 /// The bytes of each ping.
@@ -29,13 +29,15 @@ const PAYLOAD: [u8; 32] = [7; 32];
 /// The index of ping.
 const PING: usize = 2;
 
-pub(crate) type End<L> = Conn<Counted<L>, NodeProtocols<FixedPayload>>;
+/// An end of a connection over a link whose calls are counted.
+pub type End<L> = Conn<Counted<L>, NodeProtocols<FixedPayload>>;
 
-pub(crate) type Bounded<L> = BoundedConn<Counted<L>, NodeProtocols<FixedPayload>>;
+/// One that is dropped where more output waits than may.
+pub type Bounded<L> = BoundedConn<Counted<L>, NodeProtocols<FixedPayload>>;
 
 /// What is told, by its kind.
 #[derive(Clone, Copy, Debug, PartialEq, Eq, Drop)]
-pub(crate) enum Said {
+pub enum Said {
     Upgraded,
     Agreed(u32, usize),
     Done(u32),
@@ -45,7 +47,8 @@ pub(crate) enum Said {
     Shut,
 }
 
-pub(crate) fn kind_of(event: &ConnEvent<NodeHandler>) -> Said {
+/// What kind of event this is.
+pub fn kind_of(event: &ConnEvent<NodeHandler>) -> Said {
     match event {
         ConnEvent::Upgraded(_) => Said::Upgraded,
         ConnEvent::Agreed(number, index) => Said::Agreed(*number, *index),
@@ -58,7 +61,7 @@ pub(crate) fn kind_of(event: &ConnEvent<NodeHandler>) -> Said {
 }
 
 /// The protocols of the node that both ends are.
-pub(crate) fn protocols(alloc: Global) -> Option<NodeProtocols<FixedPayload>> {
+pub fn protocols(alloc: Global) -> Option<NodeProtocols<FixedPayload>> {
     let own = PublicKey::read(alloc, KEY).ok()?;
     let payloads = FixedPayload { payload: PAYLOAD };
     NodeProtocols::new(alloc, own, "node/0.1.0", payloads).ok()
@@ -71,7 +74,7 @@ fn core_of(alloc: Global, role: ConnRole) -> Option<ConnCore<NodeProtocols<Fixed
 }
 
 /// A connection over this link, before any byte came.
-pub(crate) fn connect<L: Link>(alloc: Global, role: ConnRole, link: L) -> Option<End<L>> {
+pub fn connect<L: Link>(alloc: Global, role: ConnRole, link: L) -> Option<End<L>> {
     if link.failures() == u64::MAX {
         return None;
     }
@@ -88,18 +91,19 @@ fn bounded<L: Link>(alloc: Global, role: ConnRole, link: L) -> Option<Bounded<L>
 }
 
 /// What is played on a connection over a link.
-pub(crate) trait Play<L: Link> {
+pub trait Play<L: Link> {
     /// Whether it goes as it must; None where memory is refused.
     fn play(self, alloc: Global, task: &MockTask, conn: &mut End<L>) -> Option<bool>;
 }
 
 /// What is played on a bounded one.
-pub(crate) trait PlayBounded<L: Link> {
+pub trait PlayBounded<L: Link> {
+    /// Whether it goes as it must; None where memory is refused.
     fn play_bounded(self, task: &MockTask, conn: &mut Bounded<L>) -> Option<bool>;
 }
 
 /// Plays on a new connection over this link, and lets it go: each function that does is dear to prove.
-pub(crate) fn play_on<L: Link, P: Play<L> + Drop>(
+pub fn play_on<L: Link, P: Play<L> + Drop>(
     alloc: Global,
     task: &MockTask,
     role: ConnRole,
@@ -111,7 +115,7 @@ pub(crate) fn play_on<L: Link, P: Play<L> + Drop>(
 }
 
 /// The same on a bounded one.
-pub(crate) fn play_bounded<L: Link, P: PlayBounded<L> + Drop>(
+pub fn play_bounded<L: Link, P: PlayBounded<L> + Drop>(
     alloc: Global,
     task: &MockTask,
     role: ConnRole,
@@ -123,7 +127,7 @@ pub(crate) fn play_bounded<L: Link, P: PlayBounded<L> + Drop>(
 }
 
 /// Lends what was made, and lets it go, whatever it is.
-pub(crate) fn lend<T: Drop, F: FnOnce(&mut T) -> Option<bool> + Drop>(
+pub fn lend<T: Drop, F: FnOnce(&mut T) -> Option<bool> + Drop>(
     made: Option<T>,
     play: F,
 ) -> Option<bool>
@@ -135,20 +139,21 @@ pub(crate) fn lend<T: Drop, F: FnOnce(&mut T) -> Option<bool> + Drop>(
 
 /// What polls gave.
 #[derive(Drop)]
-pub(crate) struct Gave {
-    pub(crate) said: Vec<Said>,
+pub struct Gave {
+    pub said: Vec<Said>,
     /// The stream has ended.
-    pub(crate) has_ended: bool,
+    pub has_ended: bool,
     /// How many calls of the link one poll made at most.
-    pub(crate) most: u32,
+    pub most: u32,
     /// How many calls of the link the least of the pending polls made.
-    pub(crate) least_pending: u32,
+    pub least_pending: u32,
     /// A poll was pending and didn't ask for another.
-    pub(crate) is_idle: bool,
+    pub is_idle: bool,
 }
 
 impl Gave {
-    pub(crate) fn new(alloc: Global) -> Gave {
+    /// Before the first poll.
+    pub fn new(alloc: Global) -> Gave {
         Gave {
             said: Vec::new(alloc),
             has_ended: false,
@@ -159,14 +164,14 @@ impl Gave {
     }
 
     /// Exactly these events were given, and then the end of the stream.
-    pub(crate) fn is(&self, said: &[Said]) -> bool {
+    pub fn is(&self, said: &[Said]) -> bool {
         self.has_ended && self.said.as_slice() == said && self.most <= 32
     }
 }
 
 /// What is done with a connection between polls.
 #[derive(Clone, Copy, Debug, PartialEq, Eq)]
-pub(crate) enum Plan {
+pub enum Plan {
     /// Nothing.
     Listen,
     /// A ping is asked for once the connection is up.
@@ -176,7 +181,7 @@ pub(crate) enum Plan {
 }
 
 /// Polls once, and tells by its kind what came of it.
-pub(crate) fn poll_said<L: Link>(task: &MockTask, conn: &mut End<L>) -> Poll<Option<Said>> {
+pub fn poll_said<L: Link>(task: &MockTask, conn: &mut End<L>) -> Poll<Option<Said>> {
     match task.enter(|cx| conn.poll_next(cx)) {
         Poll::Ready(Some(event)) => Poll::Ready(Some(kind_of(&event))),
         Poll::Ready(None) => Poll::Ready(None),
@@ -185,7 +190,7 @@ pub(crate) fn poll_said<L: Link>(task: &MockTask, conn: &mut End<L>) -> Poll<Opt
 }
 
 /// Polls once, and notes what came of it.
-pub(crate) fn poll_once<L: Link>(
+pub fn poll_once<L: Link>(
     task: &MockTask,
     conn: &mut End<L>,
     gave: &mut Gave,
@@ -206,7 +211,7 @@ pub(crate) fn poll_once<L: Link>(
 }
 
 /// Polls until the stream has ended or waits for the link, at most so many times.
-pub(crate) fn drive<L: Link>(
+pub fn drive<L: Link>(
     alloc: Global,
     task: &MockTask,
     conn: &mut End<L>,
@@ -230,6 +235,6 @@ pub(crate) fn drive<L: Link>(
 }
 
 /// What was written.
-pub(crate) fn written(conn: &End<Pipe>) -> &[u8] {
+pub fn written(conn: &End<Pipe>) -> &[u8] {
     conn.link().link.written()
 }

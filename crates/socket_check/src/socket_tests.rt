@@ -3,7 +3,7 @@
 ghost use Rattle.std.specs.Prelude.{◌≤◌, ⊤};
 ghost use Rattle.socket_link.specs.Tries.{count_tried};
 
-use crate::scripts::{FAIL, PENDING, answer_of};
+use conn_ends::{FAIL, PENDING, answer_of};
 use conn_link::{Link, LinkFault};
 use futures::task::{Context, Poll};
 use futures::test::MockTask;
