@@ -1,5 +1,5 @@
-//! How the plan's threads do their work for its time. Both sides do it here, by closures: the proof of a function that is
-//! generic in what it calls knows nothing of swarms and locks.
+//! How the plan's threads do their work for its time. Both sides do it here, by closures: the proof of a function that
+//! is generic in what it calls knows nothing of swarms and locks.
 
 use crate::plan::{Done, Pace, Plan, Rates, is_over};
 use std::alloc::AllocError;

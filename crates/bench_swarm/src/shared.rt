@@ -72,8 +72,8 @@ fn fill<J: Identity, L: Ledgers, R: Wait>(
     }
 }
 
-/// How often a second the threads of the plan do their work, and calls are made beside them. It borrows the swarm, which
-/// `rate_of` alone lets go of.
+/// How often a second the threads of the plan do their work, and calls are made beside them. It borrows the swarm,
+/// which `rate_of` alone lets go of.
 fn measure<
     J: Identity + Send + Sync,
     L1: Ledger + Send + Sync,

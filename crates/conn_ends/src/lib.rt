@@ -1,5 +1,5 @@
-//! What tests of connections over links are made of: links whose calls go by a script, wait or are counted, and an end of
-//! a connection that is driven over one. No connection of a node is made so.
+//! What tests of connections over links are made of: links whose calls go by a script, wait or are counted, and an end
+//! of a connection that is driven over one. No connection of a node is made so.
 #![tactic(auto)]
 
 mod counted;

@@ -69,8 +69,8 @@ module _ {P H : Type 0} (protocols : ProtocolsGhosts P H) (handler : HandlerGhos
     pub kept : (core : ConnCore P H) → is_spent core.phase ≡ false → (asked : List (ℕ × ℕ)) (one other : ConnEvent H)
         (it : parts (line [] []) asked (one ∷ []) (line [] []) core (other ∷ []))
         → core_stands it.given it.ended (asked ++ it.opened) (one ∷ other ∷ []) (it.took ++ (it.left ++ it.more)) core
-    -- what the link took is the first part of what that core wrote, which opened the streams that were asked for; and of
-    -- what its own core wrote, unless memory was refused to it
+    -- what the link took is the first part of what that core wrote, which opened the streams that were asked for; and
+    -- of what its own core wrote, unless memory was refused to it
     pub wrote : (core : ConnCore P H) (asked : List (ℕ × ℕ)) (held : List (ConnEvent H))
         (it : parts (line [] (8 ∷ [])) asked [] (line (2 ∷ []) (8 ∷ 9 ∷ [])) core held)
         → core_stands it.given it.ended asked held (9 ∷ it.left) it.core

@@ -1,7 +1,8 @@
 -- Where the streams of a connection stand when a call returns.
 -- Source: libp2p connections, "Opening new streams over a connection"; what a connection tells is this project's
 -- profile.
-use Rattle.std.specs.Prelude.{◌≡◌, ◌≢◌, ◌⊎◌, ℕ, Bool, true, false, List, [], ◌∷◌, ◌++◌, map, Option, None, IfSome, IsSome}
+use Rattle.std.specs.Prelude.{◌≡◌, ◌≢◌, ◌⊎◌, ℕ, Bool, true, false, List, [], ◌∷◌, ◌++◌, map}
+use Rattle.std.specs.Prelude.{Option, None, IfSome, IsSome}
 use Rattle.handlers.specs.Calls.{HandlerCall, Asked}
 use Rattle.yamux_frames.specs.Frames.{Arrival}
 use Rattle.yamux_frames.specs.Frames.Arrival.{Head, Byte, Tail, Garbled}

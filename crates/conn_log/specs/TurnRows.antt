@@ -112,7 +112,8 @@ pub record RestedRows : Type 0 where
       → are_rested (Of (Came Tail) ∷ Of (Came (Byte 7)) ∷ Of (Came (Byte 8)) ∷ Of (Came (Byte 9)) ∷ log)
   pub bare : (log : List (Entry ℕ)) → are_rested (opens_it ∷ log) → are_rested (Of (Came Tail) ∷ opens_it ∷ log)
   -- not so where a handler was called between them
-  pub called_within : (log : List (Entry ℕ)) → are_rested (Of (Came (Byte 9)) ∷ answers 2 End ∷ Of (Came (Byte 8)) ∷ log)
+  pub called_within : (log : List (Entry ℕ))
+      → are_rested (Of (Came (Byte 9)) ∷ answers 2 End ∷ Of (Came (Byte 8)) ∷ log)
       → is_rested (answers 2 End ∷ Of (Came (Byte 8)) ∷ log)
   pub called_before_the_end : (log : List (Entry ℕ))
       → are_rested (Of (Came Tail) ∷ answers 2 End ∷ Of (Came (Byte 8)) ∷ log)

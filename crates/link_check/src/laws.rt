@@ -1,5 +1,5 @@
-//! What the definitions of links, and of connections over them, say: of any, and of worked ones. Each is a function with
-//! an empty body, whose contract is the rows.
+//! What the definitions of links, and of connections over them, say: of any, and of worked ones. Each is a function
+//! with an empty body, whose contract is the rows.
 
 ghost use Rattle.std.specs.Prelude.{◌≡◌, ℕ, List, [], ◌++◌};
 ghost use Rattle.peer_ids.specs.Key.{Key};
@@ -7,7 +7,8 @@ ghost use Rattle.upgrade.specs.declared.role.ConnRole.{ConnRole};
 ghost use Rattle.conn_link.specs.Calling.{Call};
 ghost use Rattle.socket_link.specs.Steps.{Step};
 ghost use Rattle.link_check.specs.LinkRows.{AnyLinkRows, AnyAnswerRows, AnyLogRows, AnyStepRows, LinkRows};
-ghost use Rattle.link_check.specs.SocketRows.{AnySocketRows, SocketRows, AnyCallRows, AskingRows, AnyPipeRows, PipeRows};
+ghost use Rattle.link_check.specs.SocketRows.{AnySocketRows, SocketRows, AnyCallRows, AskingRows};
+ghost use Rattle.link_check.specs.SocketRows.{AnyPipeRows, PipeRows};
 ghost use Rattle.link_check.specs.BoundRows.{AnyBoundRows, BoundRows, KeptRows, answers, rises};
 ghost use Rattle.link_check.specs.OverLinkRows.{AnyJoinRows, AnyEndRows, AnyStayRows, AnyCarryRows, AnyPollRows};
 ghost use Rattle.link_check.specs.OverLinkRows.{AnyWaitRows, PollEndRows, OverRows};

@@ -168,8 +168,8 @@ pub record StoppedRows (fed sent : List ℕ) (before session : State) : Type 0 w
       → ¬ Came answers_none fails_so never never Server two_bytes fed sent 1 so_far (talking_of [] talk) before
       (Done handler) session stream
   -- what waits of a stream that stops in its talk waits on
-  pub unsent : (talk : Talking) → InTalk answers_none fails_so never never Server two_bytes fed sent 1 makes_0 (Unit {0})
-      asking na_bytes (talking_of (9 ∷ []) talk) before None Refused before (over_of (9 ∷ []))
+  pub unsent : (talk : Talking) → InTalk answers_none fails_so never never Server two_bytes fed sent 1
+      makes_0 (Unit {0}) asking na_bytes (talking_of (9 ∷ []) talk) before None Refused before (over_of (9 ∷ []))
   pub unsent_is_kept : (talk : Talking) → ¬ InTalk answers_none fails_so never never Server two_bytes fed sent 1
       makes_0 (Unit {0}) asking na_bytes (talking_of (9 ∷ []) talk) before None Refused before (over_of [])
   -- a handler that notes its calls is handed the data once, and then asked at most once

@@ -146,8 +146,8 @@ pub record GivesUp {H : Type 0} (fails : H → Asked → ℕ → Type 0) (is_clo
   pub unclosed : is_closed handler ≡ false
   pub fails_by : FailsBy fails handler (ToGive (credit - length stream.waiting)) stop
 
--- The handler that a stream holds answers when it is asked for as many bytes as there is credit behind what waits, unless
--- it is closed, where this direction is open.
+-- The handler that a stream holds answers when it is asked for as many bytes as there is credit behind what waits,
+-- unless it is closed, where this direction is open.
 abbrev pub WasAnswered : {H : Type 0} → (H → HandlerCall → H → Type 0) → (H → Bool) → Role → List Item → ℕ → Streaming H
     → Type 0
 WasAnswered step is_closed role past n stream = (credit : ℕ) → open_credit role past n ≡ Some credit

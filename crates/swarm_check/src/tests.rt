@@ -117,8 +117,8 @@ fn make<G: Gate, J: Identity, L: Ledgers, R: Wait>(
     }
 }
 
-/// What a test of one thread does with a swarm. It borrows the swarm and the passes, since a function that owns these is
-/// dear to prove: `play_out` alone lets them go.
+/// What a test of one thread does with a swarm. It borrows the swarm and the passes, since a function that owns these
+/// is dear to prove: `play_out` alone lets them go.
 trait Script {
     /// How many of its rows hold, from the first on.
     fn play<J: Identity, L: Ledgers, R: Wait>(

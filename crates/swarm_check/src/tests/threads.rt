@@ -101,8 +101,8 @@ fn play<R: Threads + Wait + Clock + Sync>(
     )
 }
 
-/// How much of the plan holds, and one more where all passes end the swarm as they must. It alone owns the swarm and the
-/// passes.
+/// How much of the plan holds, and one more where all passes end the swarm as they must. It alone owns the swarm and
+/// the passes.
 fn play_out<
     G: Gate + Sync,
     J: Identity + Send + Sync,
@@ -291,8 +291,8 @@ fn is_one_history(
 }
 
 /// A plan, the first front, how many connections a peer may have, how many callers there are, how often the other
-/// caller is taken to have listed, how often the gate looks at most, and how much of the plan holds: of most plans all or
-/// nothing. Then how many calls are made, and how many connections stand at the end unless that is left to chance.
+/// caller is taken to have listed, how often the gate looks at most, and how much of the plan holds: of most plans all
+/// or nothing. Then how many calls are made, and how many connections stand at the end unless that is left to chance.
 #[derive(Clone, Copy)]
 struct Row {
     plan: Plan,
