@@ -162,5 +162,5 @@ module _ {H : Type 0} (step : H → HandlerCall → H → Type 0) (is_closed is_
         ⊎ ((index : ℕ) × (front : List ℕ) × (rest : List ℕ) × (middle : Streaming H)
         × ((has : HasAgreed step makes none_made so_far bytes index front rest middle)
         × RunsOutTaking (record so_far { got = so_far.got ++ front; made = Some has.made }) rest middle session
-            stream)))
+        stream)))
         × (is_talking old.stage ≡ false → none_made × RunsOutTaking so_far bytes old session stream)
