@@ -1,0 +1,5 @@
+mod Lines
+mod Peers
+mod Printed
+mod Words
+mod WorkedRows
