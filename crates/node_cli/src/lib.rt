@@ -12,7 +12,6 @@ mod options;
 mod replay;
 mod run;
 mod trace;
-mod trace_line;
 mod trace_options;
 
 use command::{Asked, Unasked, read};

@@ -2,9 +2,9 @@
 
 use crate::Ending;
 use crate::input::{Unread, read_whole};
-use crate::trace_line::{TraceLine, trace_line_of};
 use conn_core::ConnCore;
 use conn_log::{ConnEvent, ConnRefused};
+use node_lines::{TraceLine, trace_line_of};
 use node_protocols::{FixedPayload, NodeHandler, NodeProtocols};
 use node_texts::key_of;
 use peer_ids::PublicKey;

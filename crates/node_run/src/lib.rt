@@ -3,7 +3,6 @@
 
 mod ending;
 mod play;
-mod script;
 mod side;
 mod turns;
 

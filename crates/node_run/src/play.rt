@@ -1,10 +1,10 @@
 //! The run of a script on two nodes, from the making of their swarms on.
 
 use crate::ending::RunEnding;
-use crate::script::Name;
 use crate::side::Side;
 use crate::turns::Run;
 use driver::{Caller, Driver, Looking, Member, Setup, SwarmUse, with_swarm};
+use node_lines::Name;
 use peer_ids::{PeerId, PublicKey};
 use pool_state::{Config, Limits};
 use rand::rngs::StdRng;

@@ -1,10 +1,9 @@
 //! One of the two nodes, and what the script has it do.
 
 use crate::ending::RunEnding;
-use crate::script::{Act, Awaited, Name};
 use driver::{Caller, Driver};
+use node_lines::{Act, Awaited, Name, is_shown};
 use peer_ids::PeerId;
-use pool_state::{Listing, Phase};
 use pool_texts::{print_listing, print_reply};
 use std::io;
 use std::io::Write;
@@ -66,31 +65,5 @@ impl<N: Net, C: Caller> Side<'_, N, C> {
     pub fn shows(&mut self, awaited: Awaited) -> bool {
         self.caller.renew();
         is_shown(awaited, self.caller.listing())
-    }
-}
-
-/// Whether a listing shows what is awaited.
-fn is_shown(awaited: Awaited, listing: &Listing) -> bool {
-    let rows = listing.conns.as_slice();
-    match awaited {
-        Awaited::Live(count) => rows.iter().filter(|row| row.phase == Phase::Live).count() == count,
-        Awaited::None => rows.is_empty(),
-        Awaited::Done(index, count) => {
-            let done = rows
-                .iter()
-                .map(|row| row.done.get(index as usize).copied().unwrap_or(0));
-            done.fold(0_u64, |sum, done| sum.saturating_add(done)) == count
-        }
-        Awaited::Agent(count) => rows.iter().filter(|row| row.agent.is_some()).count() == count,
-    }
-}
-
-/// Prints what was awaited and came.
-pub fn print_awaited<O: Write>(begin: &str, awaited: Awaited, output: &mut O) -> io::Result<()> {
-    match awaited {
-        Awaited::Live(count) => writeln!(output, "{begin}live {count}"),
-        Awaited::None => writeln!(output, "{begin}none"),
-        Awaited::Done(index, count) => writeln!(output, "{begin}done {index} {count}"),
-        Awaited::Agent(count) => writeln!(output, "{begin}agent {count}"),
     }
 }

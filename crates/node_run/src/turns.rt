@@ -1,11 +1,11 @@
 //! The run of a script, as one future.
 
 use crate::ending::RunEnding;
-use crate::script::{Act, Awaited, Name, line_of};
-use crate::side::{Side, print_awaited};
+use crate::side::Side;
 use driver::Caller;
 use futures::task::{Context, Poll};
 use futures::{Future, ready};
+use node_lines::{Act, Awaited, Name, print_awaited, script_line_of};
 use std::io::Write;
 use std::net::Net;
 use std::time::Clock;
@@ -101,7 +101,7 @@ impl<'a, N: Net + Clock, A: Caller, B: Caller, O: Write + Drop> Run<'a, N, A, B,
         if line.is_empty() {
             return Ok(Turn::On);
         }
-        match line_of(line) {
+        match script_line_of(line) {
             Some((name, act)) => self.act(name, act)?,
             None => return Err(RunEnding::Line(self.number)),
         }

@@ -1,5 +1,5 @@
-mod Lines
+pub mod Lines
 mod Peers
 mod Printed
-mod Words
+pub mod Words
 mod WorkedRows

@@ -1,5 +1,5 @@
 -- A line of two words or more is a call's name, a space, and the rest.
-use Rattle.std.proofs.Common.{◌≡◌, ◌≢◌, ℕ, ◌<◌, ◌==◌, ◌&&◌, zero, suc, Bool, true, not, List, [], ◌∷◌, length, Option, None, Some, refl, sym, ap, subst, arith, inl, inr}
+use Rattle.std.proofs.Common.{◌≡◌, ◌≢◌, ℕ, ◌<◌, ◌==◌, ◌&&◌, zero, suc, Bool, true, not, List, [], ◌∷◌, ◌++◌, length, drop, Option, None, Some, refl, sym, ap, subst, arith, inl, inr}
 use Rattle.std.specs.Prelude.{codes, slice_index, option_map}
 use Rattle.pool_texts.proofs.Peers.{no_dash}
 use Rattle.std.proofs.lemmas.Bool.Decides.{nat_tests}
@@ -10,11 +10,12 @@ use Rattle.pool_texts.specs.declared.line.Line.{Line}
 use Rattle.pool_texts.specs.declared.line.Line.TheVariants as line
 use Rattle.pool_texts.specs.Lines.{ArePair, HasNoSpace, name_of, SaysRest, Says}
 
-is_whole : List ℕ → Bool
+-- no space stands in it, as a test
+unfoldable pub is_whole : List ℕ → Bool
 is_whole [] = true
 is_whole (c ∷ word) = not (c == 32) && is_whole word
 
-spaceless : (word : List ℕ) → is_whole word ≡ true → HasNoSpace word
+pub spaceless : (word : List ℕ) → is_whole word ≡ true → HasNoSpace word
 unfolding is_whole
 spaceless [] whole place inside is = omega (arith, inside)
 spaceless (c ∷ word) whole zero inside is = grind (arith, nat_tests)
@@ -32,7 +33,7 @@ dial_alone words (call.Dial None) dash named rest = refl
 dial_alone words (call.Dial (Some peer)) dash named rest = absurd (no_dash peer (rw dash at rest))
 dial_alone words other dash named rest = absurd (omega (arith, ap (λ (word : List ℕ). slice_index word 2) named))
 
-no_pair : (text name words : List ℕ) → is_whole text ≡ true → ArePair text name words → ⊥
+pub no_pair : (text name words : List ℕ) → is_whole text ≡ true → ArePair text name words → ⊥
 no_pair text name words whole pair =
     let place : length name < length text = omega (arith, ap length pair, length-append name (32 ∷ words)) in
     let at : slice_index text (length name) ≡ 32 = grind (arith, pair, get_or-append_right name (32 ∷ words) (length name) (length name) 0 refl (omega arith)) in
@@ -58,3 +59,30 @@ said_of_one text line.List whole unaccepted unlisted is = unlisted is
 said_of_one text (line.Call other) whole unaccepted unlisted (inl accept) = unaccepted accept.0
 said_of_one text (line.Call other) whole unaccepted unlisted (inr said) =
     whole (name_of other) said.0 said.1 (spaceless (name_of other) (whole_name other))
+
+whole_word : (word : List ℕ) → HasNoSpace word → is_whole word ≡ true
+unfolding is_whole
+whole_word [] spaced = refl
+whole_word (c ∷ word) spaced =
+    let rest = whole_word word (λ place inside is. spaced (suc place) (omega (arith, inside)) is) in
+    let first : c ≢ 32 = spaced 0 (omega arith) in
+    grind (arith, nat_tests)
+
+same_front : (a b c d : List ℕ) → is_whole a ≡ true → is_whole c ≡ true → a ++ 32 ∷ b ≡ c ++ 32 ∷ d → a ≡ c
+unfolding is_whole
+same_front [] b [] d one other is = refl
+same_front [] b (y ∷ c) d one other is =
+    let first : 32 ≡ y = ap (λ (word : List ℕ). slice_index word 0) is in
+    absurd (grind (arith, nat_tests))
+same_front (x ∷ a) b [] d one other is =
+    let first : x ≡ 32 = ap (λ (word : List ℕ). slice_index word 0) is in
+    absurd (grind (arith, nat_tests))
+same_front (x ∷ a) b (y ∷ c) d one other is =
+    let first : x ≡ y = ap (λ (word : List ℕ). slice_index word 0) is in
+    let rest = same_front a b c d (grind (arith, nat_tests)) (grind (arith, nat_tests)) (ap (drop 1) is) in
+    cc
+
+-- two words behind which a space stands in the same text are the same
+pub first_word : (first second other rest : List ℕ) → is_whole first ≡ true → HasNoSpace other
+    → ArePair (first ++ 32 ∷ second) other rest → other ≡ first
+first_word first second other rest whole spaced pair = sym (same_front first second other rest whole (whole_word other spaced) pair)

@@ -5,5 +5,5 @@ pub mod laws;
 mod line;
 mod print;
 
-pub use line::{Line, digits, line_of, peer_of, stream_of};
+pub use line::{Line, digits, line_of, pair_of, peer_of, stream_of};
 pub use print::{print_listing, print_reply};

@@ -61,7 +61,7 @@ fn index_of(word: &str) -> Option<u8>
 }
 
 /// What stands before and behind the first space.
-fn pair_of(words: &str) -> Option<(&str, &str)>
+pub fn pair_of(words: &str) -> Option<(&str, &str)>
     ensures parted { IfSome result (λ pair. ArePair words.now pair.0.now pair.1.now × HasNoSpace pair.0.now) }
     ensures only { (first : List ℕ) → (second : List ℕ) → ArePair words.now first second → HasNoSpace first
         → IfSome result (λ pair. (pair.0.now ≡ first) × (pair.1.now ≡ second)) × IsSome result }

@@ -1,0 +1,4 @@
+mod Memory
+mod Names
+mod Tails
+mod WorkedRows

@@ -1,0 +1,4 @@
+pub mod Awaiting
+pub mod Rows
+pub mod Script
+pub mod Trace
