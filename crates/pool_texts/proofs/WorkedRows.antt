@@ -72,4 +72,4 @@ unsaid_rows = record {
 
 pub printed_rows : PrintedRows
 unfolding digits row_text counts_text
-printed_rows = record { conn = refl; done = refl; count = refl; pending = refl; closing = refl; live = refl; empty = refl }
+printed_rows = record { conn = refl; done = refl; count = refl; refused = refl; pending = refl; closing = refl; live = refl; empty = refl }

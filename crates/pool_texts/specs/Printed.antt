@@ -2,6 +2,9 @@
 -- Source: this project's profile, the output of `node replay` and of a node of `node run`.
 use Rattle.std.specs.Prelude.{ℕ, List, [], ◌∷◌, ◌++◌, Option, Some, None, codes, decimal, flat_map, slice_index}
 use Rattle.peer_ids.specs.Base32.{id_text}
+use Rattle.pool_state.specs.Table.{number_of}
+use Rattle.pool_state.specs.declared.call.Refusal.{Refusal}
+use Rattle.pool_state.specs.declared.call.Refusal.TheVariants as refusal
 use Rattle.pool_state.specs.declared.call.Reply.{Reply}
 use Rattle.pool_state.specs.declared.call.Reply.TheVariants as reply
 use Rattle.pool_state.specs.declared.listing.Listing.{Listing}
@@ -15,12 +18,32 @@ use Rattle.pool_state.specs.declared.row.Row.{Row}
 abbrev pub line : List ℕ → List ℕ → List ℕ
 line begin text = begin ++ (text ++ 10 ∷ [])
 
--- A reply. Of a refusal it isn't said: its name is what a derived `Debug` prints, of which no clause tells.
-abbrev pub reply_text : Reply → Option (List ℕ)
-reply_text (reply.Conn conn) = Some (codes "conn " ++ decimal conn)
-reply_text reply.Done = Some (codes "ok")
-reply_text (reply.Count count) = Some (codes "count " ++ decimal count)
-reply_text (reply.Refused refusal) = None
+abbrev pub refusal_name : Refusal → List ℕ
+refusal_name refusal.Spent = codes "Spent"
+refusal_name refusal.OutOfMemory = codes "OutOfMemory"
+refusal_name refusal.NoConn = codes "NoConn"
+refusal_name refusal.Closing = codes "Closing"
+refusal_name refusal.NotPending = codes "NotPending"
+refusal_name refusal.NotLive = codes "NotLive"
+refusal_name refusal.BadProtocol = codes "BadProtocol"
+refusal_name refusal.SelfPeer = codes "SelfPeer"
+refusal_name refusal.Mismatch = codes "Mismatch"
+refusal_name refusal.Blocked = codes "Blocked"
+refusal_name refusal.Full = codes "Full"
+refusal_name refusal.PeerFull = codes "PeerFull"
+refusal_name refusal.StreamsFull = codes "StreamsFull"
+refusal_name refusal.NothingAsked = codes "NothingAsked"
+refusal_name refusal.BlockFull = codes "BlockFull"
+refusal_name refusal.IdsExhausted = codes "IdsExhausted"
+refusal_name refusal.SideFull = codes "SideFull"
+refusal_name refusal.NotAllowed = codes "NotAllowed"
+refusal_name refusal.AllowFull = codes "AllowFull"
+
+abbrev pub reply_text : Reply → List ℕ
+reply_text (reply.Conn conn) = codes "conn " ++ decimal conn
+reply_text reply.Done = codes "ok"
+reply_text (reply.Count count) = codes "count " ++ decimal count
+reply_text (reply.Refused refused) = codes "refused " ++ (decimal (number_of refused) ++ 32 ∷ refusal_name refused)
 
 abbrev pub side_text : ConnSide → List ℕ
 side_text side.Dialer = codes "dialer"

@@ -4,6 +4,7 @@ use Rattle.std.specs.Prelude.{◌≡◌, ℕ, List, [], ◌∷◌, Some, None, c
 use Rattle.peer_ids.specs.declared.kind.KeyType.TheVariants.{Ed25519}
 use Rattle.peer_ids.specs.PeerId.{id_of}
 use Rattle.pool_state.specs.declared.call.Call.TheVariants as call
+use Rattle.pool_state.specs.declared.call.Refusal.TheVariants as refusal
 use Rattle.pool_state.specs.declared.call.Reply.TheVariants as reply
 use Rattle.pool_state.specs.declared.row.ConnSide.TheVariants as side
 use Rattle.pool_state.specs.declared.row.Phase.TheVariants as phase
@@ -51,9 +52,10 @@ bare = record {
 }
 
 pub record PrintedRows : Type 0 where
-  pub conn : reply_text (reply.Conn 7) ≡ Some (codes "conn 7")
-  pub done : reply_text reply.Done ≡ Some (codes "ok")
-  pub count : reply_text (reply.Count 0) ≡ Some (codes "count 0")
+  pub conn : reply_text (reply.Conn 7) ≡ codes "conn 7"
+  pub done : reply_text reply.Done ≡ codes "ok"
+  pub count : reply_text (reply.Count 0) ≡ codes "count 0"
+  pub refused : reply_text (reply.Refused refusal.PeerFull) ≡ codes "refused 12 PeerFull"
   pub pending : row_text bare ≡ codes "conn 1 dialer pending - 2/1 0/0 0/0"
   pub closing : row_text (record bare { role = side.Listener; phase = phase.Closing; agent = Some (codes "a b") })
       ≡ codes "conn 1 listener closing - 2/1 0/0 0/0 agent a b"

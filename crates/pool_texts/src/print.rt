@@ -1,30 +1,57 @@
 //! What is printed of replies and listings.
 
-ghost use Rattle.std.specs.Prelude.{◌≡◌, List, ℕ, [], ◌∷◌, ◌++◌, flat_map, OnOk, IfSome};
+ghost use Rattle.std.specs.Prelude.{◌≡◌, List, ℕ, [], ◌∷◌, ◌++◌, flat_map, OnOk};
 ghost use Rattle.std.specs.Io.KnownBytes.{Appends};
 ghost use Rattle.peer_ids.specs.Base32.{id_text};
 ghost use Rattle.pool_state.specs.declared.row.Row.{Row};
-ghost use Rattle.pool_texts.specs.Printed.{line, reply_text, side_text, phase_text, peer_text};
+ghost use Rattle.pool_texts.specs.Printed.{line, refusal_name, reply_text, side_text, phase_text, peer_text};
 ghost use Rattle.pool_texts.specs.Printed.{counts_text, agent_text, row_text, listing_text};
 
 use peer_ids::PeerId;
-use pool_state::{Agent, ConnSide, Listing, Phase, Reply, Row};
+use pool_state::{Agent, ConnSide, Listing, Phase, Refusal, Reply, Row};
 use std::io;
 use std::io::Write;
 
 /// Prints a reply in a line that begins so.
 pub fn print_reply<O: Write>(begin: &str, reply: &Reply, output: &mut O) -> io::Result<()>
-    ensures printed { OnOk result (IfSome (reply_text reply.now) (λ text.
-        Appends (O.contents output.old) (O.contents output.new) (line begin.now text))) }
+    ensures printed { OnOk result (Appends (O.contents output.old) (O.contents output.new)
+        (line begin.now (reply_text reply.now))) }
 {
     match *reply {
         Reply::Conn(conn) => writeln!(output, "{begin}conn {conn}"),
         Reply::Done => writeln!(output, "{begin}ok"),
         Reply::Count(count) => writeln!(output, "{begin}count {count}"),
         Reply::Refused(refusal) => {
-            let number = refusal as u8;
-            writeln!(output, "{begin}refused {number} {refusal:?}")
+            let (number, name) = (refusal.number(), refusal_name(refusal));
+            writeln!(output, "{begin}refused {number} {name}")
         }
+    }
+}
+
+/// The name of a refusal, as its documentation has it.
+fn refusal_name(refusal: Refusal) -> &'static str
+    ensures { result.now ≡ refusal_name refusal }
+{
+    match refusal {
+        Refusal::Spent => "Spent",
+        Refusal::OutOfMemory => "OutOfMemory",
+        Refusal::NoConn => "NoConn",
+        Refusal::Closing => "Closing",
+        Refusal::NotPending => "NotPending",
+        Refusal::NotLive => "NotLive",
+        Refusal::BadProtocol => "BadProtocol",
+        Refusal::SelfPeer => "SelfPeer",
+        Refusal::Mismatch => "Mismatch",
+        Refusal::Blocked => "Blocked",
+        Refusal::Full => "Full",
+        Refusal::PeerFull => "PeerFull",
+        Refusal::StreamsFull => "StreamsFull",
+        Refusal::NothingAsked => "NothingAsked",
+        Refusal::BlockFull => "BlockFull",
+        Refusal::IdsExhausted => "IdsExhausted",
+        Refusal::SideFull => "SideFull",
+        Refusal::NotAllowed => "NotAllowed",
+        Refusal::AllowFull => "AllowFull",
     }
 }
 
