@@ -4,12 +4,6 @@
 #[cfg(test)]
 mod failing_tests;
 #[cfg(test)]
-mod flow_tests;
-#[cfg(test)]
-mod held_tests;
-#[cfg(test)]
-mod much_tests;
-#[cfg(test)]
 mod row_tests;
 #[cfg(test)]
 mod scripted_tests;

@@ -4,6 +4,7 @@ use multiaddr::AddrFault;
 use node_peer::{PeerEnding, PlaceFault};
 use node_run::RunEnding;
 use node_texts::{HashRefused, IdRefused};
+use pool_script::Stopped;
 use std::io;
 use thiserror::Error;
 
@@ -70,6 +71,15 @@ impl From<RunEnding> for Ending {
             RunEnding::Input => Ending::Input,
             RunEnding::GaveUp => Ending::GaveUp,
             RunEnding::Failed => Ending::Unwritten,
+        }
+    }
+}
+
+impl From<Stopped> for Ending {
+    fn from(stopped: Stopped) -> Ending {
+        match stopped {
+            Stopped::Line(number) => Ending::Line(number),
+            Stopped::Unwritten => Ending::Unwritten,
         }
     }
 }

@@ -2,8 +2,8 @@
 
 use crate::Ending;
 use crate::input::{Unread, read_whole};
-use pool_state::{Config, Pool};
-use pool_texts::{Line, line_of, print_listing, print_reply};
+use pool_script::play;
+use pool_state::Config;
 use std::alloc::Global;
 use std::io::{Read, Write};
 
@@ -21,18 +21,5 @@ pub fn replay<I: Read, O: Write>(
         Ok(script) => script,
         Err(Unread) => return Err(Ending::Input),
     };
-    let mut pool = Pool::new(config);
-    let mut number = 0_u64;
-    for line in script.as_slice().split(|byte| *byte == b'\n') {
-        number = number.saturating_add(1);
-        if line.is_empty() {
-            continue;
-        }
-        match line_of(line) {
-            Some(Line::Call(call)) => print_reply("", &pool.apply(call), output)?,
-            Some(Line::List) => print_listing("", pool.show(), output)?,
-            None => return Err(Ending::Line(number)),
-        }
-    }
-    Ok(())
+    Ok(play(config, script.as_slice(), output)?)
 }

@@ -1,6 +1,5 @@
 //! A connection at the sizes that its code names.
 
-use crate::row_tests::PINGS;
 use bounded_conn::MOST_WAITING;
 use conn_ends::{
     Bounded, End, FAIL, PENDING, Play, PlayBounded, Said, UPGRADE, first_then, play_bounded,
@@ -18,6 +17,10 @@ use upgrade::ConnRole;
 const PING: &[u8] = b"\0\x02\0\x01\0\0\0\0\0\0\0\x07";
 
 const PONG: &[u8] = b"\0\x02\0\x02\0\0\0\0\0\0\0\x07";
+
+/// SYN of stream 1, and the header and the name of ping on it.
+const OPENING: &[u8] = b"\0\x01\0\x01\0\0\0\x01\0\0\0\0\0\0\0\0\0\0\0\x01\0\0\0\x26\
+    \x13/multistream/1.0.0\n\x11/ipfs/ping/1.0.0\n";
 
 /// Credit for a stream that isn't known: nothing is told of it, and nothing sent.
 const CREDIT: &[u8] = b"\0\x01\0\0\0\0\0\x09\0\0\0\x05";
@@ -225,9 +228,7 @@ impl Flow {
         match self {
             Flow::AnswersMuch => Some(open_pipe(alloc, input(alloc, PING, 800)?)),
             Flow::AnswersBeforeTheEnd => two_reads(alloc, 20),
-            Flow::AsksWhileOneIsHeld => {
-                Some(open_pipe(alloc, input(alloc, PINGS.get(..62)?, 1)?))
-            }
+            Flow::AsksWhileOneIsHeld => Some(open_pipe(alloc, input(alloc, OPENING, 1)?)),
             Flow::OpensAllStreams | Flow::WritesBeforeItReads => credits(alloc, 20),
             Flow::ReadsOften => credits(alloc, 167),
             Flow::FailsAgain => failed_before(alloc, task),

@@ -1,0 +1,8 @@
+//! A script of pool calls, played on a pool of one thread.
+#![tactic(auto)]
+
+pub mod laws;
+mod playing;
+mod text;
+
+pub use playing::{Stopped, play};
