@@ -35,6 +35,10 @@ TraceRest rest it = ⊥
 unfoldable pub SaysTrace : List ℕ → TraceLine → Type 0
 SaysTrace text it = (rest : Option (List ℕ)) × (text ≡ trace_name it ++ tail_of rest) × TraceRest rest it
 
--- A line that may take memory: bytes stand in it.
-abbrev pub MayHoldBytes : List ℕ → Type 0
-MayHoldBytes text = (rest : List ℕ) × (ArePair text (codes "feed") rest ⊎ ArePair text (codes "cut") rest)
+-- Bytes stand in the line: for them alone memory is asked.
+abbrev pub RestHoldsBytes : List ℕ → List ℕ → Type 0
+RestHoldsBytes name rest = ((name ≡ codes "feed") × (bytes : List ℕ) × SpellsBytes rest bytes)
+    ⊎ ((name ≡ codes "cut") × (size : ℕ) × (bytes : List ℕ) × IsCut rest size bytes)
+
+abbrev pub HoldsBytes : List ℕ → Type 0
+HoldsBytes text = (name : List ℕ) × (rest : List ℕ) × ArePair text name rest × RestHoldsBytes name rest

@@ -1,11 +1,13 @@
 //! The lines of a trace: what comes to an end of a connection, and what it is asked for.
 
-ghost use Rattle.std.specs.Prelude.{◌≡◌, ◌⊎◌, ℕ, List, Some, None, Ok, IfOk, IfErr, IfSome, IsUtf8, codes, vec_items};
+ghost use Rattle.std.specs.Prelude.{◌≡◌, ℕ, List, Some, None, Ok, IfOk, IfErr, IfSome, IsUtf8, vec_items};
 ghost use Rattle.pool_texts.specs.Lines.{IsNumber};
 ghost use Rattle.node_lines.specs.declared.trace.TraceLine.{TraceLine};
-ghost use Rattle.node_lines.specs.Trace.{SpellsBytes, IsCut, trace_name, TraceRest, SaysTrace, MayHoldBytes};
+ghost use Rattle.node_lines.specs.Trace.{SpellsBytes, IsCut, trace_name, TraceRest, SaysTrace};
+ghost use Rattle.node_lines.specs.Trace.{RestHoldsBytes, HoldsBytes};
 
 use hex::FromHexError;
+use node_texts::are_pairs;
 use pool_texts::{digits, pair_of};
 use std::alloc::{AllocError, Global};
 
@@ -36,7 +38,11 @@ fn number_of(word: &str) -> Option<usize>
 fn bytes_of(alloc: Global, word: &str) -> Result<Option<Vec<u8>>, AllocError>
     ensures spelt { IfOk result (λ found. IfSome found (λ bytes. SpellsBytes word.now (vec_items bytes))) }
     ensures unspelt { result ≡ Ok None → (bytes : List ℕ) → ¬ SpellsBytes word.now bytes }
+    ensures memory { IfErr result (λ e. (bytes : List ℕ) × SpellsBytes word.now bytes) }
 {
+    if !are_pairs(word) {
+        return Ok(None);
+    }
     match hex::decode(alloc, word) {
         Ok(bytes) => Ok(Some(bytes)),
         Err(FromHexError::OutOfMemory) => Err(AllocError),
@@ -49,6 +55,7 @@ fn bytes_of(alloc: Global, word: &str) -> Result<Option<Vec<u8>>, AllocError>
 fn cut_of(alloc: Global, words: &str) -> Result<Option<(usize, Vec<u8>)>, AllocError>
     ensures spelt { IfOk result (λ found. IfSome found (λ cut. IsCut words.now cut.0 (vec_items cut.1))) }
     ensures unspelt { result ≡ Ok None → (size : ℕ) → (bytes : List ℕ) → ¬ IsCut words.now size bytes }
+    ensures memory { IfErr result (λ e. (size : ℕ) × (bytes : List ℕ) × IsCut words.now size bytes) }
 {
     let Some((size, word)) = pair_of(words) else {
         return Ok(None);
@@ -68,7 +75,7 @@ fn said_with(alloc: Global, name: &str, rest: &str) -> Result<Option<TraceLine>,
         × TraceRest (Some rest.now) it)) }
     ensures unsaid { result ≡ Ok None → (it : TraceLine) → name.now ≡ trace_name it
         → ¬ TraceRest (Some rest.now) it }
-    ensures memory { IfErr result (λ e. (name.now ≡ codes "feed") ⊎ (name.now ≡ codes "cut")) }
+    ensures memory { IfErr result (λ e. RestHoldsBytes name.now rest.now) }
 {
     match name {
         "feed" => match bytes_of(alloc, rest)? {
@@ -103,7 +110,7 @@ fn said_alone(word: &str) -> Option<TraceLine>
 fn said_of(alloc: Global, text: &str) -> Result<Option<TraceLine>, AllocError>
     ensures said { IfOk result (λ found. IfSome found (SaysTrace text.now)) }
     ensures unsaid { result ≡ Ok None → (it : TraceLine) → ¬ SaysTrace text.now it }
-    ensures memory { IfErr result (λ e. MayHoldBytes text.now) }
+    ensures memory { IfErr result (λ e. HoldsBytes text.now) }
 {
     match pair_of(text) {
         Some((name, rest)) => said_with(alloc, name, rest),
@@ -116,7 +123,7 @@ fn said_of(alloc: Global, text: &str) -> Result<Option<TraceLine>, AllocError>
 pub fn trace_line_of(alloc: Global, bytes: &[u8]) -> Result<Option<TraceLine>, AllocError>
     ensures said { IfOk result (λ found. IfSome found (λ it. IsUtf8 bytes.now × SaysTrace bytes.now it)) }
     ensures unsaid { result ≡ Ok None → (it : TraceLine) → IsUtf8 bytes.now → ¬ SaysTrace bytes.now it }
-    ensures memory { IfErr result (λ e. MayHoldBytes bytes.now) }
+    ensures memory { IfErr result (λ e. IsUtf8 bytes.now × HoldsBytes bytes.now) }
 {
     match std::str::from_utf8(bytes) {
         Ok(text) => said_of(alloc, text),

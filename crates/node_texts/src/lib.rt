@@ -5,4 +5,4 @@ mod addr;
 mod peer;
 
 pub use addr::{AddrLines, addr_lines};
-pub use peer::{HashRefused, IdRefused, hash_hex, id_text, key_of};
+pub use peer::{HashRefused, IdRefused, are_pairs, hash_hex, id_text, key_of};

@@ -40,8 +40,8 @@ pub enum HashRefused {
 }
 
 /// Whether a text is pairs of hexadecimal digits. It takes no memory.
-fn are_pairs(hex: &str) -> bool
-    ensures { IsTrue result ↔ ((length hex.now % 2 ≡ 0) × AllPass is_ascii_hexdigit hex.now) }
+pub fn are_pairs(hex: &str) -> bool
+    ensures pairs { IsTrue result ↔ ((length hex.now % 2 ≡ 0) × AllPass is_ascii_hexdigit hex.now) }
 {
     hex.len() % 2 == 0 && hex.bytes().all(|byte| byte.is_ascii_hexdigit())
 }

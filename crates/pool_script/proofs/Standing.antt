@@ -81,7 +81,7 @@ leads_more script lines text rest leads clean =
 abbrev pub IsFirst : List ℕ → List ℕ → Option (Bor (List ℕ)) → Type 0
 IsFirst texts text more = HasNoFeed text × IfSome more (λ rest. texts ≡ text ++ 10 ∷ rest.now) × (more ≡ None → texts ≡ text)
 
-has_line : (script : List ℕ) (lines : List (List ℕ)) (texts text : List ℕ) (more : Option (Bor (List ℕ))) → LeadsLines script lines texts
+pub has_line : (script : List ℕ) (lines : List (List ℕ)) (texts text : List ℕ) (more : Option (Bor (List ℕ))) → LeadsLines script lines texts
     → IsFirst texts text more → HasLine script lines text
 has_line script lines texts text None leads first =
     (first.0, inl ((leads.0 ∙ ap (λ (t : List ℕ). ended lines ++ t) (first.2 refl), leads.1), first.0))

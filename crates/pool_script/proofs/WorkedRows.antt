@@ -1,7 +1,19 @@
 -- Worked rows of scripts.
-use Rattle.std.proofs.Common.{◌≡◌, ℕ, nat_lt, ◌==◌, Bool, true, not, List, [], ◌∷◌, refl, inl, inr, arith}
+use Rattle.std.proofs.Common.{◌≡◌, nat_lt, ◌==◌, Bool, true, not, List, [], ◌∷◌, refl, inl, inr, arith, ◌++◌, ℕ, length, ap, ◌∙◌}
+use Rattle.std.specs.Prelude.{slice_index}
+use Rattle.pool_state.specs.History.{Entry}
+use Rattle.pool_state.specs.Rows.{wide}
+use Rattle.pool_state.specs.Shown.{reply_after}
+use Rattle.pool_state.specs.declared.call.Call.{Call}
+use Rattle.pool_state.specs.declared.call.Reply.TheVariants as reply
+use Rattle.pool_state.specs.History.{entry}
+use Rattle.pool_texts.specs.declared.line.Line.{Line}
+use Rattle.pool_texts.specs.declared.line.Line.TheVariants as said
+use Rattle.pool_texts.specs.Lines.{Says}
+use Rattle.pool_texts.specs.Printed.{line, reply_text, row_text, counts_text}
+use Rattle.pool_script.specs.Played.{Plays, grown}
+use Rattle.pool_script.specs.Texts.{HasLine}
 use Rattle.std.specs.Prelude.{All, codes, IsUtf8}
-use Rattle.std.specs.Char.{is_ascii_digit}
 use Rattle.std.specs.Fmt.{digits}
 use Rattle.std.specs.List.{list_all}
 use Rattle.std.proofs.lemmas.Bool.Decides.{nat_tests}
@@ -10,8 +22,9 @@ use Rattle.std.proofs.lemmas.List.Sums.{AllPass-from_list_all}
 use Rattle.std.proofs.lemmas.Str.{IsUtf8-from_ascii}
 use Rattle.std.proofs.lemmas.Str.Ascii.{IsAscii-from_all}
 use Rattle.pool_state.specs.declared.call.Call.TheVariants as call
+use Rattle.pool_texts.proofs.Words.{number_is}
 use Rattle.pool_texts.specs.Lines.{IsNumber}
-use Rattle.pool_script.specs.Rows.{TextRows, PlayedRows}
+use Rattle.pool_script.specs.Rows.{TextRows, NothingRows, PlayedRows}
 use Rattle.pool_script.specs.Texts.{HasNoFeed}
 
 is_ascii : ℕ → Bool
@@ -38,7 +51,80 @@ all_two : (one other : List ℕ) → HasNoFeed one → HasNoFeed other → All H
 all_two one other h k = All-push HasNoFeed (one ∷ []) other (all_one one h) k
 
 two : IsNumber 32 (codes "2") 2
-two = ((omega arith, AllPass-from_list_all is_ascii_digit (codes "2") refl), refl, omega arith)
+two = number_is 32 (codes "2") 2 (omega arith) refl refl (omega arith)
+
+not_whole_line : HasLine (codes "list") [] (codes "lis") → ⊥
+not_whole_line (clean_text, inl are) = omega (arith, ap length are.0.0)
+not_whole_line (clean_text, inr (rest, leads)) = omega (arith, ap (λ (w : List ℕ). slice_index w 3) leads.0)
+
+not_first : HasLine (codes "list\nx") [] (codes "x") → ⊥
+not_first (clean_text, inl are) = omega (arith, ap length are.0.0)
+not_first (clean_text, inr (rest, leads)) = omega (arith, ap (λ (w : List ℕ). slice_index w 0) leads.0)
+
+no_name : (it : Line) → Says (codes "x") it → ⊥
+no_name said.List is = omega (arith, ap length is)
+no_name (said.Call made) (inl a) = omega (arith, ap length a.0)
+no_name (said.Call (call.Dial p)) (inr s) = omega (arith, ap (λ (w : List ℕ). slice_index w 0) s.1)
+no_name (said.Call made) (inr s) = omega (arith, ap (λ (w : List ℕ). slice_index w 0) s.1)
+
+no_text : (it : Line) → Says (255 ∷ []) it → ⊥
+no_text said.List is = omega (arith, ap length is)
+no_text (said.Call made) (inl a) = omega (arith, ap length a.0)
+no_text (said.Call (call.Dial p)) (inr s) = omega (arith, ap (λ (w : List ℕ). slice_index w 0) s.1)
+no_text (said.Call made) (inr s) = omega (arith, ap (λ (w : List ℕ). slice_index w 0) s.1)
+
+only_accept : (made : Call) → Says (codes "accept") (said.Call made) → made ≡ call.Accept
+only_accept made (inl a) = a.1
+only_accept call.Accept (inr s) = absurd s.2
+only_accept (call.Dial p) (inr s) = absurd (omega (arith, ap (λ (w : List ℕ). slice_index w 1) s.1))
+only_accept made (inr s) = absurd (omega (arith, ap (λ (w : List ℕ). slice_index w 1) s.1))
+
+no_list : (made : Call) → Says (codes "list") (said.Call made) → ⊥
+no_list made (inl a) = omega (arith, ap length a.0)
+no_list (call.Dial p) (inr s) = omega (arith, ap (λ (w : List ℕ). slice_index w 0) s.1)
+no_list made (inr s) = omega (arith, ap (λ (w : List ℕ). slice_index w 0) s.1)
+
+no_empty : (made : Call) → Says [] (said.Call made) → ⊥
+no_empty made (inl a) = omega (arith, ap length a.0)
+no_empty (call.Dial p) (inr s) = omega (arith, ap length s.1)
+no_empty made (inr s) = omega (arith, ap length s.1)
+
+called : (printed : List ℕ) (after : List Entry) → Plays wide [] (codes "accept" ∷ []) printed after
+    → (printed ≡ codes "conn 1\n") × (after ≡ entry 0 call.Accept (reply.Conn 1) ∷ [])
+unfolding digits
+called printed after (first, rest, middle, inl empty, ends, joined) = absurd (omega (arith, ap length empty.0))
+called printed after (first, rest, middle, inr (inl (made, utf, says, out, grows)), ends, joined) =
+    let is = only_accept made says in
+    let one : first ≡ codes "conn 1\n" = out ∙ ap (λ (c : Call). line [] (reply_text (reply_after wide [] c))) is in
+    (joined ∙ ap (λ (t : List ℕ). first ++ t) ends.0 ∙ ap (λ (t : List ℕ). t ++ []) one, ends.1 ∙ grows ∙ ap (λ (c : Call). grown wide [] c) is)
+called printed after (first, rest, middle, inr (inr wish), ends, joined) = absurd (omega (arith, ap length wish.1))
+
+listed_only : (printed : List ℕ) (after : List Entry) → Plays wide [] (codes "list" ∷ []) printed after
+    → (printed ≡ codes "front 0\nend\n") × (after ≡ [])
+unfolding digits
+listed_only printed after (first, rest, middle, inl empty, ends, joined) = absurd (omega (arith, ap length empty.0))
+listed_only printed after (first, rest, middle, inr (inl (made, utf, says, out, grows)), ends, joined) = absurd (no_list made says)
+listed_only printed after (first, rest, middle, inr (inr wish), ends, joined) =
+    (joined ∙ ap (λ (t : List ℕ). first ++ t) ends.0 ∙ ap (λ (t : List ℕ). t ++ []) wish.2, ends.1 ∙ wish.3)
+
+empty_only : (printed : List ℕ) (after : List Entry) → Plays wide [] ([] ∷ []) printed after
+    → (printed ≡ []) × (after ≡ [])
+empty_only printed after (first, rest, middle, inl empty, ends, joined) =
+    (joined ∙ ap (λ (t : List ℕ). first ++ t) ends.0 ∙ ap (λ (t : List ℕ). t ++ []) empty.1, ends.1 ∙ empty.2)
+empty_only printed after (first, rest, middle, inr (inl (made, utf, says, out, grows)), ends, joined) = absurd (no_empty made says)
+empty_only printed after (first, rest, middle, inr (inr wish), ends, joined) = absurd (omega (arith, ap length wish.1))
+
+one : IsNumber 32 (codes "1") 1
+one = number_is 32 (codes "1") 1 (omega arith) refl refl (omega arith)
+
+pub nothing_rows : NothingRows
+unfolding is_ascii
+nothing_rows = record {
+  no_name = (omega arith, λ utf it. no_name it);
+  no_text = (omega arith, λ utf it. no_text it);
+  list = λ is. is.1 (utf8 (codes "list") refl) said.List refl;
+  empty = λ is. omega (arith, is.0);
+}
 
 pub text_rows : TextRows
 unfolding is_clean
@@ -48,10 +134,19 @@ text_rows = record {
   empty = ((refl, all_none), clean [] refl);
   second = (clean (codes "x") refl, inr (codes "accept", (refl, all_one (codes "list") (clean (codes "list") refl))));
   not_across = λ it. it.1 4 (omega arith) refl;
+  returned = ((refl, all_one (13 ∷ []) (clean (13 ∷ []) refl)), clean [] refl);
+  feed_at_the_end = λ it. it.1 4 (omega arith) refl;
+  feed_in_front = λ it. it.1 0 (omega arith) refl;
+  not_joined = λ it. it.0.1 0 [] (omega arith) 4 (omega arith) refl;
+  not_left_out = λ it. omega (arith, ap length it.0.0);
+  last_line = (clean (codes "x") refl, inl ((refl, all_one (codes "list") (clean (codes "list") refl)), clean (codes "x") refl));
+  no_line_across = λ it. it.0 4 (omega arith) refl;
+  not_the_first = not_first;
+  not_whole = not_whole_line;
 }
 
 pub played_rows : PlayedRows
-unfolding digits is_ascii
+unfolding digits is_ascii row_text counts_text
 played_rows = record {
   played = (
     codes "conn 1\n",
@@ -69,5 +164,23 @@ played_rows = record {
     refl,
   );
   spent = (codes "refused 1 Spent\n", [], _, inr (inl (call.Accept, utf8 (codes "accept") refl, inl (refl, refl), refl, refl)), (refl, refl), refl);
+  listed_behind = (
+    codes "conn 1\n",
+    codes "front 1\nconn 1 listener pending - 0/0 0/0 0/0\nend\nok\n",
+    _,
+    inr (inl (call.Accept, utf8 (codes "accept") refl, inl (refl, refl), refl, refl)),
+    (
+      codes "front 1\nconn 1 listener pending - 0/0 0/0 0/0\nend\n",
+      codes "ok\n",
+      _,
+      inr (inr (utf8 (codes "list") refl, refl, refl, refl)),
+      (codes "ok\n", [], _, inr (inl (call.Gone 1, utf8 (codes "gone 1") refl, inr (codes "1", refl, one), refl, refl)), (refl, refl), refl),
+      refl,
+    ),
+    refl,
+  );
+  called_alone = called;
+  listed_alone = listed_only;
+  empty_alone = empty_only;
   listed = (codes "front 0\nend\n", [], _, inr (inr (utf8 (codes "list") refl, refl, refl, refl)), (refl, refl), refl);
 }

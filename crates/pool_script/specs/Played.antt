@@ -37,6 +37,10 @@ Plays config history [] printed after = (printed ≡ []) × (after ≡ history)
 Plays config history (text ∷ texts) printed after = (first : List ℕ) × (rest : List ℕ) × (middle : List Entry)
     × PlaysLine config history text first middle × Plays config middle texts rest after × (printed ≡ first ++ rest)
 
+-- A line for which something is printed.
+abbrev pub SaysSomething : List ℕ → Type 0
+SaysSomething text = IsUtf8 text × (it : Line) × Says text it
+
 -- A line that can't be played: it isn't empty, and says nothing, or isn't UTF-8.
 abbrev pub SaysNothing : List ℕ → Type 0
 SaysNothing text = (0 < length text) × (IsUtf8 text → (it : Line) → ¬ Says text it)

@@ -1,13 +1,13 @@
 //! The playing of a script.
 
 ghost use Rattle.std.specs.Prelude.{◌≡◌, ◌+◌, ◌-◌, ◌^◌, ℕ, min, List, [], ◌∷◌, ◌++◌, length, Ok, Err, true, false};
-ghost use Rattle.std.specs.Prelude.{OnOk};
+ghost use Rattle.std.specs.Prelude.{OnOk, IfErr};
 ghost use Rattle.std.specs.Io.KnownBytes.{Appends};
 ghost use Rattle.pool_state.specs.At.{Stands};
 ghost use Rattle.pool_state.specs.History.{Entry};
 ghost use Rattle.pool_state.specs.declared.limits.Config.{Config};
 ghost use Rattle.pool_script.specs.declared.playing.Stopped.TheVariants as stopped;
-ghost use Rattle.pool_script.specs.Played.{PlaysLine, Plays, SaysNothing};
+ghost use Rattle.pool_script.specs.Played.{PlaysLine, Plays, SaysNothing, SaysSomething};
 ghost use Rattle.pool_script.specs.Texts.{AreLines, HasLine};
 
 use crate::text::first_line;
@@ -31,6 +31,7 @@ fn play_line<O: Write>(pool: &mut Pool, text: &[u8], output: &mut O) -> io::Resu
         → (printed : List ℕ) × (after : List Entry) × PlaysLine config history text.now printed after
         × Appends (O.contents output.old) (O.contents output.new) printed × Stands config after pool.new }
     ensures refused { result ≡ Ok false → SaysNothing text.now × (O.contents output.new ≡ O.contents output.old) }
+    ensures failed { IfErr result (λ e. SaysSomething text.now) }
 {
     if text.is_empty() {
         return Ok(true);
@@ -53,6 +54,9 @@ pub fn play<O: Write>(config: Config, script: &[u8], output: &mut O) -> Result<(
         × (printed : List ℕ) × (after : List Entry) × HasLine script.now lines bad × SaysNothing bad
         × Plays config [] lines printed after × Appends (O.contents output.old) (O.contents output.new) printed
         × (number ≡ min (length lines + 1) (2 ^ 64 - 1)) }
+    ensures unwritten { result ≡ Err stopped.Unwritten → (lines : List (List ℕ)) × (wanted : List ℕ)
+        × (printed : List ℕ) × (after : List Entry) × HasLine script.now lines wanted × SaysSomething wanted
+        × Plays config [] lines printed after }
 {
     let mut pool = Pool::new(config);
     let mut number = 0_u64;

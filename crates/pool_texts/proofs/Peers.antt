@@ -14,7 +14,7 @@ use Rattle.peer_ids.specs.PeerId.{id_of}
 use Rattle.peer_ids.specs.ReadsText.{ReadsId}
 use Rattle.pool_texts.specs.Lines.{IsPeer}
 
-apart : (c d : ℕ) (xs ys : List ℕ) → c ≢ d → c ∷ xs ≡ d ∷ ys → ⊥
+pub apart : (c d : ℕ) (xs ys : List ℕ) → c ≢ d → c ∷ xs ≡ d ∷ ys → ⊥
 apart c d xs ys other is = other (ap (λ (word : List ℕ). slice_index word 0) is)
 
 pub no_dash : (peer : List ℕ) → IsPeer (codes "-") peer → ⊥

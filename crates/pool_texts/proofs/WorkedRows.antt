@@ -1,24 +1,24 @@
 -- Worked rows of lines, replies and listings.
-use Rattle.std.proofs.Common.{◌≡◌, ℕ, ◌<◌, ◌≤◌, ◌^◌, true, List, [], ◌∷◌, length, Ok, refl, inl, inr, arith, rules}
+use Rattle.std.proofs.Common.{◌≡◌, ℕ, ◌≤◌, true, List, [], ◌∷◌, length, Ok, refl, inl, inr, arith, rules}
 use Rattle.std.specs.Prelude.{codes}
-use Rattle.std.specs.Char.{is_ascii_digit}
 use Rattle.std.specs.Fmt.{digits}
-use Rattle.std.specs.List.{list_all}
-use Rattle.std.specs.Str.Parse.{digits_value}
 use Rattle.std.proofs.lemmas.List.Elements.{All-from_recursion}
-use Rattle.std.proofs.lemmas.List.Sums.{AllPass-from_list_all}
 use Rattle.hex.specs.Hex.{decode_pairs}
-use Rattle.pool_texts.specs.Lines.{IsDigits, IsNumber, IsPeer, IsStream, IsSettled, IsNoted}
+use Rattle.pool_texts.specs.Lines.{IsPeer, IsStream, IsSettled, IsNoted}
 use Rattle.pool_texts.specs.Printed.{counts_text, row_text}
-use Rattle.pool_texts.specs.Rows.{peer_0a, SaidRows, UnsaidRows, PrintedRows}
-use Rattle.pool_texts.proofs.Peers.{no_dash}
-
-digits_are : (word : List ℕ) → 0 < length word → list_all is_ascii_digit word ≡ true → IsDigits word
-digits_are word some all = (some, AllPass-from_list_all is_ascii_digit word all)
-
-number_is : (bits : ℕ) (word : List ℕ) (number : ℕ) → 0 < length word → list_all is_ascii_digit word ≡ true
-    → digits_value 10 word ≡ number → number < 2 ^ bits → IsNumber bits word number
-number_is bits word number some all is small = (digits_are word some all, is, small)
+use Rattle.pool_texts.specs.Rows.{peer_0a, peer_ff, SaidRows, UnsaidRows, PrintedRows}
+use Rattle.pool_texts.proofs.Words.{number_is}
+use Rattle.pool_texts.proofs.Peers.{no_dash, apart}
+use Rattle.pool_texts.proofs.Lines.{said_of_one, no_pair, is_whole}
+use Rattle.std.proofs.Common.{◌++◌, drop, Some, ap, ◌∙◌}
+use Rattle.std.specs.Prelude.{slice_index, replicate}
+use Rattle.pool_state.specs.declared.call.Call.TheVariants as call
+use Rattle.pool_texts.specs.declared.line.Line.{Line}
+use Rattle.pool_texts.specs.declared.line.Line.TheVariants as line
+use Rattle.pool_texts.specs.Lines.{Says}
+use Rattle.peer_ids.specs.ReadsText.{ReadsId}
+use Rattle.hex.specs.Hex.{decode_sized}
+use Rattle.peer_ids.specs.Base32.{bits_of, in_fives}
 
 peer_is : (word digits : List ℕ) → word ≡ 64 ∷ digits → decode_pairs 0 digits ≡ Ok (10 ∷ []) → length digits ≡ 2 → IsPeer word peer_0a
 unfolding IsPeer
@@ -32,6 +32,37 @@ upper : IsPeer (codes "@0A") peer_0a
 unfolding decode_pairs
 upper = peer_is (codes "@0A") (codes "0A") refl refl refl
 
+largest : IsPeer (codes "@fF") peer_ff
+unfolding IsPeer decode_pairs
+largest = inr (codes "fF", 255, refl, refl, refl)
+
+by_its_text : (word id : List ℕ) → ReadsId word (Ok id) → Says (codes "dial " ++ word) (line.Call (call.Dial (Some id)))
+unfolding IsPeer
+by_its_text word id is = inr (word, refl, inl is)
+
+no_decoded : (digits other : List ℕ) (byte : ℕ) → 64 ∷ digits ≡ 64 ∷ other → decode_sized other 1 ≡ Ok (byte ∷ []) → decode_sized digits 1 ≡ Ok (byte ∷ [])
+no_decoded digits other byte is decoded = ap (λ (w : List ℕ). decode_sized (drop 1 w) 1) is ∙ decoded
+
+not_at : (digits peer : List ℕ) → ((byte : ℕ) → decode_sized digits 1 ≡ Ok (byte ∷ []) → ⊥) → IsPeer (64 ∷ digits) peer → ⊥
+unfolding IsPeer
+not_at digits peer not (inl text) = apart 64 98 digits text.0.0 (omega arith) text.0.2
+not_at digits peer not (inr key) = not key.1 (no_decoded digits key.0 key.1 key.2 key.3)
+
+unsigned : (peer : List ℕ) → IsPeer (codes "0a") peer → ⊥
+unfolding IsPeer
+unsigned peer (inl text) = apart 48 98 (codes "a") text.0.0 (omega arith) text.0.2
+unsigned peer (inr key) = apart 48 64 (codes "a") key.0 (omega arith) key.2
+
+not_one : (text : List ℕ) → is_whole text ≡ true → (text ≡ codes "accept" → ⊥) → (text ≡ codes "list" → ⊥) → (it : Line) → Says text it → ⊥
+not_one text whole a l it is = said_of_one text it (λ f s pair spaced. no_pair text f s whole pair) a l is
+
+accept_space : (it : Line) → Says (codes "accept ") it → ⊥
+accept_space line.List is = cc is
+accept_space (line.Call other) (inl a) = cc (a.0)
+accept_space (line.Call call.Accept) (inr s) = s.2
+accept_space (line.Call (call.Dial p)) (inr s) = omega (arith, ap (λ (w : List ℕ). slice_index w 1) s.1)
+accept_space (line.Call other) (inr s) = omega (arith, ap (λ (w : List ℕ). slice_index w 1) s.1)
+
 pub said_rows : SaidRows
 unfolding IsStream IsSettled IsNoted
 said_rows = record {
@@ -44,6 +75,28 @@ said_rows = record {
   done = inr (codes "1 255", refl, (codes "1", codes "255", refl, number_is 32 (codes "1") 1 (omega arith) refl refl (omega arith), number_is 8 (codes "255") 255 (omega arith) refl refl (omega arith)));
   hang_up = inr (codes "@0a", refl, lower);
   gone = inr (codes "4294967295", refl, number_is 32 (codes "4294967295") 4294967295 (omega arith) refl refl (omega arith));
+  block = inr (codes "@0a", refl, lower);
+  unblock = inr (codes "@0a", refl, lower);
+  allow = inr (codes "@0a", refl, lower);
+  disallow = inr (codes "@0a", refl, lower);
+  by_text = by_its_text;
+  largest_key = inr (codes "@fF", refl, largest);
+  last_settled = inr (codes "4294967295 @0a", refl, (codes "4294967295", codes "@0a", refl, number_is 32 (codes "4294967295") 4294967295 (omega arith) refl refl (omega arith), lower));
+  last_asked = inr (codes "4294967295 0", refl, (codes "4294967295", codes "0", refl, number_is 32 (codes "4294967295") 4294967295 (omega arith) refl refl (omega arith), number_is 8 (codes "0") 0 (omega arith) refl refl (omega arith)));
+  last_noted = inr (
+    codes "4294967295 " ++ replicate 64 126,
+    refl,
+    (
+      codes "4294967295",
+      refl,
+      number_is 32 (codes "4294967295") 4294967295 (omega arith) refl refl (omega arith),
+      record {
+        some = omega arith;
+        few = omega arith;
+        printable = All-from_recursion (λ (byte : ℕ). (32 ≤ byte) × (byte ≤ 126)) (replicate 64 126) (search (rules, arith));
+      },
+    ),
+  );
   note = inr (
     codes "1 a b",
     refl,
@@ -61,6 +114,7 @@ said_rows = record {
 }
 
 pub unsaid_rows : UnsaidRows
+unfolding is_whole decode_pairs
 unsaid_rows = record {
   no_digits = λ is. omega (arith, is.0);
   a_sign = λ is. cc (is.1 0 0 (omega arith));
@@ -68,8 +122,17 @@ unsaid_rows = record {
   too_large = λ number is. omega (arith, is.1, is.2);
   too_large_index = λ number is. omega (arith, is.1, is.2);
   no_peer = no_dash;
+  a_letter = λ is. cc (is.1 1 0 (omega arith));
+  no_key = λ peer is. not_at [] peer (λ byte it. cc it) is;
+  half_a_key = λ peer is. not_at (codes "0") peer (λ byte it. cc it) is;
+  two_keys = λ peer is. not_at (codes "0a0a") peer (λ byte it. cc it) is;
+  without_sign = unsigned;
+  nothing = λ it is. not_one [] refl (λ e. cc e) (λ e. cc e) it is;
+  dial_alone = λ it is. not_one (codes "dial") refl (λ e. omega (arith, ap (λ (w : List ℕ). slice_index w 0) e)) (λ e. omega (arith, ap (λ (w : List ℕ). slice_index w 0) e)) it is;
+  listed = λ it is. not_one (codes "lists") refl (λ e. cc e) (λ e. cc e) it is;
+  accepted_and_space = accept_space;
 }
 
 pub printed_rows : PrintedRows
-unfolding digits row_text counts_text
-printed_rows = record { conn = refl; done = refl; count = refl; refused = refl; pending = refl; closing = refl; live = refl; empty = refl }
+unfolding digits row_text counts_text bits_of in_fives
+printed_rows = record { names = refl; many = refl; last = refl; counts = refl; of_a_peer = refl; full = refl; conn = refl; done = refl; count = refl; refused = refl; pending = refl; closing = refl; live = refl; empty = refl }
