@@ -4,7 +4,7 @@ use multiaddr::AddrFault;
 use node_peer::{PeerEnding, PlaceFault};
 use node_run::RunEnding;
 use node_texts::{HashRefused, IdRefused};
-use pool_script::Stopped;
+use script_lines::Stopped;
 use std::io;
 use thiserror::Error;
 

@@ -1,11 +1,9 @@
 -- Where the playing of a script stands behind some of its lines.
 use Rattle.std.proofs.Common.{◌≡◌, ◌≢◌, ◌⊎◌, ℕ, ◌+◌, ◌-◌, ◌^◌, true, false, List, [], ◌∷◌, ◌++◌, length, Option, None, Some, Bor, refl, sym, ap, ◌∙◌, append-nil, append_assoc, arith, inl, inr, subst}
-use Rattle.std.specs.Prelude.{IfSome, min}
+use Rattle.std.specs.Prelude.{min}
 use Rattle.std.specs.Io.KnownBytes.{Appends}
 use Rattle.std.proofs.KnownBytes.{Appends-nil, Appends-trans}
 use Rattle.std.proofs.lemmas.List.{length-append}
-use Rattle.std.proofs.lemmas.List.Concat.{flat_map-append}
-use Rattle.std.proofs.lemmas.List.Elements.{All-push}
 use Rattle.pool_state.specs.At.{Stands}
 use Rattle.pool_state.specs.History.{Entry, entry}
 use Rattle.pool_state.specs.Shown.{reply_after}
@@ -16,12 +14,8 @@ use Rattle.pool_state.specs.declared.call.Reply.TheVariants as reply
 use Rattle.pool_state.specs.declared.limits.Config.{Config}
 use Rattle.pool_state.specs.declared.pool.Pool.{Pool}
 use Rattle.pool_script.specs.Played.{is_spent, grown, PlaysLine, Plays, SaysNothing}
-use Rattle.pool_script.specs.Texts.{HasNoFeed, ended, LeadsLines, AreLines, HasLine}
-
--- what is left of a script behind these lines
-abbrev pub Left : List ℕ → List (List ℕ) → Option (Bor (List ℕ)) → Type 0
-Left script lines None = (front : List (List ℕ)) × (last : List ℕ) × (lines ≡ front ++ last ∷ []) × AreLines script front last
-Left script lines (Some rest) = LeadsLines script lines rest.now
+use Rattle.script_lines.specs.Texts.{AreLines, HasLine}
+use Rattle.script_lines.proofs.Lefts.{Left, IsFirst, has_line, left_more, left_at_first}
 
 pub record Standing (config : Config) (script : List ℕ) (rest : Option (Bor (List ℕ))) (pool : Pool) (old new : Option (List ℕ)) (number : ℕ)
     : Type 0 where
@@ -70,38 +64,13 @@ plays_more config history (first_text ∷ lines) printed middle plays text one a
   ap (λ (t : List ℕ). t ++ one) plays.5 ∙ append_assoc plays.0 plays.1 one,
 )
 
--- a line more is in front
-leads_more : (script : List ℕ) (lines : List (List ℕ)) (text rest : List ℕ) → LeadsLines script lines (text ++ 10 ∷ rest) → HasNoFeed text
-    → LeadsLines script (lines ++ text ∷ []) rest
-leads_more script lines text rest leads clean =
-    let joined : ended (lines ++ text ∷ []) ++ rest ≡ ended lines ++ (text ++ 10 ∷ rest) = simp (flat_map-append, append_assoc) in
-    (leads.0 ∙ sym joined, All-push HasNoFeed lines text leads.1 clean)
-
--- The first line of what is left, and what is left behind it.
-abbrev pub IsFirst : List ℕ → List ℕ → Option (Bor (List ℕ)) → Type 0
-IsFirst texts text more = HasNoFeed text × IfSome more (λ rest. texts ≡ text ++ 10 ∷ rest.now) × (more ≡ None → texts ≡ text)
-
-pub has_line : (script : List ℕ) (lines : List (List ℕ)) (texts text : List ℕ) (more : Option (Bor (List ℕ))) → LeadsLines script lines texts
-    → IsFirst texts text more → HasLine script lines text
-has_line script lines texts text None leads first =
-    (first.0, inl ((leads.0 ∙ ap (λ (t : List ℕ). ended lines ++ t) (first.2 refl), leads.1), first.0))
-has_line script lines texts text (Some rest) leads first =
-    (first.0, inr (rest.now, (leads.0 ∙ ap (λ (t : List ℕ). ended lines ++ t) first.1, leads.1)))
-
-left_more : (script : List ℕ) (lines : List (List ℕ)) (texts text : List ℕ) (more : Option (Bor (List ℕ))) → LeadsLines script lines texts
-    → IsFirst texts text more → Left script (lines ++ text ∷ []) more
-left_more script lines texts text None leads first =
-    (lines, text, refl, ((leads.0 ∙ ap (λ (t : List ℕ). ended lines ++ t) (first.2 refl), leads.1), first.0))
-left_more script lines texts text (Some rest) leads first =
-    leads_more script lines text rest.now (leads.0 ∙ ap (λ (t : List ℕ). ended lines ++ t) first.1, leads.1) first.0
-
 pub starts : (config : Config) (script : Bor (List ℕ)) (pool : Pool) (held : Option (List ℕ)) → Stands config [] pool
     → Standing config script.now (Some script) pool held held 0
 starts config script pool held stands = record {
   lines = [];
   printed = [];
   after = [];
-  left = (refl, λ place d inside. absurd (omega (arith, inside)));
+  left = left_at_first script.now;
   plays = (refl, refl);
   appends = Appends-nil held;
   stands = stands;
@@ -159,8 +128,3 @@ stops config script texts pool old between new number at text more first same sa
 pub nothing : (text : List ℕ) → length text ≡ 0 → text ≡ []
 nothing [] none = refl
 nothing (b ∷ text) none = absurd (omega (arith, none))
-
--- how much is left
-abbrev pub left_len : Option (Bor (List ℕ)) → ℕ
-left_len None = 0
-left_len (Some rest) = 1 + length rest.now

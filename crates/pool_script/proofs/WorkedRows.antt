@@ -1,5 +1,5 @@
 -- Worked rows of scripts.
-use Rattle.std.proofs.Common.{◌≡◌, nat_lt, ◌==◌, Bool, true, not, List, [], ◌∷◌, refl, inl, inr, arith, ◌++◌, ℕ, length, ap, ◌∙◌}
+use Rattle.std.proofs.Common.{◌≡◌, nat_lt, Bool, true, List, [], ◌∷◌, refl, inl, inr, arith, ◌++◌, ℕ, length, ap, ◌∙◌}
 use Rattle.std.specs.Prelude.{slice_index}
 use Rattle.pool_state.specs.History.{Entry}
 use Rattle.pool_state.specs.Rows.{wide}
@@ -12,20 +12,17 @@ use Rattle.pool_texts.specs.declared.line.Line.TheVariants as said
 use Rattle.pool_texts.specs.Lines.{Says}
 use Rattle.pool_texts.specs.Printed.{line, reply_text, row_text, counts_text}
 use Rattle.pool_script.specs.Played.{Plays, grown}
-use Rattle.pool_script.specs.Texts.{HasLine}
-use Rattle.std.specs.Prelude.{All, codes, IsUtf8}
+use Rattle.std.specs.Prelude.{codes, IsUtf8}
 use Rattle.std.specs.Fmt.{digits}
 use Rattle.std.specs.List.{list_all}
 use Rattle.std.proofs.lemmas.Bool.Decides.{nat_tests}
-use Rattle.std.proofs.lemmas.List.Elements.{All-push}
 use Rattle.std.proofs.lemmas.List.Sums.{AllPass-from_list_all}
 use Rattle.std.proofs.lemmas.Str.{IsUtf8-from_ascii}
 use Rattle.std.proofs.lemmas.Str.Ascii.{IsAscii-from_all}
 use Rattle.pool_state.specs.declared.call.Call.TheVariants as call
 use Rattle.pool_texts.proofs.Words.{number_is}
 use Rattle.pool_texts.specs.Lines.{IsNumber}
-use Rattle.pool_script.specs.Rows.{TextRows, NothingRows, PlayedRows}
-use Rattle.pool_script.specs.Texts.{HasNoFeed}
+use Rattle.pool_script.specs.Rows.{NothingRows, PlayedRows}
 
 is_ascii : ℕ → Bool
 is_ascii c = nat_lt c 128
@@ -34,32 +31,8 @@ utf8 : (text : List ℕ) → list_all is_ascii text ≡ true → IsUtf8 text
 unfolding is_ascii
 utf8 text all = IsUtf8-from_ascii text (IsAscii-from_all text (λ place d inside. grind (arith, nat_tests, AllPass-from_list_all is_ascii text all place d inside)))
 
-is_clean : ℕ → Bool
-is_clean c = not (c == 10)
-
-clean : (text : List ℕ) → list_all is_clean text ≡ true → HasNoFeed text
-unfolding is_clean
-clean text all place inside = grind (arith, nat_tests, AllPass-from_list_all is_clean text all place 0 inside)
-
-all_none : All HasNoFeed []
-all_none place d inside = absurd (omega (arith, inside))
-
-all_one : (text : List ℕ) → HasNoFeed text → All HasNoFeed (text ∷ [])
-all_one text h = All-push HasNoFeed [] text all_none h
-
-all_two : (one other : List ℕ) → HasNoFeed one → HasNoFeed other → All HasNoFeed (one ∷ other ∷ [])
-all_two one other h k = All-push HasNoFeed (one ∷ []) other (all_one one h) k
-
 two : IsNumber 32 (codes "2") 2
 two = number_is 32 (codes "2") 2 (omega arith) refl refl (omega arith)
-
-not_whole_line : HasLine (codes "list") [] (codes "lis") → ⊥
-not_whole_line (clean_text, inl are) = omega (arith, ap length are.0.0)
-not_whole_line (clean_text, inr (rest, leads)) = omega (arith, ap (λ (w : List ℕ). slice_index w 3) leads.0)
-
-not_first : HasLine (codes "list\nx") [] (codes "x") → ⊥
-not_first (clean_text, inl are) = omega (arith, ap length are.0.0)
-not_first (clean_text, inr (rest, leads)) = omega (arith, ap (λ (w : List ℕ). slice_index w 0) leads.0)
 
 no_name : (it : Line) → Says (codes "x") it → ⊥
 no_name said.List is = omega (arith, ap length is)
@@ -124,25 +97,6 @@ nothing_rows = record {
   no_text = (omega arith, λ utf it. no_text it);
   list = λ is. is.1 (utf8 (codes "list") refl) said.List refl;
   empty = λ is. omega (arith, is.0);
-}
-
-pub text_rows : TextRows
-unfolding is_clean
-text_rows = record {
-  ended = ((refl, all_one (codes "list") (clean (codes "list") refl)), clean [] refl);
-  not_ended = ((refl, all_two (codes "list") [] (clean (codes "list") refl) (clean [] refl)), clean (codes "accept") refl);
-  empty = ((refl, all_none), clean [] refl);
-  second = (clean (codes "x") refl, inr (codes "accept", (refl, all_one (codes "list") (clean (codes "list") refl))));
-  not_across = λ it. it.1 4 (omega arith) refl;
-  returned = ((refl, all_one (13 ∷ []) (clean (13 ∷ []) refl)), clean [] refl);
-  feed_at_the_end = λ it. it.1 4 (omega arith) refl;
-  feed_in_front = λ it. it.1 0 (omega arith) refl;
-  not_joined = λ it. it.0.1 0 [] (omega arith) 4 (omega arith) refl;
-  not_left_out = λ it. omega (arith, ap length it.0.0);
-  last_line = (clean (codes "x") refl, inl ((refl, all_one (codes "list") (clean (codes "list") refl)), clean (codes "x") refl));
-  no_line_across = λ it. it.0 4 (omega arith) refl;
-  not_the_first = not_first;
-  not_whole = not_whole_line;
 }
 
 pub played_rows : PlayedRows

@@ -8,24 +8,6 @@ use Rattle.pool_state.specs.declared.call.Reply.TheVariants as reply
 use Rattle.pool_state.specs.History.{entry}
 use Rattle.pool_state.specs.Rows.{wide, ending}
 use Rattle.pool_script.specs.Played.{Plays, SaysNothing}
-use Rattle.pool_script.specs.Texts.{AreLines, HasLine}
-
--- lines with and without a line feed behind the last
-pub record TextRows : Type 0 where
-  pub ended : AreLines (codes "list\n") (codes "list" ∷ []) []
-  pub not_ended : AreLines (codes "list\n\naccept") (codes "list" ∷ [] ∷ []) (codes "accept")
-  pub empty : AreLines [] [] []
-  pub second : HasLine (codes "list\nx\naccept") (codes "list" ∷ []) (codes "x")
-  pub not_across : ¬ AreLines (codes "list\naccept") [] (codes "list\naccept")
-  pub returned : AreLines (13 ∷ 10 ∷ []) ((13 ∷ []) ∷ []) []
-  pub feed_at_the_end : ¬ AreLines (codes "list\n") [] (codes "list\n")
-  pub feed_in_front : ¬ AreLines (codes "\nlist") [] (codes "\nlist")
-  pub not_joined : ¬ AreLines (codes "list\naccept\n") (codes "list\naccept" ∷ []) []
-  pub not_left_out : ¬ AreLines (codes "list") [] []
-  pub last_line : HasLine (codes "list\nx") (codes "list" ∷ []) (codes "x")
-  pub no_line_across : ¬ HasLine (codes "list\nx\ny") [] (codes "list\nx")
-  pub not_the_first : ¬ HasLine (codes "list\nx") [] (codes "x")
-  pub not_whole : ¬ HasLine (codes "list") [] (codes "lis")
 
 -- what says nothing, and what says something or is empty
 pub record NothingRows : Type 0 where

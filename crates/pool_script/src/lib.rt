@@ -3,6 +3,5 @@
 
 pub mod laws;
 mod playing;
-mod text;
 
-pub use playing::{Stopped, play};
+pub use playing::play;

@@ -6,24 +6,15 @@ ghost use Rattle.std.specs.Io.KnownBytes.{Appends};
 ghost use Rattle.pool_state.specs.At.{Stands};
 ghost use Rattle.pool_state.specs.History.{Entry};
 ghost use Rattle.pool_state.specs.declared.limits.Config.{Config};
-ghost use Rattle.pool_script.specs.declared.playing.Stopped.TheVariants as stopped;
+ghost use Rattle.script_lines.specs.declared.stopped.Stopped.TheVariants as stopped;
 ghost use Rattle.pool_script.specs.Played.{PlaysLine, Plays, SaysNothing, SaysSomething};
-ghost use Rattle.pool_script.specs.Texts.{AreLines, HasLine};
+ghost use Rattle.script_lines.specs.Texts.{AreLines, HasLine};
 
-use crate::text::first_line;
 use pool_state::{Config, Pool};
 use pool_texts::{Line, line_of, print_listing, print_reply};
+use script_lines::{Stopped, first_line};
 use std::io;
 use std::io::Write;
-
-/// Why the playing of a script stopped.
-#[derive(Clone, Copy, Debug, PartialEq, Eq)]
-pub enum Stopped {
-    /// The line of this number, from 1 on, says nothing.
-    Line(u64),
-    /// A write failed.
-    Unwritten,
-}
 
 /// Plays one line, which is empty or says something; `false` where it isn't and doesn't, and then nothing is done.
 fn play_line<O: Write>(pool: &mut Pool, text: &[u8], output: &mut O) -> io::Result<bool>

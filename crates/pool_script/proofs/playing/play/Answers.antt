@@ -1,5 +1,6 @@
 use Rattle.std.proofs.Common.{◌≡◌, Ok, ap, sym, ◌∙◌}
-use Rattle.pool_script.proofs.Standing.{starts, goes_on, has_line, stops}
+use Rattle.pool_script.proofs.Standing.{starts, goes_on, stops}
+use Rattle.script_lines.proofs.Lefts.{has_line}
 use Rattle.pool_script.proofs.playing.play.Goals as goal
 
 pub loop-rest-init : goal.loop-rest-init

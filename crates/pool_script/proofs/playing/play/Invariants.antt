@@ -1,4 +1,5 @@
-use Rattle.pool_script.proofs.Standing.{Standing, left_len}
+use Rattle.pool_script.proofs.Standing.{Standing}
+use Rattle.script_lines.proofs.Lefts.{left_len}
 use Rattle.pool_script.proofs.playing.play.Given as goal
 
 abbrev pub invariant-loop-rest : goal.invariant-loop-rest

@@ -1,5 +1,5 @@
 -- The lines of a script: what stands between its line feeds.
--- Source: this project's profile, the input of `node replay`.
+-- Source: this project's profile, the input of `node replay` and of `node trace`.
 use Rattle.std.specs.Prelude.{◌≡◌, ◌≢◌, ◌⊎◌, ℕ, ◌<◌, List, [], ◌∷◌, ◌++◌, length, slice_index, flat_map, All}
 
 abbrev pub HasNoFeed : List ℕ → Type 0

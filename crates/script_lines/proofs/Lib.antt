@@ -1,0 +1,2 @@
+pub mod Lefts
+mod WorkedRows

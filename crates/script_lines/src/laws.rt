@@ -1,0 +1,8 @@
+//! What the definitions say of worked scripts: a function with an empty body, whose contract is the rows.
+
+ghost use Rattle.script_lines.specs.Rows.{TextRows};
+
+/// Worked scripts have the lines that they have.
+pub fn worked_rows()
+    ensures texts { TextRows }
+{}
