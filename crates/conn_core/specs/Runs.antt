@@ -185,6 +185,11 @@ module _ {P H : Type 0} (step : H → HandlerCall → H → Type 0) (fails : H �
       (next : Point H) × Answers point call answer next × AnswersAll next calls answers last
   AnswersAll point calls answers last = ⊥
 
+  -- all that was written until there is this
+  abbrev pub HasWritten : Point H → List ℕ → Type 0
+  HasWritten (At input ended asked told owed) written = Explains input ended asked told owed written
+  HasWritten (Spent before) written = written ≡ before
+
   -- ---- a whole run
 
   -- the handlers that are held there, in the order in which they were made
@@ -208,9 +213,10 @@ module _ {P H : Type 0} (step : H → HandlerCall → H → Type 0) (fails : H �
   Runs calls answers output handlers = (last : Point H) × AnswersAll (At [] false [] [] []) calls answers last
       × Leaves last output handlers
 
-  -- the end is at this point, and none of its output was taken
-  abbrev pub IsAt : Point H → ConnCore P H → Type 0
-  IsAt (At input ended asked told owed) core = (core.owed.items ≡ owed)
+  -- the end is at this point, and this of its output was taken
+  abbrev pub IsAt : List ℕ → Point H → ConnCore P H → Type 0
+  IsAt taken (At input ended asked told owed) core = (core.owed.items ≡ owed)
       × Stands step fails is_closed is_finished inbound_makes outbound_makes listed is_eager inbound_leads
-      outbound_leads start role own input ended asked told [] core
-  IsAt (Spent written) core = (is_spent core.phase ≡ true) × (waiting_in core.phase core.output.items ≡ written)
+      outbound_leads start role own input ended asked told taken core
+  IsAt taken (Spent written) core = (is_spent core.phase ≡ true)
+      × (taken ++ waiting_in core.phase core.output.items ≡ written)

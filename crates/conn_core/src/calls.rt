@@ -1,6 +1,6 @@
 //! A whole connection, from its first call to its last.
 
-ghost use Rattle.std.specs.Prelude.{◌≡◌, ◌++◌, ◌∷◌, [], IfOk, OnOk};
+ghost use Rattle.std.specs.Prelude.{◌≡◌, ◌++◌, ◌∷◌, [], ℕ, List, IfOk, OnOk};
 ghost use Rattle.peer_ids.specs.Key.{Key};
 ghost use Rattle.upgrade.specs.declared.role.ConnRole.{ConnRole};
 ghost use Rattle.conn_core.specs.Runs.{Point, IsAt, Answers, Runs, events_or, stream_or};
@@ -78,15 +78,15 @@ fn push<H: Handler>(
     }
 }
 
-/// Makes one call.
-fn perform<P: Protocols>(core: &mut ConnCore<P>, act: &ConnAct) -> ConnAnswer<P::H>
-    ensures { (start : P) (role : ConnRole) (own : Key) (point : Point P.H)
+/// Makes one call. Behind it the end stands where the definition of a run says.
+pub fn perform<P: Protocols>(core: &mut ConnCore<P>, act: &ConnAct) -> ConnAnswer<P::H>
+    ensures { (start : P) (role : ConnRole) (own : Key) (taken : List ℕ) (point : Point P.H)
         → IsAt P.H.steps P.H.fails P.H.is_closed P.H.is_finished P.makes_inbound P.makes_outbound P.listed P.is_eager
-        P.leads_inbound P.leads_outbound start role own point core.old → (next : Point P.H) × Answers P.H.steps
+        P.leads_inbound P.leads_outbound start role own taken point core.old → (next : Point P.H) × Answers P.H.steps
         P.H.fails P.H.is_closed P.H.is_finished P.makes_inbound P.makes_outbound P.listed P.is_eager P.leads_inbound
         P.leads_outbound start role own point act.now result next × IsAt P.H.steps P.H.fails P.H.is_closed
         P.H.is_finished P.makes_inbound P.makes_outbound P.listed P.is_eager P.leads_inbound P.leads_outbound start role
-        own next core.new }
+        own taken next core.new }
 {
     match act {
         ConnAct::Feed(bytes) => told(core.feed(bytes)),

@@ -7,5 +7,5 @@ mod held;
 pub mod laws;
 mod telling;
 
-pub use calls::{ConnAct, ConnAnswer, ConnRan, run};
+pub use calls::{ConnAct, ConnAnswer, ConnRan, perform, run};
 pub use connection::{ConnCore, Phase};

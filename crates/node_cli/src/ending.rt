@@ -80,6 +80,7 @@ impl From<Stopped> for Ending {
         match stopped {
             Stopped::Line(number) => Ending::Line(number),
             Stopped::Unwritten => Ending::Unwritten,
+            Stopped::Unread => Ending::Input,
         }
     }
 }

@@ -1,4 +1,3 @@
 mod Memory
 mod Names
-mod Tails
 mod WorkedRows

@@ -1,6 +1,6 @@
 -- The names of what lines say have no spaces.
 use Rattle.std.proofs.Common.{◌≡◌, true, refl}
-use Rattle.pool_texts.proofs.Lines.{is_whole}
+use Rattle.pool_texts.proofs.Tails.{is_whole}
 use Rattle.node_lines.specs.declared.script.Act.{Act}
 use Rattle.node_lines.specs.declared.script.Act.TheVariants as act
 use Rattle.node_lines.specs.declared.script.Awaited.{Awaited}

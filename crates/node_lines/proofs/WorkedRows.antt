@@ -18,7 +18,7 @@ use Rattle.std.specs.Fmt.{digits}
 use Rattle.std.specs.Str.Parse.{digits_value}
 use Rattle.hex.specs.Hex.{decode_pairs}
 use Rattle.pool_texts.specs.Lines.{IsNumber, IsStream}
-use Rattle.pool_texts.proofs.Lines.{is_whole, first_word}
+use Rattle.pool_texts.proofs.Tails.{is_whole, first_word}
 use Rattle.pool_texts.proofs.Words.{number_is, spaceless_digits}
 use Rattle.node_lines.specs.Rows.{ScriptRows, TraceRows, AwaitedRows}
 use Rattle.node_lines.specs.Script.{IsDone, Awaits, Acts}

@@ -1,18 +1,13 @@
 -- The lines of a script of two nodes, and what each says.
 -- Source: this project's profile, the lines of `node run`.
-use Rattle.std.specs.Prelude.{◌≡◌, ℕ, ◌<◌, List, [], ◌∷◌, ◌++◌, Option, Some, None, codes, ⊤}
-use Rattle.pool_texts.specs.Lines.{IsNumber, ArePair, IsStream}
+use Rattle.std.specs.Prelude.{◌≡◌, ℕ, ◌<◌, List, ◌++◌, Option, Some, None, codes, ⊤}
+use Rattle.pool_texts.specs.Lines.{IsNumber, ArePair, IsStream, tail_of}
 use Rattle.node_lines.specs.declared.script.Act.{Act}
 use Rattle.node_lines.specs.declared.script.Act.TheVariants as act
 use Rattle.node_lines.specs.declared.script.Awaited.{Awaited}
 use Rattle.node_lines.specs.declared.script.Awaited.TheVariants as awaited
 use Rattle.node_lines.specs.declared.script.Name.{Name}
 use Rattle.node_lines.specs.declared.script.Name.TheVariants as name
-
--- nothing, or a space and a text
-abbrev pub tail_of : Option (List ℕ) → List ℕ
-tail_of None = []
-tail_of (Some rest) = 32 ∷ rest
 
 -- The index of a protocol, from 0 to 2, and a count of streams.
 unfoldable pub IsDone : List ℕ → ℕ → ℕ → Type 0

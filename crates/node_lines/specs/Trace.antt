@@ -2,8 +2,7 @@
 -- Source: this project's profile, the lines of `node trace`.
 use Rattle.std.specs.Prelude.{◌≡◌, ◌⊎◌, ℕ, ◌<◌, List, ◌++◌, Option, Some, None, Ok, codes, vec_items, ⊤}
 use Rattle.hex.specs.Hex.{decode_of}
-use Rattle.pool_texts.specs.Lines.{IsNumber, ArePair}
-use Rattle.node_lines.specs.Script.{tail_of}
+use Rattle.pool_texts.specs.Lines.{IsNumber, ArePair, tail_of}
 use Rattle.node_lines.specs.declared.trace.TraceLine.{TraceLine}
 use Rattle.node_lines.specs.declared.trace.TraceLine.TheVariants as trace
 

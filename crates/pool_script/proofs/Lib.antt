@@ -1,2 +1,2 @@
-pub mod Standing
+mod Calls
 mod WorkedRows

@@ -12,6 +12,7 @@ use Rattle.pool_texts.specs.declared.line.Line.{Line}
 use Rattle.pool_texts.specs.declared.line.Line.TheVariants as said
 use Rattle.pool_texts.specs.Lines.{Says}
 use Rattle.pool_texts.specs.Printed.{line, reply_text, listing_text}
+use Rattle.script_lines.specs.Playing.{PlaysEach}
 
 abbrev pub is_spent : Reply → Bool
 is_spent (reply.Refused refusal.Spent) = true
@@ -33,9 +34,7 @@ PlaysLine config history text printed after = ((text ≡ []) × (printed ≡ [])
 
 -- Lines that are played one behind the other.
 abbrev pub Plays : Config → List Entry → List (List ℕ) → List ℕ → List Entry → Type 0
-Plays config history [] printed after = (printed ≡ []) × (after ≡ history)
-Plays config history (text ∷ texts) printed after = (first : List ℕ) × (rest : List ℕ) × (middle : List Entry)
-    × PlaysLine config history text first middle × Plays config middle texts rest after × (printed ≡ first ++ rest)
+Plays config history texts printed after = PlaysEach (PlaysLine config) history texts printed after
 
 -- A line for which something is printed.
 abbrev pub SaysSomething : List ℕ → Type 0

@@ -3,5 +3,7 @@
 
 pub mod laws;
 mod playing;
+mod whole;
 
 pub use playing::play;
+pub use whole::replay;

@@ -1,6 +1,6 @@
 //! The playing of a script.
 
-ghost use Rattle.std.specs.Prelude.{◌≡◌, ◌+◌, ◌-◌, ◌^◌, ℕ, min, List, [], ◌∷◌, ◌++◌, length, Ok, Err, true, false};
+ghost use Rattle.std.specs.Prelude.{◌≡◌, ◌≢◌, ◌+◌, ◌-◌, ◌^◌, ℕ, min, List, [], ◌∷◌, ◌++◌, length, Ok, Err, true, false};
 ghost use Rattle.std.specs.Prelude.{OnOk, IfErr};
 ghost use Rattle.std.specs.Io.KnownBytes.{Appends};
 ghost use Rattle.pool_state.specs.At.{Stands};
@@ -48,6 +48,7 @@ pub fn play<O: Write>(config: Config, script: &[u8], output: &mut O) -> Result<(
     ensures unwritten { result ≡ Err stopped.Unwritten → (lines : List (List ℕ)) × (wanted : List ℕ)
         × (printed : List ℕ) × (after : List Entry) × HasLine script.now lines wanted × SaysSomething wanted
         × Plays config [] lines printed after }
+    ensures read { result ≢ Err stopped.Unread }
 {
     let mut pool = Pool::new(config);
     let mut number = 0_u64;

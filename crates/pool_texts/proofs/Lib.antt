@@ -1,5 +1,6 @@
 pub mod Lines
 mod Peers
 mod Printed
+pub mod Tails
 pub mod Words
 mod WorkedRows

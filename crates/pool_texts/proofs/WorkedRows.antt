@@ -1,5 +1,5 @@
 -- Worked rows of lines, replies and listings.
-use Rattle.std.proofs.Common.{◌≡◌, ℕ, ◌≤◌, true, List, [], ◌∷◌, length, Ok, refl, inl, inr, arith, rules}
+use Rattle.std.proofs.Common.{◌≡◌, ℕ, ◌≤◌, List, [], ◌∷◌, length, Ok, refl, inl, inr, arith, rules}
 use Rattle.std.specs.Prelude.{codes}
 use Rattle.std.specs.Fmt.{digits}
 use Rattle.std.proofs.lemmas.List.Elements.{All-from_recursion}
@@ -9,8 +9,9 @@ use Rattle.pool_texts.specs.Printed.{counts_text, row_text}
 use Rattle.pool_texts.specs.Rows.{peer_0a, peer_ff, SaidRows, UnsaidRows, PrintedRows}
 use Rattle.pool_texts.proofs.Words.{number_is}
 use Rattle.pool_texts.proofs.Peers.{no_dash, apart}
-use Rattle.pool_texts.proofs.Lines.{said_of_one, no_pair, is_whole}
-use Rattle.std.proofs.Common.{◌++◌, drop, Some, ap, ◌∙◌}
+use Rattle.pool_texts.proofs.Lines.{no_line}
+use Rattle.pool_texts.proofs.Tails.{is_whole}
+use Rattle.std.proofs.Common.{◌++◌, drop, None, Some, ap, ◌∙◌}
 use Rattle.std.specs.Prelude.{slice_index, replicate}
 use Rattle.pool_state.specs.declared.call.Call.TheVariants as call
 use Rattle.pool_texts.specs.declared.line.Line.{Line}
@@ -38,7 +39,7 @@ largest = inr (codes "fF", 255, refl, refl, refl)
 
 by_its_text : (word id : List ℕ) → ReadsId word (Ok id) → Says (codes "dial " ++ word) (line.Call (call.Dial (Some id)))
 unfolding IsPeer
-by_its_text word id is = inr (word, refl, inl is)
+by_its_text word id is = (Some word, refl, inl is)
 
 no_decoded : (digits other : List ℕ) (byte : ℕ) → 64 ∷ digits ≡ 64 ∷ other → decode_sized other 1 ≡ Ok (byte ∷ []) → decode_sized digits 1 ≡ Ok (byte ∷ [])
 no_decoded digits other byte is decoded = ap (λ (w : List ℕ). decode_sized (drop 1 w) 1) is ∙ decoded
@@ -53,38 +54,34 @@ unfolding IsPeer
 unsigned peer (inl text) = apart 48 98 (codes "a") text.0.0 (omega arith) text.0.2
 unsigned peer (inr key) = apart 48 64 (codes "a") key.0 (omega arith) key.2
 
-not_one : (text : List ℕ) → is_whole text ≡ true → (text ≡ codes "accept" → ⊥) → (text ≡ codes "list" → ⊥) → (it : Line) → Says text it → ⊥
-not_one text whole a l it is = said_of_one text it (λ f s pair spaced. no_pair text f s whole pair) a l is
-
 accept_space : (it : Line) → Says (codes "accept ") it → ⊥
 accept_space line.List is = cc is
-accept_space (line.Call other) (inl a) = cc (a.0)
-accept_space (line.Call call.Accept) (inr s) = s.2
-accept_space (line.Call (call.Dial p)) (inr s) = omega (arith, ap (λ (w : List ℕ). slice_index w 1) s.1)
-accept_space (line.Call other) (inr s) = omega (arith, ap (λ (w : List ℕ). slice_index w 1) s.1)
+accept_space (line.Call call.Accept) (None, is, rest) = omega (arith, ap length is)
+accept_space (line.Call call.Accept) (Some r, is, rest) = rest
+accept_space (line.Call other) (r, is, rest) = omega (arith, ap (λ (w : List ℕ). slice_index w 1) is)
 
 pub said_rows : SaidRows
 unfolding IsStream IsSettled IsNoted
 said_rows = record {
   list = refl;
-  accept = inl (refl, refl);
-  dial_nobody = inr (codes "-", refl, refl);
-  dial = inr (codes "@0a", refl, lower);
-  settle = inr (codes "12 @0A", refl, (codes "12", codes "@0A", refl, number_is 32 (codes "12") 12 (omega arith) refl refl (omega arith), upper));
-  ask = inr (codes "007 2", refl, (codes "007", codes "2", refl, number_is 32 (codes "007") 7 (omega arith) refl refl (omega arith), number_is 8 (codes "2") 2 (omega arith) refl refl (omega arith)));
-  done = inr (codes "1 255", refl, (codes "1", codes "255", refl, number_is 32 (codes "1") 1 (omega arith) refl refl (omega arith), number_is 8 (codes "255") 255 (omega arith) refl refl (omega arith)));
-  hang_up = inr (codes "@0a", refl, lower);
-  gone = inr (codes "4294967295", refl, number_is 32 (codes "4294967295") 4294967295 (omega arith) refl refl (omega arith));
-  block = inr (codes "@0a", refl, lower);
-  unblock = inr (codes "@0a", refl, lower);
-  allow = inr (codes "@0a", refl, lower);
-  disallow = inr (codes "@0a", refl, lower);
+  accept = (None, refl, tt);
+  dial_nobody = (Some (codes "-"), refl, refl);
+  dial = (Some (codes "@0a"), refl, lower);
+  settle = (Some (codes "12 @0A"), refl, (codes "12", codes "@0A", refl, number_is 32 (codes "12") 12 (omega arith) refl refl (omega arith), upper));
+  ask = (Some (codes "007 2"), refl, (codes "007", codes "2", refl, number_is 32 (codes "007") 7 (omega arith) refl refl (omega arith), number_is 8 (codes "2") 2 (omega arith) refl refl (omega arith)));
+  done = (Some (codes "1 255"), refl, (codes "1", codes "255", refl, number_is 32 (codes "1") 1 (omega arith) refl refl (omega arith), number_is 8 (codes "255") 255 (omega arith) refl refl (omega arith)));
+  hang_up = (Some (codes "@0a"), refl, lower);
+  gone = (Some (codes "4294967295"), refl, number_is 32 (codes "4294967295") 4294967295 (omega arith) refl refl (omega arith));
+  block = (Some (codes "@0a"), refl, lower);
+  unblock = (Some (codes "@0a"), refl, lower);
+  allow = (Some (codes "@0a"), refl, lower);
+  disallow = (Some (codes "@0a"), refl, lower);
   by_text = by_its_text;
-  largest_key = inr (codes "@fF", refl, largest);
-  last_settled = inr (codes "4294967295 @0a", refl, (codes "4294967295", codes "@0a", refl, number_is 32 (codes "4294967295") 4294967295 (omega arith) refl refl (omega arith), lower));
-  last_asked = inr (codes "4294967295 0", refl, (codes "4294967295", codes "0", refl, number_is 32 (codes "4294967295") 4294967295 (omega arith) refl refl (omega arith), number_is 8 (codes "0") 0 (omega arith) refl refl (omega arith)));
-  last_noted = inr (
-    codes "4294967295 " ++ replicate 64 126,
+  largest_key = (Some (codes "@fF"), refl, largest);
+  last_settled = (Some (codes "4294967295 @0a"), refl, (codes "4294967295", codes "@0a", refl, number_is 32 (codes "4294967295") 4294967295 (omega arith) refl refl (omega arith), lower));
+  last_asked = (Some (codes "4294967295 0"), refl, (codes "4294967295", codes "0", refl, number_is 32 (codes "4294967295") 4294967295 (omega arith) refl refl (omega arith), number_is 8 (codes "0") 0 (omega arith) refl refl (omega arith)));
+  last_noted = (
+    Some (codes "4294967295 " ++ replicate 64 126),
     refl,
     (
       codes "4294967295",
@@ -97,8 +94,8 @@ said_rows = record {
       },
     ),
   );
-  note = inr (
-    codes "1 a b",
+  note = (
+    Some (codes "1 a b"),
     refl,
     (
       codes "1",
@@ -127,9 +124,9 @@ unsaid_rows = record {
   half_a_key = λ peer is. not_at (codes "0") peer (λ byte it. cc it) is;
   two_keys = λ peer is. not_at (codes "0a0a") peer (λ byte it. cc it) is;
   without_sign = unsigned;
-  nothing = λ it is. not_one [] refl (λ e. cc e) (λ e. cc e) it is;
-  dial_alone = λ it is. not_one (codes "dial") refl (λ e. omega (arith, ap (λ (w : List ℕ). slice_index w 0) e)) (λ e. omega (arith, ap (λ (w : List ℕ). slice_index w 0) e)) it is;
-  listed = λ it is. not_one (codes "lists") refl (λ e. cc e) (λ e. cc e) it is;
+  nothing = no_line [] refl (λ e. omega (arith, ap length e)) (λ e. omega (arith, ap length e));
+  dial_alone = no_line (codes "dial") refl (λ e. omega (arith, ap (λ (w : List ℕ). slice_index w 0) e)) (λ e. omega (arith, ap length e));
+  listed = no_line (codes "lists") refl (λ e. omega (arith, ap length e)) (λ e. omega (arith, ap length e));
   accepted_and_space = accept_space;
 }
 

@@ -1,7 +1,7 @@
 -- The lines that call a pool, and what each says.
 -- Source: this project's profile, the lines of `node replay` and of a node of `node run`.
-use Rattle.std.specs.Prelude.{◌≡◌, ◌≢◌, ◌⊎◌, ℕ, ◌<◌, ◌^◌, List, [], ◌∷◌, ◌++◌, length, Some, None, Ok}
-use Rattle.std.specs.Prelude.{codes, replicate, slice_index}
+use Rattle.std.specs.Prelude.{◌≡◌, ◌≢◌, ◌⊎◌, ℕ, ◌<◌, ◌^◌, List, [], ◌∷◌, ◌++◌, length, Option, Some, None, Ok}
+use Rattle.std.specs.Prelude.{codes, replicate, slice_index, ⊤}
 use Rattle.std.specs.Char.{is_ascii_digit}
 use Rattle.std.specs.List.{AllPass}
 use Rattle.std.specs.Str.Parse.{digits_value}
@@ -67,24 +67,33 @@ name_of (call.Allow peer) = codes "allow"
 name_of (call.Disallow peer) = codes "disallow"
 name_of (call.Note conn agent) = codes "note"
 
--- The words that say the rest of it.
-abbrev pub SaysRest : List ℕ → Call → Type 0
-SaysRest words (call.Dial None) = words ≡ codes "-"
-SaysRest words (call.Dial (Some peer)) = IsPeer words peer
-SaysRest words call.Accept = ⊥
-SaysRest words (call.Settle conn peer) = IsSettled words conn peer
-SaysRest words (call.Ask conn index) = IsStream words conn index
-SaysRest words (call.Done conn index) = IsStream words conn index
-SaysRest words (call.HangUp peer) = IsPeer words peer
-SaysRest words (call.Block peer) = IsPeer words peer
-SaysRest words (call.Unblock peer) = IsPeer words peer
-SaysRest words (call.Gone conn) = IsNumber 32 words conn
-SaysRest words (call.Allow peer) = IsPeer words peer
-SaysRest words (call.Disallow peer) = IsPeer words peer
-SaysRest words (call.Note conn agent) = IsNoted words conn agent
+-- nothing, or a space and a text
+abbrev pub tail_of : Option (List ℕ) → List ℕ
+tail_of None = []
+tail_of (Some rest) = 32 ∷ rest
 
--- The line says this: one word, or a call's name and, behind a space, the rest of it.
+-- What stands behind the name says the rest of the call.
+abbrev pub SaysRest : Option (List ℕ) → Call → Type 0
+SaysRest None call.Accept = ⊤
+SaysRest (Some words) (call.Dial None) = words ≡ codes "-"
+SaysRest (Some words) (call.Dial (Some peer)) = IsPeer words peer
+SaysRest (Some words) (call.Settle conn peer) = IsSettled words conn peer
+SaysRest (Some words) (call.Ask conn index) = IsStream words conn index
+SaysRest (Some words) (call.Done conn index) = IsStream words conn index
+SaysRest (Some words) (call.HangUp peer) = IsPeer words peer
+SaysRest (Some words) (call.Block peer) = IsPeer words peer
+SaysRest (Some words) (call.Unblock peer) = IsPeer words peer
+SaysRest (Some words) (call.Gone conn) = IsNumber 32 words conn
+SaysRest (Some words) (call.Allow peer) = IsPeer words peer
+SaysRest (Some words) (call.Disallow peer) = IsPeer words peer
+SaysRest (Some words) (call.Note conn agent) = IsNoted words conn agent
+SaysRest rest other = ⊥
+
+-- The text makes this call: its name, alone or with more behind a space.
+abbrev pub Calls : List ℕ → Call → Type 0
+Calls text other = (rest : Option (List ℕ)) × (text ≡ name_of other ++ tail_of rest) × SaysRest rest other
+
+-- The line says this: the wish for a listing, or a call.
 abbrev pub Says : List ℕ → Line → Type 0
 Says text line.List = text ≡ codes "list"
-Says text (line.Call other) = ((text ≡ codes "accept") × (other ≡ call.Accept))
-    ⊎ ((words : List ℕ) × (text ≡ name_of other ++ 32 ∷ words) × SaysRest words other)
+Says text (line.Call other) = Calls text other

@@ -105,8 +105,8 @@ fn noted_of(words: &str) -> Option<Call>
 
 /// The call of this name with these words behind it.
 fn call_of(name: &str, words: &str) -> Option<Call>
-    ensures said { IfSome result (λ made. (name.now ≡ name_of made) × SaysRest words.now made) }
-    ensures only { (other : Call) → name.now ≡ name_of other → SaysRest words.now other → result ≡ Some other }
+    ensures said { IfSome result (λ made. (name.now ≡ name_of made) × SaysRest (Some words.now) made) }
+    ensures only { (other : Call) → name.now ≡ name_of other → SaysRest (Some words.now) other → result ≡ Some other }
 {
     match name {
         "dial" if words == "-" => Some(Call::Dial(None)),

@@ -347,6 +347,8 @@ module _ {P H : Type 0} (step : H → HandlerCall → H → Type 0) (fails : H �
     left = λ input written ended asked told owed handlers. (λ h. h, λ h. h);
     left_spent = λ written output handlers. (λ h. h, λ h. h);
     runs = λ acts answers written handlers. (λ h. h, λ h. h);
-    at_point = λ input ended asked told owed core. (λ h. h, λ h. h);
-    at_spent = λ written core. (λ h. h, λ h. h);
+    has_written_at = λ input written ended asked told owed. (λ h. h, λ h. h);
+    has_written_spent = λ before written. (λ h. h, λ h. h);
+    at_point = λ taken input ended asked told owed core. (λ h. h, λ h. h);
+    at_spent = λ taken written core. (λ h. h, λ h. h);
   }

@@ -55,7 +55,7 @@ use Rattle.conn_core.specs.Connects.{is_spent, MayOpen, IsRefused, OwesOf, waiti
 use Rattle.conn_core.specs.Wanting.{WroteOn, Wrote}
 use Rattle.conn_core.specs.Runs.{Point, is_end, has_ended, events_or, stream_or, IsTurnedAway, StaysBehind, AreHeld}
 use Rattle.conn_core.specs.Runs.{Explains, IsExplained, MayBeAsked, IsNotOpened, AnswersAt, Answers, AnswersAll, Holds}
-use Rattle.conn_core.specs.Runs.{KeepsWritten, Leaves, Runs, IsAt}
+use Rattle.conn_core.specs.Runs.{KeepsWritten, HasWritten, Leaves, Runs, IsAt}
 use Rattle.conn_core.specs.Runs.Point.{At, Spent}
 use Rattle.conn_core.specs.Runs.Explains.{Coming, Up, Over}
 use Rattle.conn_core.specs.Promises.{fed_by, told_by, opened_by}
@@ -417,7 +417,7 @@ module _ {P H : Type 0} (step : H → HandlerCall → H → Type 0) (fails : H �
   leaves = Leaves step fails is_closed is_finished inbound_makes outbound_makes listed is_eager inbound_leads
       outbound_leads start role own
 
-  abbrev pub is_at : Point H → ConnCore P H → Type 0
+  abbrev pub is_at : List ℕ → Point H → ConnCore P H → Type 0
   is_at = IsAt step fails is_closed is_finished inbound_makes outbound_makes listed is_eager inbound_leads
       outbound_leads start role own
 
@@ -561,8 +561,15 @@ module _ {P H : Type 0} (step : H → HandlerCall → H → Type 0) (fails : H �
         → Runs step fails is_closed is_finished inbound_makes outbound_makes listed is_eager inbound_leads
         outbound_leads start role own acts answers written handlers
         ↔ ((last : Point H) × answers_all (At [] false [] [] []) acts answers last × leaves last written handlers)
-    pub at_point : (input : List ℕ) (ended : Bool) (asked : List (ℕ × ℕ)) (told owed : List (ConnEvent H))
-        (core : ConnCore P H) → is_at (At input ended asked told owed) core
-        ↔ ((core.owed.items ≡ owed) × stands input ended asked told [] core)
-    pub at_spent : (written : List ℕ) (core : ConnCore P H) → is_at (Spent written) core ↔ ((is_spent core.phase ≡ true)
-        × (waiting_in core.phase core.output.items ≡ written))
+    pub has_written_at : (input written : List ℕ) (ended : Bool) (asked : List (ℕ × ℕ)) (told owed : List (ConnEvent H))
+        → HasWritten step fails is_closed is_finished inbound_makes outbound_makes listed is_eager inbound_leads
+        outbound_leads start role own (At input ended asked told owed) written
+        ↔ explains input ended asked told owed written
+    pub has_written_spent : (before written : List ℕ) → HasWritten step fails is_closed is_finished inbound_makes
+        outbound_makes listed is_eager inbound_leads outbound_leads start role own (Spent before) written
+        ↔ (written ≡ before)
+    pub at_point : (taken input : List ℕ) (ended : Bool) (asked : List (ℕ × ℕ)) (told owed : List (ConnEvent H))
+        (core : ConnCore P H) → is_at taken (At input ended asked told owed) core
+        ↔ ((core.owed.items ≡ owed) × stands input ended asked told taken core)
+    pub at_spent : (taken written : List ℕ) (core : ConnCore P H) → is_at taken (Spent written) core
+        ↔ ((is_spent core.phase ≡ true) × (taken ++ waiting_in core.phase core.output.items ≡ written))

@@ -1,6 +1,7 @@
 -- What is left of a script behind some of its lines.
-use Rattle.std.proofs.Common.{◌≡◌, ℕ, ◌+◌, List, [], ◌∷◌, ◌++◌, length, Option, None, Some, Bor, refl, sym, ap, ◌∙◌, append_assoc, arith, inl, inr}
+use Rattle.std.proofs.Common.{◌≡◌, ℕ, ◌+◌, ◌<◌, List, [], ◌∷◌, ◌++◌, length, Option, None, Some, Bor, refl, sym, ap, ◌∙◌, append_assoc, arith, inl, inr}
 use Rattle.std.specs.Prelude.{IfSome}
+use Rattle.std.proofs.lemmas.List.{length-append}
 use Rattle.std.proofs.lemmas.List.Concat.{flat_map-append}
 use Rattle.std.proofs.lemmas.List.Elements.{All-push}
 use Rattle.script_lines.specs.Texts.{HasNoFeed, ended, LeadsLines, AreLines, HasLine}
@@ -42,3 +43,13 @@ left_more script lines texts text (Some rest) leads first =
 abbrev pub left_len : Option (Bor (List ℕ)) → ℕ
 left_len None = 0
 left_len (Some rest) = 1 + length rest.now
+
+pub nothing : (text : List ℕ) → length text ≡ 0 → text ≡ []
+nothing [] none = refl
+nothing (b ∷ text) none = absurd (omega (arith, none))
+
+-- behind a line less is left
+pub less_left : (texts : Bor (List ℕ)) (text : List ℕ) (more : Option (Bor (List ℕ))) → IsFirst texts.now text more
+    → left_len more < left_len (Some texts)
+less_left texts text None first = omega arith
+less_left texts text (Some rest) first = omega (arith, ap length first.1, length-append text (10 ∷ rest.now))

@@ -1,2 +1,4 @@
 pub mod Lefts
+mod UpTo
+pub mod Standing
 mod WorkedRows

@@ -5,7 +5,8 @@ use Rattle.std.specs.List.{list_all}
 use Rattle.std.proofs.lemmas.Bool.Decides.{nat_tests}
 use Rattle.std.proofs.lemmas.List.Elements.{All-push}
 use Rattle.std.proofs.lemmas.List.Sums.{AllPass-from_list_all}
-use Rattle.script_lines.specs.Rows.{TextRows}
+use Rattle.script_lines.specs.Playing.{PlaysEach}
+use Rattle.script_lines.specs.Rows.{TextRows, Counts, PlayingRows}
 use Rattle.script_lines.specs.Texts.{HasNoFeed, HasLine}
 
 is_clean : ℕ → Bool
@@ -49,4 +50,21 @@ text_rows = record {
   no_line_across = λ it. it.0 4 (omega arith) refl;
   not_the_first = not_first;
   not_whole = not_whole_line;
+  longest_is = refl;
+}
+
+two_only : (printed : List ℕ) (to : ℕ) → PlaysEach Counts 3 (codes "a" ∷ codes "bc" ∷ []) printed to → (printed ≡ codes "abc") × (to ≡ 5)
+two_only printed to it =
+    let first = it.3 in
+    let second = it.4.3 in
+    let last = it.4.4 in
+    let text : printed ≡ codes "abc" = cc (it.5, first.0, it.4.5, second.0, last.0) in
+    (text, omega (arith, first.1, second.1, last.1))
+
+pub playing_rows : PlayingRows
+playing_rows = record {
+  two = (codes "a", codes "bc", 4, (refl, refl), (codes "bc", [], 5, (refl, refl), (refl, refl), refl), refl);
+  none = (refl, refl);
+  two_alone = two_only;
+  none_alone = λ printed to it. it;
 }

@@ -1,7 +1,8 @@
 -- Worked scripts and their lines.
 -- Source: this project's profile, the rows of `node replay` and of `node trace`.
-use Rattle.std.specs.Prelude.{List, [], ◌∷◌, codes}
-use Rattle.script_lines.specs.Texts.{AreLines, HasLine}
+use Rattle.std.specs.Prelude.{◌≡◌, ℕ, ◌+◌, List, [], ◌∷◌, codes}
+use Rattle.script_lines.specs.Playing.{PlaysEach}
+use Rattle.script_lines.specs.Texts.{AreLines, HasLine, longest}
 
 -- lines with and without a line feed behind the last
 pub record TextRows : Type 0 where
@@ -19,3 +20,15 @@ pub record TextRows : Type 0 where
   pub no_line_across : ¬ HasLine (codes "list\nx\ny") [] (codes "list\nx")
   pub not_the_first : ¬ HasLine (codes "list\nx") [] (codes "x")
   pub not_whole : ¬ HasLine (codes "list") [] (codes "lis")
+  pub longest_is : longest ≡ 1048576
+
+-- lines that are counted, and printed as they are
+abbrev pub Counts : ℕ → List ℕ → List ℕ → ℕ → Type 0
+Counts from text printed to = (printed ≡ text) × (to ≡ from + 1)
+
+pub record PlayingRows : Type 0 where
+  pub two : PlaysEach Counts 3 (codes "a" ∷ codes "bc" ∷ []) (codes "abc") 5
+  pub none : PlaysEach Counts 3 [] [] 3
+  pub two_alone : (printed : List ℕ) (to : ℕ) → PlaysEach Counts 3 (codes "a" ∷ codes "bc" ∷ []) printed to
+      → (printed ≡ codes "abc") × (to ≡ 5)
+  pub none_alone : (printed : List ℕ) (to : ℕ) → PlaysEach Counts 3 [] printed to → (printed ≡ []) × (to ≡ 3)

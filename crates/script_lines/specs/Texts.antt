@@ -2,6 +2,10 @@
 -- Source: this project's profile, the input of `node replay` and of `node trace`.
 use Rattle.std.specs.Prelude.{◌≡◌, ◌≢◌, ◌⊎◌, ℕ, ◌<◌, List, [], ◌∷◌, ◌++◌, length, slice_index, flat_map, All}
 
+-- The longest script that is played, in bytes.
+abbrev pub longest : ℕ
+longest = 1048576
+
 abbrev pub HasNoFeed : List ℕ → Type 0
 HasNoFeed text = (place : ℕ) → place < length text → slice_index text place ≢ 10
 

@@ -1,9 +1,11 @@
-//! A script, which is played line by line: its lines, and why the playing of one stops.
+//! A script, which is read whole and then played line by line: its lines, and why the playing of one stops.
 #![tactic(auto)]
 
 pub mod laws;
+mod reading;
 mod stopped;
 mod text;
 
+pub use reading::{LONGEST, read_script};
 pub use stopped::Stopped;
 pub use text::first_line;

@@ -7,4 +7,6 @@ pub enum Stopped {
     Line(u64),
     /// A write failed, or memory was refused.
     Unwritten,
+    /// The script is longer than it may be, or it can't be read or held.
+    Unread,
 }

@@ -1,56 +1,56 @@
-use Rattle.std.proofs.Common.{ℕ, true, false, List, [], ◌++◌, IfOk, OnErr, refl, sym, subst}
+use Rattle.std.proofs.Common.{ℕ, true, false, List, [], ◌++◌, IfOk, OnErr, refl, sym, ap, subst}
 use Rattle.conn_core.specs.declared.calls.ConnAct.TheVariants as act
 use Rattle.conn_core.specs.Connects.{Stands, waiting_in}
 use Rattle.conn_core.specs.Wanting.{Wrote}
 use Rattle.conn_core.specs.Runs.{Explains, events_or, stream_or}
 use Rattle.conn_core.proofs.Asking.{ok_on}
-use Rattle.conn_core.proofs.Steps.{leads_as, and_then, on_err, feed_keeps, tells, over_owes, asks}
+use Rattle.conn_core.proofs.Steps.{leads_as, and_then, on_err, grows_behind, feed_keeps, tells, over_owes, asks}
 use Rattle.conn_core.proofs.calls.perform.Goals as goal
 
 pub returns-in-Feed : goal.returns-in-Feed
-returns-in-Feed g c = λ start role own point at.
+returns-in-Feed g c = λ start role own taken point at.
     let H = g.P.H.Handler in
     let makes = g.P.Protocols in
     let call = act.Feed c.in-Feed.bytes in
-    leads_as H.steps H.fails H.is_closed H.is_finished makes.makes_inbound makes.makes_outbound makes.listed makes.is_eager makes.leads_inbound makes.leads_outbound start role own point c.args.act.now call c.told.result (events_or c.feed.result) c.feed.new.self c.in-Feed.is c.told.ensures
-    (tells H.steps H.fails H.is_closed H.is_finished makes.makes_inbound makes.makes_outbound makes.listed makes.is_eager makes.leads_inbound makes.leads_outbound start role own point call (λ input. input ++ c.in-Feed.bytes.items) false c.args.core.now c.feed.new.self c.feed.result
+    leads_as H.steps H.fails H.is_closed H.is_finished makes.makes_inbound makes.makes_outbound makes.listed makes.is_eager makes.leads_inbound makes.leads_outbound start role own taken point c.args.act.now call c.told.result (events_or c.feed.result) c.feed.new.self c.in-Feed.is c.told.ensures
+    (tells H.steps H.fails H.is_closed H.is_finished makes.makes_inbound makes.makes_outbound makes.listed makes.is_eager makes.leads_inbound makes.leads_outbound start role own taken point call (λ input. input ++ c.in-Feed.bytes.items) false c.args.core.now c.feed.new.self c.feed.result
     (λ input ended asked told owed more next going next_is. (going, next_is))
     (λ input ended asked told owed why next away. away)
     (λ input asked told stands going. and_then _ _ c.feed.result c.feed.ensures.none_owed
-    (subst (λ (bytes : List ℕ). IfOk c.feed.result (λ events. Stands H.steps H.fails H.is_closed H.is_finished makes.makes_inbound makes.makes_outbound makes.listed makes.is_eager makes.leads_inbound makes.leads_outbound start role own (input ++ bytes) false asked (told ++ events.items) [] c.feed.new.self)) c.deref.ensures.value
-    (c.feed.ensures.fed role own start input [] asked told stands going)))
+    (subst (λ (bytes : List ℕ). IfOk c.feed.result (λ events. Stands H.steps H.fails H.is_closed H.is_finished makes.makes_inbound makes.makes_outbound makes.listed makes.is_eager makes.leads_inbound makes.leads_outbound start role own (input ++ bytes) false asked (told ++ events.items) taken c.feed.new.self)) c.deref.ensures.value
+    (c.feed.ensures.fed role own start input taken asked told stands going)))
     c.feed.ensures.refused
     (λ input asked told owed there stands going. feed_keeps H.steps H.fails H.is_closed H.is_finished makes.makes_inbound makes.makes_outbound makes.listed makes.is_eager makes.leads_inbound makes.leads_outbound start role own
-    input c.in-Feed.bytes.items asked told owed _ _ c.feed.result there c.feed.ensures.waits
+    input c.in-Feed.bytes.items asked told owed _ _ c.feed.result there (grows_behind c.feed.result taken _ _ c.feed.ensures.waits)
     (subst (λ (bytes : List ℕ). OnErr c.feed.result (Wrote H.steps H.fails H.is_closed H.is_finished makes.makes_inbound makes.makes_outbound makes.listed makes.is_eager makes.leads_inbound makes.leads_outbound start role own
-    input bytes asked told (waiting_in c.feed.new.self.phase c.feed.new.self.output.items))) c.deref.ensures.value (c.feed.ensures.wrote role own start input [] asked told stands going)))
+    input bytes asked told (taken ++ waiting_in c.feed.new.self.phase c.feed.new.self.output.items))) c.deref.ensures.value (c.feed.ensures.wrote role own start input taken asked told stands going)))
     c.feed.ensures.failed at)
 
 pub returns-in-Ended : goal.returns-in-Ended
-returns-in-Ended g c = λ start role own point at.
+returns-in-Ended g c = λ start role own taken point at.
     let H = g.P.H.Handler in
     let makes = g.P.Protocols in
     let new = c.ended.new.self in
-    leads_as H.steps H.fails H.is_closed H.is_finished makes.makes_inbound makes.makes_outbound makes.listed makes.is_eager makes.leads_inbound makes.leads_outbound start role own point c.args.act.now act.Ended c.told-in-Ended.result (events_or c.ended.result) new c.in-Ended.is c.told-in-Ended.ensures
-    (tells H.steps H.fails H.is_closed H.is_finished makes.makes_inbound makes.makes_outbound makes.listed makes.is_eager makes.leads_inbound makes.leads_outbound start role own point act.Ended (λ input. input) true c.args.core.now new c.ended.result
+    leads_as H.steps H.fails H.is_closed H.is_finished makes.makes_inbound makes.makes_outbound makes.listed makes.is_eager makes.leads_inbound makes.leads_outbound start role own taken point c.args.act.now act.Ended c.told-in-Ended.result (events_or c.ended.result) new c.in-Ended.is c.told-in-Ended.ensures
+    (tells H.steps H.fails H.is_closed H.is_finished makes.makes_inbound makes.makes_outbound makes.listed makes.is_eager makes.leads_inbound makes.leads_outbound start role own taken point act.Ended (λ input. input) true c.args.core.now new c.ended.result
     (λ input ended asked told owed more next going next_is. (going, next_is))
     (λ input ended asked told owed why next away. away)
     (λ input asked told stands going. ok_on _ _ c.ended.result c.ended.result refl
-    (λ events there. (there, over_owes H.steps H.fails H.is_closed H.is_finished makes.makes_inbound makes.makes_outbound makes.listed makes.is_eager makes.leads_inbound makes.leads_outbound start role own input true asked (told ++ events.items) [] new.phase new.owed.items new.output.items c.ended.ensures.over there.1))
-    (c.ended.ensures.ends role own start input [] asked told stands going))
+    (λ events there. (there, over_owes H.steps H.fails H.is_closed H.is_finished makes.makes_inbound makes.makes_outbound makes.listed makes.is_eager makes.leads_inbound makes.leads_outbound start role own input true asked (told ++ events.items) taken new.phase new.owed.items new.output.items c.ended.ensures.over there.1))
+    (c.ended.ensures.ends role own start input taken asked told stands going))
     c.ended.ensures.refused
     (λ input asked told owed there stands going. on_err _ c.ended.result
     (subst (λ (w : List ℕ). Explains H.steps H.fails H.is_closed H.is_finished makes.makes_inbound makes.makes_outbound makes.listed makes.is_eager makes.leads_inbound makes.leads_outbound start role own input false asked told owed w)
-    (sym c.ended.ensures.waits) there))
+    (ap (λ (t : List ℕ). taken ++ t) (sym c.ended.ensures.waits)) there))
     c.ended.ensures.failed at)
 
 pub returns-in-Ask : goal.returns-in-Ask
-returns-in-Ask g c = λ start role own point at.
+returns-in-Ask g c = λ start role own taken point at.
     let H = g.P.H.Handler in
     let makes = g.P.Protocols in
     let index = c.in-Ask.index in
-    leads_as H.steps H.fails H.is_closed H.is_finished makes.makes_inbound makes.makes_outbound makes.listed makes.is_eager makes.leads_inbound makes.leads_outbound start role own point c.args.act.now (act.Ask index) c.opened.result (stream_or c.ask.result) c.ask.new.self c.in-Ask.is c.opened.ensures
-    (asks H.steps H.fails H.is_closed H.is_finished makes.makes_inbound makes.makes_outbound makes.listed makes.is_eager makes.leads_inbound makes.leads_outbound start role own point index c.args.core.now c.ask.new.self c.ask.result
-    (λ input asked told stands. c.ask.ensures.asked role own start input [] asked told stands)
-    (λ input asked told stands. c.ask.ensures.owes role own start input [] asked told stands)
+    leads_as H.steps H.fails H.is_closed H.is_finished makes.makes_inbound makes.makes_outbound makes.listed makes.is_eager makes.leads_inbound makes.leads_outbound start role own taken point c.args.act.now (act.Ask index) c.opened.result (stream_or c.ask.result) c.ask.new.self c.in-Ask.is c.opened.ensures
+    (asks H.steps H.fails H.is_closed H.is_finished makes.makes_inbound makes.makes_outbound makes.listed makes.is_eager makes.leads_inbound makes.leads_outbound start role own taken point index c.args.core.now c.ask.new.self c.ask.result
+    (λ input asked told stands. c.ask.ensures.asked role own start input taken asked told stands)
+    (λ input asked told stands. c.ask.ensures.owes role own start input taken asked told stands)
     c.ask.ensures.opened c.ask.ensures.refused c.ask.ensures.kept c.ask.ensures.memory c.ask.ensures.waits at)

@@ -32,7 +32,7 @@ loop-act-preserved g c =
     let acts = c.args.acts.now in
     let index = c.loop-act.act-index in
     let led = c.loop-act.invariant.led in
-    let next = c.perform.ensures start role key led.0 led.2 in
+    let next = c.perform.ensures start role key [] led.0 led.2 in
     let more : take (index + 1) acts ≡ take index acts ++ c.act-item.result ∷ [] =
     take_more acts index c.act-item.result c.loop-act-test.true ∙ ap (λ (a : ConnAct). take index acts ++ a ∷ []) (sym c.act-item.is) in
     record {

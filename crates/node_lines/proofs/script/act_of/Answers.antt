@@ -1,6 +1,6 @@
 use Rattle.node_lines.specs.Script.{act_name, ActsRest, Acts}
 use Rattle.node_lines.proofs.Names.{whole_act}
-use Rattle.node_lines.proofs.Tails.{with_rest, alone, said_with, said_alone}
+use Rattle.pool_texts.proofs.Tails.{with_rest, alone, said_with, said_alone}
 use Rattle.node_lines.proofs.script.act_of.Goals as goal
 
 pub returns-in-Some-clause-said : goal.returns-in-Some-clause-said

@@ -1,6 +1,6 @@
 use Rattle.node_lines.specs.Script.{await_name, AwaitsRest, Awaits}
 use Rattle.node_lines.proofs.Names.{whole_await}
-use Rattle.node_lines.proofs.Tails.{with_rest, alone, said_with, said_alone}
+use Rattle.pool_texts.proofs.Tails.{with_rest, alone, said_with, said_alone}
 use Rattle.node_lines.proofs.script.awaited_of.Goals as goal
 
 pub returns-in-Some-clause-said : goal.returns-in-Some-clause-said

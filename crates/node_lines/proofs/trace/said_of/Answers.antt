@@ -2,7 +2,7 @@ use Rattle.std.proofs.Common.{◌≡◌, None}
 use Rattle.node_lines.specs.Trace.{trace_name, TraceRest, SaysTrace}
 use Rattle.node_lines.proofs.Memory.{holds_bytes}
 use Rattle.node_lines.proofs.Names.{whole_trace}
-use Rattle.node_lines.proofs.Tails.{with_rest, alone, said_alone, read_with}
+use Rattle.pool_texts.proofs.Tails.{with_rest, alone, said_alone, read_with}
 use Rattle.node_lines.proofs.trace.said_of.Goals as goal
 
 pub returns-in-Some-clause-said : goal.returns-in-Some-clause-said

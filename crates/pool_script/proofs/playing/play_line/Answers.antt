@@ -4,7 +4,8 @@ use Rattle.std.proofs.KnownBytes.{Appends-nil}
 use Rattle.pool_state.specs.declared.call.Reply.{Reply}
 use Rattle.pool_texts.specs.Printed.{line, reply_text}
 use Rattle.pool_script.specs.Played.{grown}
-use Rattle.pool_script.proofs.Standing.{applied, nothing}
+use Rattle.script_lines.proofs.Lefts.{nothing}
+use Rattle.pool_script.proofs.Calls.{applied}
 use Rattle.pool_script.proofs.playing.play_line.Goals as goal
 
 pub returns-then-is_empty-clause-played : goal.returns-then-is_empty-clause-played

@@ -1,0 +1,11 @@
+//! A script that is played on an end of a connection, and what is printed of it.
+#![tactic(auto)]
+
+pub mod laws;
+mod playing;
+mod print;
+mod whole;
+
+pub use playing::play;
+pub use print::{print_answer, print_output};
+pub use whole::trace;
