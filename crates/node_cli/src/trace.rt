@@ -1,12 +1,11 @@
 //! `node trace`: one end of a connection, fed from a script, and what it tells and writes.
 
 use crate::Ending;
-use conn_core::ConnCore;
 use node_protocols::{FixedPayload, NodeProtocols};
 use node_texts::key_of;
-use peer_ids::PublicKey;
 use std::alloc::Global;
 use std::io::{Read, Write};
+use trace_script::trace_new;
 use upgrade::ConnRole;
 
 /// The agent that an end names itself.
@@ -23,9 +22,6 @@ pub struct Traced<'a> {
     pub payload: [u8; 32],
 }
 
-/// The protocols of the program, with handlers whose pings send one payload.
-type Core = ConnCore<NodeProtocols<FixedPayload>>;
-
 /// Runs the script that the input holds on an end of a connection, and prints what it tells and writes.
 pub fn trace<I: Read, O: Write>(
     alloc: Global,
@@ -33,29 +29,10 @@ pub fn trace<I: Read, O: Write>(
     input: &mut I,
     output: &mut O,
 ) -> Result<(), Ending> {
-    let core = core_of(alloc, traced)?;
-    Ok(trace_script::trace(alloc, core, input, output)?)
-}
-
-/// The end that is traced, before any byte came.
-fn core_of(alloc: Global, traced: &Traced<'_>) -> Result<Core, Ending> {
     let (key, shown) = (key_of(alloc, traced.key)?, key_of(alloc, traced.key)?);
     let payload = traced.payload;
     match NodeProtocols::new(alloc, shown, AGENT, FixedPayload { payload }) {
-        Ok(protocols) => core_with(alloc, traced.role, key, protocols),
-        Err(_) => Err(Ending::Unwritten),
-    }
-}
-
-/// An end of a connection with these protocols.
-fn core_with(
-    alloc: Global,
-    role: ConnRole,
-    key: PublicKey,
-    protocols: NodeProtocols<FixedPayload>,
-) -> Result<Core, Ending> {
-    match ConnCore::new(alloc, role, key, protocols) {
-        Ok(core) => Ok(core),
+        Ok(protocols) => Ok(trace_new(alloc, traced.role, key, protocols, input, output)?),
         Err(_) => Err(Ending::Unwritten),
     }
 }

@@ -22,6 +22,10 @@ pub record Place (H : Type 0) : Type 0 where
   pub point : Point H
   pub taken : List ℕ
 
+-- Nothing came yet, and nothing was told.
+abbrev pub at_first : {H : Type 0} → Place H
+at_first = record { point = At [] false [] [] []; taken = [] }
+
 -- The connection goes on: it has told no Fault and no Shut, and memory was not refused.
 abbrev pub goes_on : {H : Type 0} → Point H → Bool
 goes_on (At input ended asked told owed) = not (has_ended told)

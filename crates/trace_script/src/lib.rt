@@ -8,4 +8,4 @@ mod whole;
 
 pub use playing::play;
 pub use print::{print_answer, print_output};
-pub use whole::trace;
+pub use whole::{trace, trace_new};
