@@ -432,18 +432,21 @@ def an_input_in_pieces():
             expect_ran(outcome(process), 0, case.output)
 
 
+READERS = (["run"], ["replay"], ["trace", "listener"])
+
+
 def an_input_that_cannot_be_read():
-    """It can't be read where it is a folder, or was opened for writing."""
-    for command in ("run", "replay"):
-        for redirected in ("</", "0>/dev/null"):
-            ran = run([command], None, redirected)
-            expect(ran == Ran(1, b"", b"refused input\n"), f"{command} {redirected}: {ran}")
+    """It can't be read where it is a folder, was opened for writing, or has no end."""
+    for words in READERS:
+        for redirected in ("</", "0>/dev/null", "</dev/zero"):
+            ran = run(words, None, redirected)
+            expect(ran == Ran(1, b"", b"refused input\n"), f"{words} {redirected}: {ran}")
 
 
 def an_input_that_is_closed():
     """It is an empty one."""
-    for command in ("run", "replay"):
-        expect_ran(run([command], None, "<&-"), 0, "")
+    for words in READERS:
+        expect_ran(run(words, None, "<&-"), 0, "")
 
 
 def listens_and_ends(ran, host):
@@ -518,6 +521,7 @@ TRACES = [
         f"upgraded {ID_11}\nout {upgrade(KEY_22).hex()}\n",
     ),
     trace("a line that is none", ["dialer"], b"\nfly\n", "", 1, "refused line 2\n"),
+    trace("too long a script", ["listener"], b"\n" * 1_048_577, "", 1, "refused input\n"),
     trace("no end", ["both"], b"", "", 2, "error: the role is 'dialer' or 'listener'\n"),
 ]
 
