@@ -13,10 +13,11 @@ use Rattle.pool_texts.proofs.Lines.{no_line}
 use Rattle.pool_texts.proofs.Tails.{is_whole}
 use Rattle.std.proofs.Common.{◌++◌, drop, None, Some, ap, ◌∙◌}
 use Rattle.std.specs.Prelude.{slice_index, replicate}
+use Rattle.pool_state.specs.declared.call.Call.{Call}
 use Rattle.pool_state.specs.declared.call.Call.TheVariants as call
 use Rattle.pool_texts.specs.declared.line.Line.{Line}
 use Rattle.pool_texts.specs.declared.line.Line.TheVariants as line
-use Rattle.pool_texts.specs.Lines.{Says}
+use Rattle.pool_texts.specs.Lines.{SaysRest, Says}
 use Rattle.peer_ids.specs.ReadsText.{ReadsId}
 use Rattle.hex.specs.Hex.{decode_sized}
 use Rattle.peer_ids.specs.Base32.{bits_of, in_fives}
@@ -59,6 +60,16 @@ accept_space line.List is = cc is
 accept_space (line.Call call.Accept) (None, is, rest) = omega (arith, ap length is)
 accept_space (line.Call call.Accept) (Some r, is, rest) = rest
 accept_space (line.Call other) (r, is, rest) = omega (arith, ap (λ (w : List ℕ). slice_index w 1) is)
+
+accept_more : (words : List ℕ) (it : Line) → Says (codes "accept " ++ words) it → ⊥
+accept_more words line.List is = omega (arith, ap (λ (w : List ℕ). slice_index w 0) is)
+accept_more words (line.Call call.Accept) (None, is, rest) = omega (arith, ap length is)
+accept_more words (line.Call call.Accept) (Some r, is, rest) = rest
+accept_more words (line.Call other) (r, is, rest) = omega (arith, ap (λ (w : List ℕ). slice_index w 1) is)
+
+none_said : (other : Call) → SaysRest None other → call.Accept ≡ other
+none_said call.Accept said = refl
+none_said other said = absurd said
 
 pub said_rows : SaidRows
 unfolding IsStream IsSettled IsNoted
@@ -127,6 +138,26 @@ unsaid_rows = record {
   nothing = no_line [] refl (λ e. omega (arith, ap length e)) (λ e. omega (arith, ap length e));
   dial_alone = no_line (codes "dial") refl (λ e. omega (arith, ap (λ (w : List ℕ). slice_index w 0) e)) (λ e. omega (arith, ap length e));
   listed = no_line (codes "lists") refl (λ e. omega (arith, ap length e)) (λ e. omega (arith, ap length e));
+  accepted_more = accept_more;
+  gone_alone = no_line (codes "gone") refl (λ e. omega (arith, ap (λ (w : List ℕ). slice_index w 0) e)) (λ e. omega (arith, ap length e));
+  another_list = no_line (codes "ls") refl (λ e. omega (arith, ap length e)) (λ e. omega (arith, ap length e));
+  dial_rest = λ words. (λ it. it, λ it. it);
+  dial_peer_rest = λ words peer. (λ it. it, λ it. it);
+  accept_rest = λ words it. it;
+  none_rest = none_said;
+  settle_rest = λ words conn peer. (λ it. it, λ it. it);
+  ask_rest = λ words conn index. (λ it. it, λ it. it);
+  done_rest = λ words conn index. (λ it. it, λ it. it);
+  hang_up_rest = λ words peer. (λ it. it, λ it. it);
+  block_rest = λ words peer. (λ it. it, λ it. it);
+  unblock_rest = λ words peer. (λ it. it, λ it. it);
+  gone_rest = λ words conn. (λ it. it, λ it. it);
+  allow_rest = λ words peer. (λ it. it, λ it. it);
+  disallow_rest = λ words peer. (λ it. it, λ it. it);
+  note_rest = λ words conn agent. (λ it. it, λ it. it);
+  calls = λ text other. (λ it. it, λ it. it);
+  says_list = λ text. (λ it. it, λ it. it);
+  says_call = λ text other. (λ it. it, λ it. it);
   accepted_and_space = accept_space;
 }
 

@@ -1,10 +1,11 @@
 -- Worked lines, and what is printed of worked replies and listings.
 -- Source: this project's profile, the rows of `node replay`.
-use Rattle.std.specs.Prelude.{◌≡◌, ℕ, List, [], ◌∷◌, ◌++◌, map, Ok, Some, None, codes, replicate}
+use Rattle.std.specs.Prelude.{◌≡◌, ◌↔◌, ℕ, Option, List, [], ◌∷◌, ◌++◌, map, Ok, Some, None, codes, replicate}
 use Rattle.peer_ids.specs.ReadsText.{ReadsId}
 use Rattle.pool_texts.specs.declared.line.Line.{Line}
 use Rattle.peer_ids.specs.declared.kind.KeyType.TheVariants.{Ed25519}
 use Rattle.peer_ids.specs.PeerId.{id_of}
+use Rattle.pool_state.specs.declared.call.Call.{Call}
 use Rattle.pool_state.specs.declared.call.Call.TheVariants as call
 use Rattle.pool_state.specs.declared.call.Refusal.TheVariants as refusal
 use Rattle.pool_state.specs.declared.call.Reply.TheVariants as reply
@@ -13,7 +14,8 @@ use Rattle.pool_state.specs.declared.row.Phase.TheVariants as phase
 use Rattle.pool_state.specs.declared.row.Row.{Row}
 use Rattle.pool_state.specs.Parts.{listing}
 use Rattle.pool_texts.specs.declared.line.Line.TheVariants as line
-use Rattle.pool_texts.specs.Lines.{IsDigits, IsNumber, IsPeer, Says}
+use Rattle.pool_texts.specs.Lines.{IsDigits, IsNumber, IsPeer, IsStream, IsSettled, IsNoted, name_of, tail_of}
+use Rattle.pool_texts.specs.Lines.{SaysRest, Calls, Says}
 use Rattle.pool_texts.specs.Printed.{refusal_name, reply_text, row_text, listing_text}
 
 -- the id of `@0a`
@@ -63,6 +65,31 @@ pub record UnsaidRows : Type 0 where
   pub nothing : (it : Line) → ¬ Says [] it
   pub dial_alone : (it : Line) → ¬ Says (codes "dial") it
   pub listed : (it : Line) → ¬ Says (codes "lists") it
+  pub accepted_more : (words : List ℕ) (it : Line) → ¬ Says (codes "accept " ++ words) it
+  pub gone_alone : (it : Line) → ¬ Says (codes "gone") it
+  pub another_list : (it : Line) → ¬ Says (codes "ls") it
+  pub dial_rest : (words : List ℕ) → SaysRest (Some words) (call.Dial None) ↔ (words ≡ codes "-")
+  pub dial_peer_rest : (words peer : List ℕ) → SaysRest (Some words) (call.Dial (Some peer)) ↔ IsPeer words peer
+  pub accept_rest : (words : List ℕ) → ¬ SaysRest (Some words) call.Accept
+  pub none_rest : (other : Call) → SaysRest None other → call.Accept ≡ other
+  pub settle_rest : (words : List ℕ) (conn : ℕ) (peer : List ℕ) → SaysRest (Some words) (call.Settle conn peer)
+      ↔ IsSettled words conn peer
+  pub ask_rest : (words : List ℕ) (conn index : ℕ) → SaysRest (Some words) (call.Ask conn index)
+      ↔ IsStream words conn index
+  pub done_rest : (words : List ℕ) (conn index : ℕ) → SaysRest (Some words) (call.Done conn index)
+      ↔ IsStream words conn index
+  pub hang_up_rest : (words : List ℕ) (peer : List ℕ) → SaysRest (Some words) (call.HangUp peer) ↔ IsPeer words peer
+  pub block_rest : (words : List ℕ) (peer : List ℕ) → SaysRest (Some words) (call.Block peer) ↔ IsPeer words peer
+  pub unblock_rest : (words : List ℕ) (peer : List ℕ) → SaysRest (Some words) (call.Unblock peer) ↔ IsPeer words peer
+  pub gone_rest : (words : List ℕ) (conn : ℕ) → SaysRest (Some words) (call.Gone conn) ↔ IsNumber 32 words conn
+  pub allow_rest : (words : List ℕ) (peer : List ℕ) → SaysRest (Some words) (call.Allow peer) ↔ IsPeer words peer
+  pub disallow_rest : (words : List ℕ) (peer : List ℕ) → SaysRest (Some words) (call.Disallow peer) ↔ IsPeer words peer
+  pub note_rest : (words : List ℕ) (conn : ℕ) (agent : List ℕ) → SaysRest (Some words) (call.Note conn agent)
+      ↔ IsNoted words conn agent
+  pub calls : (text : List ℕ) (other : Call) → Calls text other
+      ↔ ((rest : Option (List ℕ)) × (text ≡ name_of other ++ tail_of rest) × SaysRest rest other)
+  pub says_list : (text : List ℕ) → Says text line.List ↔ (text ≡ codes "list")
+  pub says_call : (text : List ℕ) (other : Call) → Says text (line.Call other) ↔ Calls text other
   pub accepted_and_space : (it : Line) → ¬ Says (codes "accept ") it
 
 -- a connection of this side and phase, without a peer or an agent, of whose first protocol two streams were asked for

@@ -1,5 +1,5 @@
 -- Worked scripts and their lines.
-use Rattle.std.proofs.Common.{◌≡◌, ℕ, ◌==◌, Bool, true, not, List, [], ◌∷◌, length, refl, inl, inr, ap, arith}
+use Rattle.std.proofs.Common.{◌≡◌, ◌++◌, ℕ, ◌==◌, Bool, true, not, List, [], ◌∷◌, length, refl, inl, inr, ap, arith}
 use Rattle.std.specs.Prelude.{All, codes, slice_index}
 use Rattle.std.specs.List.{list_all}
 use Rattle.std.proofs.lemmas.Bool.Decides.{nat_tests}
@@ -33,6 +33,14 @@ not_first : HasLine (codes "list\nx") [] (codes "x") → ⊥
 not_first (clean_text, inl are) = omega (arith, ap length are.0.0)
 not_first (clean_text, inr (rest, leads)) = omega (arith, ap (λ (w : List ℕ). slice_index w 0) leads.0)
 
+not_joined_first : HasLine (codes "a\nb\nx\n") (codes "a\nb" ∷ []) (codes "x") → ⊥
+not_joined_first (clean_text, inl are) = are.0.1 0 [] (omega arith) 1 (omega arith) refl
+not_joined_first (clean_text, inr (rest, leads)) = leads.1 0 [] (omega arith) 1 (omega arith) refl
+
+returned_line : HasLine (codes "x" ++ 13 ∷ 10 ∷ []) [] (codes "x") → ⊥
+returned_line (clean_text, inl are) = omega (arith, ap length are.0.0)
+returned_line (clean_text, inr (rest, leads)) = omega (arith, ap (λ (w : List ℕ). slice_index w 1) leads.0)
+
 pub text_rows : TextRows
 unfolding is_clean
 text_rows = record {
@@ -50,6 +58,13 @@ text_rows = record {
   no_line_across = λ it. it.0 4 (omega arith) refl;
   not_the_first = not_first;
   not_whole = not_whole_line;
+  not_joined_behind = λ it. it.0.1 1 [] (omega arith) 4 (omega arith) refl;
+  not_joined_in_front = not_joined_first;
+  not_without_return = returned_line;
+  no_feed = λ text. (λ it. it, λ it. it);
+  leads = λ script lines rest. (λ it. it, λ it. it);
+  lines_are = λ script lines last. (λ it. it, λ it. it);
+  has_line = λ script lines text. (λ it. it, λ it. it);
   longest_is = refl;
 }
 
@@ -65,6 +80,8 @@ pub playing_rows : PlayingRows
 playing_rows = record {
   two = (codes "a", codes "bc", 4, (refl, refl), (codes "bc", [], 5, (refl, refl), (refl, refl), refl), refl);
   none = (refl, refl);
+  in_turn = (3 ∷ codes "a", 4 ∷ codes "bc", 4, (refl, refl), (4 ∷ codes "bc", [], 5, (refl, refl), (refl, refl), refl), refl);
+  next_line = λ from to text printed texts. (λ it. it, λ it. it);
   two_alone = two_only;
   none_alone = λ printed to it. it;
 }

@@ -1,5 +1,5 @@
 -- Worked answers, pieces and lines.
-use Rattle.std.proofs.Common.{◌≡◌, nat_lt, ℕ, Bool, true, List, [], ◌∷◌, ◌++◌, length, Some, None, Ok, refl, sym, ap, inl, inr, arith}
+use Rattle.std.proofs.Common.{◌≡◌, ◌<◌, nat_lt, ℕ, Bool, true, List, [], ◌∷◌, ◌++◌, length, Some, None, Ok, refl, sym, ap, inl, inr, arith}
 use Rattle.std.specs.Prelude.{codes, slice_index, flat_map, IsUtf8}
 use Rattle.std.specs.Fmt.{digits}
 use Rattle.std.specs.List.{list_all}
@@ -17,7 +17,7 @@ use Rattle.conn_core.specs.declared.calls.ConnAnswer.TheVariants as answer
 use Rattle.conn_core.specs.Runs.Point.{Spent}
 use Rattle.node_lines.specs.declared.trace.TraceLine.{TraceLine}
 use Rattle.node_lines.specs.declared.trace.TraceLine.TheVariants as line
-use Rattle.node_lines.specs.Trace.{SaysTrace, IsCut}
+use Rattle.node_lines.specs.Trace.{SaysTrace, IsCut, HoldsBytes}
 use Rattle.pool_texts.proofs.Words.{number_is}
 use Rattle.trace_script.specs.Printed.{event_text}
 use Rattle.trace_script.specs.Played.{Place, PlaysLine}
@@ -46,6 +46,14 @@ no_letter text one (line.Ask index) (rest, is, says) = omega (arith, one, ap len
 no_letter text one line.Out (rest, is, says) = omega (arith, one, ap length is)
 no_letter text one line.End (rest, is, says) = omega (arith, one, ap length is)
 
+no_pair_in : (text : List ℕ) → length text < 2 → HoldsBytes text → ⊥
+no_pair_in text short (name, rest, pair, inl (is, bytes, spells)) =
+    let whole : text ≡ codes "feed" ++ 32 ∷ rest = cc (pair, is) in
+    omega (arith, short, ap length whole)
+no_pair_in text short (name, rest, pair, inr (is, size, bytes, cut)) =
+    let whole : text ≡ codes "cut" ++ 32 ∷ rest = cc (pair, is) in
+    omega (arith, short, ap length whole)
+
 pub text_rows : (H : Type 0) → TextRows H
 unfolding digits encode_with
 text_rows H = record {
@@ -62,6 +70,13 @@ text_rows H = record {
   no_events = λ events is. ap (flat_map (λ (event : ConnEvent _). event_text event ++ 10 ∷ [])) is;
   events = λ handler cause events is. ap (flat_map (λ (event : ConnEvent _). event_text event ++ 10 ∷ [])) is;
   upgraded = λ key. refl;
+  agreed = λ n index. refl;
+  refused = λ n. refl;
+  done = λ n handler. refl;
+  broken = λ n cause. refl;
+  streams = λ n. refl;
+  each_event = λ e events more is. ap (flat_map (λ (event : ConnEvent _). event_text event ++ 10 ∷ [])) is;
+  outputs = λ byte bytes. refl;
   select = refl;
   none_left = refl;
   exchange = refl;
@@ -82,11 +97,14 @@ piece_rows = record {
   none_of_none = λ it. omega (arith, it.2);
   none_left_out = λ it. omega (arith, ap length it.1, ap length it.4);
   none_behind = λ it. omega (arith, it.4.2);
+  five = (3 ∷ 4 ∷ 5 ∷ [], refl, omega arith, refl, (5 ∷ [], refl, omega arith, refl, ([], refl, omega arith, refl, refl)));
+  not_growing = λ it. omega (arith, it.4.3);
+  next_piece = λ size bytes piece pieces. (λ it. it, λ it. it);
   in_order = λ it. omega (arith, ap (λ (w : List ℕ). slice_index w 0) it.1);
 }
 
 pub stop_rows : (H : Type 0) → StopRows H
-unfolding is_ascii SaysTrace
+unfolding is_ascii SaysTrace IsCut decode_pairs
 stop_rows H = record {
   no_name = (omega arith, λ utf it. no_letter (codes "x") refl it);
   no_text = (omega arith, λ utf it. no_letter (255 ∷ []) refl it);
@@ -96,7 +114,18 @@ stop_rows H = record {
   told = refl;
   shut = refl;
   broken_off = refl;
-  spent = refl;
+  spent = λ written. refl;
+  at = λ input ended asked told owed. refl;
+  an_end = λ is. is.1 (utf8 (codes "end") refl) line.End (None, refl, tt);
+  asked = λ is. is.1 (utf8 (codes "ask 2") refl) (line.Ask 2) (Some (codes "2"), refl, number_is 64 (codes "2") 2 (omega arith) refl refl (omega arith));
+  fed = λ bytes items is. is.1 (utf8 (codes "feed 0a") refl) (line.Feed bytes) (Some (codes "0a"), refl, ap Ok (sym items));
+  cut = λ bytes items is. is.1 (utf8 (codes "cut 1 0a") refl) (line.Cut 1 bytes) (Some (codes "1 0a"), refl, (codes "1", codes "0a", refl, number_is 64 (codes "1") 1 (omega arith) refl refl (omega arith), omega arith, ap Ok (sym items)));
+  nothing = λ text. (λ it. it, λ it. it);
+  out_is_something = (utf8 (codes "out") refl, inl (line.Out, (None, refl, tt)));
+  bytes_are_something = (utf8 (codes "feed 0a") refl, inr (codes "feed", codes "0a", refl, inl (refl, 10 ∷ [], refl)));
+  nothing_is_not = λ is. elim is.1 [ inl says ↦ no_empty says.0 says.1 | inr holds ↦ no_pair_in [] (omega arith) holds ];
+  a_letter_is_not = λ is. elim is.1 [ inl says ↦ no_letter (codes "x") refl says.0 says.1 | inr holds ↦ no_pair_in (codes "x") (omega arith) holds ];
+  something = λ text. (λ it. it, λ it. it);
 }
 
 module _ {P H : Type 0} (step : H → HandlerCall → H → Type 0) (fails : H → Asked → ℕ → Type 0)
@@ -148,6 +177,28 @@ module _ {P H : Type 0} (step : H → HandlerCall → H → Type 0) (fails : H �
         refl,
       ),
     );
+    tells = λ point next act printed. (λ it. it, λ it. it);
+    feeds = λ point next piece printed. (λ it. it, λ it. it);
+    feeds_none = λ point next printed. (λ it. it, λ it. it);
+    feeds_each = λ point next piece pieces printed. (λ it. it, λ it. it);
+    does_feed = λ from to bytes printed. (λ it. it, λ it. it);
+    does_cut = λ from to size bytes printed. (λ it. it, λ it. it);
+    does_ask = λ from to index printed. (λ it. it, λ it. it);
+    does_out = λ from to printed. (λ it. it, λ it. it);
+    does_end = λ from to printed. (λ it. it, λ it. it);
+    plays_line = λ from to text printed. (λ it. it, λ it. it);
+    plays_none = λ from to printed. (λ it. it, λ it. it);
+    plays_next = λ from to text texts printed. (λ it. it, λ it. it);
+    is_in = λ place core. (λ it. it, λ it. it);
+    in_turn = λ t. (
+      codes "out 00\n",
+      codes "refused 1 Failed\n",
+      record { point = Spent (t ++ 0 ∷ []); taken = t ++ 0 ∷ [] },
+      inr (line.Out, utf8 (codes "out") refl, (None, refl, tt), (0 ∷ [], refl, refl, refl, refl)),
+      (codes "refused 1 Failed\n", [], record { point = Spent (t ++ 0 ∷ []); taken = t ++ 0 ∷ [] }, asked (t ++ 0 ∷ []) (t ++ 0 ∷ []), (refl, refl), refl),
+      refl,
+    );
+    no_line = λ from to printed it. elim it [ inl is ↦ omega (arith, ap length is.0) | inr is ↦ no_letter (codes "x") refl is.0 is.2 ];
     lines = λ w t. (
       codes "refused 1 Failed\n",
       codes "refused 1 Failed\n",
