@@ -1,23 +1,20 @@
-//! The command line of `node`: what it asks for, and what is printed.
+//! The program `node`: what it does of what its command line asks for.
 #![tactic(auto)]
 
 ghost use Rattle.std.specs.Prelude.{◌≤◌};
 
-mod command;
 mod dialing;
 mod ending;
 mod listen;
-mod options;
 mod run;
-mod trace;
-mod trace_options;
 
-use command::{Asked, Unasked, read};
 use dialing::run_dialer;
 pub use ending::Ending;
 use listen::run_listener;
 pub use node_peer::Watched;
 use node_texts::{addr_lines, hash_hex, id_text};
+use node_trace::trace;
+use node_words::{Asked, Traced, Unasked, read};
 use pool_script::replay;
 use run::run;
 use std::alloc::{AllocGlobal, Global};
@@ -27,7 +24,6 @@ use std::net::Net;
 use std::random::RandomSource;
 use std::sync::Wait;
 use std::time::Clock;
-use trace::trace;
 
 /// Does a whole run of the words behind the program's name, and gives its status: 0 good, 1 refused input or a
 /// failing write, 2 a bad command line, 3 an await that gave up. What it writes to `output` is flushed before it ends,
@@ -47,6 +43,10 @@ where
                 Asked::Run => run(rt, input, output),
                 Asked::Listen(listener) => run_listener(rt, listener, input, output),
                 Asked::Dial(dialer) => run_dialer(rt, dialer, output),
+                Asked::Trace(traced) => {
+                    let Traced { role, key, payload } = traced;
+                    trace(alloc, role, key, payload, input, output).map_err(Ending::from)
+                }
                 asked => answer(alloc, &asked, input, output),
             };
             let flushed = output.flush();
@@ -90,7 +90,7 @@ fn status<E: Write>(outcome: Result<(), Ending>, faults: &mut E) -> u8
     }
 }
 
-/// Prints what was asked for, but for a run of nodes.
+/// Prints what was asked for, but for what a script or peers do.
 fn answer<I: Read, O: Write>(
     alloc: Global,
     asked: &Asked<'_>,
@@ -106,9 +106,8 @@ fn answer<I: Read, O: Write>(
             writeln!(output, "{}", lines.text)?;
         }
         Asked::Replay(config) => replay(alloc, *config, input, output)?,
-        Asked::Trace(traced) => trace(alloc, traced, input, output)?,
-        // They need more than memory, and aren't answered here.
-        Asked::Run | Asked::Listen(_) | Asked::Dial(_) => {}
+        // They aren't answered here.
+        Asked::Trace(_) | Asked::Run | Asked::Listen(_) | Asked::Dial(_) => {}
     }
     Ok(())
 }

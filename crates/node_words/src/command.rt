@@ -1,10 +1,13 @@
 //! What the words of a command line ask for.
 
-use crate::dialing::{Dialer, identifier_of, identify_command, ping_command, pinger_of};
-use crate::listen::{Listener, listen_command, listener_of};
+ghost use Rattle.std.specs.Prelude.{◌≡◌, Some, IfOk};
+ghost use Rattle.clap.specs.Matches.{subcommand_name_of};
+ghost use Rattle.node_words.specs.Asking.{subcommand_of};
+
+use crate::dial_options::{Dialer, identifier_in, identify_command, ping_command, pinger_in};
+use crate::listen_options::{Listener, listen_command, listener_in};
 use crate::options::{BadOption, config_of, replay_command};
-use crate::trace::Traced;
-use crate::trace_options::{trace_command, traced_of};
+use crate::trace_options::{Traced, trace_command, traced_in};
 use clap::error::ErrorKind;
 use clap::{Arg, ArgAction, ArgMatches, Command, Error};
 use pool_state::Config;
@@ -22,7 +25,7 @@ pub enum Asked<'a> {
     /// A script of pool calls, on a pool that is made with this.
     Replay(Config),
     /// A script of what comes to an end of a connection, and what it is asked for.
-    Trace(Traced<'a>),
+    Trace(Traced),
     /// A script on two nodes.
     Run,
     /// A node that listens.
@@ -130,7 +133,9 @@ fn parse<'a>(alloc: Global, words: &'a [&'a str]) -> Result<Result<Asked<'a>, Ba
 }
 
 /// What the words that were found ask for.
-fn asked_of<'a>(alloc: Global, matches: &ArgMatches<'a>) -> Result<Asked<'a>, BadOption> {
+fn asked_of<'a>(alloc: Global, matches: &ArgMatches<'a>) -> Result<Asked<'a>, BadOption>
+    ensures { IfOk result (λ asked. subcommand_name_of matches.now ≡ Some (subcommand_of asked)) }
+{
     let word = match matches.subcommand() {
         Some(("id", found)) => found.get_str("HEX").map(|hex| Asked::Id(hex)),
         Some(("hash", found)) => found.get_str("TEXT").map(|text| Asked::Hash(text)),
@@ -138,16 +143,16 @@ fn asked_of<'a>(alloc: Global, matches: &ArgMatches<'a>) -> Result<Asked<'a>, Ba
         Some(("replay", found)) => return config_of(found).map(|config| Asked::Replay(config)),
         Some(("run", _)) => return Ok(Asked::Run),
         Some(("trace", found)) => {
-            return traced_of(alloc, found).map(|traced| Asked::Trace(traced));
+            return traced_in(alloc, found).map(|traced| Asked::Trace(traced));
         }
         Some(("listen", found)) => {
-            return listener_of(alloc, found).map(|listener| Asked::Listen(listener));
+            return listener_in(alloc, found).map(|listener| Asked::Listen(listener));
         }
         Some(("ping", found)) => {
-            return pinger_of(alloc, found).map(|dialer| Asked::Dial(dialer));
+            return pinger_in(alloc, found).map(|dialer| Asked::Dial(dialer));
         }
         Some(("identify", found)) => {
-            return identifier_of(alloc, found).map(|dialer| Asked::Dial(dialer));
+            return identifier_in(alloc, found).map(|dialer| Asked::Dial(dialer));
         }
         _ => None,
     };

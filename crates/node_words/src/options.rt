@@ -1,5 +1,11 @@
 //! The options of a pool: its limits, and the peers that they name; and what a replay's pool is made with.
 
+ghost use Rattle.std.specs.Prelude.{◌≡◌, ◌⊎◌, ℕ, List, IfOk, IfErr, IfSome, IsSome, OnErr, Some, Err, codes};
+ghost use Rattle.pool_state.specs.declared.limits.Limits.{Limits};
+ghost use Rattle.pool_texts.specs.Lines.{IsPeer};
+ghost use Rattle.node_words.specs.Words.{word_or, HasNumber, HasFlag, HasLimits};
+
+use crate::values::{flag, number_32, number_64, word_or};
 use clap::{Arg, ArgAction, ArgMatches, Command, value_parser};
 use pool_state::{Config, Limits};
 use pool_texts::peer_of;
@@ -164,42 +170,66 @@ pub enum BadOption {
     OutOfMemory,
 }
 
-/// Whether the value of an option is digits alone. The parser of numbers takes a sign.
-pub fn is_digits(found: &ArgMatches<'_>, name: &str) -> bool {
-    let word = found.get_str(name).unwrap_or("");
-    word.bytes().all(|byte| byte.is_ascii_digit())
+fn limit(found: &ArgMatches<'_>, name: &str) -> Option<usize>
+    ensures written { IfSome result (HasNumber 32 found.now name.now) }
+    ensures only { (number : ℕ) → HasNumber 32 found.now name.now number → result ≡ Some number }
+{
+    Some(number_32(found, name)? as usize)
+}
+
+fn limits_in(found: &ArgMatches<'_>) -> Option<Limits>
+    ensures limits { IfSome result (HasLimits found.now) }
+    ensures only { (limits : Limits) → HasLimits found.now limits → IsSome result }
+{
+    Limits::new(
+        limit(found, "conns")?,
+        limit(found, "per-peer")?,
+        limit(found, "streams")?,
+        limit(found, "blocked")?,
+        limit(found, "inbound")?,
+        limit(found, "outbound")?,
+        limit(found, "allowed")?,
+    )
 }
 
 /// The limits of a pool, by the options that were found.
-pub fn limits_of(found: &ArgMatches<'_>) -> Result<Limits, BadOption> {
-    if !LIMITS.iter().all(|option| is_digits(found, option.name)) {
-        return Err(BadOption::Number);
-    }
-    let number = |name: &str| found.get_one::<u32>(name).unwrap_or(0) as usize;
-    let limits = Limits::new(
-        number("conns"),
-        number("per-peer"),
-        number("streams"),
-        number("blocked"),
-        number("inbound"),
-        number("outbound"),
-        number("allowed"),
-    );
-    limits.ok_or(BadOption::Number)
+pub fn limits_of(found: &ArgMatches<'_>) -> Result<Limits, BadOption>
+    ensures limits { IfOk result (HasLimits found.now) }
+    ensures refused { OnErr result (result ≡ Err BadOption.Number) }
+    ensures no_limits { OnErr result ((limits : Limits) → ¬ HasLimits found.now limits) }
+{
+    limits_in(found).ok_or(BadOption::Number)
 }
 
 /// What a replay's pool is made with, by the options that were found.
-pub fn config_of(found: &ArgMatches<'_>) -> Result<Config, BadOption> {
+pub fn config_of(found: &ArgMatches<'_>) -> Result<Config, BadOption>
+    ensures own { IfOk result (λ config. IsPeer (word_or (codes "") found.now (codes "own")) config.own) }
+    ensures limits { IfOk result (λ config. HasLimits found.now config.limits) }
+    ensures first_conn { IfOk result (λ config. HasNumber 32 found.now (codes "first-conn") config.first_conn) }
+    ensures first_front { IfOk result (λ config. HasNumber 64 found.now (codes "first-front") config.first_front) }
+    ensures allow_only { IfOk result (λ config. HasFlag found.now (codes "allow-only") config.allow_only) }
+    ensures refused { IfErr result (λ bad. (bad ≡ BadOption.Number) ⊎ (bad ≡ BadOption.Peer)) }
+    ensures no_peer { result ≡ Err BadOption.Peer
+        → (id : List ℕ) → ¬ IsPeer (word_or (codes "") found.now (codes "own")) id }
+    ensures no_number { result ≡ Err BadOption.Number → (limits : Limits) (conn front : ℕ)
+        → HasLimits found.now limits → HasNumber 32 found.now (codes "first-conn") conn
+        → HasNumber 64 found.now (codes "first-front") front → ⊥ }
+{
     let limits = limits_of(found)?;
-    if !is_digits(found, FIRST_CONN.name) || !is_digits(found, FIRST_FRONT) {
+    let Some(first_conn) = number_32(found, "first-conn") else {
         return Err(BadOption::Number);
+    };
+    let Some(first_front) = number_64(found, "first-front") else {
+        return Err(BadOption::Number);
+    };
+    match peer_of(word_or(found, "own", "")) {
+        Some(own) => Ok(Config {
+            own,
+            limits,
+            first_conn,
+            first_front,
+            allow_only: flag(found, "allow-only"),
+        }),
+        None => Err(BadOption::Peer),
     }
-    let own = found.get_str("own").and_then(|word| peer_of(word));
-    Ok(Config {
-        own: own.ok_or(BadOption::Peer)?,
-        limits,
-        first_conn: found.get_one::<u32>(FIRST_CONN.name).unwrap_or(0),
-        first_front: found.get_one::<u64>(FIRST_FRONT).unwrap_or(0),
-        allow_only: found.get_flag("allow-only"),
-    })
 }

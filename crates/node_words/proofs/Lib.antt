@@ -1,0 +1,3 @@
+mod Keys
+mod Named
+mod WorkedRows

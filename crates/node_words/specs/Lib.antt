@@ -1,0 +1,3 @@
+pub mod Words
+pub mod Asking
+pub mod Rows
