@@ -3,9 +3,6 @@
 ghost use Rattle.std.specs.Prelude.{◌≤◌, IfSome};
 ghost use Rattle.futures.specs.Task.{Keeps};
 
-use crate::making::Maker;
-use crate::owning::{let_go, put};
-use crate::seat::Seat;
 use callers::Caller;
 use conn_log::ConnFault;
 use futures::task::{Context, Poll};
@@ -13,6 +10,7 @@ use identify_h::Identify;
 use node_terms::Setup;
 use pool_state::{ConnSide, Listing, Phase, Refusal, Reply, Row};
 use reports::{ConnEnd, Report, Reports};
+use seat::{Maker, Seat, let_go, put};
 use std::alloc::{AllocError, Global};
 use std::io;
 use std::net::{Net, SocketAddr};

@@ -7,25 +7,13 @@
 //!
 //! To its owner it reports why connections ended, and how the streams ended that were asked for.
 //!
-//! # What a peer can make it hold
-//! A connection goes on reading whatever its peer sends. What that can make a node hold is bounded: at most 256 streams
-//! of the peer, each with a message of at most 1,024 bytes of its negotiation, and what was answered to such messages
-//! and finds no credit, some 350,000 bytes at most, since no more than a window of 262,144 came; and then with what its
-//! handler holds: an echo as many bytes as a window has, where the peer gives no credit for them; a reader at most
-//! 16,384 bytes. What the connection writes and the peer doesn't take has no such bound: so a connection of which more
-//! than [`MOST_WAITING`](bounded_conn::MOST_WAITING) bytes wait behind one of its polls is dropped, and isn't shut
-//! before. Between the calls of a driver no more wait: [`Driver::waiting`] says so. Nothing bounds how long a peer may
-//! take.
+//! What a peer can make it hold, `seat` says.
 #![tactic(auto)]
 
 mod driver;
-mod making;
-mod owning;
-mod payloads;
-mod seat;
 
 pub use callers::{Caller, Fresh, Looking, Member, SwarmUse, with_swarm};
 pub use driver::Driver;
 pub use node_terms::Setup;
-pub use payloads::RandomPayloads;
 pub use reports::{ConnEnd, MOST_REPORTS, Report, StreamEnd};
+pub use seat::RandomPayloads;

@@ -1,5 +1,5 @@
 use Rattle.futures.specs.Task.{Keeps}
-use Rattle.driver.proofs.seat.Seat.hear_all.Given as goal
+use Rattle.seat.proofs.seat.Seat.hear_all.Given as goal
 
 abbrev pub invariant-loop : goal.invariant-loop
 invariant-loop g l = Keeps l.fn.cx l.cx
