@@ -1,6 +1,7 @@
 //! The run of a trace.
 
-ghost use Rattle.std.specs.Prelude.{◌≡◌, ◌+◌, ◌-◌, ◌^◌, ◌<◌, ℕ, min, List, [], ◌∷◌, ◌++◌, length, Some, Err, OnOk, IfOk, IfSome};
+ghost use Rattle.std.specs.Prelude.{◌≡◌, ◌+◌, ◌-◌, ◌^◌, ◌<◌, ℕ, min, List, [], ◌∷◌, ◌++◌, length, Some, Err};
+ghost use Rattle.std.specs.Prelude.{OnOk, IfOk, IfSome};
 ghost use Rattle.std.specs.Io.KnownBytes.{Appends};
 ghost use Rattle.node_protocols.specs.declared.handler.NodeHandler.{NodeHandler};
 ghost use Rattle.script_lines.specs.declared.stopped.Stopped.TheVariants as stopped;
@@ -49,7 +50,8 @@ pub fn trace<I: Read, O: Write>(
         → result ≡ Err (stopped.Line number) → (lines : List (List ℕ)) × (bad : List ℕ) × (printed : List ℕ)
         × (node : Node FixedPayload) × (to : Place NodeHandler) × HasLine script lines bad × SaysNothing bad
         × IsNode key payload node
-        × TracePlays ⟦<FixedPayload as Payloads>⟧.gives ⟦<FixedPayload as Payloads>⟧.steps node role key lines printed to
+        × TracePlays ⟦<FixedPayload as Payloads>⟧.gives ⟦<FixedPayload as Payloads>⟧.steps node role key
+        lines printed to
         × Appends (O.contents output.old) (O.contents output.new) printed
         × (number ≡ min (length lines + 1) (2 ^ 64 - 1)) }
     ensures unread { result ≡ Err stopped.Unread → O.contents output.new ≡ O.contents output.old }

@@ -40,10 +40,12 @@ pub record WordRows : Type 0 where
       → one_text (found_of found) name ≡ Some (codes "false") → flag ≡ false
   pub dialer : role_name Dialer ≡ codes "dialer"
   pub listener : role_name Listener ≡ codes "listener"
-  pub key : IsKey (codes "0801122000000000000000000000000000000000000000000000000000000000000000Aa") (key_of (replicate 31 0 ++ 170 ∷ []))
+  pub key : IsKey (codes "0801122000000000000000000000000000000000000000000000000000000000000000Aa")
+      (key_of (replicate 31 0 ++ 170 ∷ []))
   pub own_key : IsKey zero_key (key_of (replicate 32 0))
   pub short_key : (key : Key) → ¬ IsKey (codes "0801122") key
-  pub payload : IsPayload (codes "0a0000000000000000000000000000000000000000000000000000000000000B") (10 ∷ replicate 30 0 ++ 11 ∷ [])
+  pub payload : IsPayload (codes "0a0000000000000000000000000000000000000000000000000000000000000B")
+      (10 ∷ replicate 30 0 ++ 11 ∷ [])
   pub own_payload : IsPayload zeros (replicate 32 0)
   pub short_payload : (bytes : List ℕ) → ¬ IsPayload (codes "0a") bytes
   pub none_named : AreNamed [] []

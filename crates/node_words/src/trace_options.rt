@@ -106,9 +106,9 @@ pub struct Traced {
     pub payload: [u8; 32],
 }
 
-/// The end that these words name: its role, the message of its key in hexadecimal, and the 32 bytes that its pings send,
-/// in hexadecimal. A wrong role is told before a wrong key, and that before a wrong payload. Memory is asked for the
-/// key, where its text is hexadecimal.
+/// The end that these words name: its role, the message of its key in hexadecimal, and the 32 bytes that its pings
+/// send, in hexadecimal. A wrong role is told before a wrong key, and that before a wrong payload. Memory is asked for
+/// the key, where its text is hexadecimal.
 fn traced_of(alloc: Global, role: &str, key: &str, payload: &str) -> Result<Traced, BadOption>
     ensures role { IfOk result (λ traced. role.now ≡ role_name traced.role) }
     ensures key { IfOk result (λ traced. IsKey key.now traced.key) }
