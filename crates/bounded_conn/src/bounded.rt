@@ -43,9 +43,13 @@ impl<L: Link, P: Protocols> BoundedConn<L, P> {
         ensures { Leaves (λ conn. length conn.unsent.items) conn result.conn }
     {
         let is_within = conn.waiting() <= MOST_WAITING;
-        BoundedConn {
-            conn: if is_within { Some(conn) } else { None },
-        }
+        let kept = if is_within {
+            Some(conn)
+        } else {
+            drop(conn);
+            None
+        };
+        BoundedConn { conn: kept }
     }
 
     /// Whether it was dropped, since more of its output waited than may.
@@ -99,7 +103,8 @@ impl<L: Link, P: Protocols> BoundedConn<L, P> {
         };
         let asked = conn.ask(index);
         if conn.waiting() > MOST_WAITING {
-            self.conn = None;
+            // The proof of an assignment would walk through all that the connection holds.
+            drop(self.conn.take());
             return Err(ConnRefused::Failed);
         }
         asked
@@ -182,7 +187,7 @@ impl<L: Link, P: Protocols> BoundedConn<L, P> {
         };
         let (polled, waiting) = (conn.poll_next(cx), conn.waiting());
         if waiting > MOST_WAITING {
-            self.conn = None;
+            drop(self.conn.take());
             return Poll::Ready(None);
         }
         polled

@@ -1,6 +1,7 @@
 -- A stream was opened for a protocol that was asked for.
-use Rattle.std.proofs.Common.{◌≡◌, ℕ, Bool, List, [], ◌∷◌, ◌++◌, Option, Result, Ok, Err, refl, sym, ap, ◌∙◌, subst}
-use Rattle.std.specs.Prelude.{IfOk}
+use Rattle.std.proofs.Common.{◌≡◌, ◌<◌, ◌≤◌, ◌⊎◌, inl, inr, ℕ, Bool, true, false, List, [], ◌∷◌, ◌++◌, Option, Result, Ok, Err, refl, sym, ap, ◌∙◌, subst, arith, nat_lt}
+use Rattle.std.specs.Prelude.{IfOk, IfErr}
+use Rattle.std.proofs.lemmas.Bool.Decides.{nat_tests}
 use Rattle.std.proofs.lemmas.List.{append_assoc, append-nil}
 use Rattle.handlers.specs.Calls.{HandlerCall, Asked as AskedFor}
 use Rattle.peer_ids.specs.Key.{Key}
@@ -11,6 +12,8 @@ use Rattle.yamux_session.specs.State.{State, Stands as SessionStands}
 use Rattle.streams.specs.State.{Streaming}
 use Rattle.conn_log.specs.declared.earlier.Earlier.{Earlier}
 use Rattle.conn_log.specs.declared.event.ConnEvent.{ConnEvent}
+use Rattle.conn_log.specs.declared.event.ConnRefused.{ConnRefused}
+use Rattle.conn_log.specs.declared.event.ConnRefused.TheVariants as refusals
 use Rattle.conn_log.specs.declared.event.ConnEvent.TheVariants as event
 use Rattle.conn_log.specs.Entries.{items, said, asks}
 use Rattle.conn_log.specs.Entries.Entry.{Asks}
@@ -19,7 +22,9 @@ use Rattle.conn_log.proofs.Settling.{said_append, asks_append}
 use Rattle.conn_log.proofs.Early.{early_asked}
 use Rattle.held_order.specs.Orders.{newest_held}
 use Rattle.board.specs.Boards.{MakesInOrder}
-use Rattle.conn_core.specs.Connects.{IsUp, session_role}
+use Rattle.conn_core.specs.declared.connection.Phase.{Phase}
+use Rattle.conn_core.specs.declared.connection.Phase.TheVariants as phases
+use Rattle.conn_core.specs.Connects.{IsUp, IsRefused, session_role}
 
 pub refused_none : {A E : Type 0} (Q : A → Type 0) (r : Result A E) (why : E) → r ≡ Err why → IfOk r Q
 refused_none Q (Ok x) why is = absurd (cc is)
@@ -31,6 +36,38 @@ on_ok Q R (Err e) f r = tt
 
 pub ok_on : {A E : Type 0} (Q R : A → Type 0) (now then : Result A E) → now ≡ then → ((x : A) → R x → Q x) → IfOk then R → IfOk now Q
 ok_on {A = A} {E = E} Q R now then is f r = subst (λ (t : Result A E). IfOk t Q) (sym is) (on_ok Q R then f r)
+
+pub refused_on : {A E : Type 0} (Q : E → Type 0) (now then : Result A E) → now ≡ then → IfErr then Q → IfErr now Q
+refused_on {A = A} {E = E} Q now then is holds = subst (λ (t : Result A E). IfErr t Q) (sym is) holds
+
+pub refused_as : {A E : Type 0} (Q : E → Type 0) (now : Result A E) (why : E) → now ≡ Err why → Q why → IfErr now Q
+refused_as Q now why is holds = refused_on Q now (Err why) is holds
+
+each_err : {A E : Type 0} {Q R : E → Type 0} → ((why : E) → Q why → R why) → (r : Result A E) → IfErr r Q → IfErr r R
+each_err f (Ok x) holds = tt
+each_err f (Err why) holds = f why holds
+
+pub over_refused : {P H : Type 0} (listed : P → List (List ℕ)) (phase : Phase P H) (index : ℕ)
+    → (phase ≡ phases.Over) ⊎ (phase ≡ phases.Spent) → IsRefused listed phase index refusals.Failed
+over_refused listed phase index (inl is) = subst (λ (x : Phase _ _). IsRefused listed x index refusals.Failed) (sym is) refl
+over_refused listed phase index (inr is) = subst (λ (x : Phase _ _). IsRefused listed x index refusals.Failed) (sym is) refl
+
+-- no protocol has this index, or the session opens no stream
+pub up_refused : {A : Type 0} (count index : ℕ) (r : Result A ConnRefused) (Q : ConnRefused → Type 0)
+    → (count ≤ index → r ≡ Err refusals.BadIndex) → (index < count → IfErr r Q)
+    → IfErr r (λ why. ((count ≤ index) × (why ≡ refusals.BadIndex)) ⊎ ((index < count) × Q why))
+up_refused {A = A} count index r Q outside within = by (nat_lt index count) refl
+  where
+    Refused : ConnRefused → Type 0
+    Refused why = ((count ≤ index) × (why ≡ refusals.BadIndex)) ⊎ ((index < count) × Q why)
+
+    by : (b : Bool) → nat_lt index count ≡ b → IfErr r Refused
+    by true is =
+        let less : index < count = grind (arith, nat_tests, is) in
+        each_err (λ why holds. inr (less, holds)) r (within less)
+    by false is =
+        let more : count ≤ index = grind (arith, nat_tests, is) in
+        refused_as Refused r refusals.BadIndex (outside more) (inl (more, refl))
 
 module _ {P H : Type 0} (step : H → HandlerCall → H → Type 0) (fails : H → AskedFor → ℕ → Type 0)
     (is_closed is_finished : H → Bool) (inbound_makes outbound_makes : P → ℕ → List ℕ → H → Type 0)

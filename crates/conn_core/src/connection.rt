@@ -263,16 +263,21 @@ fn take_on<P: Protocols>(
 {
     if let Phase::Up(mux) = phase {
         if !go_on(mux, output, piece, told)? {
-            *phase = Phase::Over;
+            // The proof of an assignment would walk through all that the old phase holds.
+            drop(mem::replace(phase, Phase::Over));
         }
         return Ok(());
     }
     match mem::replace(phase, Phase::Spent) {
         Phase::Upgrading(upgrade, protocols) => {
-            *phase = bring_up(alloc, role, upgrade, protocols, output, piece, told)?;
+            let next = bring_up(alloc, role, upgrade, protocols, output, piece, told)?;
+            drop(mem::replace(phase, next));
             Ok(())
         }
-        _ => Err(ConnRefused::OutOfMemory),
+        other => {
+            drop(other);
+            Err(ConnRefused::OutOfMemory)
+        }
     }
 }
 
@@ -355,7 +360,7 @@ impl<P: Protocols> ConnCore<P> {
         ) {
             Ok(()) => Ok(told),
             Err(refused) => {
-                self.phase = Phase::Spent;
+                drop(mem::replace(&mut self.phase, Phase::Spent));
                 Err(refused)
             }
         }
@@ -393,7 +398,7 @@ impl<P: Protocols> ConnCore<P> {
             Err(_) => {
                 // What an upgrade has written waits in it.
                 self.output = self.take_output();
-                self.phase = Phase::Spent;
+                drop(mem::replace(&mut self.phase, Phase::Spent));
                 Err(ConnRefused::OutOfMemory)
             }
         }
@@ -429,7 +434,7 @@ impl<P: Protocols> ConnCore<P> {
             Phase::Over | Phase::Spent => Err(ConnRefused::Failed),
         };
         if asked == Err(ConnRefused::OutOfMemory) {
-            self.phase = Phase::Spent;
+            drop(mem::replace(&mut self.phase, Phase::Spent));
         }
         asked
     }
@@ -459,7 +464,7 @@ impl<P: Protocols> ConnCore<P> {
         let mut told = mem::replace(&mut self.owed, Vec::new(self.alloc));
         let last = last_event(phase, &mut self.output);
         tell(&mut told, last)?;
-        self.phase = Phase::Over;
+        drop(mem::replace(&mut self.phase, Phase::Over));
         Ok(told)
     }
 

@@ -1,7 +1,8 @@
 //! A node that dials a peer for an errand, as one future.
 
+use crate::outfit::Outfit;
 use crate::said::print_said;
-use driver::{Caller, Driver, MOST_REPORTS, Report, StreamEnd};
+use driver::{Caller, MOST_REPORTS, Report, StreamEnd};
 use futures::task::{Context, Poll};
 use futures::{Future, ready};
 use node_terms::{Errand, PeerEnding};
@@ -9,7 +10,6 @@ use pool_state::{Phase, Refusal, Reply};
 use std::alloc::Global;
 use std::io::Write;
 use std::net::Net;
-use tokio::time::Interval;
 
 /// How many turns are made in a row.
 const MOST_TURNS: u32 = 32;
@@ -31,15 +31,13 @@ enum Step {
 #[derive(Drop)]
 pub struct Dialing<'a, N: Net, C: Caller, O: Write + Drop> {
     alloc: Global,
-    driver: Driver<'a, N, C>,
-    caller: C,
+    outfit: Outfit<'a, N, C>,
     /// The number of the connection.
     conn: u32,
     errand: Errand,
     step: Step,
     /// How many streams did what they were for.
     done: u32,
-    ticks: Interval,
     /// How many ticks a step may take.
     patience: u32,
     /// How many of them are left.
@@ -51,23 +49,19 @@ impl<'a, N: Net, C: Caller, O: Write + Drop> Dialing<'a, N, C, O> {
     /// A node whose connection of this number is admitted. Each step of the errand may take so many ticks.
     pub fn new(
         alloc: Global,
-        driver: Driver<'a, N, C>,
-        caller: C,
+        outfit: Outfit<'a, N, C>,
         conn: u32,
         errand: Errand,
-        ticks: Interval,
         patience: u32,
         output: O,
     ) -> Dialing<'a, N, C, O> {
         Dialing {
             alloc,
-            driver,
-            caller,
+            outfit,
             conn,
             errand,
             step: Step::Upgrading,
             done: 0,
-            ticks,
             patience,
             left: patience,
             output,
@@ -76,12 +70,12 @@ impl<'a, N: Net, C: Caller, O: Write + Drop> Dialing<'a, N, C, O> {
 
     /// Goes on with the errand. Answers whether the driver has more to do now.
     fn turn(&mut self) -> Result<bool, PeerEnding> {
-        self.caller.renew();
+        self.outfit.caller.renew();
         if self.step == Step::Upgrading && self.meet()? {
             return Ok(true);
         }
         for _ in 0..MOST_REPORTS {
-            match self.driver.take_report() {
+            match self.outfit.driver.take_report() {
                 Some(Report::Conn(_, _)) if self.step == Step::Closing => self.step = Step::Over,
                 Some(Report::Conn(_, end)) => return Err(PeerEnding::of_conn(end)),
                 Some(Report::Stream(_, _, end)) => {
@@ -97,7 +91,7 @@ impl<'a, N: Net, C: Caller, O: Write + Drop> Dialing<'a, N, C, O> {
 
     /// Tells who the peer is once the connection is live, and asks for the first stream.
     fn meet(&mut self) -> Result<bool, PeerEnding> {
-        let rows = self.caller.listing().conns.iter();
+        let rows = self.outfit.caller.listing().conns.iter();
         let row = rows.copied().find(|row| row.phase == Phase::Live);
         let Some(peer) = row.and_then(|row| row.peer) else {
             return Ok(false);
@@ -112,7 +106,7 @@ impl<'a, N: Net, C: Caller, O: Write + Drop> Dialing<'a, N, C, O> {
     fn ask(&mut self) -> Result<(), PeerEnding> {
         self.step = Step::Asked;
         self.left = self.patience;
-        match self.caller.ask(self.conn, self.errand.index()) {
+        match self.outfit.caller.ask(self.conn, self.errand.index()) {
             Reply::Refused(Refusal::OutOfMemory) => Err(PeerEnding::Failed),
             // Where the connection has ended meanwhile, a report tells why.
             _ => Ok(()),
@@ -134,7 +128,7 @@ impl<'a, N: Net, C: Caller, O: Write + Drop> Dialing<'a, N, C, O> {
         } else {
             self.step = Step::Closing;
             self.left = self.patience;
-            self.driver.close();
+            self.outfit.driver.close();
         }
         Ok(true)
     }
@@ -153,7 +147,7 @@ impl<'a, N: Net, C: Caller, O: Write + Drop> Dialing<'a, N, C, O> {
         match self.errand {
             Errand::Ping(_) => writeln!(self.output, "pong {}", self.done)?,
             Errand::Identify => {
-                if let Some(said) = self.driver.identify(self.conn) {
+                if let Some(said) = self.outfit.driver.identify(self.conn) {
                     print_said(self.alloc, said, &mut self.output)?;
                 }
             }
@@ -182,7 +176,7 @@ impl<N: Net, C: Caller, O: Write + Drop> Future for Dialing<'_, N, C, O> {
 
     fn poll(&mut self, cx: &mut Context<'_>) -> Poll<Result<(), PeerEnding>> {
         for _ in 0..MOST_TURNS {
-            self.driver.work(cx);
+            self.outfit.driver.work(cx);
             match self.turn() {
                 Ok(true) => continue,
                 Ok(false) => {}
@@ -191,7 +185,7 @@ impl<N: Net, C: Caller, O: Write + Drop> Future for Dialing<'_, N, C, O> {
             if self.step == Step::Over {
                 return Poll::Ready(Ok(()));
             }
-            if ready!(self.ticks.poll_tick(cx)).is_err() {
+            if ready!(self.outfit.ticks.poll_tick(cx)).is_err() {
                 return Poll::Ready(Err(PeerEnding::Failed));
             }
             if !self.tick() {

@@ -4,6 +4,7 @@
 
 mod dialing;
 mod listening;
+mod outfit;
 mod outing;
 mod post;
 mod said;

@@ -1,8 +1,9 @@
 //! A node that listens, as one future.
 
+use crate::outfit::Outfit;
 use crate::shown::Shown;
 use crate::watched::Watched;
-use driver::{Caller, Driver};
+use driver::Caller;
 use futures::task::{Context, Poll};
 use futures::{Future, ready};
 use node_terms::PeerEnding;
@@ -10,7 +11,6 @@ use std::alloc::Global;
 use std::io;
 use std::io::Write;
 use std::net::Net;
-use tokio::time::Interval;
 
 /// How many turns are made in a row.
 const MOST_TURNS: u32 = 32;
@@ -21,11 +21,9 @@ const IDENTIFY: u8 = 0;
 /// A node that listens until its input ends.
 #[derive(Drop)]
 pub struct Listening<'a, N: Net, C: Caller, I: Watched + Drop, O: Write + Drop> {
-    driver: Driver<'a, N, C>,
-    caller: C,
+    outfit: Outfit<'a, N, C>,
     input: I,
     output: O,
-    ticks: Interval,
     shown: Shown,
     /// How many ticks more it waits for its connections to be shut, where its input has ended.
     closing: Option<u32>,
@@ -38,19 +36,15 @@ impl<'a, N: Net, C: Caller, I: Watched + Drop, O: Write + Drop> Listening<'a, N,
     /// shut.
     pub fn new(
         alloc: Global,
-        driver: Driver<'a, N, C>,
-        caller: C,
-        ticks: Interval,
+        outfit: Outfit<'a, N, C>,
         patience: u32,
         input: I,
         output: O,
     ) -> Listening<'a, N, C, I, O> {
         Listening {
-            driver,
-            caller,
+            outfit,
             input,
             output,
-            ticks,
             shown: Shown::new(alloc),
             closing: None,
             patience,
@@ -59,13 +53,15 @@ impl<'a, N: Net, C: Caller, I: Watched + Drop, O: Write + Drop> Listening<'a, N,
 
     /// Prints what is new, and asks the peers that are new. Answers whether there was anything.
     fn look(&mut self) -> io::Result<bool> {
-        self.caller.renew();
-        let mut is_new = self.shown.print(self.caller.listing(), &mut self.output)?;
+        self.outfit.caller.renew();
+        let mut is_new = self
+            .shown
+            .print(self.outfit.caller.listing(), &mut self.output)?;
         for _ in 0..MOST_TURNS {
             let Some(number) = self.shown.next_unasked() else {
                 break;
             };
-            self.caller.ask(number, IDENTIFY);
+            self.outfit.caller.ask(number, IDENTIFY);
             is_new = true;
         }
         Ok(is_new)
@@ -74,7 +70,7 @@ impl<'a, N: Net, C: Caller, I: Watched + Drop, O: Write + Drop> Listening<'a, N,
     /// Whether it has shut all its connections.
     fn is_closed(&self) -> bool {
         match self.closing {
-            Some(left) => left == 0 || self.caller.listing().conns.is_empty(),
+            Some(left) => left == 0 || self.outfit.caller.listing().conns.is_empty(),
             None => false,
         }
     }
@@ -85,7 +81,7 @@ impl<'a, N: Net, C: Caller, I: Watched + Drop, O: Write + Drop> Listening<'a, N,
             Some(left) => self.closing = Some(left.saturating_sub(1)),
             None => {
                 if self.input.has_ended() {
-                    self.driver.close();
+                    self.outfit.driver.close();
                     self.closing = Some(self.patience);
                 }
             }
@@ -105,7 +101,7 @@ impl<N: Net, C: Caller, I: Watched + Drop, O: Write + Drop> Future for Listening
 
     fn poll(&mut self, cx: &mut Context<'_>) -> Poll<Result<(), PeerEnding>> {
         for _ in 0..MOST_TURNS {
-            self.driver.work(cx);
+            self.outfit.driver.work(cx);
             match self.look() {
                 Ok(true) => continue,
                 Ok(false) => {}
@@ -114,7 +110,7 @@ impl<N: Net, C: Caller, I: Watched + Drop, O: Write + Drop> Future for Listening
             if self.is_closed() {
                 return Poll::Ready(self.end());
             }
-            if ready!(self.ticks.poll_tick(cx)).is_err() {
+            if ready!(self.outfit.ticks.poll_tick(cx)).is_err() {
                 return Poll::Ready(Err(PeerEnding::Failed));
             }
             self.tick();

@@ -1,7 +1,8 @@
 //! The run of a node that dials a peer.
 
 use crate::dialing::Dialing;
-use driver::{Caller, Driver, Fresh, Member, SwarmUse, with_swarm};
+use crate::outfit::Outfit;
+use driver::{Caller, Fresh, Member, SwarmUse, with_swarm};
 use node_place::Place;
 use node_terms::{Errand, Own, PeerEnding, ticks_in};
 use pool_state::{Config, Limits, Reply};
@@ -13,7 +14,6 @@ use std::sync::Wait;
 use std::time::{Clock, Duration};
 use swarm_calls::{Identity, Ledgers, NoGate, Pass, Swarm};
 use tokio::runtime::LocalRuntime;
-use tokio::time::MissedTickBehavior;
 
 /// How far apart the ticks are, in milliseconds.
 const TICK: u64 = 10;
@@ -95,31 +95,44 @@ fn admitted<C: Caller>(caller: &mut C, place: &Place) -> Result<u32, PeerEnding>
     }
 }
 
-impl<R, O> Outing<'_, R, O>
+impl<'a, R, O> Outing<'a, R, O>
 where
     R: Wait + Clock + Net + RandomSource + AllocGlobal,
     O: Write + Drop,
 {
-    /// Dials, and does the errand.
-    fn go_out<C: Caller>(self, driving: C, calling: C) -> Result<(), PeerEnding> {
-        let (rt, alloc) = (self.rt, self.rt.alloc());
+    /// Dials, and tells the number of the connection.
+    fn dials<C: Caller>(
+        &self,
+        driving: C,
+        calling: C,
+    ) -> Result<(Outfit<'a, R, C>, u32), PeerEnding> {
         let mut caller = calling;
         let conn = admitted(&mut caller, &self.place)?;
-        let setup = self.own.setup(rt)?;
-        let handle = self.runtime.handle();
-        let mut ticks = handle.time().interval(rt, Duration::from_millis(TICK))?;
-        ticks.set_missed_tick_behavior(MissedTickBehavior::Delay);
-        let reactor = handle.reactor().clone()?;
-        let mut driver = Driver::new(alloc, rt, reactor, driving, setup)?;
-        driver.dial_at(self.place.addr);
-        let patience = ticks_in(self.limit, TICK);
+        let mut outfit = Outfit::new(
+            self.rt,
+            &self.own,
+            &self.runtime,
+            Duration::from_millis(TICK),
+            driving,
+            caller,
+        )?;
+        outfit.driver.dial_at(self.place.addr);
+        Ok((outfit, conn))
+    }
+
+    /// Dials, and does the errand.
+    fn go_out<C: Caller>(self, driving: C, calling: C) -> Result<(), PeerEnding> {
+        let (outfit, conn) = self.dials(driving, calling)?;
         let Outing {
+            rt,
             errand,
+            limit,
             output,
             mut runtime,
             ..
         } = self;
-        let dialing = Dialing::new(alloc, driver, caller, conn, errand, ticks, patience, output);
+        let patience = ticks_in(limit, TICK);
+        let dialing = Dialing::new(rt.alloc(), outfit, conn, errand, patience, output);
         runtime.block_on(rt, dialing)?
     }
 }

@@ -1,8 +1,9 @@
 //! The run of a node that listens.
 
 use crate::listening::Listening;
+use crate::outfit::Outfit;
 use crate::watched::Watched;
-use driver::{Caller, Driver, Fresh, Member, SwarmUse, with_swarm};
+use driver::{Caller, Fresh, Member, SwarmUse, with_swarm};
 use node_place::addr_text;
 use node_terms::{ListenTerms, Own, PeerEnding, ticks_in};
 use peer_ids::PeerId;
@@ -15,7 +16,6 @@ use std::sync::Wait;
 use std::time::{Clock, Duration};
 use swarm_calls::{Identity, Ledgers, NoGate, Pass, Swarm};
 use tokio::runtime::LocalRuntime;
-use tokio::time::MissedTickBehavior;
 
 /// How far apart the looks at the input are, in milliseconds.
 const TICK: u64 = 50;
@@ -114,34 +114,52 @@ fn print_listening<O: Write>(
     Ok(())
 }
 
-impl<R, I, O> Post<'_, R, I, O>
+impl<'a, R, I, O> Post<'a, R, I, O>
 where
     R: Wait + Clock + Net + RandomSource + AllocGlobal,
     I: Watched + Drop,
     O: Write + Drop,
 {
-    /// Listens, and serves until the input ends.
-    fn serve<C: Caller>(self, driving: C, calling: C) -> Result<(), PeerEnding> {
-        let (rt, alloc) = (self.rt, self.rt.alloc());
+    /// Takes connections from now on, and prints where.
+    fn open<C: Caller>(&mut self, outfit: &mut Outfit<'a, R, C>) -> Result<(), PeerEnding> {
+        let bound = outfit.driver.listen(self.listen.place.addr);
+        let addr = bound.map_err(|error| PeerEnding::Unbound(error.kind()))?;
+        print_listening(self.rt.alloc(), addr, &self.own.peer(), &mut self.output)
+    }
+
+    /// Listens where it is to.
+    fn listens<C: Caller>(
+        &mut self,
+        driving: C,
+        calling: C,
+    ) -> Result<Outfit<'a, R, C>, PeerEnding> {
         let mut caller = calling;
         bar(&mut caller, &self.listen)?;
-        let (peer, setup) = (self.own.peer(), self.own.setup(rt)?);
-        let handle = self.runtime.handle();
-        let mut ticks = handle.time().interval(rt, Duration::from_millis(TICK))?;
-        ticks.set_missed_tick_behavior(MissedTickBehavior::Delay);
-        let reactor = handle.reactor().clone()?;
-        let mut driver = Driver::new(alloc, rt, reactor, driving, setup)?;
-        let bound = driver.listen(self.listen.place.addr);
-        let addr = bound.map_err(|error| PeerEnding::Unbound(error.kind()))?;
+        let mut outfit = Outfit::new(
+            self.rt,
+            &self.own,
+            &self.runtime,
+            Duration::from_millis(TICK),
+            driving,
+            caller,
+        )?;
+        self.open(&mut outfit)?;
+        Ok(outfit)
+    }
+
+    /// Listens, and serves until the input ends.
+    fn serve<C: Caller>(self, driving: C, calling: C) -> Result<(), PeerEnding> {
+        let mut post = self;
+        let outfit = post.listens(driving, calling)?;
         let Post {
+            rt,
             input,
-            mut output,
+            output,
             mut runtime,
             ..
-        } = self;
-        print_listening(alloc, addr, &peer, &mut output)?;
+        } = post;
         let patience = ticks_in(Duration::from_millis(SHUTTING), TICK);
-        let listening = Listening::new(alloc, driver, caller, ticks, patience, input, output);
+        let listening = Listening::new(rt.alloc(), outfit, patience, input, output);
         runtime.block_on(rt, listening)?
     }
 }

@@ -8,15 +8,15 @@ use node_lines::Name;
 use peer_ids::{PeerId, PublicKey};
 use pool_state::{Config, Limits};
 use rand::rngs::StdRng;
-use std::alloc::{AllocError, AllocGlobal};
+use std::alloc::AllocGlobal;
 use std::io::Write;
 use std::net::Net;
 use std::random::RandomSource;
 use std::sync::Wait;
 use std::time::{Clock, Duration};
 use swarm_calls::{Identity, Ledgers, NoGate, Pass, Swarm};
-use tokio::reactor::Handle;
 use tokio::runtime::LocalRuntime;
+use tokio::time::Interval;
 
 /// How far apart the looks of an await are, in milliseconds.
 const TICK: u64 = 10;
@@ -162,30 +162,40 @@ where
     fn side<C: Caller>(
         &self,
         name: Name,
-        reactor: Handle,
-        setup: Setup,
         driving: C,
         calling: C,
-    ) -> Result<Side<'a, R, C>, AllocError> {
+    ) -> Result<Side<'a, R, C>, RunEnding> {
+        let reactor = self.runtime.handle().reactor().clone()?;
+        let setup = setup_of(self.rt, name)?;
+        let driver = Driver::new(self.rt.alloc(), self.rt, reactor, driving, setup)?;
         Ok(Side {
             name,
             peer: peer_of(name),
-            driver: Driver::new(self.rt.alloc(), self.rt, reactor, driving, setup)?,
+            driver,
             caller: calling,
         })
     }
 
     /// Makes the second swarm beside the first node, of which these are the callers.
     fn beside<A: Caller>(self, driving: A, calling: A) -> Result<(), RunEnding> {
-        let setup = setup_of(self.rt, Name::A)?;
-        let reactor = self.runtime.handle().reactor().clone()?;
         let config = config_of(Name::B)?;
-        let a = self.side(Name::A, reactor, setup, driving, calling)?;
+        let a = self.side(Name::A, driving, calling)?;
         let rt = self.rt;
         match with_swarm(rt, config, Second { play: self, a }) {
             Ok(outcome) => outcome,
             Err(_) => Err(RunEnding::Failed),
         }
+    }
+
+    /// Makes the second node of its two callers, and the ticks of an await.
+    fn second<B: Caller>(
+        &self,
+        driving: B,
+        calling: B,
+    ) -> Result<(Side<'a, R, B>, Interval), RunEnding> {
+        let time = self.runtime.handle().time();
+        let ticks = time.interval(self.rt, Duration::from_millis(TICK))?;
+        Ok((self.side(Name::B, driving, calling)?, ticks))
     }
 
     /// Runs the script on the first node and on the second, of which these are the callers.
@@ -195,13 +205,7 @@ where
         driving: B,
         calling: B,
     ) -> Result<(), RunEnding> {
-        let setup = setup_of(self.rt, Name::B)?;
-        let handle = self.runtime.handle();
-        let ticks = handle
-            .time()
-            .interval(self.rt, Duration::from_millis(TICK))?;
-        let reactor = handle.reactor().clone()?;
-        let b = self.side(Name::B, reactor, setup, driving, calling)?;
+        let (b, ticks) = self.second(driving, calling)?;
         let Play {
             rt,
             script,

@@ -178,11 +178,13 @@ impl<H: Handler> Stream<H> {
             Stage::Talking(talk, handler) => {
                 let mut talk = talk;
                 let heard = hear_talk(&mut talk, &mut self.waiting, bytes)?;
-                self.stage = stage_behind(heard, talk, handler);
+                let stage = stage_behind(heard, talk, handler);
+                // The proof of an assignment would walk through all that the old stage holds.
+                drop(mem::replace(&mut self.stage, stage));
                 Ok(heard)
             }
             stage => {
-                self.stage = stage;
+                drop(mem::replace(&mut self.stage, stage));
                 Err(out_of_turn())
             }
         }
@@ -220,7 +222,7 @@ impl<H: Handler> Stream<H> {
             _ => return Err(out_of_turn()),
         };
         if let Err(fault) = taken {
-            self.stage = Stage::Over;
+            drop(mem::replace(&mut self.stage, Stage::Over));
             return Err(Stop::from(fault));
         }
         Ok(())
@@ -248,13 +250,13 @@ impl<H: Handler> Stream<H> {
             Stage::Serving(handler) => handler.end(),
             Stage::Done => return Ok(()),
             Stage::Talking(_, _) => {
-                self.stage = Stage::Over;
+                drop(mem::replace(&mut self.stage, Stage::Over));
                 return Err(Stop::Broken(Cause::Ended));
             }
             _ => return Err(out_of_turn()),
         };
         if let Err(fault) = ended {
-            self.stage = Stage::Over;
+            drop(mem::replace(&mut self.stage, Stage::Over));
             return Err(Stop::from(fault));
         }
         Ok(())
@@ -322,7 +324,7 @@ impl<H: Handler> Stream<H> {
                 Ok(bytes)
             }
             Err(stop) => {
-                self.stage = Stage::Over;
+                drop(mem::replace(&mut self.stage, Stage::Over));
                 Err(stop)
             }
         }
@@ -341,7 +343,7 @@ impl<H: Handler> Stream<H> {
         match mem::replace(&mut self.stage, Stage::Done) {
             Stage::Serving(handler) => Some(handler),
             stage => {
-                self.stage = stage;
+                drop(mem::replace(&mut self.stage, stage));
                 None
             }
         }

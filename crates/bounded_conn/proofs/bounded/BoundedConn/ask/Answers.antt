@@ -8,7 +8,7 @@ returns-then-waiting-gt-MOST_WAITING-clause-asks g c =
       c.ask-asked.result,
       c.ask-asked.new.self,
       (c.ask-asked.ensures.refused, c.ask-asked.ensures.asked),
-      inr (omega (arith, c.if-waiting-gt-MOST_WAITING.true, c.waiting.ensures.waiting), refl, refl),
+      inr (omega (arith, c.if-waiting-gt-MOST_WAITING.true, c.waiting.ensures.waiting), c.take.ensures.after, refl),
     )
 
 pub returns-clause-asks : goal.returns-clause-asks

@@ -8,7 +8,7 @@ returns-then-waiting-gt-MOST_WAITING-clause-polls g c =
       c.poll_next-polled.result,
       c.poll_next-polled.new.self,
       (c.poll_next-polled.ensures.follows, c.poll_next-polled.ensures.polls),
-      inr (omega (arith, c.if-waiting-gt-MOST_WAITING.true, c.waiting-waiting.ensures.waiting), refl, refl),
+      inr (omega (arith, c.if-waiting-gt-MOST_WAITING.true, c.waiting-waiting.ensures.waiting), c.take.ensures.after, refl),
     )
 
 pub returns-clause-polls : goal.returns-clause-polls

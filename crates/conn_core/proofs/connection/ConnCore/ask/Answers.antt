@@ -1,9 +1,10 @@
-use Rattle.std.proofs.Common.{false, [], ◌∷◌, ◌++◌, sym, subst}
+use Rattle.std.proofs.Common.{IfErr, length, refl, false, [], ◌∷◌, ◌++◌, sym, subst}
 use Rattle.conn_log.specs.declared.event.ConnRefused.TheVariants as refusals
 use Rattle.conn_core.specs.declared.connection.Phase.{Phase}
 use Rattle.conn_core.specs.declared.connection.ConnCore.{ConnCore}
-use Rattle.conn_core.specs.Connects.{Connects, Stands, OwesOf}
-use Rattle.conn_core.proofs.Asking.{refused_none, ok_on}
+use Rattle.conn_log.specs.declared.event.ConnRefused.{ConnRefused}
+use Rattle.conn_core.specs.Connects.{Connects, Stands, OwesOf, IsRefused}
+use Rattle.conn_core.proofs.Asking.{refused_none, ok_on, refused_as, refused_on, up_refused, over_refused}
 use Rattle.conn_core.proofs.connection.ConnCore.ask.Goals as goal
 use Rattle.conn_core.proofs.connection.ConnCore.ask.Goals.{in-Upgrading, in-Up, in-Over, in-Over-2}
 
@@ -40,4 +41,21 @@ returns-else-eq-clause-owes g c = λ role own start input taken asked told stand
           (w.open-asked.ensures.owes role own start input (taken ++ core.output.items) asked (told ++ core.owed.items) it.1)
       | in-Over w ↦ refused_none _ c.match-self.asked refusals.Failed w.asked-is
       | in-Over-2 w ↦ refused_none _ c.match-self.asked refusals.Failed w.asked-is
+    ]
+
+pub returns-then-eq-clause-refused : goal.returns-then-eq-clause-refused
+returns-then-eq-clause-refused g c =
+    let core = c.args.self.now in
+    let is_refused : Phase _ _ → ConnRefused → Type 0 = λ phase refused. IsRefused g.P.Protocols.listed phase c.args.index refused in
+    elim c.match-self.branch [
+      | in-Upgrading w ↦ refused_as (is_refused core.phase) c.match-self.asked refusals.NotUp w.asked-is
+          (subst (λ (x : Phase _ _). is_refused x refusals.NotUp) (sym w.in-Upgrading.is) refl)
+      | in-Up w ↦ refused_on (is_refused core.phase) c.match-self.asked w.open-asked.result w.asked-is
+          (subst (λ (x : Phase _ _). IfErr w.open-asked.result (is_refused x)) (sym w.in-Up.is)
+          (up_refused (length (g.P.Protocols.listed w.in-Up.mux.board.protocols)) c.args.index w.open-asked.result _
+          w.open-asked.ensures.bad_index w.open-asked.ensures.refused))
+      | in-Over w ↦ refused_as (is_refused core.phase) c.match-self.asked refusals.Failed w.asked-is
+          (over_refused g.P.Protocols.listed core.phase c.args.index w.in-Over.is)
+      | in-Over-2 w ↦ refused_as (is_refused core.phase) c.match-self.asked refusals.Failed w.asked-is
+          (over_refused g.P.Protocols.listed core.phase c.args.index w.in-Over.is)
     ]

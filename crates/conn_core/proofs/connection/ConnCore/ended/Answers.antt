@@ -20,9 +20,10 @@ returns-clause-ends g c = λ role own start input taken asked told stands going.
     ∙ sym (append_assoc told core.owed.items (last ∷ [])) in
     let owed_is : c.replace-told.new.dest.items ≡ [] = ap (λ (v : Vec (ConnEvent _) _). v.items) c.replace-told.ensures.after ∙ c.new.ensures.items in (
       stands.0,
-      (
-        owed_is,
-        subst (λ (t : List (ConnEvent _)). Ends H.steps H.fails H.is_closed H.is_finished makes.makes_inbound makes.makes_outbound makes.listed makes.is_eager makes.leads_inbound makes.leads_outbound start role own
-            input true asked t (taken ++ c.last_event-last.new.output.items)) (sym told_is) ends,
-      ),
+      subst (λ (x : Phase _ _). Connects H.steps H.fails H.is_closed H.is_finished makes.makes_inbound makes.makes_outbound makes.listed makes.is_eager makes.leads_inbound makes.leads_outbound start role own
+          input true asked (told ++ c.tell.new.told.items) taken x c.replace-told.new.dest.items c.last_event-last.new.output.items) (sym c.replace.ensures.after) (
+            owed_is,
+            subst (λ (t : List (ConnEvent _)). Ends H.steps H.fails H.is_closed H.is_finished makes.makes_inbound makes.makes_outbound makes.listed makes.is_eager makes.leads_inbound makes.leads_outbound start role own
+                input true asked t (taken ++ c.last_event-last.new.output.items)) (sym told_is) ends,
+          ),
     )

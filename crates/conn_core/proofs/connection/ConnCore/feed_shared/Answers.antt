@@ -2,7 +2,8 @@ use Rattle.std.proofs.Common.{◌≡◌, false, List, [], ◌++◌, refl, sym, a
 use Rattle.std.specs.Global.{Vec}
 use Rattle.upgrade.specs.declared.role.ConnRole.{ConnRole}
 use Rattle.conn_log.specs.declared.event.ConnEvent.{ConnEvent}
-use Rattle.conn_core.specs.Connects.{Connects}
+use Rattle.conn_core.specs.declared.connection.Phase.{Phase}
+use Rattle.conn_core.specs.Connects.{Connects, waiting_in}
 use Rattle.conn_core.specs.Wanting.{Wrote}
 use Rattle.conn_core.proofs.Taking.{connects_by}
 use Rattle.conn_core.proofs.connection.ConnCore.feed_shared.Goals as goal
@@ -32,6 +33,8 @@ returns-clause-wrote g c = λ role own start input taken asked told stands going
     let from_owed = connects_by (λ r x o. Connects H.steps H.fails H.is_closed H.is_finished makes.makes_inbound makes.makes_outbound makes.listed makes.is_eager makes.leads_inbound makes.leads_outbound start r own
     input false asked told taken x o core.output.items) core.role role core.phase core.phase c.replace-told.result.items core.owed.items
     stands.0 refl (ap (λ (v : Vec (ConnEvent _)). v.items) c.replace-told.ensures.value) stands.1 in
-    subst (λ (r : ConnRole). Wrote H.steps H.fails H.is_closed H.is_finished makes.makes_inbound makes.makes_outbound makes.listed makes.is_eager makes.leads_inbound makes.leads_outbound start r own
+    subst (λ (x : Phase _ _). Wrote H.steps H.fails H.is_closed H.is_finished makes.makes_inbound makes.makes_outbound makes.listed makes.is_eager makes.leads_inbound makes.leads_outbound start role own
+    input c.args.piece asked told (taken ++ waiting_in x c.take_on.new.output.items)) (sym c.replace.ensures.after)
+    (subst (λ (r : ConnRole). Wrote H.steps H.fails H.is_closed H.is_finished makes.makes_inbound makes.makes_outbound makes.listed makes.is_eager makes.leads_inbound makes.leads_outbound start r own
     input c.args.piece asked told (taken ++ c.take_on.new.output.items)) stands.0
-    (c.in-Err.ensures.wrote own start input taken asked told from_owed going)
+    (c.in-Err.ensures.wrote own start input taken asked told from_owed going))

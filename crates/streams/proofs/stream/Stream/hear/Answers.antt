@@ -34,7 +34,7 @@ returns-in_ok-heard-in-Talking-clause-stands g c = λ past s ne.
     let t = talking_as g.H.Handler.steps c.args.self.now past c.in-Talking.talk c.in-Talking.handler c.self.inside.waiting.items is s in
     let h = c.in_ok-heard-in-Talking.ensures.hears past.side past.got t.output t.going in
     let before = open_before past.side c.in-Talking.talk past.got t.output t.going in
-    rw c.stage_behind.ensures (then_stands g.H.Handler.steps past c.in-Talking.talk c.hear_talk.new.talk c.in-Talking.handler c.args.bytes.now c.self.inside.waiting.items c.hear_talk.new.waiting.items
+    rw (c.replace-in-Talking.ensures.after, c.stage_behind-stage.ensures) (then_stands g.H.Handler.steps past c.in-Talking.talk c.hear_talk.new.talk c.in-Talking.handler c.args.bytes.now c.self.inside.waiting.items c.hear_talk.new.waiting.items
     c.in_ok-heard-in-Talking.heard t before h ne)
 
 pub returns-in_ok-heard-in-Talking-clause-hears : goal.returns-in_ok-heard-in-Talking-clause-hears
