@@ -3,6 +3,7 @@ use Rattle.std.proofs.Common.{◌≡◌, ◌<◌, ◌≤◌, ◌⊎◌, inl, inr
 use Rattle.std.specs.Prelude.{IfOk, IfErr}
 use Rattle.std.proofs.lemmas.Bool.Decides.{nat_tests}
 use Rattle.std.proofs.lemmas.List.{append_assoc, append-nil}
+use Rattle.std.proofs.lemmas.Result.{IfOk-weaker, IfErr-weaker}
 use Rattle.handlers.specs.Calls.{HandlerCall, Asked as AskedFor}
 use Rattle.peer_ids.specs.Key.{Key}
 use Rattle.peer_ids.specs.PeerId.{id_of}
@@ -30,22 +31,14 @@ pub refused_none : {A E : Type 0} (Q : A → Type 0) (r : Result A E) (why : E) 
 refused_none Q (Ok x) why is = absurd (cc is)
 refused_none Q (Err e) why is = tt
 
-on_ok : {A E : Type 0} (Q R : A → Type 0) (r : Result A E) → ((x : A) → R x → Q x) → IfOk r R → IfOk r Q
-on_ok Q R (Ok x) f r = f x r
-on_ok Q R (Err e) f r = tt
-
 pub ok_on : {A E : Type 0} (Q R : A → Type 0) (now then : Result A E) → now ≡ then → ((x : A) → R x → Q x) → IfOk then R → IfOk now Q
-ok_on {A = A} {E = E} Q R now then is f r = subst (λ (t : Result A E). IfOk t Q) (sym is) (on_ok Q R then f r)
+ok_on {A = A} {E = E} Q R now then is f r = subst (λ (t : Result A E). IfOk t Q) (sym is) (IfOk-weaker then R Q f r)
 
 pub refused_on : {A E : Type 0} (Q : E → Type 0) (now then : Result A E) → now ≡ then → IfErr then Q → IfErr now Q
 refused_on {A = A} {E = E} Q now then is holds = subst (λ (t : Result A E). IfErr t Q) (sym is) holds
 
 pub refused_as : {A E : Type 0} (Q : E → Type 0) (now : Result A E) (why : E) → now ≡ Err why → Q why → IfErr now Q
 refused_as Q now why is holds = refused_on Q now (Err why) is holds
-
-each_err : {A E : Type 0} {Q R : E → Type 0} → ((why : E) → Q why → R why) → (r : Result A E) → IfErr r Q → IfErr r R
-each_err f (Ok x) holds = tt
-each_err f (Err why) holds = f why holds
 
 pub over_refused : {P H : Type 0} (listed : P → List (List ℕ)) (phase : Phase P H) (index : ℕ)
     → (phase ≡ phases.Over) ⊎ (phase ≡ phases.Spent) → IsRefused listed phase index refusals.Failed
@@ -64,7 +57,7 @@ up_refused {A = A} count index r Q outside within = by (nat_lt index count) refl
     by : (b : Bool) → nat_lt index count ≡ b → IfErr r Refused
     by true is =
         let less : index < count = grind (arith, nat_tests, is) in
-        each_err (λ why holds. inr (less, holds)) r (within less)
+        IfErr-weaker r Q Refused (λ why holds. inr (less, holds)) (within less)
     by false is =
         let more : count ≤ index = grind (arith, nat_tests, is) in
         refused_as Refused r refusals.BadIndex (outside more) (inl (more, refl))

@@ -440,7 +440,7 @@ impl<P: Protocols> ConnCore<P> {
     }
 
     /// The input of the link has ended: it tells what is owed, and last Shut, or Fault(EarlyEnd) within the upgrade or
-    /// within a frame. No handler is called.
+    /// within a frame. Its streams and their handlers are let go of.
     pub fn ended(&mut self) -> Result<Vec<ConnEvent<P::H>>, ConnRefused>
         ensures ends { (role : ConnRole) (own : Key) (start : P) (input taken : List ℕ) (asked : List (ℕ × ℕ))
             (told : List (ConnEvent P.H)) → Stands P.H.steps P.H.fails P.H.is_closed P.H.is_finished P.makes_inbound

@@ -7,7 +7,6 @@ mod listening;
 mod outfit;
 mod outing;
 mod post;
-mod said;
 mod shown;
 mod watched;
 

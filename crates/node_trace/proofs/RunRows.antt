@@ -61,6 +61,7 @@ pub run_rows : (gives : FixedPayload → List ℕ → Type 0) (steps : FixedPayl
     → RunRows gives steps
 unfolding is_ascii SaysTrace IsCut encode_with decode_pairs texts_of over
 run_rows gives steps = record {
+  any = λ node role key texts printed to. (λ it. it, λ it. it);
   goes_on = λ node key told is. (
     codes "out 132f6d756c746973747265616d2f312e302e300a\n",
     codes "refused 2 NotUp\nout -\nfault 6 EarlyEnd\n",

@@ -1,6 +1,6 @@
 //! The run of a trace.
 
-ghost use Rattle.std.specs.Prelude.{◌≡◌, ◌+◌, ◌-◌, ◌^◌, ◌<◌, ℕ, min, List, [], ◌∷◌, ◌++◌, length, Some, Err};
+ghost use Rattle.std.specs.Prelude.{◌≡◌, ◌⊎◌, ◌+◌, ◌-◌, ◌^◌, ◌<◌, ℕ, min, List, [], ◌∷◌, ◌++◌, length, Some, Err};
 ghost use Rattle.std.specs.Prelude.{OnOk, IfOk, IfSome};
 ghost use Rattle.std.specs.Io.KnownBytes.{Appends};
 ghost use Rattle.node_protocols.specs.declared.handler.NodeHandler.{NodeHandler};
@@ -54,6 +54,8 @@ pub fn trace<I: Read, O: Write>(
         lines printed to
         × Appends (O.contents output.old) (O.contents output.new) printed
         × (number ≡ min (length lines + 1) (2 ^ 64 - 1)) }
+    ensures long { IfSome (I.remaining input.old) (λ script. longest < length script
+        → (result ≡ Err stopped.Unread) ⊎ (result ≡ Err stopped.Unwritten)) }
     ensures unread { result ≡ Err stopped.Unread → O.contents output.new ≡ O.contents output.old }
 {
     let Ok(shown) = copy_of(alloc, &key) else {

@@ -1,7 +1,7 @@
 -- What the words of a command line say.
 -- Source: this project's profile, the program `node`; of keys, libp2p peer ids, "Keys"; of hexadecimal, RFC 4648,
 -- section 8.
-use Rattle.std.specs.Prelude.{◌≡◌, ℕ, Bool, true, false, List, [], ◌∷◌, Ok, Some, codes, unwrap_or, option_map, ⊤}
+use Rattle.std.specs.Prelude.{◌≡◌, ℕ, Bool, true, false, List, [], ◌∷◌, Ok, Some, None, codes, unwrap_or, option_map, ⊤}
 use Rattle.clap.specs.Matches.{found_of, first_value, one_text, matched_of, raw_values}
 use Rattle.clap.specs.declared.parser.matches.ArgMatches.{ArgMatches}
 use Rattle.hex.specs.Hex.{decode_of, decode_sized}
@@ -34,6 +34,7 @@ HasNumber bits found name number = IsNumber bits (word_or (codes "") found name)
 pub record HasFlag (found : ArgMatches) (name : List ℕ) (flag : Bool) : Type 0 where
   pub set : one_text (found_of found) name ≡ Some (codes "true") → flag ≡ true
   pub unset : one_text (found_of found) name ≡ Some (codes "false") → flag ≡ false
+  pub absent : one_text (found_of found) name ≡ None → flag ≡ false
 
 -- Each limit is the number of its option.
 pub record HasLimits (found : ArgMatches) (limits : Limits) : Type 0 where

@@ -1,8 +1,12 @@
 //! What the words of a command line ask for.
 
-ghost use Rattle.std.specs.Prelude.{◌≡◌, Some, IfOk};
-ghost use Rattle.clap.specs.Matches.{subcommand_name_of};
-ghost use Rattle.node_words.specs.Asking.{subcommand_of};
+ghost use Rattle.std.specs.Prelude.{◌≡◌, Some, Ok, IfOk, option_map, codes};
+ghost use Rattle.node_words.specs.declared.command.Asked.TheVariants as asked;
+ghost use Rattle.clap.specs.Matches.{subcommand_name_of, found_of};
+ghost use Rattle.clap.specs.Simple.{subcommand_rows_of};
+ghost use Rattle.clap.specs.Walk.{rows_of};
+ghost use Rattle.clap.specs.declared.parser.matches.ArgMatches.{ArgMatches};
+ghost use Rattle.node_words.specs.Asking.{subcommand_of, Asks};
 
 use crate::dial_options::{Dialer, identifier_in, identify_command, ping_command, pinger_in};
 use crate::listen_options::{Listener, listen_command, listener_in};
@@ -132,32 +136,62 @@ fn parse<'a>(alloc: Global, words: &'a [&'a str]) -> Result<Result<Asked<'a>, Ba
     Ok(asked_of(alloc, &matches))
 }
 
+/// What the words of a subcommand of this name ask for. Each that has a word needs it.
+fn asked_in<'a>(alloc: Global, name: &str, found: &ArgMatches<'a>) -> Result<Asked<'a>, BadOption>
+    ensures words { IfOk result (Asks found.now) }
+    ensures name { IfOk result (λ asked. name.now ≡ subcommand_of asked) }
+    ensures run { name.now ≡ codes "run" → result ≡ Ok asked.Run }
+{
+    match name {
+        "id" => match found.get_str("HEX") {
+            Some(hex) => Ok(Asked::Id(hex)),
+            None => Err(BadOption::Number),
+        },
+        "hash" => match found.get_str("TEXT") {
+            Some(text) => Ok(Asked::Hash(text)),
+            None => Err(BadOption::Number),
+        },
+        "addr" => match found.get_str("TEXT") {
+            Some(text) => Ok(Asked::Addr(text)),
+            None => Err(BadOption::Number),
+        },
+        "replay" => match config_of(found) {
+            Ok(config) => Ok(Asked::Replay(config)),
+            Err(bad) => Err(bad),
+        },
+        "run" => Ok(Asked::Run),
+        "trace" => match traced_in(alloc, found) {
+            Ok(traced) => Ok(Asked::Trace(traced)),
+            Err(bad) => Err(bad),
+        },
+        "listen" => match listener_in(alloc, found) {
+            Ok(listener) => Ok(Asked::Listen(listener)),
+            Err(bad) => Err(bad),
+        },
+        "ping" => match pinger_in(alloc, found) {
+            Ok(dialer) => Ok(Asked::Dial(dialer)),
+            Err(bad) => Err(bad),
+        },
+        "identify" => match identifier_in(alloc, found) {
+            Ok(dialer) => Ok(Asked::Dial(dialer)),
+            Err(bad) => Err(bad),
+        },
+        _ => Err(BadOption::Number),
+    }
+}
+
 /// What the words that were found ask for.
 fn asked_of<'a>(alloc: Global, matches: &ArgMatches<'a>) -> Result<Asked<'a>, BadOption>
-    ensures { IfOk result (λ asked. subcommand_name_of matches.now ≡ Some (subcommand_of asked)) }
+    ensures run { subcommand_name_of matches.now ≡ Some (codes "run") → result ≡ Ok asked.Run }
+    ensures name { IfOk result (λ asked. subcommand_name_of matches.now ≡ Some (subcommand_of asked)) }
+    ensures words { IfOk result (λ asked. (found : ArgMatches)
+        × (option_map (λ it. it.1) (subcommand_rows_of matches.now) ≡ Some (rows_of (found_of found)))
+        × Asks found asked) }
 {
-    let word = match matches.subcommand() {
-        Some(("id", found)) => found.get_str("HEX").map(|hex| Asked::Id(hex)),
-        Some(("hash", found)) => found.get_str("TEXT").map(|text| Asked::Hash(text)),
-        Some(("addr", found)) => found.get_str("TEXT").map(|text| Asked::Addr(text)),
-        Some(("replay", found)) => return config_of(found).map(|config| Asked::Replay(config)),
-        Some(("run", _)) => return Ok(Asked::Run),
-        Some(("trace", found)) => {
-            return traced_in(alloc, found).map(|traced| Asked::Trace(traced));
-        }
-        Some(("listen", found)) => {
-            return listener_in(alloc, found).map(|listener| Asked::Listen(listener));
-        }
-        Some(("ping", found)) => {
-            return pinger_in(alloc, found).map(|dialer| Asked::Dial(dialer));
-        }
-        Some(("identify", found)) => {
-            return identifier_in(alloc, found).map(|dialer| Asked::Dial(dialer));
-        }
-        _ => None,
-    };
-    // Each other subcommand has its word.
-    word.ok_or(BadOption::Number)
+    match matches.subcommand() {
+        Some((name, found)) => asked_in(alloc, name, found),
+        None => Err(BadOption::Number),
+    }
 }
 
 /// Reads the words behind the program's name.

@@ -97,6 +97,8 @@ pub fn pinger_in<'a>(alloc: Global, found: &ArgMatches<'a>) -> Result<Dialer<'a>
         → (count : ℕ) → ¬ HasNumber 32 found.now (codes "count") count }
     ensures no_key { result ≡ Err BadOption.Key
         → (key : Key) → ¬ IsKey (word_or dialer_key found.now (codes "key")) key }
+    ensures count_first { result ≡ Err BadOption.Key
+        → (count : ℕ) × HasNumber 32 found.now (codes "count") count }
 {
     match number_32(found, "count") {
         Some(count) => dialer_in(alloc, found, Errand::Ping(count)),

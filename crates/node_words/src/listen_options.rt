@@ -134,6 +134,9 @@ pub fn listener_in<'a>(alloc: Global, found: &ArgMatches<'a>) -> Result<Listener
     ensures no_peer { result ≡ Err BadOption.Listed → (blocked allowed : List (List ℕ))
         → AreNamed (words_in found.now (codes "block")) blocked
         → AreNamed (words_in found.now (codes "allow")) allowed → ⊥ }
+    ensures key_first { (result ≡ Err BadOption.Number) ⊎ (result ≡ Err BadOption.Listed)
+        → (key : Key) × IsKey (word_or listener_key found.now (codes "key")) key }
+    ensures limits_next { result ≡ Err BadOption.Listed → (limits : Limits) × HasLimits found.now limits }
     ensures refused { IfErr result (λ bad. (bad ≡ BadOption.Agent) ⊎ (bad ≡ BadOption.Key) ⊎ (bad ≡ BadOption.Number)
         ⊎ (bad ≡ BadOption.Listed) ⊎ (bad ≡ BadOption.OutOfMemory)) }
 {

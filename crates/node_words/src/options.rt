@@ -214,6 +214,9 @@ pub fn config_of(found: &ArgMatches<'_>) -> Result<Config, BadOption>
     ensures no_number { result ≡ Err BadOption.Number → (limits : Limits) (conn front : ℕ)
         → HasLimits found.now limits → HasNumber 32 found.now (codes "first-conn") conn
         → HasNumber 64 found.now (codes "first-front") front → ⊥ }
+    ensures peer_last { result ≡ Err BadOption.Peer → (limits : Limits) × (conn : ℕ) × (front : ℕ)
+        × HasLimits found.now limits × HasNumber 32 found.now (codes "first-conn") conn
+        × HasNumber 64 found.now (codes "first-front") front }
 {
     let limits = limits_of(found)?;
     let Some(first_conn) = number_32(found, "first-conn") else {

@@ -1,5 +1,5 @@
 -- The rows of the steps by which a stream is served.
-use Rattle.std.proofs.Common.{◌≡◌, ◌⊎◌, ℕ, inl, inr, Bool, true, false, List, [], refl, sym, ◌∙◌}
+use Rattle.std.proofs.Common.{◌≡◌, ◌⊎◌, ℕ, inl, inr, Bool, true, false, List, [], length, refl, sym, ap, ◌∙◌, arith}
 use Rattle.handlers.specs.Calls.{HandlerCall, Give}
 use Rattle.row_check.specs.AnyStepRows.{AnyTalkStepRows, AnyStepRows}
 
@@ -27,7 +27,10 @@ module _ {H : Type 0} (step : H → HandlerCall → H → Type 0) (is_closed is_
   pub any_steps : (was_done : Bool) → AnyStepRows step is_closed is_finished was_done
   any_steps was_done = record {
     gives = λ old new room bytes e. (λ h. (h.0, asks_it old new room bytes e h.1), λ h. (h.0, inr (e, h.1)));
-    gives_nothing = λ old new room bytes e h. gives_nothing old new room bytes e h.1;
+    gives_nothing = λ old new room bytes e. (
+      λ h. gives_nothing old new room bytes e h.1,
+      λ h. (omega (arith, ap length h.1), inl (e, h.0, h.1)),
+    );
     stage_gives = λ talk handler room index new bytes.
         ((λ h. h, λ h. h), (λ h. h, λ h. h), (λ h. h, λ h. h), (λ h. h, λ h. h), (λ h. h, λ h. h), (λ h. h, λ h. h));
     sends = λ role past fed sent n amount so_far session stream. (
@@ -35,7 +38,9 @@ module _ {H : Type 0} (step : H → HandlerCall → H → Type 0) (is_closed is_
       λ h. record { pieces = h.0; acts = h.1; left = h.2; acts_are = h.3; session_stands = h.4; stream_stands = h.5; asked = h.6; full = h.7 },
     );
     closes = λ role past fed sent n over old session. (λ h. h, λ h. h);
+    close_runs_out = λ role past n over old session. (λ h. h, λ h. h);
     counts = λ role past fed sent n old session. (λ h. h, λ h. h);
+    count_runs_out = λ role past n old session. (λ h. h, λ h. h);
     was_asked = λ role past fed sent n so_far session stream. (
       λ w. (w.goes, w.live_is, w.closed_is, w.asked, w.none_waits, w.untaken_is),
       λ h. record { goes = h.0; live_is = h.1; closed_is = h.2; asked = h.3; none_waits = h.4; untaken_is = h.5 },

@@ -14,7 +14,7 @@ use Rattle.yamux_session.specs.History.{Item, Act}
 use Rattle.yamux_session.specs.History.Item.{Did}
 use Rattle.yamux_session.specs.History.Act.{Write, Taken, Close}
 use Rattle.yamux_session.specs.Openings.{is_live, closed}
-use Rattle.yamux_session.specs.Windows.{credit, untaken}
+use Rattle.yamux_session.specs.Windows.{credit, untaken, given_back}
 use Rattle.yamux_session.specs.Acts.{open_credit}
 use Rattle.yamux_session.specs.State.{State, Stands as SessionStands}
 use Rattle.streams.specs.declared.heard.Heard.{Heard}
@@ -29,7 +29,7 @@ use Rattle.streams.specs.InTalk.{heard_by, TalkHears, stage_by}
 use Rattle.streams.specs.Streams.{Past, IsGoing}
 use Rattle.streams.specs.State.{Streaming, Stands, is_open, has_closed}
 use Rattle.serving.specs.Served.{Goes, HandsOut, with_sent}
-use Rattle.serving.specs.Steps.{Sends, Closes, Counts, WasAsked, WasClosed}
+use Rattle.serving.specs.Steps.{Sends, Closes, CloseRunsOut, Counts, CountRunsOut, WasAsked, WasClosed}
 
 -- What a talk tells of a piece, and where the stream is then
 pub record AnyTalkStepRows (H : Type 0) : Type 0 where
@@ -54,7 +54,7 @@ module _ {H : Type 0} (step : H → HandlerCall → H → Type 0) (is_closed is_
     pub gives : (old new : H) (room : ℕ) (bytes : List ℕ) → is_closed old ≡ false
         → Gives step is_closed old room new bytes ↔ ((length bytes ≤ room) × step old (Give room bytes) new)
     pub gives_nothing : (old new : H) (room : ℕ) (bytes : List ℕ) → is_closed old ≡ true
-        → Gives step is_closed old room new bytes → (new ≡ old) × (bytes ≡ [])
+        → Gives step is_closed old room new bytes ↔ ((new ≡ old) × (bytes ≡ []))
     pub stage_gives : (talk : Talking) (handler : H) (room index : ℕ) (new : Stage H) (bytes : List ℕ)
         → (StageGives step is_closed (stages.Talking talk (Some handler)) room new bytes
         ↔ ((after : H) × (new ≡ stages.Talking talk (Some after)) × Gives step is_closed handler room after bytes))
@@ -79,11 +79,18 @@ module _ {H : Type 0} (step : H → HandlerCall → H → Type 0) (is_closed is_
         ↔ (((session ≡ old) × ((over ≡ false) ⊎ (open_credit role past n ≡ None)))
         ⊎ ((over ≡ true) × (is_live role past n ≡ true) × (closed role past n ≡ false)
         × SessionStands role (Did (Close n) ∷ past) fed sent session))
+    pub close_runs_out : (role : Role) (past : List Item) (n : ℕ) (over : Bool) (old session : State)
+        → CloseRunsOut role past n over old session ↔ ((session ≡ old) × (over ≡ true) × (is_live role past n ≡ true)
+        × (closed role past n ≡ false) × (old.room < 12))
     pub counts : (role : Role) (past : List Item) (fed sent : List ℕ) (n : ℕ) (old session : State)
         → Counts role past fed sent n old session
         ↔ (((session ≡ old) × ((open_credit role past n ≡ Some 0) ⊎ (is_live role past n ≡ false)))
         ⊎ ((open_credit role past n ≢ Some 0) × (is_live role past n ≡ true)
         × SessionStands role (Did (Taken n (untaken role past n)) ∷ past) fed sent session))
+    pub count_runs_out : (role : Role) (past : List Item) (n : ℕ) (old session : State)
+        → CountRunsOut role past n old session ↔ ((session ≡ old) × (open_credit role past n ≢ Some 0)
+        × (is_live role past n ≡ true) × (0 < given_back role n past (Did (Taken n (untaken role past n))))
+        × (old.room < 12))
     pub was_asked : (role : Role) (past : List Item) (fed sent : List ℕ) (n : ℕ) (so_far : Past H) (session : State)
         (stream : Streaming H) → WasAsked step is_closed is_finished was_done role past fed sent n so_far session stream
         ↔ ((goes : Goes step is_closed is_finished was_done role past fed sent n so_far session stream)

@@ -14,7 +14,7 @@ mod rows;
 use bytes::Bytes;
 use joined::{TEXT, play_joined};
 use play::{Tally, Way, play, play_frames, play_many_own, play_many_remote};
-use rows::{CLIENT, FRAMES, Row, SERVER};
+use rows::{FRAMES, Row, client, ends, leaves, numbers, openings, windows};
 use std::alloc::{AllocError, Global};
 use std::io::{self, Eprint};
 use std::process::ExitCode;
@@ -110,8 +110,12 @@ fn text(alloc: Global) -> io::Result<Vec<u8>> {
 
 /// Plays all rows of both roles, whole and frame by frame.
 fn play_rows(rt: &impl Eprint, alloc: Global, zeros: &Bytes, tally: &mut Tally) -> io::Result<()> {
-    play_all(rt, alloc, Role::Server, SERVER, zeros, tally)?;
-    play_all(rt, alloc, Role::Client, CLIENT, zeros, tally)?;
+    play_all(rt, alloc, Role::Server, openings(), zeros, tally)?;
+    play_all(rt, alloc, Role::Server, ends(), zeros, tally)?;
+    play_all(rt, alloc, Role::Server, windows(), zeros, tally)?;
+    play_all(rt, alloc, Role::Server, numbers(), zeros, tally)?;
+    play_all(rt, alloc, Role::Server, leaves(), zeros, tally)?;
+    play_all(rt, alloc, Role::Client, client(), zeros, tally)?;
     play_all_frames(rt, alloc, zeros, tally)
 }
 

@@ -432,7 +432,7 @@ const LEAVES_BEHIND_GOING_AWAY: &[Step] = &[
 ];
 
 /// The rows of a server.
-pub const SERVER: &[Row] = &[
+const OPENINGS: &[Row] = &[
     Row {
         name: "opened twice",
         steps: OPENED_TWICE,
@@ -449,6 +449,9 @@ pub const SERVER: &[Row] = &[
         name: "fault with its last byte",
         steps: FAULT_WITH_ITS_LAST_BYTE,
     },
+];
+
+const ENDS: &[Row] = &[
     Row {
         name: "credit and too much of it",
         steps: CREDIT_AND_TOO_MUCH_OF_IT,
@@ -469,6 +472,9 @@ pub const SERVER: &[Row] = &[
         name: "gone away with a code",
         steps: GONE_AWAY_WITH_A_CODE,
     },
+];
+
+const WINDOWS: &[Row] = &[
     Row {
         name: "more than the window",
         steps: MORE_THAN_THE_WINDOW,
@@ -481,6 +487,9 @@ pub const SERVER: &[Row] = &[
         name: "refused and goes on",
         steps: REFUSED_AND_GOES_ON,
     },
+];
+
+const NUMBERS: &[Row] = &[
     Row {
         name: "high numbers",
         steps: HIGH_NUMBERS,
@@ -493,6 +502,9 @@ pub const SERVER: &[Row] = &[
         name: "high number ends",
         steps: HIGH_NUMBER_ENDS,
     },
+];
+
+const LEAVES: &[Row] = &[
     Row {
         name: "reset with a length",
         steps: RESET_WITH_A_LENGTH,
@@ -578,7 +590,7 @@ const GOES_ON_BEFORE_ITS_ACK: &[Step] = &[
 ];
 
 /// The rows of a client.
-pub const CLIENT: &[Row] = &[
+const CLIENT: &[Row] = &[
     Row {
         name: "wrong parity",
         steps: WRONG_PARITY,
@@ -725,3 +737,35 @@ pub const FRAMES: &[FrameRow] = &[
         turns: RESET_BEFORE_ITS_PAYLOAD,
     },
 ];
+
+// Each list has a function of its own: a proof costs by more than the square of how many slices its function names.
+
+/// The rows of a server: openings, pings and unknown streams.
+pub fn openings() -> &'static [Row] {
+    OPENINGS
+}
+
+/// The rows of a server: what comes and is done behind an end.
+pub fn ends() -> &'static [Row] {
+    ENDS
+}
+
+/// The rows of a server: windows, and of acts that are refused.
+pub fn windows() -> &'static [Row] {
+    WINDOWS
+}
+
+/// The rows of a server: numbers of streams.
+pub fn numbers() -> &'static [Row] {
+    NUMBERS
+}
+
+/// The rows of a server: resets, and of either end that goes away.
+pub fn leaves() -> &'static [Row] {
+    LEAVES
+}
+
+/// The rows of a client.
+pub fn client() -> &'static [Row] {
+    CLIENT
+}

@@ -99,6 +99,7 @@ piece_rows = record {
   none_behind = λ it. omega (arith, it.4.2);
   five = (3 ∷ 4 ∷ 5 ∷ [], refl, omega arith, refl, (5 ∷ [], refl, omega arith, refl, ([], refl, omega arith, refl, refl)));
   not_growing = λ it. omega (arith, it.4.3);
+  no_piece = λ size bytes. (λ it. it, λ it. it);
   next_piece = λ size bytes piece pieces. (λ it. it, λ it. it);
   in_order = λ it. omega (arith, ap (λ (w : List ℕ). slice_index w 0) it.1);
 }

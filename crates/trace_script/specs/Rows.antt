@@ -83,6 +83,7 @@ pub record PieceRows : Type 0 where
   pub next_piece : (size : ℕ) (bytes piece : List ℕ) (pieces : List (List ℕ)) → ArePieces size bytes (piece ∷ pieces)
       ↔ ((rest : List ℕ) × (bytes ≡ piece ++ rest) × (0 < length piece) × (length piece ≡ min size (length bytes))
       × ArePieces size rest pieces)
+  pub no_piece : (size : ℕ) (bytes : List ℕ) → ArePieces size bytes [] ↔ (bytes ≡ [])
   pub in_order : ¬ ArePieces 1 (1 ∷ 2 ∷ []) ((2 ∷ []) ∷ (1 ∷ []) ∷ [])
 
 -- what can't be played, and where a connection goes on

@@ -1,6 +1,6 @@
 //! A script that is read and then played.
 
-ghost use Rattle.std.specs.Prelude.{◌≡◌, ◌+◌, ◌-◌, ◌^◌, ◌<◌, ℕ, min, List, [], ◌∷◌, ◌++◌, length};
+ghost use Rattle.std.specs.Prelude.{◌≡◌, ◌⊎◌, ◌+◌, ◌-◌, ◌^◌, ◌<◌, ℕ, min, List, [], ◌∷◌, ◌++◌, length};
 ghost use Rattle.std.specs.Prelude.{Some, Err, OnOk, IfSome};
 ghost use Rattle.std.specs.Io.KnownBytes.{Appends};
 ghost use Rattle.peer_ids.specs.Key.{Key};
@@ -80,6 +80,8 @@ pub fn trace_new<P: Protocols, I: Read, O: Write>(
         P.H.is_finished P.makes_inbound P.makes_outbound P.listed P.is_eager P.leads_inbound P.leads_outbound protocols
         role key at_first lines printed to × Appends (O.contents output.old) (O.contents output.new) printed
         × (number ≡ min (length lines + 1) (2 ^ 64 - 1)) }
+    ensures long { IfSome (I.remaining input.old) (λ script. longest < length script
+        → (result ≡ Err stopped.Unread) ⊎ (result ≡ Err stopped.Unwritten)) }
     ensures unread { result ≡ Err stopped.Unread → O.contents output.new ≡ O.contents output.old }
 {
     match ConnCore::new(alloc, role, key, protocols) {

@@ -1,0 +1,3 @@
+pub mod TextRows
+pub mod LineRows
+pub mod WordRows
