@@ -73,12 +73,23 @@ impl Looking for Fresh {
 }
 
 /// A caller of a swarm, by its pass.
-#[derive(Drop)]
 pub struct Member<'a, 's, R: Wait, J: Identity, L: Ledgers, K: Looking> {
     rt: &'a R,
     swarm: &'s Swarm<NoGate, J, L>,
     pass: Box<Pass<J, L>>,
     looking: &'a K,
+}
+
+// By hand, so that the proof of who lets go of it is that of a call.
+impl<R: Wait, J: Identity, L: Ledgers, K: Looking> Drop for Member<'_, '_, R, J, L, K> {
+    fn drop(self) {
+        let Self {
+            rt: _,
+            swarm: _,
+            pass: _pass,
+            looking: _,
+        } = self;
+    }
 }
 
 impl<'a, 's, R: Wait, J: Identity, L: Ledgers, K: Looking> Member<'a, 's, R, J, L, K> {

@@ -1,6 +1,7 @@
 //! What runs a node.
 
-ghost use Rattle.std.specs.Prelude.{◌≤◌, IfSome};
+ghost use Rattle.std.specs.Prelude.{◌≡◌, ◌≤◌, true, [], ◌++◌, Some, None, is_some, IfSome, IfOk, IfErr};
+ghost use Rattle.std.specs.Option.{option_to_list};
 ghost use Rattle.futures.specs.Task.{Keeps};
 
 use callers::Caller;
@@ -21,7 +22,6 @@ use tokio::reactor::Handle;
 const MOST_SOCKETS: u32 = 256;
 
 /// What runs a node: a caller of its swarm, its listener and its connections.
-#[derive(Drop)]
 pub struct Driver<'a, N: Net, C: Caller> {
     net: &'a N,
     reactor: Handle,
@@ -34,6 +34,22 @@ pub struct Driver<'a, N: Net, C: Caller> {
     reports: Reports,
 }
 
+// By hand, so that the proof of who lets go of it is that of a call.
+impl<N: Net, C: Caller> Drop for Driver<'_, N, C> {
+    fn drop(self) {
+        let Self {
+            net: _,
+            reactor: _reactor,
+            caller: _caller,
+            maker: _maker,
+            listener: _listener,
+            place: _,
+            seats: _seats,
+            reports: _reports,
+        } = self;
+    }
+}
+
 impl<'a, N: Net, C: Caller> Driver<'a, N, C> {
     /// A node without listener and connections. Its sockets are the reactor's. Its only refusal is want of memory.
     pub fn new(
@@ -42,7 +58,10 @@ impl<'a, N: Net, C: Caller> Driver<'a, N, C> {
         reactor: Handle,
         caller: C,
         setup: Setup,
-    ) -> Result<Driver<'a, N, C>, AllocError> {
+    ) -> Result<Driver<'a, N, C>, AllocError>
+        ensures idle { IfOk result (λ driver. (driver.listener ≡ None) × (driver.place ≡ None)
+            × (driver.seats.items ≡ [])) }
+    {
         let Setup { key, agent, rng } = setup;
         Ok(Driver {
             net,
@@ -61,8 +80,13 @@ impl<'a, N: Net, C: Caller> Driver<'a, N, C> {
         })
     }
 
-    /// Takes sockets from now on that come to this address, and tells where that is. A listener that stood is dropped.
-    pub fn listen(&mut self, addr: SocketAddr) -> io::Result<SocketAddr> {
+    /// Takes sockets from now on that come to this address, and tells where that is. A listener that stood is dropped,
+    /// but where it is refused.
+    pub fn listen(&mut self, addr: SocketAddr) -> io::Result<SocketAddr>
+        ensures listens { IfOk result (λ _. is_some self.new.listener ≡ true) }
+        ensures rest { (self.new.place ≡ self.old.place) × (self.new.seats ≡ self.old.seats) }
+        ensures refused { IfErr result (λ _. self.new ≡ self.old) }
+    {
         let listener = TcpListener::bind(self.net, addr, &self.reactor)?;
         let addr = listener.local_addr()?;
         self.listener = Some(listener);
@@ -70,17 +94,25 @@ impl<'a, N: Net, C: Caller> Driver<'a, N, C> {
     }
 
     /// Whether it listens.
-    pub fn listens(&self) -> bool {
+    pub fn listens(&self) -> bool
+        ensures { result ≡ is_some self.now.listener }
+    {
         self.listener.is_some()
     }
 
     /// Dials there from now on.
-    pub fn dial_at(&mut self, addr: SocketAddr) {
+    pub fn dial_at(&mut self, addr: SocketAddr)
+        ensures place { self.new.place ≡ Some addr }
+        ensures rest { (self.new.listener ≡ self.old.listener) × (self.new.seats ≡ self.old.seats) }
+    {
         self.place = Some(addr);
     }
 
     /// Takes no more sockets, and shuts each connection.
-    pub fn close(&mut self) {
+    pub fn close(&mut self)
+        ensures closed { self.new.listener ≡ None }
+        ensures place { self.new.place ≡ self.old.place }
+    {
         self.listener = None;
         for seat in self.seats.iter_mut() {
             seat.shut(ConnEnd::Closed);
@@ -88,7 +120,11 @@ impl<'a, N: Net, C: Caller> Driver<'a, N, C> {
     }
 
     /// Hands out what came first of a connection or of a stream that was asked for, where that wasn't handed out yet.
-    pub fn take_report(&mut self) -> Option<Report> {
+    pub fn take_report(&mut self) -> Option<Report>
+        ensures first { self.old.reports.kept.items ≡ option_to_list result ++ self.new.reports.kept.items }
+        ensures rest { (self.new.listener ≡ self.old.listener) × (self.new.place ≡ self.old.place)
+            × (self.new.seats ≡ self.old.seats) }
+    {
         self.reports.take()
     }
 

@@ -1,5 +1,6 @@
 //! The faults of handlers, of ping and of identify: their numbers, names and sentences, and which are equal.
 
+use crate::asserts::holds;
 use handlers::HandlerFault;
 use identify_h::IdentifyFault;
 use ping_h::PingFault;
@@ -25,7 +26,11 @@ fn says(alloc: Global, number: u8, sentence: &str) -> bool {
 #[test]
 fn a_fault_says_its_number(rt: HostRuntime) {
     for (number, sentence) in SENTENCES.iter() {
-        assert!(rt; says(rt.alloc(), *number, *sentence), "fault {number}");
+        holds(
+            &rt,
+            ("fault", *number),
+            says(rt.alloc(), *number, *sentence),
+        );
     }
 }
 
@@ -42,7 +47,7 @@ fn is_numbered(number: u8) -> bool {
 #[test]
 fn faults_are_told_apart_by_their_numbers(rt: HostRuntime) {
     for number in 0..=255u8 {
-        assert!(rt; is_numbered(number), "fault {number}");
+        holds(&rt, ("fault", number), is_numbered(number));
     }
 }
 
@@ -84,7 +89,7 @@ fn is_ping_alone(fault: PingFault, number: u8) -> bool {
 fn faults_of_ping(rt: HostRuntime) {
     for (fault, number, text) in PINGS.iter() {
         let is_told = is_ping_told(rt.alloc(), *fault, *text);
-        assert!(rt; is_told && is_ping_alone(*fault, *number), "fault {number}");
+        holds(&rt, *fault, is_told && is_ping_alone(*fault, *number));
     }
 }
 
@@ -141,9 +146,6 @@ fn is_identify_alone(fault: IdentifyFault, number: u8) -> bool {
 fn faults_of_identify(rt: HostRuntime) {
     for (fault, number, text) in IDENTIFIES.iter() {
         let is_told = is_identify_told(rt.alloc(), *fault, *text);
-        assert!(rt;
-            is_told && is_identify_alone(*fault, *number),
-            "fault {number}"
-        );
+        holds(&rt, *fault, is_told && is_identify_alone(*fault, *number));
     }
 }

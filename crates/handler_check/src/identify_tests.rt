@@ -1,5 +1,6 @@
 //! What readers make of streams, and what is sent.
 
+use crate::asserts::holds;
 use crate::message_tests::{FRONT, is_own};
 use crate::said::*;
 use handlers::{Handler, HandlerFault};
@@ -28,7 +29,7 @@ const TENTH: &[u8] = &[0xe6, 0x0c, 0x32, 0xe3, 0x0c];
 
 const SEVENS: (usize, &[u8]) = (1635, &[7]);
 
-static STREAMS: [Stream; 21] = [
+static STREAMS: [Stream; 12] = [
     // Two messages, and the same as one.
     Stream {
         input: &[(1, b"\x05*\x03abc\x032\x01x")],
@@ -79,6 +80,9 @@ static STREAMS: [Stream; 21] = [
         input: &[(1, &[2, 10, 0, 1, 8])],
         outcome: Err(IdentifyFault::Wire),
     },
+];
+
+static STREAMS_OF_BODIES: [Stream; 7] = [
     // The bodies are joined: a field may lie in two, and each adds its entries to the lists.
     Stream {
         input: &[(1, b"\x03*\x03a\x05bc2\x01x")],
@@ -121,6 +125,9 @@ static STREAMS: [Stream; 21] = [
         input: &[(1, AGENTS), (1, &[3])],
         outcome: Err(IdentifyFault::TooMany),
     },
+];
+
+static LONG_STREAMS: [Stream; 2] = [
     // Two messages of 8194 bytes, each with an agent of 8189.
     Stream {
         input: &[
@@ -164,6 +171,18 @@ static STREAMS: [Stream; 21] = [
     },
 ];
 
+fn streams() -> &'static [Stream] {
+    &STREAMS
+}
+
+fn streams_of_bodies() -> &'static [Stream] {
+    &STREAMS_OF_BODIES
+}
+
+fn long_streams() -> &'static [Stream] {
+    &LONG_STREAMS
+}
+
 /// Hands the bytes over in pieces of this size, and then says the end.
 fn read(reader: &mut IdentifyIn, bytes: &[u8], size: usize) -> Result<(), HandlerFault> {
     for piece in bytes.chunks(size.max(1)) {
@@ -191,7 +210,7 @@ fn is_fresh(reader: &mut IdentifyIn) -> bool {
 }
 
 /// Whether a reader hands this message out.
-fn holds(reader: IdentifyIn, message: &Identify) -> bool {
+fn hands_out(reader: IdentifyIn, message: &Identify) -> bool {
     match reader.into_message() {
         Ok(read) => is_same(&read, message),
         Err(_) => false,
@@ -206,7 +225,7 @@ fn is_read(alloc: Global, stream: &[u8], size: usize, message: &Identify) -> boo
     let came = read(&mut reader, stream, size);
     let is_over = is_over(&mut reader) && is_over(&mut reader);
     let is_whole = reader.closed() && reader.finished() && gives_nothing(&mut reader);
-    holds(reader, message) && is_begun && is_over && is_whole && came == Ok(())
+    hands_out(reader, message) && is_begun && is_over && is_whole && came == Ok(())
 }
 
 fn is_silent(reader: &mut IdentifyIn) -> bool {
@@ -254,10 +273,17 @@ fn comes_to(alloc: Global, stream: &Stream, size: usize) -> bool {
 
 #[test]
 fn streams_however_cut(rt: HostRuntime) {
-    for (number, stream) in table(&STREAMS).iter().enumerate() {
-        for size in [1, 3, 7, 64, 1000, 8194] {
-            let held = comes_to(rt.alloc(), stream, size);
-            assert!(rt; held, "row {number} in pieces of {size}");
+    let tables = [
+        ("streams", streams()),
+        ("streams of bodies", streams_of_bodies()),
+        ("long streams", long_streams()),
+    ];
+    for (table, streams) in tables {
+        for (number, stream) in streams.iter().enumerate() {
+            for size in [1, 3, 7, 64, 1000, 8194] {
+                let held = comes_to(rt.alloc(), stream, size);
+                holds(&rt, (table, number, "in pieces of", size), held);
+            }
         }
     }
 }
@@ -284,7 +310,7 @@ const LONGEST: Said<'static> = Said {
 
 const LONGEST_SENT: Parts<'static> = &[(1, &[0x80, 0x80, 1, 0x32, 0xfd, 0x7f]), (16381, &[7])];
 
-static SENDINGS: [Sending; 13] = [
+static SENDINGS: [Sending; 6] = [
     Sending {
         said: ABC_X,
         before: &[(1, 0), (9, 1)],
@@ -329,6 +355,10 @@ static SENDINGS: [Sending; 13] = [
         behind: &[],
         sent: Some(&[(1, &[0xc8, 1, 0x32, 0xc5, 1]), (197, &[7])]),
     },
+];
+
+/// Messages about the longest.
+static LONG_SENDINGS: [Sending; 4] = [
     // A body of 16384 bytes stands behind three of its length.
     Sending {
         said: Said {
@@ -371,6 +401,9 @@ static SENDINGS: [Sending; 13] = [
         behind: &[],
         sent: None,
     },
+];
+
+static SENDINGS_IN_PARTS: [Sending; 3] = [
     // A message of 16384 bytes in parts.
     Sending {
         said: LONGEST,
@@ -391,6 +424,18 @@ static SENDINGS: [Sending; 13] = [
         sent: Some(LONGEST_SENT),
     },
 ];
+
+fn sendings() -> &'static [Sending] {
+    &SENDINGS
+}
+
+fn long_sendings() -> &'static [Sending] {
+    &LONG_SENDINGS
+}
+
+fn sendings_in_parts() -> &'static [Sending] {
+    &SENDINGS_IN_PARTS
+}
 
 /// Whether just these bytes are given for this room.
 fn gives_just(sender: &mut IdentifyOut, room: usize, bytes: &[u8]) -> bool {
@@ -463,8 +508,15 @@ fn is_sent(alloc: Global, sending: &Sending) -> bool {
 
 #[test]
 fn messages_are_sent(rt: HostRuntime) {
-    for (number, sending) in table(&SENDINGS).iter().enumerate() {
-        assert!(rt; is_sent(rt.alloc(), sending), "row {number}");
+    let tables = [
+        ("sendings", sendings()),
+        ("long sendings", long_sendings()),
+        ("sendings in parts", sendings_in_parts()),
+    ];
+    for (table, sendings) in tables {
+        for (number, sending) in sendings.iter().enumerate() {
+            holds(&rt, (table, number), is_sent(rt.alloc(), sending));
+        }
     }
 }
 
@@ -516,6 +568,10 @@ static BACK: [Said<'static>; 10] = [
     },
 ];
 
+fn back() -> &'static [Said<'static>] {
+    &BACK
+}
+
 fn stream_of(alloc: Global, message: &Identify) -> Option<Vec<u8>> {
     let mut sender = IdentifyOut::new(alloc, message).ok()?;
     sender.give(usize::MAX).ok()
@@ -544,10 +600,10 @@ fn comes_back(alloc: Global, said: &Said, size: usize) -> bool {
 
 #[test]
 fn what_is_sent_comes_back(rt: HostRuntime) {
-    for (number, said) in table(&BACK).iter().enumerate() {
+    for (number, said) in back().iter().enumerate() {
         for size in [1, 64, 1000, 20000] {
             let held = comes_back(rt.alloc(), said, size);
-            assert!(rt; held, "row {number} in pieces of {size}");
+            holds(&rt, ("row", number, "in pieces of", size), held);
         }
     }
 }
@@ -587,7 +643,7 @@ fn texts_of_many_lengths_come_back(rt: HostRuntime) {
         let len = if step == 66 { 16380 } else { step * 250 };
         for which in 0..5 {
             let held = text_comes_back(rt.alloc(), len, which);
-            assert!(rt; held, "text {which} of {len} bytes");
+            holds(&rt, ("text", which, "length", len), held);
         }
     }
 }
@@ -607,7 +663,7 @@ fn keys_of_many_lengths_come_back(rt: HostRuntime) {
     for kind in KINDS.iter() {
         for step in 1..=16usize {
             let held = key_comes_back(rt.alloc(), *kind, step * 256);
-            assert!(rt; held, "a key of {step} times 256 bytes");
+            holds(&rt, ("a key of 256 bytes times", step), held);
         }
     }
 }

@@ -2,6 +2,8 @@
 #![tactic(auto)]
 
 #[cfg(test)]
+mod asserts;
+#[cfg(test)]
 mod fault_tests;
 #[cfg(test)]
 mod identify_tests;

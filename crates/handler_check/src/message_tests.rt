@@ -1,6 +1,7 @@
 //! Messages as bodies: as they are written, and as a peer may spell them, with texts of any bytes, fields that stand
 //! again and again, and keys that are alike.
 
+use crate::asserts::holds;
 use crate::said::*;
 use identify_h::*;
 use peer_ids::{KeyType, PeerId};
@@ -51,7 +52,7 @@ const ANY_BYTES: Parts<'static> = &[(
     b"\x12\x02\xff\x80\x1a\x01\xff\x22\x01\xfe\x2a\x01\xfd\x32\x02\xc3\x28",
 )];
 
-static BODIES: [Body; 10] = [
+static BODIES: [Body; 5] = [
     Body {
         body: &[],
         said: NOTHING,
@@ -100,6 +101,9 @@ static BODIES: [Body; 10] = [
         },
         written: ENTRIES,
     },
+];
+
+static BODIES_OF_FIELDS: [Body; 5] = [
     // A key is read, however it is spelt, and the last one counts.
     Body {
         body: &[(1, KEY)],
@@ -145,6 +149,14 @@ static BODIES: [Body; 10] = [
     },
 ];
 
+fn bodies() -> &'static [Body] {
+    &BODIES
+}
+
+fn bodies_of_fields() -> &'static [Body] {
+    &BODIES_OF_FIELDS
+}
+
 /// Whether these bytes say what the message does.
 fn says(alloc: Global, bytes: &[u8], message: &Identify) -> bool {
     match Identify::read(alloc, bytes, peer_of(message)) {
@@ -189,8 +201,10 @@ fn is_body(alloc: Global, body: &Body) -> bool {
 
 #[test]
 fn bodies_are_read_and_written(rt: HostRuntime) {
-    for (number, body) in table(&BODIES).iter().enumerate() {
-        assert!(rt; is_body(rt.alloc(), body), "row {number}");
+    for (table, bodies) in [("bodies", bodies()), ("of fields", bodies_of_fields())] {
+        for (number, body) in bodies.iter().enumerate() {
+            holds(&rt, (table, number), is_body(rt.alloc(), body));
+        }
     }
 }
 
@@ -207,6 +221,6 @@ fn is_another(alloc: Global, place: usize) -> bool {
 #[test]
 fn keys_that_differ_in_one_byte(rt: HostRuntime) {
     for place in 0..32usize {
-        assert!(rt; is_another(rt.alloc(), place), "byte {place}");
+        holds(&rt, ("byte", place), is_another(rt.alloc(), place));
     }
 }

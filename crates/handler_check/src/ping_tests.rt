@@ -1,3 +1,4 @@
+use crate::asserts::holds;
 use handlers::{Handler, HandlerFault};
 use ping_h::*;
 use std::alloc::Global;
@@ -104,7 +105,7 @@ fn an_echo_gives_whole_rounds_back(rt: HostRuntime) {
     for size in [1, 7, 64] {
         for room in 0..=64usize {
             let held = is_echoed(rt.alloc(), size, room);
-            assert!(rt; held, "pieces of {size}, room {room}");
+            holds(&rt, ("pieces of", size, "room", room), held);
         }
     }
 }
@@ -148,7 +149,7 @@ fn is_long(alloc: Global, size: usize) -> bool {
 fn a_long_input_is_echoed(rt: HostRuntime) {
     // Pieces of 65, 100, 255, 999 and 1000 bytes begin within a round.
     for size in [65, 100, 255, 512, 999, 1000, 131072, 4194304] {
-        assert!(rt; is_long(rt.alloc(), size), "pieces of {size}");
+        holds(&rt, ("pieces of", size), is_long(rt.alloc(), size));
     }
 }
 
@@ -164,7 +165,7 @@ fn goes_on(alloc: Global, rounds: usize) -> bool {
 
 #[test]
 fn an_echo_goes_on(rt: HostRuntime) {
-    assert!(rt; goes_on(rt.alloc(), 200_000));
+    holds(&rt, "goes on", goes_on(rt.alloc(), 200_000));
 }
 
 fn is_cut(alloc: Global, size: usize) -> bool {
@@ -178,7 +179,7 @@ fn is_cut(alloc: Global, size: usize) -> bool {
 #[test]
 fn an_echo_is_cut_within_a_round(rt: HostRuntime) {
     for size in [31, 1, 7] {
-        assert!(rt; is_cut(rt.alloc(), size), "pieces of {size}");
+        holds(&rt, ("pieces of", size), is_cut(rt.alloc(), size));
     }
 }
 
@@ -195,7 +196,7 @@ fn takes_nothing(alloc: Global) -> bool {
 
 #[test]
 fn nothing_is_taken_behind_the_end(rt: HostRuntime) {
-    assert!(rt; takes_nothing(rt.alloc()));
+    holds(&rt, "nothing", takes_nothing(rt.alloc()));
 }
 
 // ---- pings
@@ -226,7 +227,7 @@ fn comes_back(alloc: Global, size: usize) -> bool {
 #[test]
 fn a_ping_that_comes_back_is_finished(rt: HostRuntime) {
     for size in [32, 1, 7] {
-        assert!(rt; comes_back(rt.alloc(), size), "pieces of {size}");
+        holds(&rt, ("pieces of", size), comes_back(rt.alloc(), size));
     }
 }
 
@@ -243,9 +244,9 @@ fn fills(alloc: Global, room: usize) -> bool {
 #[test]
 fn a_ping_fills_each_room(rt: HostRuntime) {
     for room in 0..34 {
-        assert!(rt; fills(rt.alloc(), room), "room {room}");
+        holds(&rt, ("room", room), fills(rt.alloc(), room));
     }
-    assert!(rt; fills(rt.alloc(), usize::MAX));
+    holds(&rt, "the largest room", fills(rt.alloc(), usize::MAX));
 }
 
 /// Whether a ping of which so much was sent, when its echo came, sends the rest: so much more before the end, and all
@@ -263,10 +264,8 @@ fn is_sent_behind(alloc: Global, sent: usize, more: usize) -> bool {
 fn a_ping_is_sent_on_behind_its_echo(rt: HostRuntime) {
     for sent in 0..=32usize {
         for more in [0, 1] {
-            assert!(rt;
-                is_sent_behind(rt.alloc(), sent, more),
-                "{sent} bytes before, {more} more"
-            );
+            let held = is_sent_behind(rt.alloc(), sent, more);
+            holds(&rt, ("bytes before", sent, "more", more), held);
         }
     }
 }
@@ -301,7 +300,7 @@ fn another_echo_is_refused(rt: HostRuntime) {
     for (row, (bytes, fault)) in REFUSED.iter().enumerate() {
         for size in [64, 1, 7] {
             let held = is_refused(rt.alloc(), *bytes, size, *fault);
-            assert!(rt; held, "row {row} in pieces of {size}");
+            holds(&rt, ("row", row, "in pieces of", size), held);
         }
     }
 }
@@ -321,7 +320,7 @@ fn an_echo_that_differs_in_one_byte(rt: HostRuntime) {
     for place in 0..32usize {
         for size in [32, 7] {
             let held = is_near(rt.alloc(), place, size);
-            assert!(rt; held, "byte {place} in pieces of {size}");
+            holds(&rt, ("byte", place, "in pieces of", size), held);
         }
     }
 }

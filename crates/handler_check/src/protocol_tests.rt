@@ -2,6 +2,7 @@
 
 ghost use Rattle.std.specs.Prelude.{◌<◌, length};
 
+use crate::asserts::holds;
 use crate::said::lent;
 use handlers::{Handler, HandlerFault, Protocols};
 use identify_h::{Identify, IdentifyFault};
@@ -274,7 +275,7 @@ fn is_said_by_key(alloc: Global, row: &Row, agent: &str) -> bool {
     }
 }
 
-fn holds(alloc: Global, row: &Row) -> bool {
+fn is_so(alloc: Global, row: &Row) -> bool {
     match repeated(alloc, row.agent.0, row.agent.1) {
         Ok(agent) => is_said_by_key(alloc, row, agent.as_str()),
         Err(_) => false,
@@ -284,7 +285,7 @@ fn holds(alloc: Global, row: &Row) -> bool {
 #[test]
 fn what_a_node_says_is_read(rt: HostRuntime) {
     for (number, row) in ROWS.iter().enumerate() {
-        assert!(rt; holds(rt.alloc(), row), "row {number}");
+        holds(&rt, ("row", number), is_so(rt.alloc(), row));
     }
 }
 
@@ -456,7 +457,7 @@ fn does(node: &mut Node, deed: Deed) -> bool {
 fn a_node_does_as_it_must(rt: HostRuntime) -> Result<(), Fail> {
     let mut node = node(rt.alloc())?;
     for (number, deed) in DEEDS.iter().enumerate() {
-        assert!(rt; does(&mut node, *deed), "deed {number}");
+        holds(&rt, ("deed", number), does(&mut node, *deed));
     }
     Ok(())
 }
@@ -476,6 +477,6 @@ fn is_told_apart(place: usize) -> bool {
 #[test]
 fn payloads_that_differ_are_told_apart(rt: HostRuntime) {
     for place in 0..=32usize {
-        assert!(rt; is_told_apart(place), "byte {place}");
+        holds(&rt, ("byte", place), is_told_apart(place));
     }
 }

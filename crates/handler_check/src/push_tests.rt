@@ -1,5 +1,6 @@
 //! What a push leaves of what is known.
 
+use crate::asserts::holds;
 use crate::said::*;
 use identify_h::*;
 use std::alloc::Global;
@@ -102,6 +103,6 @@ fn merges(alloc: Global, push: &Push) -> Option<bool> {
 #[test]
 fn a_push_leaves_what_it_does_not_name(rt: HostRuntime) {
     for (number, push) in PUSHES.iter().enumerate() {
-        assert!(rt; merges(rt.alloc(), push) == Some(true), "row {number}");
+        holds(&rt, ("row", number), merges(rt.alloc(), push) == Some(true));
     }
 }

@@ -153,12 +153,6 @@ pub fn is_joined(alloc: Global, bytes: &[u8], parts: Parts) -> bool {
     }
 }
 
-/// The rows of a table. A function that goes over these knows nothing of the table, and its proof is short: it would
-/// hold all rows, at each of its steps.
-pub fn table<T>(rows: &[T]) -> &[T] {
-    rows
-}
-
 /// Whether what was made, if it was, holds. Whatever it is, it is let go of here alone: else each function that owns it
 /// has to prove that of each way out.
 pub fn lent<T: Drop, F: FnOnce(&T) -> bool + Drop>(made: Option<T>, holds: F) -> bool

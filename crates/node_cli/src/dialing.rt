@@ -1,7 +1,8 @@
 //! The run of `node ping` and `node identify`.
 
 use crate::Ending;
-use node_peer::{Own, dial, place_of};
+use node_dial::{Own, dial};
+use node_place::place_of;
 use node_words::Dialer;
 use std::alloc::AllocGlobal;
 use std::io::Write;

@@ -1,7 +1,8 @@
 //! Why a run of `node` ends early, and the line that tells it.
 
 use multiaddr::AddrFault;
-use node_peer::{PeerEnding, PlaceFault};
+use node_dial::PeerEnding;
+use node_place::PlaceFault;
 use node_run::RunEnding;
 use node_texts::{HashRefused, IdRefused};
 use script_lines::Stopped;

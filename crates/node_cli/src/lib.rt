@@ -11,7 +11,7 @@ mod run;
 use dialing::run_dialer;
 pub use ending::Ending;
 use listen::run_listener;
-pub use node_peer::Watched;
+pub use node_listen::Watched;
 use node_texts::{addr_lines, hash_hex, id_text};
 use node_trace::trace;
 use node_words::{Asked, Traced, Unasked, read};

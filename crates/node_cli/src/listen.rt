@@ -1,7 +1,8 @@
 //! The run of `node listen`.
 
 use crate::Ending;
-use node_peer::{ListenTerms, Own, Watched, listen, place_of};
+use node_listen::{ListenTerms, Own, Watched, listen};
+use node_place::place_of;
 use node_words::Listener;
 use std::alloc::AllocGlobal;
 use std::io::Write;

@@ -1,5 +1,6 @@
 //! Why a run of two nodes ends early.
 
+use node_terms::PeerEnding;
 use std::alloc::AllocError;
 use std::io;
 
@@ -24,6 +25,12 @@ impl From<io::Error> for RunEnding {
 
 impl From<AllocError> for RunEnding {
     fn from(_error: AllocError) -> RunEnding {
+        RunEnding::Failed
+    }
+}
+
+impl From<PeerEnding> for RunEnding {
+    fn from(_ending: PeerEnding) -> RunEnding {
         RunEnding::Failed
     }
 }

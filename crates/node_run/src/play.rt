@@ -3,19 +3,19 @@
 use crate::ending::RunEnding;
 use crate::side::Side;
 use crate::turns::Run;
-use driver::{Caller, Driver, Looking, Member, Setup, SwarmUse, with_swarm};
+use driver::{Caller, Looking, Member, SwarmUse, with_swarm};
 use node_lines::Name;
+use node_outfit::NodeRuntime;
+use node_terms::Own;
 use peer_ids::{PeerId, PublicKey};
 use pool_state::{Config, Limits};
-use rand::rngs::StdRng;
-use std::alloc::AllocGlobal;
+use std::alloc::{AllocGlobal, Global};
 use std::io::Write;
 use std::net::Net;
 use std::random::RandomSource;
 use std::sync::Wait;
 use std::time::{Clock, Duration};
 use swarm_calls::{Identity, Ledgers, NoGate, Pass, Swarm};
-use tokio::runtime::LocalRuntime;
 use tokio::time::Interval;
 
 /// How far apart the looks of an await are, in milliseconds.
@@ -48,14 +48,11 @@ fn config_of(name: Name) -> Result<Config, RunEnding> {
     })
 }
 
-/// What a node's driver is made with.
-fn setup_of<R: RandomSource + AllocGlobal>(rt: &R, name: Name) -> Result<Setup, RunEnding> {
-    let alloc = rt.alloc();
-    let key = PublicKey::ed25519(alloc, &[key_byte(name); 32])?;
-    Ok(Setup {
-        key: key.canonical()?,
-        agent: Vec::from_slice(alloc, AGENT.as_bytes())?,
-        rng: rand::make_rng::<StdRng, R>(rt)?,
+/// What a node is.
+fn own_of(alloc: Global, name: Name) -> Result<Own<'static>, RunEnding> {
+    Ok(Own {
+        key: PublicKey::ed25519(alloc, &[key_byte(name); 32])?,
+        agent: AGENT,
     })
 }
 
@@ -66,7 +63,7 @@ struct Play<'a, R, K: Looking, O: Write + Drop> {
     looking: &'a K,
     script: &'a [u8],
     output: O,
-    runtime: LocalRuntime,
+    runtime: NodeRuntime,
 }
 
 /// Runs a script on two nodes, and prints what comes of it. By `looking` they come to see what is published.
@@ -86,7 +83,7 @@ where
         looking,
         script,
         output,
-        runtime: LocalRuntime::new(rt)?,
+        runtime: NodeRuntime::new(rt)?,
     };
     match with_swarm(rt, config_of(Name::A)?, First { play }) {
         Ok(outcome) => outcome,
@@ -165,9 +162,8 @@ where
         driving: C,
         calling: C,
     ) -> Result<Side<'a, R, C>, RunEnding> {
-        let reactor = self.runtime.handle().reactor().clone()?;
-        let setup = setup_of(self.rt, name)?;
-        let driver = Driver::new(self.rt.alloc(), self.rt, reactor, driving, setup)?;
+        let own = own_of(self.rt.alloc(), name)?;
+        let driver = self.runtime.driver(self.rt, &own, driving)?;
         Ok(Side {
             name,
             peer: peer_of(name),
@@ -193,8 +189,7 @@ where
         driving: B,
         calling: B,
     ) -> Result<(Side<'a, R, B>, Interval), RunEnding> {
-        let time = self.runtime.handle().time();
-        let ticks = time.interval(self.rt, Duration::from_millis(TICK))?;
+        let ticks = self.runtime.ticks(self.rt, Duration::from_millis(TICK))?;
         Ok((self.side(Name::B, driving, calling)?, ticks))
     }
 

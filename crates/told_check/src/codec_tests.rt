@@ -1,3 +1,4 @@
+use crate::asserts::{holds, same};
 use codec_told::*;
 use ms_select::{Answer, SelectFault, Step, Talk};
 use multiaddr::{AddrFault, Multiaddr};
@@ -20,10 +21,15 @@ static TO_THE_END: [(&[u8], Option<u64>); 2] = [(&[172, 2], Some(300)), (&[172, 
 #[test]
 fn numbers_are_read(rt: HostRuntime) {
     for (row, (bytes, outcome)) in EARLY.iter().enumerate() {
-        assert_eq!(rt; varints::read_early(*bytes), *outcome, "early row {row}");
+        same(
+            &rt,
+            ("early row", row),
+            varints::read_early(*bytes),
+            *outcome,
+        );
     }
     for (row, (bytes, number)) in TO_THE_END.iter().enumerate() {
-        assert_eq!(rt; varints::read_to_the_end(*bytes), *number, "row {row}");
+        same(&rt, ("row", row), varints::read_to_the_end(*bytes), *number);
     }
 }
 
@@ -39,10 +45,8 @@ fn is_spelt(alloc: Global, number: u64, spelling: &[u8]) -> Result<bool, AllocEr
 }
 
 #[test]
-fn numbers_are_written(rt: HostRuntime) -> Result<(), Fail> {
-    let held = is_spelt(rt.alloc(), 300, &[172, 2])?;
-    assert!(rt; held);
-    Ok(())
+fn numbers_are_written(rt: HostRuntime) {
+    same(&rt, "300", is_spelt(rt.alloc(), 300, &[172, 2]), Ok(true));
 }
 
 // ---- messages
@@ -55,10 +59,10 @@ static COUNTED: [(&[u8], Option<usize>); 2] = [
 #[test]
 fn messages_are_read(rt: HostRuntime) -> Result<(), Fail> {
     for (row, (bytes, count)) in COUNTED.iter().enumerate() {
-        assert_eq!(rt; messages::counted(*bytes), *count, "row {row}");
+        same(&rt, ("row", row), messages::counted(*bytes), *count);
     }
     let pair = messages::pair_back(rt.alloc(), 300, b"seven")?;
-    assert_eq!(rt; (pair.number, pair.body), (Some(300), Some(5)));
+    same(&rt, "pair", (pair.number, pair.body), (Some(300), Some(5)));
     Ok(())
 }
 
@@ -78,8 +82,8 @@ fn is_heard(alloc: Global, body: &[u8]) -> bool {
 
 #[test]
 fn messages_are_heard(rt: HostRuntime) {
-    assert!(rt; is_fed_early(rt.alloc()));
-    assert!(rt; is_heard(rt.alloc(), b"seven"));
+    holds(&rt, "early", is_fed_early(rt.alloc()));
+    holds(&rt, "seven", is_heard(rt.alloc(), b"seven"));
 }
 
 /// How many bytes are used, the length where it is known, and whether the message is whole.
@@ -104,7 +108,7 @@ fn lengths_are_heard(rt: HostRuntime) {
             fed.incoming.announced(),
             fed.whole,
         ));
-        assert_eq!(rt; fed, *outcome, "row {row}");
+        same(&rt, ("row", row), fed, *outcome);
     }
 }
 
@@ -130,11 +134,11 @@ fn is_key(read: Result<PublicKey, KeyFault>, outcome: Result<&[u8], KeyFault>) -
 fn keys_are_read(rt: HostRuntime) {
     for (row, (message, outcome)) in KEYS.iter().enumerate() {
         let held = is_key(keys::key_read(rt.alloc(), *message), *outcome);
-        assert!(rt; held, "row {row}");
+        holds(&rt, ("row", row), held);
     }
     let id = PeerId::of_ed25519(&[0; 32]);
-    assert_eq!(rt; keys::id_told(id.as_bytes()), Some(id));
-    assert_eq!(rt; keys::id_told(&[7]), None);
+    same(&rt, "an id", keys::id_told(id.as_bytes()), Some(id));
+    same(&rt, "no id", keys::id_told(&[7]), None);
 }
 
 /// Whether 33 bytes are a key of this type, which comes back, or aren't.
@@ -148,12 +152,10 @@ fn comes_back(alloc: Global, kind: KeyType, good: bool) -> Result<bool, AllocErr
 }
 
 #[test]
-fn keys_are_written_and_read(rt: HostRuntime) -> Result<(), Fail> {
+fn keys_are_written_and_read(rt: HostRuntime) {
     for (kind, good) in [(KeyType::Secp256k1, true), (KeyType::Ed25519, false)] {
-        let held = comes_back(rt.alloc(), kind, good)?;
-        assert!(rt; held, "{kind:?}");
+        same(&rt, kind, comes_back(rt.alloc(), kind, good), Ok(true));
     }
-    Ok(())
 }
 
 /// The text of the id of zeros, beside that of the id of this byte: whether it is the same.
@@ -165,12 +167,10 @@ fn has_text(alloc: Global, byte: u8, same: bool) -> Result<bool, AllocError> {
 }
 
 #[test]
-fn ids_have_texts(rt: HostRuntime) -> Result<(), Fail> {
-    for (byte, same) in [(255, false), (0, true)] {
-        let held = has_text(rt.alloc(), byte, same)?;
-        assert!(rt; held, "{byte}");
+fn ids_have_texts(rt: HostRuntime) {
+    for (byte, is_same) in [(255, false), (0, true)] {
+        same(&rt, byte, has_text(rt.alloc(), byte, is_same), Ok(true));
     }
-    Ok(())
 }
 
 // ---- addresses
@@ -211,7 +211,7 @@ fn is_address(alloc: Global, address: Address, outcome: Result<&[u8], AddrFault>
 fn addresses_are_read(rt: HostRuntime) {
     for (row, (address, outcome)) in ADDRESSES.iter().enumerate() {
         let held = is_address(rt.alloc(), *address, *outcome);
-        assert!(rt; held, "row {row}");
+        holds(&rt, ("row", row), held);
     }
 }
 
@@ -228,7 +228,7 @@ fn is_printed(alloc: Global, other: &[u8], same: bool) -> bool {
 #[test]
 fn addresses_are_printed(rt: HostRuntime) {
     for (row, (other, same)) in BOTH.iter().enumerate() {
-        assert!(rt; is_printed(rt.alloc(), *other, *same), "row {row}");
+        holds(&rt, ("row", row), is_printed(rt.alloc(), *other, *same));
     }
 }
 
@@ -270,7 +270,7 @@ fn ends_agree(rt: HostRuntime) {
         let ends = negotiations::agreed(rt.alloc(), agree.dialed, agree.served).map(|ends| ends.map(
             |ends| (ends.dialer, ends.listener),
         ));
-        assert_eq!(rt; ends, Ok(agree.answers), "row {row}");
+        same(&rt, ("row", row), ends, Ok(agree.answers));
     }
 }
 
@@ -387,7 +387,7 @@ fn is_told(alloc: Global, told: &Told) -> bool {
 #[test]
 fn ends_are_told_bytes(rt: HostRuntime) {
     for (row, told) in TOLD.iter().enumerate() {
-        assert!(rt; is_told(rt.alloc(), told), "row {row}");
+        holds(&rt, ("row", row), is_told(rt.alloc(), told));
     }
 }
 
@@ -416,7 +416,7 @@ fn ends_are_told_the_same_however_it_is_cut(rt: HostRuntime) {
         let is_listened = are_alike(whole, parts, Answer::Agreed(0));
         let (whole, parts) = negotiations::dialed_cut(rt.alloc(), &["/y", "/x"], M_NA_X, cut);
         let is_dialed = are_alike(whole, parts, Answer::Agreed(1));
-        assert!(rt; is_listened && is_dialed, "cut at {cut}");
+        holds(&rt, ("cut at", cut), is_listened && is_dialed);
     }
 }
 
@@ -448,10 +448,8 @@ fn are_exchanged(alloc: Global) -> Result<bool, AllocError> {
 }
 
 #[test]
-fn keys_are_exchanged(rt: HostRuntime) -> Result<(), Fail> {
-    let held = are_exchanged(rt.alloc())?;
-    assert!(rt; held);
-    Ok(())
+fn keys_are_exchanged(rt: HostRuntime) {
+    same(&rt, "exchanged", are_exchanged(rt.alloc()), Ok(true));
 }
 
 /// What the holder of the key of 32 zeros writes, who is told nothing and has proven nothing.
@@ -471,22 +469,25 @@ fn is_proven(came: Result<Exchanged, ExchangeFault>) -> bool {
 }
 
 /// Whether a proof is one also where it comes in two pieces.
-fn is_cut(alloc: Global, cut: usize) -> Result<bool, Fail> {
-    let own = PublicKey::ed25519(alloc, &[0; 32])?;
-    let message = written(alloc, &own).ok_or("a message")?;
-    let (whole, parts) = exchanges::exchanged_cut(alloc, &own, &message, cut);
+fn is_cut(alloc: Global, own: &PublicKey, cut: usize) -> Option<bool> {
+    let message = written(alloc, own)?;
+    let (whole, parts) = exchanges::exchanged_cut(alloc, own, &message, cut);
     let is_whole = is_proven(whole);
-    Ok(is_proven(parts) && is_whole)
+    Some(is_proven(parts) && is_whole)
 }
 
 #[test]
 fn keys_are_told_however_they_are_cut(rt: HostRuntime) -> Result<(), Fail> {
-    for cut in [0, 10, 20, 30, 40, 50, 60, 70, 80] {
-        let held = is_cut(rt.alloc(), cut)?;
-        assert!(rt; held, "cut at {cut}");
-    }
     let own = PublicKey::ed25519(rt.alloc(), &[0; 32])?;
+    for cut in [0, 10, 20, 30, 40, 50, 60, 70, 80] {
+        same(
+            &rt,
+            ("cut at", cut),
+            is_cut(rt.alloc(), &own, cut),
+            Some(true),
+        );
+    }
     let refused = exchanges::exchanged(rt.alloc(), &own, b"\x01\x08").err();
-    assert_eq!(rt; refused, Some(ExchangeFault::Wire));
+    same(&rt, "badly spelt", refused, Some(ExchangeFault::Wire));
     Ok(())
 }

@@ -1,10 +1,12 @@
+use crate::asserts::{holds, same};
 use both_heard::*;
-use std::alloc::Global;
+use std::alloc::{AllocError, Global};
+use std::process::Abort;
 use std::test::*;
 use yamux_session::Event;
 
 /// The data of the stream in these events, joined.
-fn data(alloc: Global, stream: u32, told: &[&Vec<Event>]) -> Result<Vec<u8>, Fail> {
+fn data(alloc: Global, stream: u32, told: &[&Vec<Event>]) -> Result<Vec<u8>, AllocError> {
     let mut data = Vec::new(alloc);
     for events in told {
         for event in events.as_slice() {
@@ -18,17 +20,32 @@ fn data(alloc: Global, stream: u32, told: &[&Vec<Event>]) -> Result<Vec<u8>, Fai
     Ok(data)
 }
 
+/// The data of stream 1 in these events is this.
+fn is_heard(rt: &impl Abort, alloc: Global, told: &[&Vec<Event>], wanted: &[u8], cut: usize) {
+    let heard = data(alloc, 1, told);
+    let heard = heard.as_ref().map(|heard| heard.as_slice());
+    same(rt, ("cut at", cut), heard, Ok(wanted));
+}
+
+/// Each end has heard what the other said.
+fn have_heard(rt: &impl Abort, alloc: Global, talk: &Talk, cut: usize) {
+    same(rt, ("stream, cut at", cut), talk.stream, 1);
+    is_heard(
+        rt,
+        alloc,
+        &[&talk.first, &talk.rest],
+        b"who goes there",
+        cut,
+    );
+    is_heard(rt, alloc, &[&talk.early, &talk.late], b"a friend", cut);
+}
+
 #[test]
-fn both_hear(rt: HostRuntime) -> Result<(), Fail> {
+fn both_hear(rt: HostRuntime) {
     for cut in [0, 5, 12, 30, 100] {
-        let talk = both_heard(rt.alloc(), b"who goes there", b"a friend", cut)
-            .ok()
-            .ok_or("ample memory")?;
-        assert_eq!(rt; talk.stream, 1);
-        let heard = data(rt.alloc(), 1, &[&talk.first, &talk.rest])?;
-        assert_eq!(rt; heard.as_slice(), b"who goes there".as_slice());
-        let heard = data(rt.alloc(), 1, &[&talk.early, &talk.late])?;
-        assert_eq!(rt; heard.as_slice(), b"a friend".as_slice());
+        match both_heard(rt.alloc(), b"who goes there", b"a friend", cut) {
+            Ok(talk) => have_heard(&rt, rt.alloc(), &talk, cut),
+            Err(_) => holds(&rt, ("ample memory", cut), false),
+        }
     }
-    Ok(())
 }

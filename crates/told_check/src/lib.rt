@@ -2,6 +2,8 @@
 #![tactic(auto)]
 
 #[cfg(test)]
+mod asserts;
+#[cfg(test)]
 mod codec_tests;
 #[cfg(test)]
 mod heard_tests;

@@ -1,3 +1,4 @@
+use crate::asserts::holds;
 use peer_ids::{KeyType, PublicKey};
 use plaintext_x::*;
 use std::alloc::Global;
@@ -181,7 +182,7 @@ fn inputs_however_they_are_cut(rt: HostRuntime) {
     for (row, (input, outcome)) in ROWS.iter().enumerate() {
         for size in [1, 7, 1024] {
             let held = comes_to(rt.alloc(), *input, size, *outcome);
-            assert!(rt; held, "row {row} in pieces of {size}");
+            holds(&rt, ("row", row, "in pieces of", size), held);
         }
     }
 }
@@ -193,9 +194,12 @@ static EARLIER_IDS: [(&[u8], usize); 2] = [
 ];
 
 fn with_front(alloc: Global, front: &[u8]) -> Option<Vec<u8>> {
+    let rest = MESSAGE.get(1..)?;
     let mut input = Vec::from_slice(alloc, front).ok()?;
-    input.extend_from_slice(MESSAGE.get(1..)?).ok()?;
-    Some(input)
+    match input.extend_from_slice(rest) {
+        Ok(()) => Some(input),
+        Err(_) => None,
+    }
 }
 
 /// Whether the last of the ids counts.
@@ -209,7 +213,7 @@ fn is_last_id(alloc: Global, front: &[u8], used: usize) -> bool {
 #[test]
 fn the_last_id_counts(rt: HostRuntime) {
     for (row, (front, used)) in EARLIER_IDS.iter().enumerate() {
-        assert!(rt; is_last_id(rt.alloc(), *front, *used), "row {row}");
+        holds(&rt, ("row", row), is_last_id(rt.alloc(), *front, *used));
     }
 }
 
@@ -234,7 +238,7 @@ fn is_handed_back(alloc: Global) -> Option<bool> {
 
 #[test]
 fn hands_itself_back_before_the_proof(rt: HostRuntime) {
-    assert!(rt; is_handed_back(rt.alloc()) == Some(true));
+    holds(&rt, "handed back", is_handed_back(rt.alloc()) == Some(true));
 }
 
 fn is_done(done: &Exchanged) -> bool {
@@ -255,5 +259,5 @@ fn is_whole(alloc: Global) -> Option<bool> {
 
 #[test]
 fn a_whole_exchange(rt: HostRuntime) {
-    assert!(rt; is_whole(rt.alloc()) == Some(true));
+    holds(&rt, "whole", is_whole(rt.alloc()) == Some(true));
 }

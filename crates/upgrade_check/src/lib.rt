@@ -2,6 +2,8 @@
 #![tactic(auto)]
 
 #[cfg(test)]
+mod asserts;
+#[cfg(test)]
 mod exchange_tests;
 #[cfg(test)]
 mod select_tests;

@@ -1,3 +1,4 @@
+use crate::asserts::holds;
 use ms_select::*;
 use std::alloc::{AllocError, Global};
 use std::test::*;
@@ -60,8 +61,8 @@ const X_Y: Row = Row {
     ..X
 };
 
-static ROWS: [Row; 53] = [
-    // Listeners.
+/// Rows of listeners.
+static LISTENERS: [Row; 11] = [
     Y,
     // One without names refuses, and goes on.
     Row {
@@ -123,6 +124,10 @@ static ROWS: [Row; 53] = [
         answer: Err(SelectFault::BadHeader),
         ..Y
     },
+];
+
+/// Rows of what listeners know, and of headers.
+static LISTENED: [Row; 11] = [
     // The first of two equal names.
     Row {
         names: &["/x", "/y", "/y"],
@@ -204,7 +209,11 @@ static ROWS: [Row; 53] = [
         answer: Err(SelectFault::BadHeader),
         ..Y
     },
-    // Dialers: the third of three names, and none of them.
+];
+
+/// Rows of dialers.
+static DIALERS: [Row; 11] = [
+    // The third of three names, and none of them.
     Row {
         names: &["/x", "/y", "/z"],
         input: b"\x13/multistream/1.0.0\n\x03na\n\x03na\n\x03/z\nN",
@@ -279,6 +288,10 @@ static ROWS: [Row; 53] = [
         output: M_PLAINTEXT,
         ..X
     },
+];
+
+/// Rows of dialers: when data may be sent, and of refusals.
+static SENDERS: [Row; 9] = [
     // Data may go before the answer to one name.
     X,
     Row {
@@ -331,6 +344,10 @@ static ROWS: [Row; 53] = [
         may_send: false,
         ..X
     },
+];
+
+/// Rows of what dialers hear, which is no echo, and of headers.
+static DIALED: [Row; 11] = [
     // More than the proposal, a part of it, nothing, its capitals, and ls are no echo; nor is one that begins with na,
     // a part of na, or its capitals.
     Row {
@@ -394,6 +411,26 @@ static ROWS: [Row; 53] = [
         ..X_Y
     },
 ];
+
+fn listeners() -> &'static [Row] {
+    &LISTENERS
+}
+
+fn listened() -> &'static [Row] {
+    &LISTENED
+}
+
+fn dialers() -> &'static [Row] {
+    &DIALERS
+}
+
+fn senders() -> &'static [Row] {
+    &SENDERS
+}
+
+fn dialed() -> &'static [Row] {
+    &DIALED
+}
 
 #[derive(Drop)]
 enum End {
@@ -510,16 +547,25 @@ fn holds_so(alloc: Global, row: &Row, size: usize, at_once: bool) -> bool {
 
 /// Whether the row holds in pieces of this size, behind each of which output is taken, and where it is taken at the end
 /// alone.
-fn holds(alloc: Global, row: &Row, size: usize) -> bool {
+fn is_so(alloc: Global, row: &Row, size: usize) -> bool {
     holds_so(alloc, row, size, true) && holds_so(alloc, row, size, false)
 }
 
 #[test]
 fn ends_however_the_input_is_cut(rt: HostRuntime) {
-    for (number, row) in ROWS.iter().enumerate() {
-        for size in [1, 7, 1024] {
-            let held = holds(rt.alloc(), row, size);
-            assert!(rt; held, "row {number} in pieces of {size}");
+    let tables = [
+        ("listeners", listeners()),
+        ("listened", listened()),
+        ("dialers", dialers()),
+        ("senders", senders()),
+        ("dialed", dialed()),
+    ];
+    for (table, rows) in tables {
+        for (number, row) in rows.iter().enumerate() {
+            for size in [1, 7, 1024] {
+                let held = is_so(rt.alloc(), row, size);
+                holds(&rt, (table, number, "in pieces of", size), held);
+            }
         }
     }
 }
@@ -567,7 +613,7 @@ fn are_taken(alloc: Global, length: usize, good: bool) -> bool {
 fn names_of_1_to_1023_bytes(rt: HostRuntime) {
     for (length, good) in LENGTHS.iter() {
         let held = are_taken(rt.alloc(), *length, *good);
-        assert!(rt; held, "a name of {length} bytes");
+        holds(&rt, ("a name of", length), held);
     }
 }
 
@@ -584,12 +630,11 @@ fn is_talked(talk: Result<Talk, SelectFault>, answer: Answer, output: &[u8]) -> 
 #[test]
 fn whole_talks_of_two_ends(rt: HostRuntime) {
     let dialed = dial(rt.alloc(), &["/x", "/y"], &[M, NA, b"\x03/y\nNext"]);
-    assert!(rt; is_talked(dialed, Answer::Agreed(1), M_X_Y), "the dialer");
+    let is_dialed = is_talked(dialed, Answer::Agreed(1), M_X_Y);
+    holds(&rt, "the dialer", is_dialed);
     let listened = listen(rt.alloc(), &["/y"], &[M_X_Y]);
-    assert!(rt;
-        is_talked(listened, Answer::Agreed(0), M_NA_Y),
-        "the listener"
-    );
+    let is_listened = is_talked(listened, Answer::Agreed(0), M_NA_Y);
+    holds(&rt, "the listener", is_listened);
 }
 
 // ---- many names
@@ -675,9 +720,7 @@ fn ends_of_many_names(rt: HostRuntime) {
     for index in INDICES.iter() {
         let is_dialed = is_agreed_of_many(rt.alloc(), Role::Dialer, *index);
         let is_listened = is_agreed_of_many(rt.alloc(), Role::Listener, *index);
-        assert!(rt;
-            is_dialed && is_listened,
-            "the name {index}: dialer {is_dialed}, listener {is_listened}"
-        );
+        holds(&rt, ("dialer, the name", index), is_dialed);
+        holds(&rt, ("listener, the name", index), is_listened);
     }
 }

@@ -1,3 +1,4 @@
+use crate::asserts::holds;
 use ms_select::{Answer, SelectFault, Step};
 use std::alloc::{AllocError, Global};
 use std::test::*;
@@ -224,7 +225,7 @@ fn begin(alloc: Global, end: End) -> Option<Came> {
     })
 }
 
-fn holds(alloc: Global, row: &Row, size: usize) -> bool {
+fn is_so(alloc: Global, row: &Row, size: usize) -> bool {
     match begin(alloc, row.end) {
         Some(mut came) => came.plays(row, size),
         None => false,
@@ -235,8 +236,8 @@ fn holds(alloc: Global, row: &Row, size: usize) -> bool {
 fn talks_however_the_input_is_cut(rt: HostRuntime) {
     for (number, row) in ROWS.iter().enumerate() {
         for size in [1, 7, 1024] {
-            let held = holds(rt.alloc(), row, size);
-            assert!(rt; held, "row {number} in pieces of {size}");
+            let held = is_so(rt.alloc(), row, size);
+            holds(&rt, ("row", number, "in pieces of", size), held);
         }
     }
 }
@@ -276,13 +277,17 @@ fn are_begun(alloc: Global, length: usize, good: bool) -> bool {
 fn names_of_1_to_1023_bytes(rt: HostRuntime) {
     for (length, good) in LENGTHS.iter() {
         let held = are_begun(rt.alloc(), *length, *good);
-        assert!(rt; held, "a name of {length} bytes");
+        holds(&rt, ("a name of", length), held);
     }
 }
 
 #[test]
 fn a_talk_may_have_no_names(rt: HostRuntime) {
-    assert!(rt; is_begun(Talk::answer(rt.alloc(), &[]), true));
+    holds(
+        &rt,
+        "no names",
+        is_begun(Talk::answer(rt.alloc(), &[]), true),
+    );
 }
 
 /// A whole talk in pieces: what it comes to, and what it writes where it is no fault.
@@ -345,9 +350,8 @@ fn is_cut(alloc: Global, cut: &Cut) -> bool {
 }
 
 #[test]
-fn whole_talks_in_pieces(rt: HostRuntime) -> Result<(), Fail> {
+fn whole_talks_in_pieces(rt: HostRuntime) {
     for (number, cut) in CUTS.iter().enumerate() {
-        assert!(rt; is_cut(rt.alloc(), cut), "row {number}");
+        holds(&rt, ("row", number), is_cut(rt.alloc(), cut));
     }
-    Ok(())
 }

@@ -1,3 +1,4 @@
+use crate::asserts::holds;
 use ms_select::SelectFault;
 use peer_ids::PublicKey;
 use plaintext_x::ExchangeFault;
@@ -95,8 +96,7 @@ struct Row {
     output: &'static [Part],
 }
 
-static ROWS: [Row; 32] = [
-    // Dialers.
+static DIALERS: [Row; 7] = [
     Row {
         role: ConnRole::Dialer,
         input: &[],
@@ -154,6 +154,9 @@ static ROWS: [Row; 32] = [
         used: 89,
         output: &[Part::Hello, Part::Own, Part::Mux],
     },
+];
+
+static FAULTS_OF_DIALERS: [Row; 12] = [
     Row {
         role: ConnRole::Dialer,
         input: &[Part::Refused, Part::Hello],
@@ -251,7 +254,9 @@ static ROWS: [Row; 32] = [
         used: 0,
         output: &[Part::Hello, Part::Own],
     },
-    // Listeners.
+];
+
+static LISTENERS: [Row; 8] = [
     Row {
         role: ConnRole::Listener,
         input: &[],
@@ -317,6 +322,9 @@ static ROWS: [Row; 32] = [
         used: 93,
         output: &[Part::Refused, Part::Plaintext, Part::Own, Part::Mux],
     },
+];
+
+static FAULTS_OF_LISTENERS: [Row; 5] = [
     Row {
         role: ConnRole::Listener,
         input: &[],
@@ -359,6 +367,22 @@ static ROWS: [Row; 32] = [
         output: &[Part::Hello, Part::Own, Part::Refused],
     },
 ];
+
+fn dialers() -> &'static [Row] {
+    &DIALERS
+}
+
+fn faults_of_dialers() -> &'static [Row] {
+    &FAULTS_OF_DIALERS
+}
+
+fn listeners() -> &'static [Row] {
+    &LISTENERS
+}
+
+fn faults_of_listeners() -> &'static [Row] {
+    &FAULTS_OF_LISTENERS
+}
 
 /// What an upgrade has come to, how many bytes it has used, and what it wrote.
 #[derive(Drop)]
@@ -457,7 +481,7 @@ fn leads_to(alloc: Global, row: &Row, input: &[u8], way: (usize, bool)) -> bool 
 }
 
 /// Whether the row holds in pieces of this size, behind each of which output is taken, or at the end alone.
-fn holds(alloc: Global, row: &Row, way: (usize, bool)) -> bool {
+fn comes_to(alloc: Global, row: &Row, way: (usize, bool)) -> bool {
     match joined(alloc, row.input, row.rest) {
         Ok(input) => leads_to(alloc, row, &input, way),
         Err(_) => false,
@@ -467,15 +491,23 @@ fn holds(alloc: Global, row: &Row, way: (usize, bool)) -> bool {
 /// Whether the row holds in pieces of this size, behind each of which output is taken, and where it is taken at the end
 /// alone.
 fn is_so(alloc: Global, row: &Row, size: usize) -> bool {
-    holds(alloc, row, (size, true)) && holds(alloc, row, (size, false))
+    comes_to(alloc, row, (size, true)) && comes_to(alloc, row, (size, false))
 }
 
 #[test]
 fn ends_however_the_input_is_cut(rt: HostRuntime) {
-    for (number, row) in ROWS.iter().enumerate() {
-        for size in [1, 7, 1024] {
-            let held = is_so(rt.alloc(), row, size);
-            assert!(rt; held, "row {number} in pieces of {size}");
+    let tables = [
+        ("dialers", dialers()),
+        ("faults of dialers", faults_of_dialers()),
+        ("listeners", listeners()),
+        ("faults of listeners", faults_of_listeners()),
+    ];
+    for (table, rows) in tables {
+        for (number, row) in rows.iter().enumerate() {
+            for size in [1, 7, 1024] {
+                let held = is_so(rt.alloc(), row, size);
+                holds(&rt, (table, number, "in pieces of", size), held);
+            }
         }
     }
 }
@@ -527,7 +559,7 @@ fn two_ends(alloc: Global) -> bool {
 
 #[test]
 fn two_ends_come_up(rt: HostRuntime) {
-    assert!(rt; two_ends(rt.alloc()));
+    holds(&rt, "two ends", two_ends(rt.alloc()));
 }
 
 // ---- whole upgrades
@@ -592,7 +624,7 @@ fn is_whole(alloc: Global, whole: &Whole) -> bool {
 #[test]
 fn whole_upgrades_in_pieces(rt: HostRuntime) {
     for (number, whole) in WHOLES.iter().enumerate() {
-        assert!(rt; is_whole(rt.alloc(), whole), "row {number}");
+        holds(&rt, ("row", number), is_whole(rt.alloc(), whole));
     }
 }
 
@@ -708,6 +740,6 @@ fn has_text(alloc: Global, fault: UpgradeFault, text: &str) -> bool {
 fn numbers_and_texts_of_faults(rt: HostRuntime) {
     for (row, (fault, number, text)) in FAULTS.iter().enumerate() {
         let is_told = has_text(rt.alloc(), *fault, *text) && number_of(*fault) == *number;
-        assert!(rt; is_told && is_alone(*fault, row), "row {row}");
+        holds(&rt, ("row", row), is_told && is_alone(*fault, row));
     }
 }

@@ -1,3 +1,4 @@
+use crate::asserts::{Fault, Told, are_faults, holds, same};
 use multiaddr::*;
 use peer_ids::PeerId;
 use std::alloc::{AllocError, Global};
@@ -44,7 +45,7 @@ fn has_bytes(alloc: Global, text: &str, bytes: &[u8]) -> bool {
 #[test]
 fn texts_and_bytes(rt: HostRuntime) {
     for (row, (text, bytes)) in TEXTS.iter().enumerate() {
-        assert!(rt; has_bytes(rt.alloc(), *text, *bytes), "row {row}");
+        holds(&rt, ("row", row), has_bytes(rt.alloc(), *text, *bytes));
     }
 }
 
@@ -83,9 +84,14 @@ static FORMS: [(&str, &str); 21] = [
     ("::ffff:c000:201", "::ffff:c000:201"),
 ];
 
+/// The address of a host.
+fn of_host(alloc: Global, host: &str) -> Result<String, AllocError> {
+    format!(in alloc; "/ip6/{host}/tcp/80")
+}
+
 fn has_form(alloc: Global, text: &str, form: &str) -> Result<bool, AllocError> {
-    let text = format!(in alloc; "/ip6/{text}/tcp/80")?;
-    let form = format!(in alloc; "/ip6/{form}/tcp/80")?;
+    let text = of_host(alloc, text)?;
+    let form = of_host(alloc, form)?;
     match Multiaddr::parse(alloc, text.as_str()) {
         Ok(address) => Ok(is_printed(&address, form.as_str())),
         Err(_) => Ok(false),
@@ -95,7 +101,12 @@ fn has_form(alloc: Global, text: &str, form: &str) -> Result<bool, AllocError> {
 #[test]
 fn printed_forms_of_ip6(rt: HostRuntime) {
     for (row, (text, form)) in FORMS.iter().enumerate() {
-        assert!(rt; has_form(rt.alloc(), *text, *form) == Ok(true), "row {row}");
+        same(
+            &rt,
+            ("row", row),
+            has_form(rt.alloc(), *text, *form),
+            Ok(true),
+        );
     }
 }
 
@@ -134,7 +145,7 @@ static BAD_TEXTS: [(&str, AddrFault); 28] = [
 fn faults_of_texts(rt: HostRuntime) {
     for (row, (text, fault)) in BAD_TEXTS.iter().enumerate() {
         let found = Multiaddr::parse(rt.alloc(), *text).err();
-        assert!(rt; found == Some(*fault), "row {row}");
+        same(&rt, ("row", row), found, Some(*fault));
     }
 }
 
@@ -185,7 +196,7 @@ fn fault_of(alloc: Global, bytes: (&[u8], usize)) -> Result<Option<AddrFault>, A
 #[test]
 fn faults_of_bytes(rt: HostRuntime) {
     for (row, (bytes, fault)) in BYTES.iter().enumerate() {
-        assert!(rt; fault_of(rt.alloc(), *bytes) == Ok(*fault), "row {row}");
+        same(&rt, ("row", row), fault_of(rt.alloc(), *bytes), Ok(*fault));
     }
 }
 
@@ -214,7 +225,7 @@ fn is_opaque(alloc: Global, bytes: &[u8]) -> bool {
 #[test]
 fn an_opaque_part_is_kept_and_not_printed(rt: HostRuntime) {
     for (row, bytes) in OPAQUE.iter().enumerate() {
-        assert!(rt; is_opaque(rt.alloc(), *bytes), "row {row}");
+        holds(&rt, ("row", row), is_opaque(rt.alloc(), *bytes));
     }
 }
 
@@ -330,13 +341,19 @@ fn is_as(alloc: Global, row: &Row) -> bool {
 #[test]
 fn sockets_and_peers(rt: HostRuntime) {
     for (number, row) in ROWS.iter().enumerate() {
-        assert!(rt; is_as(rt.alloc(), row), "row {number}");
+        holds(&rt, ("row", number), is_as(rt.alloc(), row));
     }
 }
 
 // ---- faults
 
-static FAULTS: [(AddrFault, usize, &str); 5] = [
+impl Fault for AddrFault {
+    fn number(self) -> usize {
+        self as usize
+    }
+}
+
+static FAULTS: [Told<AddrFault>; 5] = [
     (AddrFault::Empty, 1, "an address has no parts"),
     (
         AddrFault::UnknownProtocol,
@@ -348,24 +365,7 @@ static FAULTS: [(AddrFault, usize, &str); 5] = [
     (AddrFault::OutOfMemory, 5, "out of memory"),
 ];
 
-/// Whether the fault is equal to that of this number alone.
-fn is_alone(fault: AddrFault, number: usize) -> bool {
-    let mut held = fault as usize == number;
-    for (other, place, _) in FAULTS.iter() {
-        held = held && (fault == *other) == (number == *place);
-    }
-    held
-}
-
-fn has_text(alloc: Global, fault: AddrFault, text: &str) -> Result<bool, AllocError> {
-    let told = format!(in alloc; "{fault}")?;
-    Ok(told.as_str() == text)
-}
-
 #[test]
 fn numbers_and_texts_of_faults(rt: HostRuntime) {
-    for (fault, number, text) in FAULTS.iter() {
-        let is_told = has_text(rt.alloc(), *fault, *text) == Ok(true);
-        assert!(rt; is_told && is_alone(*fault, *number), "fault {number}");
-    }
+    are_faults(&rt, rt.alloc(), &FAULTS);
 }

@@ -1,6 +1,8 @@
 //! Worked rows of headers and of cut streams.
 
-use std::test::Fail;
+use crate::asserts::{Fault, Told, are_faults, holds, same};
+use std::process::Abort;
+use std::test::*;
 use yamux_frames::*;
 
 /// A frame of the table: its bytes, and what they spell.
@@ -65,27 +67,37 @@ fn headers() -> [([u8; 12], Header); 6] {
 
 #[test]
 fn codes_of_go_away(rt: HostRuntime) {
-    assert_eq!(rt; Header::NORMAL_TERMINATION, 0);
-    assert_eq!(rt; Header::PROTOCOL_ERROR, 1);
-    assert_eq!(rt; Header::INTERNAL_ERROR, 2);
+    same(&rt, "normal termination", Header::NORMAL_TERMINATION, 0);
+    same(&rt, "protocol error", Header::PROTOCOL_ERROR, 1);
+    same(&rt, "internal error", Header::INTERNAL_ERROR, 2);
 }
 
 #[test]
 fn headers_are_read_and_written(rt: HostRuntime) {
     for (bytes, header) in headers() {
-        assert_eq!(rt; Header::read(&bytes), Ok(header), "{bytes:?}");
-        assert_eq!(rt; header.write(), bytes, "{header:?}");
+        same(&rt, bytes, Header::read(&bytes), Ok(header));
+        same(&rt, header, header.write(), bytes);
     }
 }
 
 #[test]
 fn version_is_looked_at_before_type(rt: HostRuntime) {
     let nines = [1, 9, 9, 9, 9, 9, 9, 9, 9, 9, 9, 9];
-    assert_eq!(rt; Header::read(&nines), Err(FrameFault::BadVersion));
+    same(
+        &rt,
+        "nines",
+        Header::read(&nines),
+        Err(FrameFault::BadVersion),
+    );
     let type_four = [0, 4, 0, 0, 0, 0, 0, 0, 0, 0, 0, 0];
-    assert_eq!(rt; Header::read(&type_four), Err(FrameFault::BadType));
-    assert_eq!(rt; FrameFault::BadVersion as u8, 1);
-    assert_eq!(rt; FrameFault::BadType as u8, 2);
+    same(
+        &rt,
+        "type four",
+        Header::read(&type_four),
+        Err(FrameFault::BadType),
+    );
+    same(&rt, "bad version", FrameFault::BadVersion as u8, 1);
+    same(&rt, "bad type", FrameFault::BadType as u8, 2);
 }
 
 /// Two frames: Data of `abc` on stream 9, then a WindowUpdate with SYN.
@@ -119,7 +131,7 @@ fn counts(input: &[u8], size: usize) -> (usize, usize, usize) {
 #[test]
 fn frames_do_not_depend_on_the_pieces(rt: HostRuntime) {
     for size in [1, 7, 12, 13, 27] {
-        assert_eq!(rt; counts(&INPUT, size), (2, 3, 1), "in pieces of {size}");
+        same(&rt, ("in pieces of", size), counts(&INPUT, size), (2, 3, 1));
     }
 }
 
@@ -179,17 +191,12 @@ fn parts_are_of_the_last_header(rt: HostRuntime) {
                 break;
             }
             let head = fed(&mut cutter, at, place);
-            assert!(rt;
-                matches!(head, Some(Ok((12, Cut::Head(_))))),
-                "at byte {at}"
-            );
+            let is_head = matches!(head, Some(Ok((12, Cut::Head(_)))));
+            holds(&rt, ("head at byte", at), is_head);
             at = at.saturating_add(12);
         }
-        assert_eq!(rt;
-            fed(&mut cutter, place, place.saturating_add(count)),
-            Some(Ok((1, part))),
-            "at byte {place}"
-        );
+        let found = fed(&mut cutter, place, place.saturating_add(count));
+        same(&rt, ("at byte", place), found, Some(Ok((1, part))));
         at = place.saturating_add(1);
     }
 }
@@ -198,20 +205,27 @@ fn parts_are_of_the_last_header(rt: HostRuntime) {
 fn input_ends_within_a_frame(rt: HostRuntime) {
     let mut cutter = Cutter::new();
     for (at, byte) in INPUT.iter().enumerate() {
-        assert_eq!(rt;
+        let is_mid_frame = at != 0 && at != 15;
+        same(
+            &rt,
+            ("before byte", at),
             cutter.is_mid_frame(),
-            at != 0 && at != 15,
-            "before byte {at}"
+            is_mid_frame,
         );
         let left = if at >= 12 {
             15usize.saturating_sub(at)
         } else {
             0
         };
-        assert_eq!(rt; cutter.bytes_left() as usize, left, "before byte {at}");
+        same(
+            &rt,
+            ("left before byte", at),
+            cutter.bytes_left() as usize,
+            left,
+        );
         let _answer = cutter.feed(&[*byte]);
     }
-    assert!(rt; !cutter.is_mid_frame());
+    holds(&rt, "the end", !cutter.is_mid_frame());
 }
 
 /// How long a payload is whose length has this one bit.
@@ -232,39 +246,70 @@ fn left_of(bit: u32) -> u32 {
 #[test]
 fn payloads_have_up_to_32_bits_of_bytes(rt: HostRuntime) {
     for bit in 0..32u32 {
-        assert_eq!(rt; left_of(bit), 1u32.wrapping_shl(bit), "bit {bit}");
+        same(&rt, ("bit", bit), left_of(bit), 1u32.wrapping_shl(bit));
     }
 }
 
 #[test]
 fn fault_comes_with_its_last_byte_and_stays(rt: HostRuntime) {
     let mut cutter = Cutter::new();
-    assert_eq!(rt;
-        cutter.feed(&[0, 4, 0, 0, 0, 0, 0, 0, 0, 0, 0]),
-        Ok((11, Cut::More))
+    let front = cutter.feed(&[0, 4, 0, 0, 0, 0, 0, 0, 0, 0, 0]);
+    same(&rt, "all but the last byte", front, Ok((11, Cut::More)));
+    same(
+        &rt,
+        "the last byte",
+        cutter.feed(&[0]),
+        Err(FrameFault::BadType),
     );
-    assert_eq!(rt; cutter.feed(&[0]), Err(FrameFault::BadType));
-    assert_eq!(rt; cutter.feed(&INPUT), Err(FrameFault::BadType));
-    assert!(rt; !cutter.is_mid_frame());
+    same(
+        &rt,
+        "behind it",
+        cutter.feed(&INPUT),
+        Err(FrameFault::BadType),
+    );
+    holds(&rt, "no frame is begun", !cutter.is_mid_frame());
 }
 
-#[test]
-fn numbers_and_texts_of_faults(rt: HostRuntime) -> Result<(), Fail> {
-    let faults = [
-        (FrameFault::BadVersion, "a frame has another version than 0"),
-        (FrameFault::BadType, "a frame has an unknown type"),
-    ];
-    for (index, (fault, text)) in faults.iter().enumerate() {
-        let is_numbered = *fault as usize == index + 1 && fault.clone()? == *fault;
-        assert!(rt; is_numbered, "{text}");
-        assert_eq!(rt; format!(in rt.alloc(); "{fault}")?.as_str(), *text);
+impl Fault for FrameFault {
+    fn number(self) -> usize {
+        self as usize
     }
-    assert!(rt; faults[0].0 != faults[1].0);
-    Ok(())
+}
+
+static FAULTS: [Told<FrameFault>; 2] = [
+    (
+        FrameFault::BadVersion,
+        1,
+        "a frame has another version than 0",
+    ),
+    (FrameFault::BadType, 2, "a frame has an unknown type"),
+];
+
+fn is_copied<T: Clone + PartialEq + Drop>(value: &T) -> bool {
+    match value.clone() {
+        Ok(copy) => copy == *value,
+        Err(_) => false,
+    }
+}
+
+/// Each value is equal to its copy, and to no other of these values.
+fn are_told_apart<T: Clone + PartialEq + Drop>(rt: &impl Abort, values: &[T]) {
+    for (row, value) in values.iter().enumerate() {
+        holds(rt, ("copy", row), is_copied(value));
+        for (place, other) in values.iter().enumerate() {
+            holds(rt, (row, place), (value == other) == (row == place));
+        }
+    }
 }
 
 #[test]
-fn numbers_of_kinds(rt: HostRuntime) -> Result<(), Fail> {
+fn numbers_and_texts_of_faults(rt: HostRuntime) {
+    are_faults(&rt, rt.alloc(), &FAULTS);
+    are_told_apart(&rt, &[FrameFault::BadVersion, FrameFault::BadType]);
+}
+
+#[test]
+fn numbers_of_kinds(rt: HostRuntime) {
     let kinds = [
         FrameKind::Payload,
         FrameKind::Window,
@@ -272,15 +317,13 @@ fn numbers_of_kinds(rt: HostRuntime) -> Result<(), Fail> {
         FrameKind::GoAway,
     ];
     for (index, kind) in kinds.iter().enumerate() {
-        let is_numbered = *kind as usize == index && kind.clone()? == *kind;
-        let are_equal = kinds.iter().filter(|other| *other == kind).count();
-        assert!(rt; is_numbered && are_equal == 1, "kind {index}");
+        same(&rt, *kind, *kind as usize, index);
     }
-    Ok(())
+    are_told_apart(&rt, &kinds);
 }
 
 #[test]
-fn cuts_are_told_apart(rt: HostRuntime) -> Result<(), Fail> {
+fn cuts_are_told_apart(rt: HostRuntime) {
     let part = |stream, from, to, last| Cut::Part {
         stream,
         from,
@@ -295,25 +338,19 @@ fn cuts_are_told_apart(rt: HostRuntime) -> Result<(), Fail> {
         part(1, 0, 3, false),
         part(1, 0, 2, true),
     ];
-    for (index, cut) in cuts.iter().enumerate() {
-        assert_eq!(rt; cut.clone()?, *cut);
-        for (place, other) in cuts.iter().enumerate() {
-            assert_eq!(rt; cut == other, index == place);
-        }
-    }
-    Ok(())
+    are_told_apart(&rt, &cuts);
 }
 
 #[test]
-fn headers_are_told_apart(rt: HostRuntime) -> Result<(), Fail> {
+fn headers_are_told_apart(rt: HostRuntime) {
     let header = Header {
         kind: FrameKind::Payload,
         flags: 0,
         stream: 1,
         length: 2,
     };
-    assert_eq!(rt; header.clone()?, header);
-    let others = [
+    let headers = [
+        header,
         Header {
             kind: FrameKind::Ping,
             ..header
@@ -328,9 +365,5 @@ fn headers_are_told_apart(rt: HostRuntime) -> Result<(), Fail> {
             ..header
         },
     ];
-    for other in &others {
-        assert!(rt; *other != header);
-        assert_eq!(rt; other.clone()?, *other);
-    }
-    Ok(())
+    are_told_apart(&rt, &headers);
 }

@@ -1,3 +1,4 @@
+use crate::asserts::{Fault, Told, are_faults, holds, is_shown, same};
 use peer_ids::*;
 use std::alloc::{AllocError, Global};
 use std::test::*;
@@ -20,13 +21,19 @@ fn filled(alloc: Global, bytes: Bytes) -> Result<Vec<u8>, AllocError> {
     Ok(all)
 }
 
-/// Whether the id has this text, and is read from it and from its own bytes.
-fn has_text(alloc: Global, id: PeerId, text: &str) -> Result<bool, AllocError> {
-    let told = id.to_text(alloc)?;
-    let shown = format!(in alloc; "{id}")?;
-    let is_told = told.as_str() == text && shown.as_str() == text;
+/// Whether the id is read from this text, and from its own bytes.
+fn is_read_from(id: PeerId, text: &str) -> bool {
     let is_read = PeerId::from_text(text) == Ok(id) && text.parse::<PeerId>() == Ok(id);
-    Ok(is_told && is_read && PeerId::from_bytes(id.as_bytes()) == Ok(id))
+    is_read && PeerId::from_bytes(id.as_bytes()) == Ok(id)
+}
+
+/// Whether the id has this text, and is read from it and from its own bytes.
+fn has_text(alloc: Global, id: PeerId, text: &str) -> bool {
+    let is_told = match id.to_text(alloc) {
+        Ok(told) => told.as_str() == text,
+        Err(_) => false,
+    };
+    is_told && is_shown(alloc, &id, text) && is_read_from(id, text)
 }
 
 // ---- keys
@@ -166,7 +173,7 @@ fn is_id(alloc: Global, id: PeerId, row: &Key) -> Result<bool, AllocError> {
     let copy: Result<PeerId, AllocError> = id.clone();
     let held = bytes.len() == row.len && bytes.starts_with(row.id) && copy == Ok(id);
     match row.text {
-        Some(text) => Ok(has_text(alloc, id, text)? && held),
+        Some(text) => Ok(has_text(alloc, id, text) && held),
         None => Ok(held),
     }
 }
@@ -185,12 +192,10 @@ fn is_read(alloc: Global, row: &Key) -> Result<bool, AllocError> {
 }
 
 #[test]
-fn keys_and_their_ids(rt: HostRuntime) -> Result<(), Fail> {
+fn keys_and_their_ids(rt: HostRuntime) {
     for (number, row) in KEYS.iter().enumerate() {
-        let held = is_read(rt.alloc(), row)?;
-        assert!(rt; held, "row {number}");
+        same(&rt, ("row", number), is_read(rt.alloc(), row), Ok(true));
     }
-    Ok(())
 }
 
 static BAD_KEYS: [(Bytes, KeyFault); 11] = [
@@ -217,12 +222,15 @@ fn is_bad(alloc: Global, message: Bytes, fault: KeyFault) -> Result<bool, AllocE
 }
 
 #[test]
-fn faults_of_keys(rt: HostRuntime) -> Result<(), Fail> {
+fn faults_of_keys(rt: HostRuntime) {
     for (row, (message, fault)) in BAD_KEYS.iter().enumerate() {
-        let held = is_bad(rt.alloc(), *message, *fault)?;
-        assert!(rt; held, "row {row}");
+        same(
+            &rt,
+            ("row", row),
+            is_bad(rt.alloc(), *message, *fault),
+            Ok(true),
+        );
     }
-    Ok(())
 }
 
 /// A type, how many bytes a key has, and whether it may.
@@ -250,12 +258,15 @@ fn allows(alloc: Global, kind: KeyType, len: usize) -> Result<bool, AllocError> 
 }
 
 #[test]
-fn lengths_of_keys(rt: HostRuntime) -> Result<(), Fail> {
+fn lengths_of_keys(rt: HostRuntime) {
     for (row, (kind, len, good)) in LENGTHS.iter().enumerate() {
-        let held = allows(rt.alloc(), *kind, *len)? == *good;
-        assert!(rt; held, "row {row}");
+        same(
+            &rt,
+            ("row", row),
+            allows(rt.alloc(), *kind, *len),
+            Ok(*good),
+        );
     }
-    Ok(())
 }
 
 /// Whether this is the key of 32 bytes of this value.
@@ -271,16 +282,14 @@ fn is_of(alloc: Global, byte: u8, text: &str) -> Result<bool, AllocError> {
         Some(key) => is_ed25519(&key, byte),
         None => false,
     };
-    Ok(has_text(alloc, PeerId::of_ed25519(&[byte; 32]), text)? && is_key && is_made)
+    Ok(has_text(alloc, PeerId::of_ed25519(&[byte; 32]), text) && is_key && is_made)
 }
 
 #[test]
-fn keys_and_ids_of_32_bytes(rt: HostRuntime) -> Result<(), Fail> {
+fn keys_and_ids_of_32_bytes(rt: HostRuntime) {
     for (byte, text) in [(0, ZEROS), (0xff, ONES)] {
-        let held = is_of(rt.alloc(), byte, text)?;
-        assert!(rt; held, "{byte}");
+        same(&rt, byte, is_of(rt.alloc(), byte, text), Ok(true));
     }
-    Ok(())
 }
 
 // ---- ids
@@ -314,7 +323,7 @@ fn is_no_id(text: &str, fault: IdFault) -> bool {
 #[test]
 fn faults_of_texts(rt: HostRuntime) {
     for (row, (text, fault)) in TEXTS.iter().enumerate() {
-        assert!(rt; is_no_id(*text, *fault), "row {row}");
+        holds(&rt, ("row", row), is_no_id(*text, *fault));
     }
 }
 
@@ -341,19 +350,22 @@ static MULTIHASHES: [(Bytes, Option<&str>); 14] = [
 fn is_multihash(alloc: Global, bytes: Bytes, text: Option<&str>) -> Result<bool, AllocError> {
     let id = PeerId::from_bytes(&filled(alloc, bytes)?);
     match (id, text) {
-        (Ok(id), Some(text)) => has_text(alloc, id, text),
+        (Ok(id), Some(text)) => Ok(has_text(alloc, id, text)),
         (Err(fault), None) => Ok(fault == IdFault::BadHash),
         _ => Ok(false),
     }
 }
 
 #[test]
-fn ids_are_multihashes(rt: HostRuntime) -> Result<(), Fail> {
+fn ids_are_multihashes(rt: HostRuntime) {
     for (row, (bytes, text)) in MULTIHASHES.iter().enumerate() {
-        let held = is_multihash(rt.alloc(), *bytes, *text)?;
-        assert!(rt; held, "row {row}");
+        same(
+            &rt,
+            ("row", row),
+            is_multihash(rt.alloc(), *bytes, *text),
+            Ok(true),
+        );
     }
-    Ok(())
 }
 
 /// Whether a hash of this kind and of this length, zeros all, is an id where it must be, and else none.
@@ -375,7 +387,11 @@ fn is_known(kind: u8, length: u8) -> bool {
 fn no_other_hash_is_an_id(rt: HostRuntime) {
     for kind in 0..=255u8 {
         for length in [0, 1, 20, 28, 31, 32, 33, 42, 43, 48] {
-            assert!(rt; is_known(kind, length), "hash {kind} of {length} bytes");
+            holds(
+                &rt,
+                ("hash", kind, "length", length),
+                is_known(kind, length),
+            );
         }
     }
 }
@@ -399,7 +415,7 @@ fn is_in_place(letter: u8) -> bool {
 #[test]
 fn no_other_letter_is_read(rt: HostRuntime) {
     for letter in 0..128u8 {
-        assert!(rt; is_in_place(letter), "letter {letter}");
+        holds(&rt, ("letter", letter), is_in_place(letter));
     }
 }
 
@@ -420,54 +436,69 @@ static ORDER: [Bytes; 8] = [
     ),
 ];
 
-fn id_of(alloc: Global, bytes: Bytes) -> Result<PeerId, Fail> {
-    let bytes = filled(alloc, bytes)?;
-    Ok(PeerId::from_bytes(&bytes).ok().ok_or("a multihash")?)
+fn id_of(alloc: Global, bytes: Bytes) -> Option<PeerId> {
+    match filled(alloc, bytes) {
+        Ok(bytes) => PeerId::from_bytes(&bytes).ok(),
+        Err(_) => None,
+    }
+}
+
+fn are_ordered_as(low: PeerId, high: PeerId, row: usize, place: usize) -> bool {
+    let is_below = (low < high) == (row < place) && low.cmp(&high) == row.cmp(&place);
+    is_below && (low == high) == (row == place)
 }
 
 /// Whether the id of this row is below those behind it, above those before it, and equal to itself alone.
-fn is_in_order(alloc: Global, row: usize, bytes: Bytes) -> Result<bool, Fail> {
+fn is_in_order(alloc: Global, row: usize, bytes: Bytes) -> Option<bool> {
     let low = id_of(alloc, bytes)?;
     let mut held = true;
     for (place, bytes) in ORDER.iter().enumerate() {
-        let high = id_of(alloc, *bytes)?;
-        held = held && (low < high) == (row < place) && low.cmp(&high) == row.cmp(&place);
-        held = held && (low == high) == (row == place);
+        held = are_ordered_as(low, id_of(alloc, *bytes)?, row, place) && held;
     }
-    Ok(held)
+    Some(held)
 }
 
 #[test]
-fn ids_are_ordered_from_the_first_byte_on(rt: HostRuntime) -> Result<(), Fail> {
+fn ids_are_ordered_from_the_first_byte_on(rt: HostRuntime) {
     for (row, bytes) in ORDER.iter().enumerate() {
-        let held = is_in_order(rt.alloc(), row, *bytes)?;
-        assert!(rt; held, "row {row}");
+        let held = is_in_order(rt.alloc(), row, *bytes);
+        same(&rt, ("row", row), held, Some(true));
     }
-    Ok(())
 }
 
 /// Whether the identity of so many zeros has one text, from which it is read.
-fn is_printed(alloc: Global, length: u8) -> Result<bool, Fail> {
+fn is_printed(alloc: Global, length: u8) -> Option<bool> {
     let mut multihash = [0; 44];
     multihash[1] = length;
     let bytes = &multihash[..usize::from(length.min(42)) + 2];
-    let id = PeerId::from_bytes(bytes).ok().ok_or("a multihash")?;
-    let text = id.to_text(alloc)?;
-    Ok(has_text(alloc, id, text.as_str())?)
+    let id = PeerId::from_bytes(bytes).ok()?;
+    match id.to_text(alloc) {
+        Ok(text) => Some(has_text(alloc, id, text.as_str())),
+        Err(_) => None,
+    }
 }
 
 #[test]
-fn ids_of_every_length_are_printed(rt: HostRuntime) -> Result<(), Fail> {
+fn ids_of_every_length_are_printed(rt: HostRuntime) {
     for length in 0..43u8 {
-        let held = is_printed(rt.alloc(), length)?;
-        assert!(rt; held, "{length} bytes");
+        same(
+            &rt,
+            ("length", length),
+            is_printed(rt.alloc(), length),
+            Some(true),
+        );
     }
-    Ok(())
 }
 
 // ---- faults
 
-static KEY_FAULTS: [(KeyFault, usize, &str); 6] = [
+impl Fault for KeyFault {
+    fn number(self) -> usize {
+        self as usize
+    }
+}
+
+static KEY_FAULTS: [Told<KeyFault>; 6] = [
     (KeyFault::Wire, 1, "a key is no protobuf message"),
     (KeyFault::NoType, 2, "a key has no type"),
     (KeyFault::NoData, 3, "a key has no data"),
@@ -476,7 +507,13 @@ static KEY_FAULTS: [(KeyFault, usize, &str); 6] = [
     (KeyFault::OutOfMemory, 6, "out of memory"),
 ];
 
-static ID_FAULTS: [(IdFault, usize, &str); 6] = [
+impl Fault for IdFault {
+    fn number(self) -> usize {
+        self as usize
+    }
+}
+
+static ID_FAULTS: [Told<IdFault>; 6] = [
     (IdFault::NotB, 1, "a peer id doesn't begin with b"),
     (
         IdFault::NotBase32,
@@ -493,47 +530,12 @@ static ID_FAULTS: [(IdFault, usize, &str); 6] = [
     (IdFault::BadHash, 6, "a peer id has no multihash of one"),
 ];
 
-/// Whether the fault is equal to that of this number alone.
-fn is_key_fault(fault: KeyFault, number: usize) -> bool {
-    let mut held = fault as usize == number;
-    for (other, place, _) in KEY_FAULTS.iter() {
-        held = held && (fault == *other) == (number == *place);
-    }
-    held
-}
-
-fn is_id_fault(fault: IdFault, number: usize) -> bool {
-    let mut held = fault as usize == number;
-    for (other, place, _) in ID_FAULTS.iter() {
-        held = held && (fault == *other) == (number == *place);
-    }
-    held
-}
-
-fn tells_key_fault(alloc: Global, fault: KeyFault, text: &str) -> Result<bool, AllocError> {
-    let told = format!(in alloc; "{fault}")?;
-    Ok(told.as_str() == text)
-}
-
-fn tells_id_fault(alloc: Global, fault: IdFault, text: &str) -> Result<bool, AllocError> {
-    let told = format!(in alloc; "{fault}")?;
-    Ok(told.as_str() == text)
+#[test]
+fn faults_of_keys_are_told(rt: HostRuntime) {
+    are_faults(&rt, rt.alloc(), &KEY_FAULTS);
 }
 
 #[test]
-fn faults_of_keys_are_told(rt: HostRuntime) -> Result<(), Fail> {
-    for (fault, number, text) in KEY_FAULTS.iter() {
-        let held = tells_key_fault(rt.alloc(), *fault, *text)? && is_key_fault(*fault, *number);
-        assert!(rt; held, "fault {number}");
-    }
-    Ok(())
-}
-
-#[test]
-fn faults_of_ids_are_told(rt: HostRuntime) -> Result<(), Fail> {
-    for (fault, number, text) in ID_FAULTS.iter() {
-        let held = tells_id_fault(rt.alloc(), *fault, *text)? && is_id_fault(*fault, *number);
-        assert!(rt; held, "fault {number}");
-    }
-    Ok(())
+fn faults_of_ids_are_told(rt: HostRuntime) {
+    are_faults(&rt, rt.alloc(), &ID_FAULTS);
 }

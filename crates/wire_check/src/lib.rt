@@ -4,6 +4,8 @@
 #[cfg(test)]
 mod address_tests;
 #[cfg(test)]
+mod asserts;
+#[cfg(test)]
 mod frame_tests;
 #[cfg(test)]
 mod id_tests;

@@ -1,3 +1,4 @@
+use crate::asserts::{Fault, Told, are_faults, holds, same};
 use std::alloc::{AllocError, Global};
 use std::test::*;
 use varint_proto::*;
@@ -30,7 +31,7 @@ fn written(alloc: Global) -> usize {
 
 #[test]
 fn writes_the_shortest_spelling(rt: HostRuntime) {
-    assert_eq!(rt; written(rt.alloc()), 3, "so many rows hold");
+    same(&rt, "so many rows hold", written(rt.alloc()), 3);
 }
 
 fn has_fields(alloc: Global) -> Result<bool, AllocError> {
@@ -42,7 +43,7 @@ fn has_fields(alloc: Global) -> Result<bool, AllocError> {
 
 #[test]
 fn writes_fields(rt: HostRuntime) {
-    assert!(rt; has_fields(rt.alloc()) == Ok(true));
+    same(&rt, "fields", has_fields(rt.alloc()), Ok(true));
 }
 
 // ---- reading
@@ -64,7 +65,7 @@ static VARINTS: [(&[u8], Result<Option<(u64, usize)>, WireFault>); 8] = [
 #[test]
 fn reads_multiformats_varints(rt: HostRuntime) {
     for (row, (bytes, outcome)) in VARINTS.iter().enumerate() {
-        assert!(rt; read_varint(*bytes) == *outcome, "row {row}");
+        same(&rt, ("row", row), read_varint(*bytes), *outcome);
     }
 }
 
@@ -107,7 +108,7 @@ fn read() -> usize {
 
 #[test]
 fn reads_fields_of_every_wire_type(rt: HostRuntime) {
-    assert_eq!(rt; read(), 5, "so many rows hold");
+    same(&rt, "so many rows hold", read(), 5);
 }
 
 /// A field whose tag, number or length is spelt in ten bytes, the longest that a spelling may be.
@@ -150,7 +151,7 @@ fn is_alone(bytes: &[u8], field: Field) -> bool {
 #[test]
 fn spellings_have_up_to_ten_bytes(rt: HostRuntime) {
     for (row, (bytes, field)) in LONG_SPELLINGS.iter().enumerate() {
-        assert!(rt; is_alone(*bytes, *field), "row {row}");
+        holds(&rt, ("row", row), is_alone(*bytes, *field));
     }
 }
 
@@ -174,7 +175,7 @@ fn numbers_that_differ_in_one_bit(rt: HostRuntime) {
         for number in [1, 2, 3, 4, 5, 6] {
             let other = number ^ 1u32.wrapping_shl(bit);
             let held = is_picked_by(number, other) && is_picked_by(other, number);
-            assert!(rt; held, "field {number}, bit {bit}");
+            holds(&rt, ("field", number, "bit", bit), held);
         }
     }
 }
@@ -222,7 +223,7 @@ fn ends_so(bytes: &[u8], count: usize, fault: Option<WireFault>) -> bool {
 #[test]
 fn faults_of_messages(rt: HostRuntime) {
     for (row, (bytes, count, fault)) in MESSAGES.iter().enumerate() {
-        assert!(rt; ends_so(*bytes, *count, *fault), "row {row}");
+        holds(&rt, ("row", row), ends_so(*bytes, *count, *fault));
     }
 }
 
@@ -272,7 +273,7 @@ fn reads_messages_however_they_are_cut(rt: HostRuntime) {
     for (row, (input, outcome, body)) in INPUTS.iter().enumerate() {
         for size in [1, 2, 1024] {
             let held = comes_to(rt.alloc(), *input, size, *outcome, *body);
-            assert!(rt; held, "row {row} in pieces of {size}");
+            holds(&rt, ("row", row, "in pieces of", size), held);
         }
     }
 }
@@ -349,12 +350,18 @@ fn gone(alloc: Global) -> usize {
 
 #[test]
 fn reads_one_message_after_another(rt: HostRuntime) {
-    assert_eq!(rt; gone(rt.alloc()), STEPS.len(), "so many steps go so");
+    same(&rt, "so many steps go so", gone(rt.alloc()), STEPS.len());
 }
 
 // ---- faults and refusals
 
-static FAULTS: [(WireFault, usize, &str); 5] = [
+impl Fault for WireFault {
+    fn number(self) -> usize {
+        self as usize
+    }
+}
+
+static FAULTS: [Told<WireFault>; 5] = [
     (WireFault::TooLong, 1, "a varint is too long"),
     (WireFault::NotShortest, 2, "a varint has a shorter spelling"),
     (WireFault::Cut, 3, "the bytes end within a field"),
@@ -362,7 +369,13 @@ static FAULTS: [(WireFault, usize, &str); 5] = [
     (WireFault::BadWire, 5, "a field has an unknown wire type"),
 ];
 
-static REFUSALS: [(VarintRefused, usize, &str); 2] = [
+impl Fault for VarintRefused {
+    fn number(self) -> usize {
+        self as usize
+    }
+}
+
+static REFUSALS: [Told<VarintRefused>; 2] = [
     (
         VarintRefused::TooLarge,
         1,
@@ -371,7 +384,13 @@ static REFUSALS: [(VarintRefused, usize, &str); 2] = [
     (VarintRefused::OutOfMemory, 2, "out of memory"),
 ];
 
-static REFUSED_MESSAGES: [(IncomingRefused, usize, &str); 4] = [
+impl Fault for IncomingRefused {
+    fn number(self) -> usize {
+        self as usize
+    }
+}
+
+static REFUSED_MESSAGES: [Told<IncomingRefused>; 4] = [
     (IncomingRefused::Failed, 1, "the message failed before"),
     (
         IncomingRefused::BadLength,
@@ -382,64 +401,9 @@ static REFUSED_MESSAGES: [(IncomingRefused, usize, &str); 4] = [
     (IncomingRefused::OutOfMemory, 4, "out of memory"),
 ];
 
-/// Whether the fault has this number and text, and is equal to that of this number alone.
-fn is_fault(
-    alloc: Global,
-    fault: WireFault,
-    number: usize,
-    text: &str,
-) -> Result<bool, AllocError> {
-    let mut held = fault as usize == number;
-    for (other, place, _) in FAULTS.iter() {
-        held = held && (fault == *other) == (number == *place);
-    }
-    Ok(held && format!(in alloc; "{fault}")?.as_str() == text)
-}
-
-fn is_refusal(
-    alloc: Global,
-    refused: VarintRefused,
-    number: usize,
-    text: &str,
-) -> Result<bool, AllocError> {
-    let mut held = refused as usize == number;
-    for (other, place, _) in REFUSALS.iter() {
-        held = held && (refused == *other) == (number == *place);
-    }
-    Ok(held && format!(in alloc; "{refused}")?.as_str() == text)
-}
-
-fn is_refused(
-    alloc: Global,
-    refused: IncomingRefused,
-    number: usize,
-    text: &str,
-) -> Result<bool, AllocError> {
-    let mut held = refused as usize == number;
-    for (other, place, _) in REFUSED_MESSAGES.iter() {
-        held = held && (refused == *other) == (number == *place);
-    }
-    Ok(held && format!(in alloc; "{refused}")?.as_str() == text)
-}
-
 #[test]
 fn numbers_and_texts_of_faults_and_refusals(rt: HostRuntime) {
-    for (fault, number, text) in FAULTS.iter() {
-        assert!(rt;
-            is_fault(rt.alloc(), *fault, *number, *text) == Ok(true),
-            "fault {number}"
-        );
-    }
-    for (refused, number, text) in REFUSALS.iter() {
-        assert!(rt;
-            is_refusal(rt.alloc(), *refused, *number, *text) == Ok(true),
-            "refusal {number}"
-        );
-    }
-    for (refused, number, text) in REFUSED_MESSAGES.iter() {
-        assert!(rt;
-            is_refused(rt.alloc(), *refused, *number, *text) == Ok(true),
-            "message {number}"
-        );
-    }
+    are_faults(&rt, rt.alloc(), &FAULTS);
+    are_faults(&rt, rt.alloc(), &REFUSALS);
+    are_faults(&rt, rt.alloc(), &REFUSED_MESSAGES);
 }

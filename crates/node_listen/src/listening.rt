@@ -1,11 +1,11 @@
 //! A node that listens, as one future.
 
-use crate::outfit::Outfit;
 use crate::shown::Shown;
 use crate::watched::Watched;
 use driver::Caller;
 use futures::task::{Context, Poll};
 use futures::{Future, ready};
+use node_outfit::Outfit;
 use node_terms::PeerEnding;
 use std::alloc::Global;
 use std::io;

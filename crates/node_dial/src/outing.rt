@@ -1,8 +1,8 @@
 //! The run of a node that dials a peer.
 
 use crate::dialing::Dialing;
-use crate::outfit::Outfit;
 use driver::{Caller, Fresh, Member, SwarmUse, with_swarm};
+use node_outfit::{NodeRuntime, Outfit};
 use node_place::Place;
 use node_terms::{Errand, Own, PeerEnding, ticks_in};
 use pool_state::{Config, Limits, Reply};
@@ -13,7 +13,6 @@ use std::random::RandomSource;
 use std::sync::Wait;
 use std::time::{Clock, Duration};
 use swarm_calls::{Identity, Ledgers, NoGate, Pass, Swarm};
-use tokio::runtime::LocalRuntime;
 
 /// How far apart the ticks are, in milliseconds.
 const TICK: u64 = 10;
@@ -27,7 +26,7 @@ struct Outing<'a, R, O: Write + Drop> {
     errand: Errand,
     limit: Duration,
     output: O,
-    runtime: LocalRuntime,
+    runtime: NodeRuntime,
 }
 
 /// Dials the peer at a place, and prints who it is and what comes of the errand. A step of it that takes longer than
@@ -58,7 +57,7 @@ where
         errand,
         limit,
         output,
-        runtime: LocalRuntime::new(rt)?,
+        runtime: NodeRuntime::new(rt)?,
     };
     match with_swarm(rt, config, outing) {
         Ok(outcome) => outcome,

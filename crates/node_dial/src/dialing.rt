@@ -1,9 +1,9 @@
 //! A node that dials a peer for an errand, as one future.
 
-use crate::outfit::Outfit;
 use driver::{Caller, MOST_REPORTS, Report, StreamEnd};
 use futures::task::{Context, Poll};
 use futures::{Future, ready};
+use node_outfit::Outfit;
 use node_terms::{Errand, PeerEnding};
 use peer_texts::print_said;
 use pool_state::{Phase, Refusal, Reply};

@@ -1,5 +1,5 @@
 use Rattle.futures.specs.Task.{Keeps}
-use Rattle.node_peer.proofs.dialing.DialingFuture.poll.Given as goal
+use Rattle.node_listen.proofs.listening.ListeningFuture.poll.Given as goal
 
 abbrev pub invariant-loop : goal.invariant-loop
 invariant-loop g l = Keeps l.fn.cx l.cx

@@ -1,9 +1,9 @@
 //! The run of a node that listens.
 
 use crate::listening::Listening;
-use crate::outfit::Outfit;
 use crate::watched::Watched;
 use driver::{Caller, Fresh, Member, SwarmUse, with_swarm};
+use node_outfit::{NodeRuntime, Outfit};
 use node_place::addr_text;
 use node_terms::{ListenTerms, Own, PeerEnding, ticks_in};
 use peer_ids::PeerId;
@@ -15,7 +15,6 @@ use std::random::RandomSource;
 use std::sync::Wait;
 use std::time::{Clock, Duration};
 use swarm_calls::{Identity, Ledgers, NoGate, Pass, Swarm};
-use tokio::runtime::LocalRuntime;
 
 /// How far apart the looks at the input are, in milliseconds.
 const TICK: u64 = 50;
@@ -31,7 +30,7 @@ struct Post<'a, R, I: Watched + Drop, O: Write + Drop> {
     listen: ListenTerms,
     input: I,
     output: O,
-    runtime: LocalRuntime,
+    runtime: NodeRuntime,
 }
 
 /// Listens and serves until the input ends, and prints where, and what its listings show.
@@ -48,7 +47,7 @@ where
     O: Write + Drop,
 {
     let config = listen.config(own.peer())?;
-    let runtime = LocalRuntime::new(rt)?;
+    let runtime = NodeRuntime::new(rt)?;
     let post = Post {
         rt,
         own,
