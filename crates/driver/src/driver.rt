@@ -1,6 +1,7 @@
 //! What runs a node.
 
-ghost use Rattle.std.specs.Prelude.{◌≡◌, ◌≤◌, true, [], ◌++◌, Some, None, is_some, IfSome, IfOk, IfErr};
+ghost use Rattle.std.specs.Prelude.{◌≡◌, ◌<◌, ◌≤◌, ◌↔◌, true, [], ◌++◌, vec_len, Some, None};
+ghost use Rattle.std.specs.Prelude.{is_some, IfSome, IsSome, IfOk, IfErr};
 ghost use Rattle.std.specs.Option.{option_to_list};
 ghost use Rattle.futures.specs.Task.{Keeps};
 
@@ -122,6 +123,7 @@ impl<'a, N: Net, C: Caller> Driver<'a, N, C> {
     /// Hands out what came first of a connection or of a stream that was asked for, where that wasn't handed out yet.
     pub fn take_report(&mut self) -> Option<Report>
         ensures first { self.old.reports.kept.items ≡ option_to_list result ++ self.new.reports.kept.items }
+        ensures some { IsSome result ↔ (0 < vec_len self.old.reports.kept) }
         ensures rest { (self.new.listener ≡ self.old.listener) × (self.new.place ≡ self.old.place)
             × (self.new.seats ≡ self.old.seats) }
     {
