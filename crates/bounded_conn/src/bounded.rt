@@ -30,11 +30,17 @@ pub const MOST_WAITING: usize = 4_194_304;
 
 /// A connection of which no more output waits behind a call than may. Where more does it is dropped at once, and isn't
 /// shut before.
-#[derive(Drop)]
 pub struct BoundedConn<L: Link, P: Protocols> {
     /// None, where it was dropped.
     conn: Option<Conn<L, P>>,
     ghost bounded: { waiting_of (λ conn. length conn.unsent.items) conn ≤ 4194304 },
+}
+
+// By hand, so that the proof of who lets go of it is that of a call, and not of all that it holds.
+impl<L: Link, P: Protocols> Drop for BoundedConn<L, P> {
+    fn drop(self) {
+        let Self { conn: _conn } = self;
+    }
 }
 
 impl<L: Link, P: Protocols> BoundedConn<L, P> {

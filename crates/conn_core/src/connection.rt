@@ -43,7 +43,6 @@ pub enum Phase<P: Protocols> {
 }
 
 /// An end of a connection, without its link.
-#[derive(Drop)]
 pub struct ConnCore<P: Protocols> {
     role: ConnRole,
     pub(crate) phase: Phase<P>,
@@ -52,6 +51,19 @@ pub struct ConnCore<P: Protocols> {
     /// What was written and not yet taken, once the connection is up or over.
     output: Vec<u8>,
     pub(crate) alloc: Global,
+}
+
+// By hand, so that the proof of who lets go of it is that of a call, and not of all that it holds.
+impl<P: Protocols> Drop for ConnCore<P> {
+    fn drop(self) {
+        let Self {
+            role: _,
+            phase: _phase,
+            owed: _owed,
+            output: _output,
+            alloc: _,
+        } = self;
+    }
 }
 
 /// Moves what the session has written behind what waits.

@@ -13,7 +13,6 @@ use std::alloc::Global;
 use std::collections::VecDeque;
 
 /// A connection over a link, polled by hand.
-#[derive(Drop)]
 pub struct Conn<L: Link, P: Protocols> {
     pub(crate) link: L,
     pub(crate) core: ConnCore<P>,
@@ -31,4 +30,19 @@ pub struct Conn<L: Link, P: Protocols> {
     ghost has_room: { length buffer.items ≡ 8192 },
     // Where it makes no call more, the output that was left is dropped.
     ghost none_left: { is_live stage ≡ false → unsent.items ≡ [] },
+}
+
+// By hand, so that the proof of who lets go of it is that of a call, and not of all that it holds.
+impl<L: Link, P: Protocols> Drop for Conn<L, P> {
+    fn drop(self) {
+        let Self {
+            link: _link,
+            core: _core,
+            unsent: _unsent,
+            held: _held,
+            stage: _,
+            buffer: _buffer,
+            alloc: _,
+        } = self;
+    }
 }

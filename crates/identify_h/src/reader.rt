@@ -23,7 +23,6 @@ const MOST_MESSAGES: usize = 10;
 
 /// Reads the messages of a stream up to its end: 1 to 10, whose bodies have at most 16384 bytes together, and say one
 /// [`Identify`]. It gives nothing, and is closed from the start; once the end has come and all was read it is finished.
-#[derive(Drop)]
 pub struct IdentifyIn {
     alloc: Global,
     peer: PeerId,
@@ -33,6 +32,21 @@ pub struct IdentifyIn {
     next: Incoming,
     message: Option<Identify>,
     failed: bool,
+}
+
+// By hand, so that the proof of who lets go of it is that of a call, and not of all that it holds.
+impl Drop for IdentifyIn {
+    fn drop(self) {
+        let Self {
+            alloc: _,
+            peer: _,
+            count: _,
+            joined: _joined,
+            next: _next,
+            message: _message,
+            failed: _,
+        } = self;
+    }
 }
 
 impl Model for IdentifyIn {

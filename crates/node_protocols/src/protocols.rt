@@ -21,11 +21,21 @@ use std::marker::Model;
 
 /// The protocols of a node: 0 is identify, 1 its push, and 2 is ping, which alone is eager. Contracts see what the node
 /// says of itself, and where its pings' bytes come from.
-#[derive(Drop)]
 pub struct NodeProtocols<R: Payloads> {
     alloc: Global,
     own: Identify,
     payloads: R,
+}
+
+// By hand, so that the proof of who lets go of it is that of a call, and not of all that it holds.
+impl<R: Payloads> Drop for NodeProtocols<R> {
+    fn drop(self) {
+        let Self {
+            alloc: _,
+            own: _own,
+            payloads: _payloads,
+        } = self;
+    }
 }
 
 impl<R: Payloads> Model for NodeProtocols<R> {

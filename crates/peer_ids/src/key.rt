@@ -12,10 +12,20 @@ use std::marker::Model;
 use varint_proto::{Fields, WireFault, write_body, write_number};
 
 /// A public key. Its data has a length that its type allows.
-#[derive(Debug, Drop)]
+#[derive(Debug)]
 pub struct PublicKey {
     kind: KeyType,
     body: Vec<u8>,
+}
+
+// By hand, so that the proof of who lets go of it is that of a call, and not of all that it holds.
+impl Drop for PublicKey {
+    fn drop(self) {
+        let Self {
+            kind: _,
+            body: _body,
+        } = self;
+    }
 }
 
 impl Model for PublicKey {

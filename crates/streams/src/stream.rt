@@ -31,11 +31,21 @@ use talks::Talk;
 
 /// A stream of a connection: a talk, then a handler, and what the talk wrote and isn't given out. An error ends it, and
 /// drops its handler, but for that of a call out of turn; what waits stays.
-#[derive(Drop)]
 pub struct Stream<H: Handler> {
     waiting: Vec<u8>,
     stage: Stage<H>,
     alloc: Global,
+}
+
+// By hand, so that the proof of who lets go of it is that of a call, and not of all that it holds.
+impl<H: Handler> Drop for Stream<H> {
+    fn drop(self) {
+        let Self {
+            waiting: _waiting,
+            stage: _stage,
+            alloc: _,
+        } = self;
+    }
 }
 
 impl<H: Handler> Model for Stream<H> {
@@ -353,7 +363,11 @@ impl<H: Handler> Stream<H> {
     pub fn into_handler(self) -> Option<H>
         ensures { result ≡ handler_of self.stage }
     {
-        let Self { stage, .. } = self;
+        let Self {
+            waiting: _waiting,
+            stage,
+            alloc: _,
+        } = self;
         stage.into_handler()
     }
 }

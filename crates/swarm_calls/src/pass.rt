@@ -16,12 +16,22 @@ use pool_state::Listing;
 use std::marker::Model;
 
 /// A caller's right to make calls. Contracts see its number and the history that it has seen.
-#[derive(Drop)]
 pub struct Pass<J: Identity, L: Ledgers> {
     // It is out of its place only while `renew` reads.
     pub(crate) reader: Option<SwarmReader<J>>,
     pub(crate) tally: Tally<L>,
     pub(crate) kept: Snapshot,
+}
+
+// By hand, so that the proof of who lets go of it is that of a call, and not of all that it holds.
+impl<J: Identity, L: Ledgers> Drop for Pass<J, L> {
+    fn drop(self) {
+        let Self {
+            reader: _reader,
+            tally: _tally,
+            kept: _kept,
+        } = self;
+    }
 }
 
 impl<J: Identity, L: Ledgers> Model for Pass<J, L> {

@@ -28,11 +28,22 @@ pub enum Progress {
 }
 
 /// An end of a connection that comes up.
-#[derive(Debug, Drop)]
+#[derive(Debug)]
 pub struct Upgrade {
     end: End,
     stage: Stage,
     output: Vec<u8>,
+}
+
+// By hand, so that the proof of who lets go of it is that of a call, and not of all that it holds.
+impl Drop for Upgrade {
+    fn drop(self) {
+        let Self {
+            end: _end,
+            stage: _stage,
+            output: _output,
+        } = self;
+    }
 }
 
 impl Model for Upgrade {

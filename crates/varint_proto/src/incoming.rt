@@ -32,7 +32,7 @@ fn read_length(bytes: &[u8], limit: usize) -> Result<Option<usize>, IncomingRefu
 
 /// One message that comes in behind its length, which has a limit. Room for the whole body is asked for once, where the
 /// last byte of the length comes.
-#[derive(Debug, Drop)]
+#[derive(Debug)]
 pub struct Incoming {
     limit: usize,
     /// Of the length, until it is whole.
@@ -41,6 +41,19 @@ pub struct Incoming {
     expected: Option<usize>,
     body: Vec<u8>,
     failed: bool,
+}
+
+// By hand, so that the proof of who lets go of it is that of a call, and not of all that it holds.
+impl Drop for Incoming {
+    fn drop(self) {
+        let Self {
+            limit: _,
+            spelling: _spelling,
+            expected: _,
+            body: _body,
+            failed: _,
+        } = self;
+    }
 }
 
 impl Model for Incoming {

@@ -36,13 +36,26 @@ const GIVE_BACK_FROM: u32 = 131072;
 /// A session of one end: the streams that are live with their windows, the output that waits, and where in a frame the
 /// input ends. Contracts see these three, how much output finds room without more memory, and whether the session has
 /// failed; `Stands` relates them to the history.
-#[derive(Debug, Drop)]
+#[derive(Debug)]
 pub struct Session {
     streams: Streams,
     cutter: Cutter,
     output: Vec<u8>,
     alloc: Global,
     failed: bool,
+}
+
+// By hand, so that the proof of who lets go of it is that of a call, and not of all that it holds.
+impl Drop for Session {
+    fn drop(self) {
+        let Self {
+            streams: _streams,
+            cutter: _,
+            output: _output,
+            alloc: _,
+            failed: _,
+        } = self;
+    }
 }
 
 impl Model for Session {
