@@ -14,7 +14,7 @@ ghost use Rattle.yamux_session.specs.State.{Stands as SessionStands, Whenever};
 ghost use Rattle.conn_log.specs.Asked.{IsRefusedAs};
 ghost use Rattle.yamux_session.specs.declared.event.Role.{Role};
 ghost use Rattle.conn_core.specs.Connects.{Stands, Connects, IsComing, IsUpWith, MayOpen, IsRefused, is_over, is_spent};
-ghost use Rattle.conn_core.specs.Connects.{session_role, OwesOf, waiting_in};
+ghost use Rattle.conn_core.specs.Connects.{session_role, OwesOf, waiting_in, held_in, IsOrderedIn};
 ghost use Rattle.conn_core.specs.Wanting.{WroteOn, Wrote};
 
 use crate::telling::{fail, last_event, last_output, session_role, tell};
@@ -24,7 +24,7 @@ use handlers::{Handler, Protocols};
 use mux::Mux;
 use peer_ids::PublicKey;
 use plaintext_x::Proven;
-use std::alloc::Global;
+use std::alloc::{AllocError, Global};
 use std::mem;
 use upgrade::{ConnRole, Progress, Upgrade, UpgradeFault};
 use yamux_session::{Role, Session};
@@ -499,5 +499,23 @@ impl<P: Protocols> ConnCore<P> {
             return upgrade.take_output();
         }
         mem::replace(&mut self.output, Vec::new(self.alloc))
+    }
+
+    /// The handlers that are held still, each with the number of its stream, in the order in which they were made.
+    pub fn into_handlers(self) -> Result<Vec<(u32, P::H)>, AllocError>
+        ensures held { IfOk result (λ held. held.items ≡ held_in self.phase) }
+        ensures ordered { IsOrderedIn self.phase }
+    {
+        let Self {
+            role: _,
+            phase,
+            owed: _owed,
+            output: _output,
+            alloc,
+        } = self;
+        match phase {
+            Phase::Up(mux) => mux.into_handlers(),
+            Phase::Upgrading(..) | Phase::Over | Phase::Spent => Ok(Vec::new(alloc)),
+        }
     }
 }

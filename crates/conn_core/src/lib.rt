@@ -3,7 +3,6 @@
 
 mod calls;
 mod connection;
-mod held;
 pub mod laws;
 mod telling;
 
