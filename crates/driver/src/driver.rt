@@ -61,7 +61,9 @@ impl<'a, N: Net, C: Caller> Driver<'a, N, C> {
         setup: Setup,
     ) -> Result<Driver<'a, N, C>, AllocError>
         ensures idle { IfOk result (λ driver. (driver.listener ≡ None) × (driver.place ≡ None)
-            × (driver.seats.items ≡ [])) }
+            × (driver.seats.items ≡ []) × (driver.reports.kept.items ≡ [])) }
+        ensures made { IfOk result (λ driver. (driver.caller ≡ caller) × (driver.maker.alloc ≡ alloc)
+            × (driver.maker.key ≡ setup.key) × (driver.maker.agent ≡ setup.agent) × (driver.maker.rng ≡ setup.rng)) }
     {
         let Setup { key, agent, rng } = setup;
         Ok(Driver {
@@ -85,7 +87,9 @@ impl<'a, N: Net, C: Caller> Driver<'a, N, C> {
     /// but where it is refused.
     pub fn listen(&mut self, addr: SocketAddr) -> io::Result<SocketAddr>
         ensures listens { IfOk result (λ _. is_some self.new.listener ≡ true) }
-        ensures rest { (self.new.place ≡ self.old.place) × (self.new.seats ≡ self.old.seats) }
+        ensures rest { (self.new.place ≡ self.old.place) × (self.new.seats ≡ self.old.seats)
+            × (self.new.reports ≡ self.old.reports) × (self.new.caller ≡ self.old.caller)
+            × (self.new.maker ≡ self.old.maker) }
         ensures refused { IfErr result (λ _. self.new ≡ self.old) }
     {
         let listener = TcpListener::bind(self.net, addr, &self.reactor)?;
@@ -104,7 +108,9 @@ impl<'a, N: Net, C: Caller> Driver<'a, N, C> {
     /// Dials there from now on.
     pub fn dial_at(&mut self, addr: SocketAddr)
         ensures place { self.new.place ≡ Some addr }
-        ensures rest { (self.new.listener ≡ self.old.listener) × (self.new.seats ≡ self.old.seats) }
+        ensures rest { (self.new.listener ≡ self.old.listener) × (self.new.seats ≡ self.old.seats)
+            × (self.new.reports ≡ self.old.reports) × (self.new.caller ≡ self.old.caller)
+            × (self.new.maker ≡ self.old.maker) }
     {
         self.place = Some(addr);
     }
@@ -113,6 +119,9 @@ impl<'a, N: Net, C: Caller> Driver<'a, N, C> {
     pub fn close(&mut self)
         ensures closed { self.new.listener ≡ None }
         ensures place { self.new.place ≡ self.old.place }
+        ensures rest { (self.new.reports ≡ self.old.reports) × (self.new.caller ≡ self.old.caller)
+            × (self.new.maker ≡ self.old.maker) }
+        ensures conns { vec_len self.new.seats ≡ vec_len self.old.seats }
     {
         self.listener = None;
         for seat in self.seats.iter_mut() {
@@ -125,7 +134,8 @@ impl<'a, N: Net, C: Caller> Driver<'a, N, C> {
         ensures first { self.old.reports.kept.items ≡ option_to_list result ++ self.new.reports.kept.items }
         ensures some { IsSome result ↔ (0 < vec_len self.old.reports.kept) }
         ensures rest { (self.new.listener ≡ self.old.listener) × (self.new.place ≡ self.old.place)
-            × (self.new.seats ≡ self.old.seats) }
+            × (self.new.seats ≡ self.old.seats) × (self.new.caller ≡ self.old.caller)
+            × (self.new.maker ≡ self.old.maker) }
     {
         self.reports.take()
     }

@@ -85,4 +85,12 @@ fault_rows = record {
     λ h. h.2 ∙ ap ends.Identify (h.1.unnamed eight_is_none),
     λ e. (identify.Failed, no_identify, e),
   );
+  any_ping_fault = λ fault ending. (
+    λ h. h.2 ∙ ap ends.Ping (h.1.named fault refl),
+    λ e. (fault, of_ping (pings.number_of fault) fault refl, e),
+  );
+  any_identify_fault = λ fault ending. (
+    λ h. h.2 ∙ ap ends.Identify (h.1.named fault refl),
+    λ e. (fault, of_identify (identifies.number_of fault) fault refl, e),
+  );
 }

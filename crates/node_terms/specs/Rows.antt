@@ -2,7 +2,11 @@
 -- Source: libp2p identify 1.0.0 and ping 1.0.0 (the names of the protocols); the endings are this project's profile.
 use Rattle.std.specs.Prelude.{◌≡◌, ◌↔◌, ℕ, [], ◌∷◌, take, drop, codes}
 use Rattle.node_protocols.specs.Own.{protocol_names}
+use Rattle.ping_h.specs.Faults as pings
+use Rattle.ping_h.specs.declared.fault.PingFault.{PingFault}
 use Rattle.ping_h.specs.declared.fault.PingFault.TheVariants as ping
+use Rattle.identify_h.specs.Faults as identifies
+use Rattle.identify_h.specs.declared.fault.IdentifyFault.{IdentifyFault}
 use Rattle.identify_h.specs.declared.fault.IdentifyFault.TheVariants as identify
 use Rattle.ms_select.specs.declared.fault.SelectFault.{SelectFault}
 use Rattle.pool_state.specs.declared.call.Refusal.{Refusal}
@@ -63,3 +67,9 @@ pub record FaultRows : Type 0 where
   pub no_identify_fault : (ending : PeerEnding)
       → EndsIdentify (stream.Broken (cause.Handler (record { number = 8 }))) ending
       ↔ (ending ≡ ends.Identify identify.Failed)
+  pub any_ping_fault : (fault : PingFault) (ending : PeerEnding)
+      → EndsPing (stream.Broken (cause.Handler (record { number = pings.number_of fault }))) ending
+      ↔ (ending ≡ ends.Ping fault)
+  pub any_identify_fault : (fault : IdentifyFault) (ending : PeerEnding)
+      → EndsIdentify (stream.Broken (cause.Handler (record { number = identifies.number_of fault }))) ending
+      ↔ (ending ≡ ends.Identify fault)

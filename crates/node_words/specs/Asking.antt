@@ -5,6 +5,7 @@ use Rattle.clap.specs.Matches.{found_of, first_value}
 use Rattle.clap.specs.declared.parser.matches.ArgMatches.{ArgMatches}
 use Rattle.node_words.specs.Words.{word_or, words_in, HasNumber, HasFlag, HasLimits, role_name, AreNamed, IsKey}
 use Rattle.node_words.specs.Words.{IsPayload, zero_key, zeros, listener_key, dialer_key, any_port, agent_name}
+use Rattle.pool_state.specs.AgentName.{IsAgentName}
 use Rattle.pool_texts.specs.Lines.{IsPeer}
 use Rattle.node_terms.specs.declared.errand.Errand.{Errand}
 use Rattle.node_terms.specs.declared.errand.Errand.TheVariants.{Ping, Identify}
@@ -47,7 +48,8 @@ Asks found (asked.Trace traced) = (word_or (codes "") found (codes "ROLE") ≡ r
 Asks found asked.Run = ⊤
 Asks found (asked.Listen listener) = (listener.addr.now ≡ word_or any_port found (codes "ADDR"))
     × IsKey (word_or listener_key found (codes "key")) listener.key
-    × (listener.agent.now ≡ word_or agent_name found (codes "agent")) × HasLimits found listener.limits
+    × (listener.agent.now ≡ word_or agent_name found (codes "agent")) × IsAgentName listener.agent.now
+    × HasLimits found listener.limits
     × HasFlag found (codes "allow-only") listener.allow_only
     × AreNamed (words_in found (codes "block")) listener.blocked.items
     × AreNamed (words_in found (codes "allow")) listener.allowed.items

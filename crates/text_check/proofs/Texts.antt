@@ -1,6 +1,7 @@
 -- The rows of texts.
 use Rattle.std.proofs.Common.{◌≡◌, ◌≢◌, ◌<◌, ℕ, [], ◌∷◌, ◌++◌, codes, refl, arith}
-use Rattle.pool_texts.specs.Lines.{IsStream, IsSettled, IsNoted}
+use Rattle.pool_texts.specs.Lines.{IsPeer, IsStream, IsSettled, IsNoted}
+use Rattle.pool_texts.specs.Printed.{row_text}
 use Rattle.peer_texts.specs.Said.{escaped, hex_of}
 use Rattle.text_check.specs.TextRows.{PoolTextRows, PeerTextRows, PingRows}
 
@@ -14,13 +15,19 @@ behind_is : (byte : ℕ) → 126 < byte → escaped byte ≡ codes "\\x" ++ hex_
 behind_is byte behind = grind (arith, behind)
 
 pub pool_text_rows : PoolTextRows
-unfolding IsStream IsSettled IsNoted
+unfolding IsStream IsSettled IsNoted IsPeer row_text
 pool_text_rows = record {
   stream = λ words conn index. (λ it. it, λ it. it);
   settled = λ words conn peer. (λ it. it, λ it. it);
   noted = λ words conn agent. (λ it. it, λ it. it);
+  digits = λ word. (λ it. it, λ it. it);
+  number = λ bits word number. (λ it. it, λ it. it);
+  peer = λ word id. (λ it. it, λ it. it);
+  no_space = λ word. (λ it. it, λ it. it);
   refusal = λ refused. refl;
   agent = λ agent. refl;
+  row = λ row. refl;
+  listing = λ begin listing. refl;
 }
 
 pub peer_text_rows : PeerTextRows

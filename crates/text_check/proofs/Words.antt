@@ -17,5 +17,6 @@ word_rows = record {
   listen = λ found listener. (λ it. it, λ it. it);
   dial = λ found dialer. (λ it. it, λ it. it);
   pings = λ found count. (λ it. it, λ it. it);
+  no_count = λ found. tt;
   zeros = refl;
 }

@@ -1,14 +1,25 @@
 -- Rows of texts: what lines of pool calls say, and what is printed of replies and of what a peer says, whatever it is.
 -- Source: this project's profile, the output of `node replay` and `node identify`.
 use Rattle.std.specs.Prelude.{◌≡◌, ◌≢◌, ◌↔◌, ℕ, ◌<◌, ◌/◌, ◌%◌, false, List, [], ◌∷◌, ◌++◌, codes, decimal, flat_map}
-use Rattle.std.specs.Prelude.{Some, None}
+use Rattle.std.specs.Prelude.{◌⊎◌, ◌^◌, Some, None, Ok, length, replicate, slice_index}
+use Rattle.std.specs.Char.{is_ascii_digit}
 use Rattle.std.specs.Fmt.{digit_glyph}
+use Rattle.std.specs.List.{AllPass}
+use Rattle.std.specs.Str.Parse.{digits_value}
+use Rattle.hex.specs.Hex.{decode_sized}
+use Rattle.peer_ids.specs.declared.kind.KeyType.TheVariants.{Ed25519}
+use Rattle.peer_ids.specs.Base32.{id_text}
+use Rattle.peer_ids.specs.PeerId.{id_of}
+use Rattle.peer_ids.specs.ReadsText.{ReadsId}
 use Rattle.pool_state.specs.AgentName.{IsAgentName}
 use Rattle.pool_state.specs.Table.{number_of}
 use Rattle.pool_state.specs.declared.call.Refusal.{Refusal}
 use Rattle.pool_state.specs.declared.call.Reply.TheVariants as reply
-use Rattle.pool_texts.specs.Lines.{IsNumber, IsPeer, IsStream, IsSettled, IsNoted}
-use Rattle.pool_texts.specs.Printed.{refusal_name, agent_text, reply_text}
+use Rattle.pool_state.specs.declared.listing.Listing.{Listing}
+use Rattle.pool_state.specs.declared.row.Row.{Row}
+use Rattle.pool_texts.specs.Lines.{IsDigits, IsNumber, IsPeer, HasNoSpace, IsStream, IsSettled, IsNoted}
+use Rattle.pool_texts.specs.Printed.{line, refusal_name, agent_text, reply_text, side_text, phase_text, peer_text}
+use Rattle.pool_texts.specs.Printed.{counts_text, row_text, listing_text}
 use Rattle.identify_h.specs.Messages.{Message}
 use Rattle.peer_texts.specs.Said.{hex_of, escaped, said_line, maybe_line, hex_line, AreAddrLines, IsMaybeAddr, IsSaid}
 use Rattle.node_terms.specs.declared.errand.Errand.TheVariants.{Ping}
@@ -22,9 +33,26 @@ pub record PoolTextRows : Type 0 where
       × IsPeer second peer)
   pub noted : (words : List ℕ) (conn : ℕ) (agent : List ℕ) → IsNoted words conn agent
       ↔ ((first : List ℕ) × (words ≡ first ++ 32 ∷ agent) × IsNumber 32 first conn × IsAgentName agent)
+  pub digits : (word : List ℕ) → IsDigits word ↔ ((0 < length word) × AllPass is_ascii_digit word)
+  pub number : (bits : ℕ) (word : List ℕ) (number : ℕ) → IsNumber bits word number
+      ↔ (IsDigits word × (digits_value 10 word ≡ number) × (number < 2 ^ bits))
+  pub peer : (word id : List ℕ) → IsPeer word id ↔ (ReadsId word (Ok id)
+      ⊎ ((digits : List ℕ) × (byte : ℕ) × (word ≡ 64 ∷ digits) × (decode_sized digits 1 ≡ Ok (byte ∷ []))
+      × (id ≡ id_of (record { kind = Ed25519; body = replicate 32 byte }))))
+  pub no_space : (word : List ℕ) → HasNoSpace word
+      ↔ ((place : ℕ) → place < length word → slice_index word place ≢ 32)
   pub refusal : (refused : Refusal) → reply_text (reply.Refused refused)
       ≡ codes "refused " ++ (decimal (number_of refused) ++ 32 ∷ refusal_name refused)
   pub agent : (agent : List ℕ) → agent_text (Some agent) ≡ codes " agent " ++ agent
+  pub row : (row : Row) → row_text row ≡ codes "conn " ++ (decimal row.conn ++ 32 ∷ (side_text row.role
+      ++ 32 ∷ (phase_text row.phase ++ 32 ∷ (peer_text row.peer ++ (counts_text row.asked row.done
+      ++ agent_text row.agent)))))
+  pub listing : (begin : List ℕ) (listing : Listing) → listing_text begin listing
+      ≡ line begin (codes "front " ++ decimal listing.front)
+      ++ (flat_map (λ row. line begin (row_text row)) listing.conns.items
+      ++ (flat_map (λ peer. line begin (codes "blocked " ++ id_text peer)) listing.blocked.items
+      ++ (flat_map (λ peer. line begin (codes "allowed " ++ id_text peer)) listing.allowed.items
+      ++ line begin (codes "end"))))
 
 pub record PeerTextRows : Type 0 where
   pub two_digits : (byte : ℕ) → hex_of byte ≡ digit_glyph false (byte / 16) ∷ digit_glyph false (byte % 16) ∷ []

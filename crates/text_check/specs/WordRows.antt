@@ -8,8 +8,9 @@ use Rattle.hex.specs.Hex.{decode_of, decode_sized}
 use Rattle.peer_ids.specs.Key.{Key}
 use Rattle.peer_ids.specs.ReadsKey.{SpellsKey}
 use Rattle.pool_state.specs.declared.limits.Config.{Config}
+use Rattle.pool_state.specs.AgentName.{IsAgentName}
 use Rattle.pool_texts.specs.Lines.{IsPeer}
-use Rattle.node_terms.specs.declared.errand.Errand.TheVariants.{Ping}
+use Rattle.node_terms.specs.declared.errand.Errand.TheVariants.{Ping, Identify}
 use Rattle.node_words.specs.declared.command.Asked.TheVariants as asked
 use Rattle.node_words.specs.declared.trace_options.Traced.{Traced}
 use Rattle.node_words.specs.declared.listen_options.Listener.{Listener as Listens}
@@ -48,7 +49,8 @@ pub record AnyWordRows : Type 0 where
   pub listen : (found : ArgMatches) (listener : Listens) → Asks found (asked.Listen listener)
       ↔ ((listener.addr.now ≡ word_or any_port found (codes "ADDR"))
       × IsKey (word_or listener_key found (codes "key")) listener.key
-      × (listener.agent.now ≡ word_or agent_name found (codes "agent")) × HasLimits found listener.limits
+      × (listener.agent.now ≡ word_or agent_name found (codes "agent")) × IsAgentName listener.agent.now
+      × HasLimits found listener.limits
       × HasFlag found (codes "allow-only") listener.allow_only
       × AreNamed (words_in found (codes "block")) listener.blocked.items
       × AreNamed (words_in found (codes "allow")) listener.allowed.items)
@@ -56,5 +58,6 @@ pub record AnyWordRows : Type 0 where
       ↔ ((dialer.addr.now ≡ word_or [] found (codes "ADDR"))
       × IsKey (word_or dialer_key found (codes "key")) dialer.key × Counts found dialer.errand)
   pub pings : (found : ArgMatches) (count : ℕ) → Counts found (Ping count) ↔ HasNumber 32 found (codes "count") count
+  pub no_count : (found : ArgMatches) → Counts found Identify
   -- the message of the Ed25519 key of zeros
   pub zeros : zero_key ≡ codes "080112200000000000000000000000000000000000000000000000000000000000000000"
