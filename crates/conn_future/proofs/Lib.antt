@@ -1,4 +1,5 @@
 pub mod Lists
+pub mod Cases
 pub mod Making
 pub mod Moved
 pub mod Opening

@@ -1,9 +1,10 @@
 -- At which sources a poll has registered.
-use Rattle.std.proofs.Common.{◌≡◌, ◌≢◌, inl, inr, ℕ, true, List, [], ◌∷◌, length, refl}
+use Rattle.std.proofs.Common.{◌≡◌, ◌≢◌, inl, inr, ℕ, true, List, [], ◌∷◌, length, refl, sym, subst}
 use Rattle.futures.specs.declared.task.context.Context.{Context}
 use Rattle.futures.specs.Task.{Covers, Hears, Keeps, Lasting}
 use Rattle.conn_link.specs.Moving.{Within}
 use Rattle.conn_future.specs.declared.turns.Waits.{Waits}
+use Rattle.conn_future.specs.declared.stage.Stage.{Stage}
 use Rattle.conn_future.specs.declared.stage.Stage.TheVariants.{Going, Shutting}
 use Rattle.conn_future.specs.Stages.{WaitsAt}
 use Rattle.conn_future.specs.Turning.{HasWaited}
@@ -61,6 +62,12 @@ shutting_hears cx reads writes shuts unsent none shut source (inr shutting) = sh
 pub shutting_covers : (cx : Context) (reads writes shuts : ℕ → Type 0) (unsent : List ℕ) → unsent ≡ [] → Covers cx shuts
     → Covers cx (WaitsAt reads writes shuts Shutting unsent)
 shutting_covers cx reads writes shuts unsent none shut = (shut.0, shutting_hears cx reads writes shuts unsent none shut)
+
+-- at its stage, where nothing else is left to do
+pub closing_covers : (cx : Context) (reads writes shuts : ℕ → Type 0) (stage : Stage) (unsent : List ℕ) → stage ≡ Shutting → unsent ≡ [] → Covers cx shuts
+    → Covers cx (WaitsAt reads writes shuts stage unsent)
+closing_covers cx reads writes shuts stage unsent is none shut =
+    subst (λ (s : Stage). Covers cx (WaitsAt reads writes shuts s unsent)) (sym is) (shutting_covers cx reads writes shuts unsent none shut)
 
 -- where none is left the list is empty
 pub none_left : (unsent : List ℕ) → length unsent ≡ 0 → unsent ≡ []
