@@ -9,6 +9,7 @@ from typing import NamedTuple
 
 from node_tests.runs import (
     DIALER,
+    HELLO,
     ID_0A,
     ID_0B,
     ID_11,
@@ -23,6 +24,7 @@ from node_tests.runs import (
     ZERO_KEY,
     expect,
     expect_ran,
+    frame,
     interrupt,
     listening,
     outcome,
@@ -179,12 +181,6 @@ REPLAYS = [
     bad_line("a space at the beginning", b" accept\n"),
     bad_line("a line that is no UTF-8", b"accept\n\xff\n", 2, "conn 1\n"),
     Case("replay: an empty script", ["replay"]),
-    Case(
-        "replay: a table that fills",
-        ["replay", "--conns", "256"],
-        b"accept\n" * 257,
-        output="".join(f"conn {number}\n" for number in range(1, 257)) + "refused 11 Full\n",
-    ),
     Case("replay: the longest script", ["replay"], b"\n" * 1_048_576),
     Case("replay: too long a script", ["replay"], b"\n" * 1_048_577, 1, "", "refused input\n"),
     Case(
@@ -196,13 +192,67 @@ REPLAYS = [
     ),
 ]
 
+def at_a_default(option, given, output):
+    """As much as an option lets stand where it isn't given, and one more."""
+    return Case(f"replay: the default of {option}", ["replay"], given, output=output)
+
+
+def peers(count):
+    """So many peer words, none of which is the node's own."""
+    return [f"@{number:02x}" for number in range(1, count + 1)]
+
+
+def conns(count):
+    return "".join(f"conn {number}\n" for number in range(1, count + 1))
+
+
+DEFAULTS = [
+    at_a_default("--conns", b"accept\n" * 65, conns(64) + "refused 11 Full\n"),
+    at_a_default("--per-peer", b"dial @11\n" * 9, conns(8) + "refused 12 PeerFull\n"),
+    at_a_default(
+        "--streams",
+        b"accept\nsettle 1 @11\n" + b"ask 1 2\n" * 65,
+        conns(1) + "ok\n" * 65 + "refused 13 StreamsFull\n",
+    ),
+    at_a_default(
+        "--blocked",
+        "".join(f"block {peer}\n" for peer in peers(65)).encode(),
+        "count 0\n" * 64 + "refused 15 BlockFull\n",
+    ),
+    at_a_default(
+        "--allowed",
+        "".join(f"allow {peer}\n" for peer in peers(65)).encode(),
+        "count 1\n" * 64 + "refused 19 AllowFull\n",
+    ),
+    Case(
+        "replay: the default of --outbound",
+        ["replay", "--conns", "256"],
+        b"dial -\n" * 257,
+        output=conns(256) + "refused 11 Full\n",
+    ),
+    Case(
+        "replay: the default of --inbound",
+        ["replay", "--conns", "256"],
+        b"accept\n" * 257,
+        output=conns(256) + "refused 11 Full\n",
+    ),
+    at_a_default("--own, --first-conn and --first-front", b"dial @00\ndial -\n", "refused 8 SelfPeer\nconn 1\n"),
+    Case(
+        "replay: the least numbers",
+        ["replay", "--conns", "1", "--per-peer", "1", "--streams", "1", "--blocked", "0", "--inbound", "0", "--outbound", "0"]
+        + ["--allowed", "0", "--first-conn", "0", "--first-front", "0"],
+        b"accept\ndial -\nblock @11\nallow @11\nlist\n",
+        output="refused 17 SideFull\nrefused 17 SideFull\nrefused 15 BlockFull\nrefused 19 AllowFull\nfront 4\nend\n",
+    ),
+]
+
 # Listings that are far longer than what a pipe or a buffer holds.
 FULL = "".join(f"conn {number} listener pending - 0/0 0/0 0/0\n" for number in range(1, 257))
 LONG = Case(
     "replay: listings of half a million bytes",
     ["replay", "--conns", "256"],
     b"accept\n" * 256 + b"list\n" * 50,
-    output="".join(f"conn {number}\n" for number in range(1, 257)) + f"front 256\n{FULL}end\n" * 50,
+    output=conns(256) + f"front 256\n{FULL}end\n" * 50,
 )
 
 
@@ -241,7 +291,17 @@ BAD = [
     ["replay", "--conns", "+5"],
     ["replay", "--first-front", "+5"],
     ["replay", "--conns", "257"],
+    ["replay", "--per-peer", "0"],
     ["replay", "--per-peer", "9"],
+    ["replay", "--streams", "0"],
+    ["replay", "--streams", "65"],
+    ["replay", "--blocked", "65"],
+    ["replay", "--inbound", "257"],
+    ["replay", "--outbound", "257"],
+    ["replay", "--allowed", "65"],
+    ["replay", "--first-conn", "4294967296"],
+    ["ping", "/ip4/127.0.0.1/tcp/1", "--count", "0"],
+    ["ping", "/ip4/127.0.0.1/tcp/1", "--count", "4294967296"],
     ["replay", "--own", "@"],
     ["replay", "--first-front", "18446744073709551616"],
     ["replay", "now"],
@@ -507,6 +567,19 @@ def trace(name, words, given, output="", status=0, faults=""):
     return Case(f"trace: {name}", ["trace", *words], given, status, output, faults)
 
 
+# A dialer that pings as soon as it is up.
+PAYLOAD = bytes(range(32))
+BAD_PAYLOAD = "error: the value of '--payload' is not 32 bytes in hexadecimal\n"
+PINGS = b"feed %s\nout\nask 2\nout\n" % upgrade(KEY_11).hex().encode()
+
+
+def pinged(payload):
+    """What it prints: it opens stream 1, and sends its proposal and these bytes on it."""
+    sent = HELLO + b"\x11/ipfs/ping/1.0.0\n" + payload
+    written = frame(1, 1, 1, 0) + frame(0, 0, 1, len(sent)) + sent
+    return f"upgraded {ID_11}\nout {upgrade(bytes(32)).hex()}\nstream 1\nout {written.hex()}\n"
+
+
 TRACES = [
     trace(
         "a dialer that comes up",
@@ -520,6 +593,9 @@ TRACES = [
         b"cut 1 %s\nout" % upgrade(KEY_11).hex().encode(),
         f"upgraded {ID_11}\nout {upgrade(KEY_22).hex()}\n",
     ),
+    trace("what a ping of this end sends", ["dialer", "--payload", PAYLOAD.hex()], PINGS, pinged(PAYLOAD)),
+    trace("what it sends where nothing is given", ["dialer"], PINGS, pinged(bytes(32))),
+    trace("a payload of 31 bytes", ["dialer", "--payload", PAYLOAD[1:].hex()], b"", "", 2, BAD_PAYLOAD),
     trace("a line that is none", ["dialer"], b"\nfly\n", "", 1, "refused line 2\n"),
     trace("too long a script", ["listener"], b"\n" * 1_048_577, "", 1, "refused input\n"),
     trace("no end", ["both"], b"", "", 2, "error: the role is 'dialer' or 'listener'\n"),
@@ -545,7 +621,7 @@ TESTS = [
 
 def rows():
     """All rows of words and inputs."""
-    for case in (*IDS, *REPLAYS, LONG, *RUNS, *TRACES):
+    for case in (*IDS, *REPLAYS, *DEFAULTS, LONG, *RUNS, *TRACES):
         yield Row(case.name, functools.partial(goes, case))
     yield Row(GIVES_UP.name, functools.partial(goes, GIVES_UP), is_patient=True)
     yield from command_rows()

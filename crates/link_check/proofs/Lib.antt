@@ -2,3 +2,4 @@ mod LinkRows
 mod SocketRows
 mod BoundRows
 mod OverLinkRows
+mod KindRows

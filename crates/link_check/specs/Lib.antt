@@ -3,3 +3,4 @@ pub mod LinkRows
 pub mod SocketRows
 pub mod BoundRows
 pub mod OverLinkRows
+pub mod KindRows

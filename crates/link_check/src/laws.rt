@@ -12,6 +12,7 @@ ghost use Rattle.link_check.specs.SocketRows.{AnyPipeRows, PipeRows};
 ghost use Rattle.link_check.specs.BoundRows.{AnyBoundRows, BoundRows, KeptRows, answers, rises};
 ghost use Rattle.link_check.specs.OverLinkRows.{AnyJoinRows, AnyEndRows, AnyStayRows, AnyCarryRows, AnyPollRows};
 ghost use Rattle.link_check.specs.OverLinkRows.{AnyWaitRows, PollEndRows, OverRows};
+ghost use Rattle.link_check.specs.KindRows.{LinkKinds};
 
 use conn_link::Link;
 use handlers::Protocols;
@@ -85,4 +86,9 @@ pub fn over_link_rows<L: Link, P: Protocols>()
     ensures polls { AnyPollRows L.calls }
     ensures poll_ends { PollEndRows }
     ensures over { (start : P) (role : ConnRole) (own : Key) → OverRows P.Protocols P.H.Handler start role own }
+{}
+
+/// Each stage of a connection over a link, and each step of a pipe, is of one of its kinds.
+pub fn kinds_say()
+    ensures { LinkKinds }
 {}

@@ -80,6 +80,8 @@ use Rattle.conn_core.specs.declared.calls.ConnAct.{ConnAct}
 use Rattle.conn_core.specs.declared.calls.ConnAct.TheVariants as conn_acts
 use Rattle.conn_core.specs.declared.calls.ConnAnswer.{ConnAnswer}
 use Rattle.conn_core.specs.declared.calls.ConnAnswer.TheVariants as conn_answers
+use Rattle.conn_core.specs.declared.connection.Phase.{Phase}
+use Rattle.conn_core.specs.declared.connection.Phase.TheVariants as phases
 use Rattle.pool_state.specs.declared.call.Call.{Call}
 use Rattle.pool_state.specs.declared.call.Call.TheVariants as calls
 use Rattle.pool_state.specs.declared.call.Reply.{Reply}
@@ -345,6 +347,14 @@ is_conn_answer (conn_answers.Events a) = inl (a, refl)
 is_conn_answer (conn_answers.Stream a) = inr (inl (a, refl))
 is_conn_answer (conn_answers.Refused a) = inr (inr ((a, refl)))
 
+is_phase : {P H : Type 0} → (x : Phase P H)
+    → ((upgrade : _) × (protocols : _) × (x ≡ phases.Upgrading upgrade protocols))
+    ⊎ (((mux : _) × (x ≡ phases.Up mux)) ⊎ ((x ≡ phases.Over) ⊎ (x ≡ phases.Spent)))
+is_phase (phases.Upgrading upgrade protocols) = inl (upgrade, protocols, refl)
+is_phase (phases.Up mux) = inr (inl (mux, refl))
+is_phase phases.Over = inr (inr (inl refl))
+is_phase phases.Spent = inr (inr (inr refl))
+
 is_call : (x : Call) → ((a : _) × (x ≡ calls.Dial a)) ⊎ ((x ≡ calls.Accept) ⊎ (((a : _) × (b : _) × (x ≡ calls.Settle a b)) ⊎ (((a : _) × (b : _) × (x ≡ calls.Ask a b)) ⊎ (((a : _) × (b : _) × (x ≡ calls.Done a b)) ⊎ (((a : _) × (x ≡ calls.HangUp a)) ⊎ (((a : _) × (x ≡ calls.Block a)) ⊎ (((a : _) × (x ≡ calls.Unblock a)) ⊎ (((a : _) × (x ≡ calls.Gone a)) ⊎ (((a : _) × (x ≡ calls.Allow a)) ⊎ (((a : _) × (x ≡ calls.Disallow a)) ⊎ (((a : _) × (b : _) × (x ≡ calls.Note a b)))))))))))))
 is_call (calls.Dial a) = inl (a, refl)
 is_call calls.Accept = inr (inl refl)
@@ -440,7 +450,7 @@ sessions_kinds = record {
   act_refused = is_act_refused;
 }
 
-pub streams_kinds : {H : Type 0} → StreamKinds H
+pub streams_kinds : {P H : Type 0} → StreamKinds P H
 streams_kinds = record {
   upgrade_fault = is_upgrade_fault;
   conn_role = is_conn_role;
@@ -459,6 +469,7 @@ streams_kinds = record {
   conn_refused = is_conn_refused;
   conn_act = is_conn_act;
   conn_answer = is_conn_answer;
+  phase = is_phase;
 }
 
 pub pool_kinds : PoolKinds

@@ -82,6 +82,8 @@ use Rattle.conn_core.specs.declared.calls.ConnAct.{ConnAct}
 use Rattle.conn_core.specs.declared.calls.ConnAct.TheVariants as conn_acts
 use Rattle.conn_core.specs.declared.calls.ConnAnswer.{ConnAnswer}
 use Rattle.conn_core.specs.declared.calls.ConnAnswer.TheVariants as conn_answers
+use Rattle.conn_core.specs.declared.connection.Phase.{Phase}
+use Rattle.conn_core.specs.declared.connection.Phase.TheVariants as phases
 use Rattle.pool_state.specs.declared.call.Call.{Call}
 use Rattle.pool_state.specs.declared.call.Call.TheVariants as calls
 use Rattle.pool_state.specs.declared.call.Reply.{Reply}
@@ -153,7 +155,7 @@ pub record SessionKinds : Type 0 where
       ∷ act_refusals.Ended ∷ act_refusals.GoneAway ∷ act_refusals.StreamsExhausted ∷ act_refusals.StreamsFull
       ∷ act_refusals.OutOfMemory ∷ [])
 
-pub record StreamKinds (H : Type 0) : Type 0 where
+pub record StreamKinds (P H : Type 0) : Type 0 where
   pub upgrade_fault : (x : UpgradeFault) → (x ≡ upgrade_faults.Failed)
       ⊎ (((a : _) × (x ≡ upgrade_faults.Select a)) ⊎ ((x ≡ upgrade_faults.NoneLeft)
       ⊎ (((a : _) × (x ≡ upgrade_faults.Exchange a)) ⊎ ((x ≡ upgrade_faults.OutOfMemory)))))
@@ -192,6 +194,8 @@ pub record StreamKinds (H : Type 0) : Type 0 where
       ⊎ ((x ≡ conn_acts.Ended)))
   pub conn_answer : (x : ConnAnswer H) → ((a : _) × (x ≡ conn_answers.Events a))
       ⊎ (((a : _) × (x ≡ conn_answers.Stream a)) ⊎ (((a : _) × (x ≡ conn_answers.Refused a))))
+  pub phase : (x : Phase P H) → ((upgrade : _) × (protocols : _) × (x ≡ phases.Upgrading upgrade protocols))
+      ⊎ (((mux : _) × (x ≡ phases.Up mux)) ⊎ ((x ≡ phases.Over) ⊎ (x ≡ phases.Spent)))
 
 pub record PoolKinds : Type 0 where
   pub call : (x : Call) → ((a : _) × (x ≡ calls.Dial a)) ⊎ ((x ≡ calls.Accept)

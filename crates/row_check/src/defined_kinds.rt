@@ -8,6 +8,6 @@ use handlers::{Handler, Protocols};
 pub fn kinds_say<P: Protocols>()
     ensures codecs { CodecKinds }
     ensures sessions { SessionKinds }
-    ensures streams { StreamKinds P.H }
+    ensures streams { StreamKinds P P.H }
     ensures pools { PoolKinds }
 {}

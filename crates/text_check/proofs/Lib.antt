@@ -1,3 +1,5 @@
 mod Texts
 mod Lines
 mod Words
+mod Played
+mod KindRows

@@ -4,7 +4,7 @@ use Rattle.node_lines.specs.declared.script.Awaited.{Awaited}
 use Rattle.node_lines.specs.declared.script.Awaited.TheVariants as awaited
 use Rattle.node_lines.specs.Script.{IsDone, AwaitsRest, Awaits, Acts}
 use Rattle.node_lines.specs.Trace.{IsCut, SaysTrace}
-use Rattle.text_check.specs.LineRows.{AnyScriptRows, AnyTraceRows}
+use Rattle.text_check.specs.LineRows.{AnyScriptRows, AnyTraceRows, AnyAwaitedRows}
 
 alone_none : (it : Awaited) → AwaitsRest None it → awaited.None ≡ it
 alone_none awaited.None is = refl
@@ -46,4 +46,16 @@ trace_rows = record {
   says = λ text it. (λ is. is, λ is. is);
   ask = λ rest index. (λ it. it, λ it. it);
   holds = λ text. (λ it. it, λ it. it);
+}
+
+pub awaited_rows : AnyAwaitedRows
+awaited_rows = record {
+  live = λ rows count. (λ it. it, λ it. it);
+  none = λ rows. (λ it. it, λ it. it);
+  done = λ rows index count. (λ it. it, λ it. it);
+  agents = λ rows count. (λ it. it, λ it. it);
+  live_text = λ count. refl;
+  none_text = refl;
+  done_text = λ index count. refl;
+  agents_text = λ count. refl;
 }

@@ -1,7 +1,7 @@
 -- The rows of texts.
 use Rattle.std.proofs.Common.{◌≡◌, ◌≢◌, ◌<◌, ℕ, [], ◌∷◌, ◌++◌, codes, refl, arith}
 use Rattle.pool_texts.specs.Lines.{IsPeer, IsStream, IsSettled, IsNoted}
-use Rattle.pool_texts.specs.Printed.{row_text}
+use Rattle.pool_texts.specs.Printed.{row_text, counts_text}
 use Rattle.peer_texts.specs.Said.{escaped, hex_of}
 use Rattle.text_check.specs.TextRows.{PoolTextRows, PeerTextRows, PingRows}
 
@@ -15,7 +15,7 @@ behind_is : (byte : ℕ) → 126 < byte → escaped byte ≡ codes "\\x" ++ hex_
 behind_is byte behind = grind (arith, behind)
 
 pub pool_text_rows : PoolTextRows
-unfolding IsStream IsSettled IsNoted IsPeer row_text
+unfolding IsStream IsSettled IsNoted IsPeer row_text counts_text
 pool_text_rows = record {
   stream = λ words conn index. (λ it. it, λ it. it);
   settled = λ words conn peer. (λ it. it, λ it. it);
@@ -26,6 +26,11 @@ pool_text_rows = record {
   no_space = λ word. (λ it. it, λ it. it);
   refusal = λ refused. refl;
   agent = λ agent. refl;
+  conn = λ conn. refl;
+  count = λ count. refl;
+  a_peer = λ peer. refl;
+  counts = λ asked done. refl;
+  a_line = λ begin text. refl;
   row = λ row. refl;
   listing = λ begin listing. refl;
 }

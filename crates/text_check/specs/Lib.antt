@@ -1,3 +1,5 @@
 pub mod TextRows
 pub mod LineRows
 pub mod WordRows
+pub mod PlayedRows
+pub mod KindRows

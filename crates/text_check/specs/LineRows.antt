@@ -1,9 +1,11 @@
 -- Rows of the lines of scripts, whatever they are.
 -- Source: this project's profile, the input of `node run` and `node trace`.
-use Rattle.std.specs.Prelude.{◌≡◌, ◌⊎◌, ◌↔◌, ℕ, ◌<◌, List, ◌++◌, Option, Some, None, Ok, codes, vec_items}
+use Rattle.std.specs.Prelude.{◌≡◌, ◌⊎◌, ◌↔◌, ℕ, ◌<◌, List, [], ◌∷◌, ◌++◌, Option, Some, None, Ok, codes, vec_items}
+use Rattle.std.specs.Prelude.{min, slice_index, count_by, sum_by, is_some, decimal}
 use Rattle.std.specs.Global.{Vec}
 use Rattle.hex.specs.Hex.{decode_of}
 use Rattle.pool_texts.specs.Lines.{IsNumber, ArePair, IsStream, tail_of}
+use Rattle.pool_state.specs.declared.row.Row.{Row}
 use Rattle.node_lines.specs.declared.script.Act.{Act}
 use Rattle.node_lines.specs.declared.script.Act.TheVariants as act
 use Rattle.node_lines.specs.declared.script.Awaited.{Awaited}
@@ -11,6 +13,7 @@ use Rattle.node_lines.specs.declared.script.Name.{Name}
 use Rattle.node_lines.specs.declared.trace.TraceLine.{TraceLine}
 use Rattle.node_lines.specs.declared.script.Awaited.TheVariants as awaited
 use Rattle.node_lines.specs.declared.trace.TraceLine.TheVariants as trace
+use Rattle.node_lines.specs.Awaiting.{is_live, Shows, awaited_text}
 use Rattle.node_lines.specs.Script.{IsDone, await_name, AwaitsRest, Awaits, act_name, ActsRest, Acts}
 use Rattle.node_lines.specs.Script.{node_name, SaysAct}
 use Rattle.node_lines.specs.Trace.{IsCut, trace_name, TraceRest, SaysTrace, HoldsBytes}
@@ -63,3 +66,18 @@ pub record AnyTraceRows : Type 0 where
   pub holds : (text : List ℕ) → HoldsBytes text ↔ ((name : List ℕ) × (rest : List ℕ) × ArePair text name rest
       × (((name ≡ codes "feed") × (bytes : List ℕ) × (decode_of rest ≡ Ok bytes))
       ⊎ ((name ≡ codes "cut") × (size : ℕ) × (bytes : List ℕ) × IsCut rest size bytes)))
+
+-- what a listing shows, and what is printed of it
+pub record AnyAwaitedRows : Type 0 where
+  pub live : (rows : List Row) (count : ℕ) → Shows rows (awaited.Live count)
+      ↔ (count_by (λ row. is_live row.phase) rows ≡ count)
+  pub none : (rows : List Row) → Shows rows awaited.None ↔ (rows ≡ [])
+  pub done : (rows : List Row) (index count : ℕ) → Shows rows (awaited.Done index count)
+      ↔ (min (sum_by (λ row. slice_index row.done index) rows) 18446744073709551615 ≡ count)
+  pub agents : (rows : List Row) (count : ℕ) → Shows rows (awaited.Agent count)
+      ↔ (count_by (λ row. is_some row.agent) rows ≡ count)
+  pub live_text : (count : ℕ) → awaited_text (awaited.Live count) ≡ codes "live " ++ decimal count
+  pub none_text : awaited_text awaited.None ≡ codes "none"
+  pub done_text : (index count : ℕ) → awaited_text (awaited.Done index count)
+      ≡ codes "done " ++ (decimal index ++ 32 ∷ decimal count)
+  pub agents_text : (count : ℕ) → awaited_text (awaited.Agent count) ≡ codes "agent " ++ decimal count

@@ -44,6 +44,13 @@ pub record PoolTextRows : Type 0 where
   pub refusal : (refused : Refusal) → reply_text (reply.Refused refused)
       ≡ codes "refused " ++ (decimal (number_of refused) ++ 32 ∷ refusal_name refused)
   pub agent : (agent : List ℕ) → agent_text (Some agent) ≡ codes " agent " ++ agent
+  pub conn : (conn : ℕ) → reply_text (reply.Conn conn) ≡ codes "conn " ++ decimal conn
+  pub count : (count : ℕ) → reply_text (reply.Count count) ≡ codes "count " ++ decimal count
+  pub a_peer : (peer : List ℕ) → peer_text (Some peer) ≡ id_text peer
+  pub counts : (asked done : List ℕ) → counts_text asked done
+      ≡ flat_map (λ index. 32 ∷ (decimal (slice_index asked index) ++ 47 ∷ decimal (slice_index done index)))
+      (0 ∷ 1 ∷ 2 ∷ [])
+  pub a_line : (begin text : List ℕ) → line begin text ≡ begin ++ (text ++ 10 ∷ [])
   pub row : (row : Row) → row_text row ≡ codes "conn " ++ (decimal row.conn ++ 32 ∷ (side_text row.role
       ++ 32 ∷ (phase_text row.phase ++ 32 ∷ (peer_text row.peer ++ (counts_text row.asked row.done
       ++ agent_text row.agent)))))
