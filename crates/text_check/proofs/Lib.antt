@@ -2,4 +2,5 @@ mod Texts
 mod Lines
 mod Words
 mod Played
+mod Places
 mod KindRows

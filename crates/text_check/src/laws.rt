@@ -4,6 +4,7 @@ ghost use Rattle.text_check.specs.TextRows.{PoolTextRows, PeerTextRows, PingRows
 ghost use Rattle.text_check.specs.LineRows.{AnyScriptRows, AnyTraceRows, AnyAwaitedRows};
 ghost use Rattle.text_check.specs.WordRows.{AnyWordRows};
 ghost use Rattle.text_check.specs.PlayedRows.{AnyPlayedRows};
+ghost use Rattle.text_check.specs.PlaceRows.{AnyPlaceRows, AnyFaultRows};
 ghost use Rattle.text_check.specs.KindRows.{TextKinds};
 
 /// What is printed of replies and of what a peer says, and what lines of pool calls say, is what it is to be.
@@ -28,6 +29,12 @@ pub fn any_word_rows()
 /// A script of pool calls prints what it is to print, whatever was called before.
 pub fn any_played_rows()
     ensures { AnyPlayedRows }
+{}
+
+/// An address names the place that it is to name, a text is refused for what it is to be, and a number is the fault that it is to be.
+pub fn any_place_rows()
+    ensures places { AnyPlaceRows }
+    ensures faults { AnyFaultRows }
 {}
 
 /// What is read, asked for and answered is of one of its kinds.
