@@ -8,18 +8,19 @@ pub place_rows : AnyPlaceRows
 place_rows = record {
   ip4 = λ octets host. (λ it. it, λ it. it);
   ip6 = λ octets host. (λ it. it, λ it. it);
-  named = λ bytes place.
-      (λ it. (it.address, it.spelt, it.host, it.port, it.socket, it.same, it.plain, it.peer),
-      λ (a, spelt, host, port, socket, same, plain, peer). record {
-        address = a;
-        spelt = spelt;
-        host = host;
-        port = port;
-        socket = socket;
-        same = same;
-        plain = plain;
-        peer = peer;
-      });
+  named = λ bytes place. (
+    λ it. (it.address, it.spelt, it.host, it.port, it.socket, it.same, it.plain, it.peer),
+    λ (a, spelt, host, port, socket, same, plain, peer). record {
+      address = a;
+      spelt = spelt;
+      host = host;
+      port = port;
+      socket = socket;
+      same = same;
+      plain = plain;
+      peer = peer;
+    },
+  );
   read = λ text place. (λ it. it, λ it. it);
   nothing_begins = λ is. is;
   begins = λ part parts. (λ it. it, λ it. it);
