@@ -1,5 +1,6 @@
 -- Rows of what an address names and how a connection or a stream ends, whatever they are.
--- Source: multiformats multiaddr, "Specification"; which place is meant, and what an end means, is this project's profile.
+-- Source: multiformats multiaddr, "Specification"; which place is meant, and what an end means, is this project's
+-- profile.
 use Rattle.std.specs.Prelude.{◌≡◌, ◌≢◌, ◌⊎◌, ◌↔◌, ℕ, List, [], ◌∷◌}
 use Rattle.std.specs.List.{flat_map}
 use Rattle.std.specs.declared.net.ip_addr.IpAddr.{IpAddr}
@@ -21,7 +22,8 @@ use Rattle.identify_h.specs.declared.fault.IdentifyFault.{IdentifyFault}
 use Rattle.identify_h.specs.declared.fault.IdentifyFault.TheVariants as identify
 use Rattle.node_place.specs.declared.place.Place.{Place}
 use Rattle.node_place.specs.declared.place.PlaceFault.TheVariants.{Addr, NeedsLookup, NoSocket}
-use Rattle.node_place.specs.Places.{IsHost, NamesPlace, ReadsPlace, BeginsWithName, IsNoSocket, RefusesPlace, PrintsSocket}
+use Rattle.node_place.specs.Places.{IsHost, NamesPlace, ReadsPlace, BeginsWithName, IsNoSocket, RefusesPlace}
+use Rattle.node_place.specs.Places.{PrintsSocket}
 use Rattle.handlers.specs.declared.handler.HandlerFault.{HandlerFault}
 use Rattle.streams.specs.declared.stop.Cause.TheVariants as cause
 use Rattle.reports.specs.declared.report.StreamEnd.TheVariants as stream
@@ -61,5 +63,6 @@ pub record AnyFaultRows : Type 0 where
       × (((other : IdentifyFault) → number ≢ identifies.number_of other) → fault ≡ identify.Failed))
   pub ends_ping : (failed : HandlerFault) (end : PeerEnding) → EndsPing (stream.Broken (cause.Handler failed)) end
       ↔ ((fault : PingFault) × IsPingFault failed.number fault × (end ≡ ending.Ping fault))
-  pub ends_identify : (failed : HandlerFault) (end : PeerEnding) → EndsIdentify (stream.Broken (cause.Handler failed)) end
+  pub ends_identify : (failed : HandlerFault) (end : PeerEnding)
+      → EndsIdentify (stream.Broken (cause.Handler failed)) end
       ↔ ((fault : IdentifyFault) × IsIdentifyFault failed.number fault × (end ≡ ending.Identify fault))
