@@ -1,4 +1,5 @@
--- Rows of scripts of pool calls that are played: what a line prints behind any history, and which lines can't be played.
+-- Rows of scripts of pool calls that are played: what a line prints behind any history, and which lines can't be
+-- played.
 -- Source: this project's profile, `node replay`.
 use Rattle.std.specs.Prelude.{◌≡◌, ◌≢◌, ◌⊎◌, ◌↔◌, ℕ, ◌<◌, List, [], ◌∷◌, ◌++◌, length, IsUtf8}
 use Rattle.pool_state.specs.declared.call.Call.{Call}

@@ -31,8 +31,8 @@ pub fn any_played_rows()
     ensures { AnyPlayedRows }
 {}
 
-/// An address names the place that it is to name, a text is refused for what it is to be, and a number is the fault that
-/// it is to be.
+/// An address names the place that it is to name, a text is refused for what it is to be, and a number is the fault
+/// that it is to be.
 pub fn any_place_rows()
     ensures places { AnyPlaceRows }
     ensures faults { AnyFaultRows }
