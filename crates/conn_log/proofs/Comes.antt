@@ -225,24 +225,24 @@ module _ {P H : Type 0} (step : H → HandlerCall → H → Type 0) (fails : H �
     come = come_of step fails is_closed is_finished inbound_makes outbound_makes eager names peer role acts_do acts_move log n view rest so_far h.side_is h.got_is h.ended_is h.sent_is h.made_is
         h.calls_is a.opens_none a.ends_last a.heard
 
-    around_served : (handler : Option H) → (s : Serves step is_closed is_finished (was_handed_out old.stage) role (items log) fed sent n so_far handler after new)
+    around_served : (handler : Option H) → (s : Serves step is_closed is_finished (kind_of old.stage) role (items log) fed sent n so_far handler after new)
         → Around step fails is_closed is_finished inbound_makes outbound_makes eager names peer role (did s.goes.acts ++ log) fed sent after now past n (view_by s.goes.acts view) rest
     around_served handler s =
-        around_acts step fails is_closed is_finished inbound_makes outbound_makes eager names peer role acts_do acts_move log fed sent before after streams now past n view rest so_far (was_handed_out old.stage) s.goes.acts a come
-        (a.heard.came ∙ no_more ∙ sym h.got_is) (λ out. h.done ∙ out) (h.over ∙ sym h.done) s.goes.due (subst (λ (t : List Item). SessionStands role t fed sent after) s.goes.now_is s.goes.session_stands) elsewhere
+        around_acts step fails is_closed is_finished inbound_makes outbound_makes eager names peer role acts_do acts_move log fed sent before after streams now past n view rest so_far old.stage s.goes.acts a come
+        (a.heard.came ∙ no_more ∙ sym h.got_is) (record { made = h.served; handed = handed; told = λ out. h.done ∙ out; same_over = h.over ∙ sym h.done }) s.goes.due (subst (λ (t : List Item). SessionStands role t fed sent after) s.goes.now_is s.goes.session_stands) elsewhere
 
-    list_is : (handler : Option H) → (s : Serves step is_closed is_finished (was_handed_out old.stage) role (items log) fed sent n so_far handler after new)
+    list_is : (handler : Option H) → (s : Serves step is_closed is_finished (kind_of old.stage) role (items log) fed sent n so_far handler after new)
         → s.goes.now ≡ items (did s.goes.acts ++ log)
     list_is handler s = s.goes.now_is ∙ sym (items_did s.goes.acts log)
 
-    own_of : (handler : Option H) → (s : Serves step is_closed is_finished (was_handed_out old.stage) role (items log) fed sent n so_far handler after new) → Own role log (did s.goes.acts ++ log) n
+    own_of : (handler : Option H) → (s : Serves step is_closed is_finished (kind_of old.stage) role (items log) fed sent n so_far handler after new) → Own role log (did s.goes.acts ++ log) n
     own_of handler s =
         did_own step fails is_closed is_finished inbound_makes outbound_makes eager names peer role acts_do acts_move log n s.goes.acts
-        (all_on step fails is_closed is_finished inbound_makes outbound_makes eager names peer role acts_do acts_move (items log) n so_far (was_handed_out old.stage) s.goes.acts s.goes.due)
+        (all_on step fails is_closed is_finished inbound_makes outbound_makes eager names peer role acts_do acts_move (items log) n so_far (kind_of old.stage) s.goes.acts s.goes.due)
 
-    on_acts : (handler : Option H) → (s : Serves step is_closed is_finished (was_handed_out old.stage) role (items log) fed sent n so_far handler after new)
+    on_acts : (handler : Option H) → (s : Serves step is_closed is_finished (kind_of old.stage) role (items log) fed sent n so_far handler after new)
         → AllOn step fails is_closed is_finished inbound_makes outbound_makes eager names peer role acts_do acts_move n s.goes.acts
-    on_acts handler s = all_on step fails is_closed is_finished inbound_makes outbound_makes eager names peer role acts_do acts_move (items log) n so_far (was_handed_out old.stage) s.goes.acts s.goes.due
+    on_acts handler s = all_on step fails is_closed is_finished inbound_makes outbound_makes eager names peer role acts_do acts_move (items log) n so_far (kind_of old.stage) s.goes.acts s.goes.due
 
     -- no credit is routed behind that, unless its talk goes on
     last_then : (then : List (Entry H)) (x : Streaming H) → kind_of x.stage ≡ kind_of old.stage → AllByRecursion IsNoCredit rest ⊎ (is_talking old.stage ≡ true)
@@ -256,7 +256,7 @@ module _ {P H : Type 0} (step : H → HandlerCall → H → Type 0) (fails : H �
     last_served then x kind (inr talks) = absurd (let e : true ≡ false = sym talks ∙ served_talking old.stage kind in cc e)
 
     -- it goes on
-    pub goes_on : (s : Serves step is_closed is_finished (was_handed_out old.stage) role (items log) fed sent n so_far None after new) → kind_of new.stage ≡ kind_of old.stage
+    pub goes_on : (s : Serves step is_closed is_finished (kind_of old.stage) role (items log) fed sent n so_far None after new) → kind_of new.stage ≡ kind_of old.stage
         → Routes step fails is_closed is_finished inbound_makes outbound_makes eager names peer role (did s.goes.acts ++ log) fed sent after now past n (view_by s.goes.acts view) rest
     goes_on s kind =
         let log_now = did s.goes.acts ++ log in
@@ -286,7 +286,7 @@ module _ {P H : Type 0} (step : H → HandlerCall → H → Type 0) (fails : H �
           unfinished = s.handed_out.1;
           anew = last_then log_now new kind last;
           handed = λ serves. ap has_taken own.calls_is ∙ handed (sym kind ∙ serves);
-          over_by_end = view_over step fails is_closed is_finished inbound_makes outbound_makes eager names peer role acts_do acts_move (items log) n so_far (was_handed_out old.stage) s.goes.acts view s.goes.due over;
+          over_by_end = view_over step fails is_closed is_finished inbound_makes outbound_makes eager names peer role acts_do acts_move (items log) n so_far (kind_of old.stage) s.goes.acts view s.goes.due over;
           settled = λ still. subst (λ (t : List Item). is_live role t n ≡ true → IsSettled step is_closed is_finished role t n s.goes.left new) is s.settled;
         } in
         record {
@@ -298,7 +298,7 @@ module _ {P H : Type 0} (step : H → HandlerCall → H → Type 0) (fails : H �
         }
 
     -- its handler is handed out
-    pub is_done : (handler : H) → (s : Serves step is_closed is_finished (was_handed_out old.stage) role (items log) fed sent n so_far (Some handler) after new) → kind_of old.stage ≡ Served
+    pub is_done : (handler : H) → (s : Serves step is_closed is_finished (kind_of old.stage) role (items log) fed sent n so_far (Some handler) after new) → kind_of old.stage ≡ Served
         → Routes step fails is_closed is_finished inbound_makes outbound_makes eager names peer role (Says (event.Done n handler) ∷ did s.goes.acts ++ log) fed sent after now past n
         (view_by s.goes.acts view) rest
     is_done handler s kind =
@@ -352,7 +352,7 @@ module _ {P H : Type 0} (step : H → HandlerCall → H → Type 0) (fails : H �
           unfinished = ap (has_finished is_finished) stage_is;
           anew = last_served (Says (event.Done n handler) ∷ log_now) new kind last;
           handed = λ serves. absurd (let e : Rattle.streams.specs.State.HandedOut ≡ Served = sym (ap kind_of stage_is) ∙ serves in cc e);
-          over_by_end = view_over step fails is_closed is_finished inbound_makes outbound_makes eager names peer role acts_do acts_move (items log) n so_far (was_handed_out old.stage) s.goes.acts view s.goes.due over;
+          over_by_end = view_over step fails is_closed is_finished inbound_makes outbound_makes eager names peer role acts_do acts_move (items log) n so_far (kind_of old.stage) s.goes.acts view s.goes.due over;
           settled = λ still. subst (λ (t : List Item). is_live role t n ≡ true → IsSettled step is_closed is_finished role t n s.goes.left new) is s.settled;
         } in
         record {
@@ -364,7 +364,7 @@ module _ {P H : Type 0} (step : H → HandlerCall → H → Type 0) (fails : H �
           own_to_reset = λ reset going. subst (λ (t : Option (Streaming H)). IsSome t) (sym here) refl;
         }
 
-    served_on : (s : Serves step is_closed is_finished (was_handed_out old.stage) role (items log) fed sent n so_far None after new) → kind_of new.stage ≡ kind_of old.stage
+    served_on : (s : Serves step is_closed is_finished (kind_of old.stage) role (items log) fed sent n so_far None after new) → kind_of new.stage ≡ kind_of old.stage
         → Went log fed sent after now past n rest outcomes.Going
     served_on s kind = record {
       newer = did s.goes.acts;
@@ -376,7 +376,7 @@ module _ {P H : Type 0} (step : H → HandlerCall → H → Type 0) (fails : H �
       comes = goes_on s kind;
     }
 
-    done_with : (handler : H) → (s : Serves step is_closed is_finished (was_handed_out old.stage) role (items log) fed sent n so_far (Some handler) after new) → kind_of old.stage ≡ Served
+    done_with : (handler : H) → (s : Serves step is_closed is_finished (kind_of old.stage) role (items log) fed sent n so_far (Some handler) after new) → kind_of old.stage ≡ Served
         → Went log fed sent after now past n rest (outcomes.Done handler)
     done_with handler s kind = record {
       newer = did s.goes.acts;

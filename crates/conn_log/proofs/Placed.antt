@@ -22,6 +22,7 @@ use Rattle.streams.specs.declared.stage.Stage.{Stage}
 use Rattle.streams.specs.Streams.{Past}
 use Rattle.streams.specs.State.{StandsAt, is_talking}
 use Rattle.streams.proofs.Hearing.{open_before}
+use Rattle.serving.proofs.StageKinds.{same_awaiting, same_handed}
 use Rattle.conn_log.specs.Entries.{items, since, agreed, over_in}
 use Rattle.conn_log.specs.Entries.Entry.{Of, Calls}
 use Rattle.conn_log.specs.Due.{was_reset}
@@ -137,15 +138,21 @@ unless_open : {A B C : Type 0} → ((false ≡ true) × C) ⊎ (A × B) → (B �
 unless_open (inl shut) not_given = off_is_on shut.0
 unless_open (inr gave) not_given = not_given gave.1
 
-takes_by_all : rows.is_due (Of (Did (Close 2)) ∷ rows.has_come) (Of (Did (Taken 2 1))) → (there : rows.is_there (Of (Did (Close 2)) ∷ rows.has_come)) × (there.so_far.got ≡ 99 ∷ [])
-takes_by_all (count, inl (shut, (there, came))) = (there, sym came)
-takes_by_all (count, inr (some, gave)) = (gave.there, sym gave.all_came)
+takes_by_all : rows.is_due (Of (Did (Close 2)) ∷ rows.has_come) (Of (Did (Taken 2 1))) → rows.stands_by_all (Of (Did (Close 2)) ∷ rows.has_come)
+takes_by_all (count, inl (shut, all)) = all
+takes_by_all (count, inr (some, gave)) = gave.by_all
 
 pub act_place_rows : ActPlaceRows
 act_place_rows = record {
   starts = λ h. h;
   goes_away = λ h. h;
-  takes_all = (takes_by_all, λ h. (refl, inl (refl, (h.0, sym h.1))));
+  takes_all = (takes_by_all, λ all. (refl, inl (refl, all)));
+  got_all = λ all. sym all.all_came;
+  by_its_handler = λ all. (
+    λ kind. off_is_on (sym all.was_made ∙ same_awaiting all.there.stream.stage (stages.Agreed 0) kind),
+    λ kind. off_is_on (all.handed kind),
+    λ kind. off_is_on (all.was_told (same_handed all.there.stream.stage stages.Done kind)),
+  );
   takes_more = λ h. let e : ◌≡◌ {A = ℕ} 2 1 = h.0 in absurd (cc e);
   takes_none = λ h. let e : ◌≡◌ {A = ℕ} 0 1 = h.0 in absurd (cc e);
   takes_given_up = λ h. unless_open h.1 (λ gave. on_is_off gave.not_given_up);

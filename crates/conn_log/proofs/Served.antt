@@ -14,12 +14,14 @@ use Rattle.yamux_session.specs.Events.{Told, events}
 use Rattle.yamux_session.specs.Seen.{Seen, seen, all_heard, hears, just_opened, AgreesOn, ActsDo, ActsMove}
 use Rattle.yamux_session.specs.State.{State, Stands as SessionStands}
 use Rattle.streams.specs.Streams.{Past}
-use Rattle.streams.specs.State.{Streaming, Stands}
+use Rattle.streams.specs.declared.stage.Stage.{Stage}
+use Rattle.streams.specs.State.{Streaming, Stands, Kind, Served, kind_of, awaits_handler, was_handed_out}
 use Rattle.serving.specs.Served.{IsDue as ActIsDue, AreDue, GaveAll as StreamGaveAll, HasSent as StreamHasSent, with_sent}
+use Rattle.serving.proofs.StageKinds.{same_awaiting, same_handed}
 use Rattle.conn_log.specs.declared.earlier.Earlier.{Earlier}
-use Rattle.conn_log.specs.Entries.{Entry, items, said, agreed, is_over, was_done, made_of, calls_of, asked, left_behind}
+use Rattle.conn_log.specs.Entries.{Entry, items, said, agreed, is_over, was_done, made_of, calls_of, has_taken, asked, left_behind}
 use Rattle.conn_log.specs.Entries.Entry.{Of}
-use Rattle.conn_log.specs.Due.{HasCome, IsThere, GaveAll, HasGiven, IsDue, AllDue, was_reset, end_was_told}
+use Rattle.conn_log.specs.Due.{HasCome, StandsByAll, GaveAll, HasGiven, IsDue, AllDue, was_reset, end_was_told}
 use Rattle.conn_log.specs.Held.{IsSide}
 use Rattle.conn_log.specs.Routes.{KeepsTurn, IsNoOpening, EndsLast, Around}
 use Rattle.conn_log.proofs.Same.{Same, same_refl, same_trans, same_by_act, IsOn, side_same}
@@ -97,22 +99,22 @@ module _ {H : Type 0} (acts_do : ActsDo) where
 module _ {P H : Type 0} (step : H → HandlerCall → H → Type 0) (fails : H → Asked → ℕ → Type 0)
     (is_closed is_finished : H → Bool) (inbound_makes outbound_makes : P → ℕ → List ℕ → H → Type 0)
     (eager : ℕ → Bool) (names : List (List ℕ)) (peer : List ℕ) (role : Role) (acts_do : ActsDo) (acts_move : ActsMove) where
-  on_of : (past : List Item) (n : ℕ) (so_far : Past H) (out : Bool) (act : Act) → ActIsDue step is_closed is_finished out role past n so_far act → IsOn n act
-  on_of past n so_far out (Write m pieces) due = due.0
-  on_of past n so_far out (Taken m count) due = due.0
-  on_of past n so_far out (Close m) due = due.0
-  on_of past n so_far out (Start m) due = absurd due
-  on_of past n so_far out (Reset m) due = absurd due
-  on_of past n so_far out (Act.GoAway code) due = absurd due
+  on_of : (past : List Item) (n : ℕ) (so_far : Past H) (kind : Kind) (act : Act) → ActIsDue step is_closed is_finished kind role past n so_far act → IsOn n act
+  on_of past n so_far kind (Write m pieces) due = due.0
+  on_of past n so_far kind (Taken m count) due = due.0
+  on_of past n so_far kind (Close m) due = due.0
+  on_of past n so_far kind (Start m) due = absurd due
+  on_of past n so_far kind (Reset m) due = absurd due
+  on_of past n so_far kind (Act.GoAway code) due = absurd due
 
   -- each act is on the stream
   abbrev pub AllOn : ℕ → List Act → Type 0
   AllOn n [] = Unit {0}
   AllOn n (act ∷ acts) = IsOn n act × AllOn n acts
 
-  pub all_on : (past : List Item) (n : ℕ) (so_far : Past H) (out : Bool) (acts : List Act) → AreDue step is_closed is_finished out role past n so_far acts → AllOn n acts
-  all_on past n so_far out [] due = tt
-  all_on past n so_far out (act ∷ acts) due = (on_of _ n so_far out act due.0, all_on past n so_far out acts due.1)
+  pub all_on : (past : List Item) (n : ℕ) (so_far : Past H) (kind : Kind) (acts : List Act) → AreDue step is_closed is_finished kind role past n so_far acts → AllOn n acts
+  all_on past n so_far kind [] due = tt
+  all_on past n so_far kind (act ∷ acts) due = (on_of _ n so_far kind act due.0, all_on past n so_far kind acts due.1)
 
   pub did_own : (log : List (Entry H)) (n : ℕ) (acts : List Act) → AllOn n acts → Own role log (did acts ++ log) n
   did_own log n [] on = record { came_is = refl; ended_is = refl; agreed_is = refl; over_is = refl; done_is = refl; made_is = refl; calls_is = refl; asked_is = refl }
@@ -225,85 +227,84 @@ module _ {P H : Type 0} (step : H → HandlerCall → H → Type 0) (fails : H �
 
   -- ---- why each act is due
 
-  -- the stream stands there
-  there_by : (log : List (Entry H)) (n : ℕ) (so_far : Past H) (acts : List Act) → AllOn n acts
-      → HasCome step fails is_closed is_finished inbound_makes outbound_makes eager names peer role log n so_far → (left : Option ℕ) (stream : Streaming H)
-      → Stands step stream (with_sent role (items (did acts ++ log)) n so_far left)
-      → IsThere step fails is_closed is_finished inbound_makes outbound_makes eager names peer role (did acts ++ log) n
-  there_by log n so_far acts all c left stream stands = record {
-    so_far = with_sent role (items (did acts ++ log)) n so_far left;
-    stream = stream;
-    come = come_on log (did acts ++ log) n so_far left (did_own log n acts all) c;
-    stands = stands;
+  -- What is known of a stream that is served: its handler was made; one that serves it was handed what stood behind the
+  -- talk; where it was handed out, that was told; and it isn't given up.
+  pub record WasServed (log : List (Entry H)) (n : ℕ) (old : Stage H) : Type 0 where
+    pub made : awaits_handler old ≡ false
+    pub handed : kind_of old ≡ Served → has_taken (calls_of role log n) ≡ true
+    pub told : was_handed_out old ≡ true → was_done role log n ≡ true
+    pub same_over : is_over role log n ≡ was_done role log n
+
+  -- by all that came; of a stream that was served while it was there
+  stands_by : (log : List (Entry H)) (n : ℕ) (so_far : Past H) (old : Stage H) → HasCome step fails is_closed is_finished inbound_makes outbound_makes eager names peer role log n so_far
+      → inbound role (items log) n ≡ so_far.got → WasServed log n old → (now : List (Entry H)) → Own role log now n → (left : Option ℕ) (stream : Streaming H)
+      → Stands step stream (with_sent role (items now) n so_far left) → kind_of stream.stage ≡ kind_of old
+      → StandsByAll step fails is_closed is_finished inbound_makes outbound_makes eager names peer role now n
+  stands_by log n so_far old c came was now own left stream stands kind = record {
+    there = record { so_far = with_sent role (items now) n so_far left; stream = stream; come = come_on log now n so_far left own c; stands = stands };
+    all_came = own.came_is ∙ came;
+    was_made = same_awaiting stream.stage old kind ∙ was.made;
+    handed = λ serves. ap has_taken own.calls_is ∙ was.handed (sym kind ∙ serves);
+    was_told = λ is. own.done_is ∙ was.told (sym (same_handed stream.stage old kind) ∙ is);
   }
 
   -- the stream gave what it has
-  all_given : (log : List (Entry H)) (n : ℕ) (so_far : Past H) (out : Bool) (acts : List Act) → AllOn n acts
+  all_given : (log : List (Entry H)) (n : ℕ) (so_far : Past H) (old : Stage H) (acts : List Act) → AllOn n acts
       → HasCome step fails is_closed is_finished inbound_makes outbound_makes eager names peer role log n so_far → inbound role (items log) n ≡ so_far.got
-      → (out ≡ true → was_done role log n ≡ true) → is_over role log n ≡ was_done role log n
-      → StreamGaveAll step is_closed is_finished out role (items (did acts ++ log)) n so_far
+      → WasServed log n old → StreamGaveAll step is_closed is_finished (kind_of old) role (items (did acts ++ log)) n so_far
       → GaveAll step fails is_closed is_finished inbound_makes outbound_makes eager names peer role (did acts ++ log) n
-  unfolding there_by
-  all_given log n so_far out acts all c came told same_over gave = record {
-    there = there_by log n so_far acts all c gave.left gave.stream gave.stands;
-    all_came = (did_own log n acts all).came_is ∙ came;
+  unfolding stands_by
+  all_given log n so_far old acts all c came was gave = record {
+    by_all = stands_by log n so_far old c came was (did acts ++ log) (did_own log n acts all) gave.left gave.stream gave.stands gave.kind_is;
     none_waits = gave.none_waits;
     asked = gave.asked;
-    was_told = λ is. (did_own log n acts all).done_is ∙ told (gave.out_before is);
-    not_given_up = (did_own log n acts all).over_is ∙ same_over ∙ sym (did_own log n acts all).done_is;
+    not_given_up = (did_own log n acts all).over_is ∙ was.same_over ∙ sym (did_own log n acts all).done_is;
   }
 
-  entry_due : (log : List (Entry H)) (n : ℕ) (so_far : Past H) (out : Bool) (acts : List Act) (act : Act) → AllOn n acts → IsOn n act
+  entry_due : (log : List (Entry H)) (n : ℕ) (so_far : Past H) (old : Stage H) (acts : List Act) (act : Act) → AllOn n acts → IsOn n act
       → HasCome step fails is_closed is_finished inbound_makes outbound_makes eager names peer role log n so_far → inbound role (items log) n ≡ so_far.got
-      → (out ≡ true → was_done role log n ≡ true) → is_over role log n ≡ was_done role log n
-      → ActIsDue step is_closed is_finished out role (items (did acts ++ log)) n so_far act
+      → WasServed log n old → ActIsDue step is_closed is_finished (kind_of old) role (items (did acts ++ log)) n so_far act
       → IsDue step fails is_closed is_finished inbound_makes outbound_makes eager names peer role (did acts ++ log) (Of (Did act))
-  unfolding all_given there_by
-  entry_due log n so_far out acts (Write k pieces) all on c came told same_over due =
+  unfolding all_given
+  entry_due log n so_far old acts (Write k pieces) all on c came was due =
+      let now = Of (Did (Write k pieces)) ∷ did acts ++ log in
       let own = own_trans role log (did acts ++ log) _ n (did_own log n acts all) (own_by acts_do role (did acts ++ log) n (Write k pieces) on) in
-      let there : IsThere step fails is_closed is_finished inbound_makes outbound_makes eager names peer role (Of (Did (Write k pieces)) ∷ did acts ++ log) n = record {
-        so_far = with_sent role (Did (Write k pieces) ∷ items (did acts ++ log)) n so_far due.1.left;
-        stream = due.1.stream;
-        come = come_on log (Of (Did (Write k pieces)) ∷ did acts ++ log) n so_far due.1.left own c;
-        stands = due.1.stands;
-      } in
-      subst (λ m. (it : IsThere step fails is_closed is_finished inbound_makes outbound_makes eager names peer role (Of (Did (Write k pieces)) ∷ did acts ++ log) m)
-      × (inbound role (items (did acts ++ log)) m ≡ it.so_far.got)) (sym on) (there, (did_own log n acts all).came_is ∙ came)
-  entry_due log n so_far out acts (Taken k count) all on c came told same_over due =
+      subst (λ m. StandsByAll step fails is_closed is_finished inbound_makes outbound_makes eager names peer role now m) (sym on)
+      (stands_by log n so_far old c came was now own due.1.left due.1.stream due.1.stands due.1.kind_is)
+  entry_due log n so_far old acts (Taken k count) all on c came was due =
       subst (λ m. (count ≡ untaken role (items (did acts ++ log)) m)
       × (((closed role (items (did acts ++ log)) m ≡ true)
-      × ((it : IsThere step fails is_closed is_finished inbound_makes outbound_makes eager names peer role (did acts ++ log) m) × (inbound role (items (did acts ++ log)) m ≡ it.so_far.got)))
+      × StandsByAll step fails is_closed is_finished inbound_makes outbound_makes eager names peer role (did acts ++ log) m)
       ⊎ ((0 < credit role (items (did acts ++ log)) m)
       × GaveAll step fails is_closed is_finished inbound_makes outbound_makes eager names peer role (did acts ++ log) m))) (sym on) (due.1, by_gave due.2) where
-        by_gave : ((closed role (items (did acts ++ log)) n ≡ true) × StreamHasSent step is_closed is_finished out role (items (did acts ++ log)) n so_far)
-            ⊎ ((0 < credit role (items (did acts ++ log)) n) × StreamGaveAll step is_closed is_finished out role (items (did acts ++ log)) n so_far)
+        by_gave : ((closed role (items (did acts ++ log)) n ≡ true) × StreamHasSent step is_closed is_finished (kind_of old) role (items (did acts ++ log)) n so_far)
+            ⊎ ((0 < credit role (items (did acts ++ log)) n) × StreamGaveAll step is_closed is_finished (kind_of old) role (items (did acts ++ log)) n so_far)
             → ((closed role (items (did acts ++ log)) n ≡ true)
-            × ((it : IsThere step fails is_closed is_finished inbound_makes outbound_makes eager names peer role (did acts ++ log) n) × (inbound role (items (did acts ++ log)) n ≡ it.so_far.got)))
+            × StandsByAll step fails is_closed is_finished inbound_makes outbound_makes eager names peer role (did acts ++ log) n)
             ⊎ ((0 < credit role (items (did acts ++ log)) n)
             × GaveAll step fails is_closed is_finished inbound_makes outbound_makes eager names peer role (did acts ++ log) n)
-        by_gave (inl shut) = inl (shut.0, (there_by log n so_far acts all c shut.1.left shut.1.stream shut.1.stands, (did_own log n acts all).came_is ∙ came))
-        by_gave (inr gave) = inr (gave.0, all_given log n so_far out acts all c came told same_over gave.1)
-  entry_due log n so_far out acts (Close k) all on c came told same_over due =
+        by_gave (inl shut) = inl (shut.0, stands_by log n so_far old c came was (did acts ++ log) (did_own log n acts all) shut.1.left shut.1.stream shut.1.stands shut.1.kind_is)
+        by_gave (inr gave) = inr (gave.0, all_given log n so_far old acts all c came was gave.1)
+  entry_due log n so_far old acts (Close k) all on c came was due =
       let given : HasGiven step fails is_closed is_finished inbound_makes outbound_makes eager names peer role (did acts ++ log) n = record {
-        all = all_given log n so_far out acts all c came told same_over due.1.all;
+        all = all_given log n so_far old acts all c came was due.1.all;
         over = due.1.over;
       } in
       subst (λ m. HasGiven step fails is_closed is_finished inbound_makes outbound_makes eager names peer role (did acts ++ log) m) (sym on) given
-  entry_due log n so_far out acts (Reset k) all on c came told same_over due = absurd due
-  entry_due log n so_far out acts (Start k) all on c came told same_over due = absurd due
-  entry_due log n so_far out acts (Act.GoAway code) all on c came told same_over due = absurd due
+  entry_due log n so_far old acts (Reset k) all on c came was due = absurd due
+  entry_due log n so_far old acts (Start k) all on c came was due = absurd due
+  entry_due log n so_far old acts (Act.GoAway code) all on c came was due = absurd due
 
-  pub did_due : (log : List (Entry H)) (n : ℕ) (so_far : Past H) (out : Bool) (acts : List Act)
+  pub did_due : (log : List (Entry H)) (n : ℕ) (so_far : Past H) (old : Stage H) (acts : List Act)
       → HasCome step fails is_closed is_finished inbound_makes outbound_makes eager names peer role log n so_far → inbound role (items log) n ≡ so_far.got
-      → (out ≡ true → was_done role log n ≡ true) → is_over role log n ≡ was_done role log n
-      → AreDue step is_closed is_finished out role (items log) n so_far acts
+      → WasServed log n old → AreDue step is_closed is_finished (kind_of old) role (items log) n so_far acts
       → AllDue step fails is_closed is_finished inbound_makes outbound_makes eager names peer role log
       → AllDue step fails is_closed is_finished inbound_makes outbound_makes eager names peer role (did acts ++ log)
-  did_due log n so_far out [] c came told same_over due all = all
-  did_due log n so_far out (act ∷ acts) c came told same_over due all = (
-    entry_due log n so_far out acts act (all_on (items log) n so_far out acts due.1) (on_of _ n so_far out act due.0) c came told same_over
-        (subst (λ (t : List Item). ActIsDue step is_closed is_finished out role t n so_far act) (sym (items_did acts log)) due.0),
-    did_due log n so_far out acts c came told same_over due.1 all,
+  did_due log n so_far old [] c came was due all = all
+  did_due log n so_far old (act ∷ acts) c came was due all = (
+    entry_due log n so_far old acts act (all_on (items log) n so_far (kind_of old) acts due.1) (on_of _ n so_far (kind_of old) act due.0) c came was
+        (subst (λ (t : List Item). ActIsDue step is_closed is_finished (kind_of old) role t n so_far act) (sym (items_did acts log)) due.0),
+    did_due log n so_far old acts c came was due.1 all,
   )
 
   -- ---- the view
@@ -331,16 +332,16 @@ module _ {P H : Type 0} (step : H → HandlerCall → H → Type 0) (fails : H �
     kept (Act.GoAway code) s on = absurd on
 
   -- acts that serve a stream end it only where the other end has ended it
-  pub view_over : (past : List Item) (n : ℕ) (so_far : Past H) (out : Bool) (acts : List Act) (view : Seen) → AreDue step is_closed is_finished out role past n so_far acts
+  pub view_over : (past : List Item) (n : ℕ) (so_far : Past H) (kind : Kind) (acts : List Act) (view : Seen) → AreDue step is_closed is_finished kind role past n so_far acts
       → (view.live ≡ false → view.ended ≡ true) → (view_by acts view).live ≡ false → (view_by acts view).ended ≡ true
-  view_over past n so_far out [] view due over = over
-  view_over past n so_far out (act ∷ acts) view due over = kept act (view_by acts view) due.0 (view_over past n so_far out acts view due.1 over) where
+  view_over past n so_far kind [] view due over = over
+  view_over past n so_far kind (act ∷ acts) view due over = kept act (view_by acts view) due.0 (view_over past n so_far kind acts view due.1 over) where
     shut_over : (live ended : Bool) → (live ≡ false → ended ≡ true) → live && not ended ≡ false → ended ≡ true
     shut_over live true over off = refl
     shut_over true false over off = absurd (cc off)
     shut_over false false over off = over refl
 
-    kept : (act : Act) (s : Seen) → ActIsDue step is_closed is_finished out role (map Did acts ++ past) n so_far act → (s.live ≡ false → s.ended ≡ true) → (done_by act s).live ≡ false → (done_by act s).ended ≡ true
+    kept : (act : Act) (s : Seen) → ActIsDue step is_closed is_finished kind role (map Did acts ++ past) n so_far act → (s.live ≡ false → s.ended ≡ true) → (done_by act s).live ≡ false → (done_by act s).ended ≡ true
     kept (Write m pieces) s due over = over
     kept (Taken m count) s due over = over
     kept (Close m) s due over = shut_over s.live s.ended over
@@ -400,18 +401,17 @@ module _ {P H : Type 0} (step : H → HandlerCall → H → Type 0) (fails : H �
   -- ---- all streams but this one
 
   pub around_acts : (log : List (Entry H)) (fed sent : List ℕ) (before after : State) (streams now : ℕ → Option (Streaming H)) (past : List (Earlier H)) (n : ℕ) (view : Seen)
-      (rest : List Told) (so_far : Past H) (out : Bool) (acts : List Act)
+      (rest : List Told) (so_far : Past H) (old : Stage H) (acts : List Act)
       → Around step fails is_closed is_finished inbound_makes outbound_makes eager names peer role log fed sent before streams past n view rest
       → HasCome step fails is_closed is_finished inbound_makes outbound_makes eager names peer role log n so_far → inbound role (items log) n ≡ so_far.got
-      → (out ≡ true → was_done role log n ≡ true) → is_over role log n ≡ was_done role log n
-      → AreDue step is_closed is_finished out role (items log) n so_far acts
+      → WasServed log n old → AreDue step is_closed is_finished (kind_of old) role (items log) n so_far acts
       → SessionStands role (map Did acts ++ items log) fed sent after
       → ((m : ℕ) → (n == m) ≡ false → now m ≡ streams m)
       → Around step fails is_closed is_finished inbound_makes outbound_makes eager names peer role (did acts ++ log) fed sent after now past n (view_by acts view) rest
-  around_acts log fed sent before after streams now past n view rest so_far out acts a c came told same_over due there elsewhere =
-      let on = all_on (items log) n so_far out acts due in
+  around_acts log fed sent before after streams now past n view rest so_far old acts a c came was due there elsewhere =
+      let on = all_on (items log) n so_far (kind_of old) acts due in
       grown step fails is_closed is_finished inbound_makes outbound_makes eager names peer role log (did acts) fed sent before after streams now past n view (view_by acts view) rest a
-      (did_due log n so_far out acts c came told same_over due a.due) (λ m apart. did_same log n m acts apart on)
+      (did_due log n so_far old acts c came was due a.due) (λ m apart. did_same log n m acts apart on)
       (subst (λ (t : List Item). SessionStands role t fed sent after) (sym (items_did acts log)) there) elsewhere
       (did_heard log n view rest acts on a.opens_none a.heard) (view_ended n acts view on) (did_left log n acts on)
       (did_resets log n acts on) (did_ends log n acts on n) (λ m over. did_over log n acts on m ∙ over) (did_only n acts on)

@@ -19,8 +19,8 @@ use Rattle.streams.specs.declared.stop.Cause.TheVariants as causes
 use Rattle.streams.specs.declared.stage.Stage.{Stage}
 use Rattle.streams.specs.declared.stage.Stage.TheVariants.{Serving}
 use Rattle.streams.specs.Streams.{Past, IsServed}
-use Rattle.streams.specs.State.{Streaming, Stands, is_talking, handler_of, is_open, has_closed, has_finished}
-use Rattle.streams.specs.State.{was_handed_out, Served, kind_of}
+use Rattle.streams.specs.State.{Streaming, Stands, is_talking, awaits_handler, handler_of, is_open, has_closed}
+use Rattle.streams.specs.State.{has_finished, was_handed_out, Served, kind_of}
 use Rattle.serving.specs.Served.{IsSettled}
 use Rattle.dispatch.specs.declared.direction.Direction.{Direction}
 use Rattle.dispatch.specs.declared.direction.Direction.TheVariants.{Inbound, Outbound}
@@ -242,22 +242,30 @@ module _ {P H : Type 0} (step : H → HandlerCall → H → Type 0) (fails : H �
     -- it was handed what stood behind the talk
     pub handed : has_taken (calls_of role log n) ≡ true
 
+  -- The stream stands by all data that came: its handler was made, and one that serves it was handed what stood behind
+  -- the talk; where it was handed out, that was told.
+  pub record StandsByAll (log : List (Entry H)) (n : ℕ) : Type 0 where
+    pub there : IsThere log n
+    pub all_came : inbound role (items log) n ≡ there.so_far.got
+    pub was_made : awaits_handler there.stream.stage ≡ false
+    pub handed : kind_of there.stream.stage ≡ Served → has_taken (calls_of role log n) ≡ true
+    pub was_told : was_handed_out there.stream.stage ≡ true → was_done role log n ≡ true
+
   -- The stream gave what it has by all data that came: nothing waits, and its handler was asked last with all the
   -- credit, unless it is closed, or was handed out and that was told.
   pub record GaveAll (log : List (Entry H)) (n : ℕ) : Type 0 where
-    pub there : IsThere log n
-    pub all_came : inbound role (items log) n ≡ there.so_far.got
-    pub none_waits : there.stream.waiting ≡ []
-    pub asked : is_open is_closed there.stream.stage ≡ true → there.so_far.left ≡ Some (credit role (items log) n)
-    pub was_told : was_handed_out there.stream.stage ≡ true → was_done role log n ≡ true
+    pub by_all : StandsByAll log n
+    pub none_waits : by_all.there.stream.waiting ≡ []
+    pub asked : is_open is_closed by_all.there.stream.stage ≡ true
+        → by_all.there.so_far.left ≡ Some (credit role (items log) n)
     -- neither Refused nor Broken was told of it
     pub not_given_up : is_over role log n ≡ was_done role log n
 
   -- It gives no more: its handler is closed, or finished, or was handed out.
   pub record HasGiven (log : List (Entry H)) (n : ℕ) : Type 0 where
     pub all : GaveAll log n
-    pub over : (has_closed is_closed all.there.stream.stage ≡ true)
-        ⊎ (has_finished is_finished all.there.stream.stage ≡ true)
+    pub over : (has_closed is_closed all.by_all.there.stream.stage ≡ true)
+        ⊎ (has_finished is_finished all.by_all.there.stream.stage ≡ true)
 
   -- why a handler is made: the newest entry agrees on its protocol, or opens the stream for an eager one
   abbrev pub MayBeMade : List (Entry H) → ℕ → H → Type 0
@@ -273,13 +281,11 @@ module _ {P H : Type 0} (step : H → HandlerCall → H → Type 0) (fails : H �
   -- a stream is opened only where one was asked for
   IsDue log (Of (Did (Start n))) = ⊥
   -- what is written is what the stream gave by all data that came
-  IsDue log (Of (Did (Write n pieces))) = (there : IsThere (Of (Did (Write n pieces)) ∷ log) n)
-      × (inbound role (items log) n ≡ there.so_far.got)
+  IsDue log (Of (Did (Write n pieces))) = StandsByAll (Of (Did (Write n pieces)) ∷ log) n
   -- all that came is taken, once the stream stands by it, where this direction is closed, or credit is left by a stream
   -- that gave what it has
   IsDue log (Of (Did (Taken n count))) = (count ≡ untaken role (items log) n)
-      × (((closed role (items log) n ≡ true)
-      × ((there : IsThere log n) × (inbound role (items log) n ≡ there.so_far.got)))
+      × (((closed role (items log) n ≡ true) × StandsByAll log n)
       ⊎ ((0 < credit role (items log) n) × GaveAll log n))
   IsDue log (Of (Did (Close n))) = HasGiven log n
   IsDue log (Of (Did (Reset n))) = IsGivenUp n log

@@ -14,7 +14,7 @@ use Rattle.yamux_session.specs.History.Item.{Came, Did}
 use Rattle.yamux_session.specs.History.Act.{Start, Taken, Close, Reset}
 use Rattle.yamux_session.specs.Rows.{header}
 use Rattle.streams.specs.declared.stop.Cause.TheVariants as causes
-use Rattle.streams.specs.State.{Served, kind_of}
+use Rattle.streams.specs.State.{Awaiting, Served, HandedOut, kind_of}
 use Rattle.conn_log.specs.declared.event.ConnFault.TheVariants as faults
 use Rattle.conn_log.specs.declared.event.ConnEvent.TheVariants as event
 use Rattle.conn_log.specs.Entries.{Entry, has_taken}
@@ -22,7 +22,7 @@ use Rattle.conn_log.specs.Entries.Entry.{Of, Says, Asks}
 use Rattle.conn_log.specs.EntryRows.{frame, opened, agrees, refuses, done, breaks, makes, answers}
 use Rattle.conn_log.specs.AskedRows.{is_1}
 use Rattle.conn_log.specs.DueRows.{inbound, outbound}
-use Rattle.conn_log.specs.Due.{asks_for, is_asked_anew, IsThere, MayBeAsked, HasHeard, IsDue, AllDue}
+use Rattle.conn_log.specs.Due.{asks_for, is_asked_anew, StandsByAll, MayBeAsked, HasHeard, IsDue, AllDue}
 
 abbrev pub is_due : List (Entry ℕ) → Entry ℕ → Type 0
 is_due = IsDue (λ before call now. now ≡ before) (λ handler request number. ⊥) (λ handler. false) (λ handler. false)
@@ -42,9 +42,9 @@ abbrev pub may_be_asked : List (Entry ℕ) → Asked → Type 0
 may_be_asked log request = MayBeAsked (λ before call now. now ≡ before) (λ handler request number. ⊥)
     (λ handler. false) (λ handler. false) inbound outbound is_1 (x ∷ y ∷ []) (9 ∷ []) Client log 2 request
 
--- it stands there
-abbrev pub is_there : List (Entry ℕ) → Type 0
-is_there log = IsThere (λ before call now. now ≡ before) (λ handler request number. ⊥) (λ handler. false)
+-- it stands by all that came
+abbrev pub stands_by_all : List (Entry ℕ) → Type 0
+stands_by_all log = StandsByAll (λ before call now. now ≡ before) (λ handler request number. ⊥) (λ handler. false)
     (λ handler. false) inbound outbound is_1 (x ∷ y ∷ []) (9 ∷ []) Client log 2
 
 -- the other end has reset it, and has sent one byte on it
@@ -129,7 +129,11 @@ pub record ActPlaceRows : Type 0 where
   pub goes_away : ¬ is_due [] (Of (Did (Act.GoAway 0)))
   -- where it is closed, by all that came
   pub takes_all : is_due (Of (Did (Close 2)) ∷ has_come) (Of (Did (Taken 2 1)))
-      ↔ ((there : is_there (Of (Did (Close 2)) ∷ has_come)) × (there.so_far.got ≡ 99 ∷ []))
+      ↔ stands_by_all (Of (Did (Close 2)) ∷ has_come)
+  pub got_all : (all : stands_by_all (Of (Did (Close 2)) ∷ has_come)) → all.there.so_far.got ≡ 99 ∷ []
+  -- not by one whose handler is still to be made, or wasn't handed what stood behind the talk, or was handed out untold
+  pub by_its_handler : (all : stands_by_all served) → (kind_of all.there.stream.stage ≢ Awaiting)
+      × (kind_of all.there.stream.stage ≢ Served) × (kind_of all.there.stream.stage ≢ HandedOut)
   pub takes_more : ¬ is_due (Of (Did (Close 2)) ∷ has_come) (Of (Did (Taken 2 2)))
   pub takes_none : ¬ is_due (Of (Did (Close 2)) ∷ has_come) (Of (Did (Taken 2 0)))
   pub takes_given_up : ¬ is_due (refuses 2 ∷ has_come) (Of (Did (Taken 2 1)))

@@ -159,9 +159,10 @@ module _ {P H : Type 0} (step : H → HandlerCall → H → Type 0) (fails : H �
     done = λ log n handler so_far waiting come all served finished asked none handed.
         record { so_far = so_far; waiting = waiting; come = come; all_came = all; served = served; finished = finished; asked = asked; none_waits = none; handed = handed };
     done_is = λ log n handler d. (d.so_far, d.waiting, d.come, d.all_came, d.served, d.finished, d.asked, d.none_waits, d.handed);
-    gave = λ log n there came none asked told same. record { there = there; all_came = came; none_waits = none; asked = asked; was_told = told; not_given_up = same };
-    gave_is = λ log n g. (g.there, g.all_came, g.none_waits, g.asked, g.was_told, g.not_given_up);
-    gave_by_name = λ log n g. (g.all_came, g.none_waits, g.asked, g.was_told);
+    by_all = λ log n there came made handed told. record { there = there; all_came = came; was_made = made; handed = handed; was_told = told };
+    by_all_is = λ log n s. (s.all_came, s.was_made, s.handed, s.was_told);
+    gave = λ log n all none asked same. record { by_all = all; none_waits = none; asked = asked; not_given_up = same };
+    gave_is = λ log n g. (g.none_waits, g.asked, g.not_given_up);
     given = λ log n all over. record { all = all; over = over };
     given_is = λ log n g. (g.all, g.over);
     not_gave = λ log n over undone. (

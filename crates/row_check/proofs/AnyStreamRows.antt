@@ -135,30 +135,30 @@ module _ {H : Type 0} (step : H → HandlerCall → H → Type 0) (fails : H →
   asks_so role past n stream so_far came (inl e) = (None, tt, e)
   asks_so role past n stream so_far came (inr h) = (Some h.0, h.1, h.2)
 
-  pub any_serving : (was_done : Bool) → AnyServingRows step fails is_closed is_finished was_done
-  any_serving was_done = record {
+  pub any_serving : (kind : Kind) → AnyServingRows step fails is_closed is_finished kind
+  any_serving kind = record {
     asks_to_give = λ role past n room stream bytes. (λ h. h, λ h. h);
     asks_nothing_else = λ role past n stream bytes. (λ h. h, λ h. h);
     asking = λ role past n stream so_far came. (λ h. asked_once role past n stream so_far came h.0 h.1 h.2, asks_so role past n stream so_far came);
     sent = λ role past n so_far left. refl;
     writes = λ role past n m so_far pieces. (
-      λ h. (h.0, (h.1.stream, h.1.left, h.1.stands)),
-      λ h. (h.0, record { stream = h.1.0; left = h.1.1; stands = h.1.2 }),
+      λ h. (h.0, (h.1.stream, h.1.left, h.1.stands, h.1.kind_is)),
+      λ h. (h.0, record { stream = h.1.0; left = h.1.1; stands = h.1.2; kind_is = h.1.3 }),
     );
     takes = λ role past n m count so_far. (
-      λ h. (h.0, h.1, or_on (λ t. (t.0, (t.1.stream, t.1.left, t.1.stands))) (λ t. (t.0, (t.1.stream, t.1.left, t.1.stands, t.1.none_waits, t.1.asked, t.1.out_before, tt))) h.2),
+      λ h. (h.0, h.1, or_on (λ t. (t.0, (t.1.stream, t.1.left, t.1.stands, t.1.kind_is))) (λ t. (t.0, (t.1.stream, t.1.left, t.1.stands, t.1.none_waits, t.1.asked, t.1.kind_is, tt))) h.2),
       λ h. (
         h.0,
         h.1,
-        or_on (λ t. (t.0, record { stream = t.1.0; left = t.1.1; stands = t.1.2 })) (λ t. (t.0, record { stream = t.1.0; left = t.1.1; stands = t.1.2; none_waits = t.1.3; asked = t.1.4; out_before = t.1.5 })) h.2,
+        or_on (λ t. (t.0, record { stream = t.1.0; left = t.1.1; stands = t.1.2; kind_is = t.1.3 })) (λ t. (t.0, record { stream = t.1.0; left = t.1.1; stands = t.1.2; none_waits = t.1.3; asked = t.1.4; kind_is = t.1.5 })) h.2,
       ),
     );
     closes = λ role past n m so_far. (
-      λ h. (h.0, (h.1.all.stream, h.1.all.left, h.1.all.stands, h.1.all.none_waits, h.1.all.asked, h.1.all.out_before, h.1.over)),
+      λ h. (h.0, (h.1.all.stream, h.1.all.left, h.1.all.stands, h.1.all.none_waits, h.1.all.asked, h.1.all.kind_is, h.1.over)),
       λ h. (
         h.0,
         record {
-          all = record { stream = h.1.0; left = h.1.1; stands = h.1.2; none_waits = h.1.3; asked = h.1.4; out_before = h.1.5 };
+          all = record { stream = h.1.0; left = h.1.1; stands = h.1.2; none_waits = h.1.3; asked = h.1.4; kind_is = h.1.5 };
           over = h.1.6;
         },
       ),
@@ -253,10 +253,10 @@ module _ {H : Type 0} (step : H → HandlerCall → H → Type 0) (fails : H →
     unwritten = λ so_far room amount stream bytes left some is_open within no_room stands.
         record { bytes = bytes; some = some; credit = amount; is_open = is_open; within = within; no_room = no_room; left = left; stands = stands };
     unwritten_is = λ so_far room stream u. (u.bytes, u.credit, u.left, u.some, u.is_open, u.within, u.no_room, u.stands);
-    undone = λ was_done so_far session stream act goes due sends no_room. record { goes = goes; act = act; due = due; sends = sends; no_room = no_room };
-    undone_is = λ was_done so_far session stream u. (u.act, (u.goes, u.due, u.sends), u.no_room);
+    undone = λ kind so_far session stream act goes due sends no_room. record { goes = goes; act = act; due = due; sends = sends; no_room = no_room };
+    undone_is = λ kind so_far session stream u. (u.act, (u.goes, u.due, u.sends), u.no_room);
     asking_runs_out = λ so_far before session old stream. (λ h. h, λ h. h);
-    no_room = λ was_done so_far before session old stream. (λ h. h, λ h. h);
+    no_room = λ kind so_far before session old stream. (λ h. h, λ h. h);
     runs_out_serving = λ so_far before session old stream. (λ h. h, λ h. h);
     runs_out_behind = λ call so_far before session old stream. (λ h. h, λ h. h);
     runs_out_taking = λ bytes so_far before session old stream. (λ h. h, λ h. h);

@@ -1,7 +1,7 @@
 -- The worked rows of which entries may stand where, and of streams that aren't at rest.
-use Rattle.std.proofs.Common.{◌≡◌, ◌≢◌, ◌⊎◌, inl, inr, ℕ, Bool, true, false, not, List, [], ◌∷◌, ◌++◌, Option, Some, None, IfSome, refl, sym, ap, ◌∙◌, subst, arith}
+use Rattle.std.proofs.Common.{◌≡◌, ◌⊎◌, inl, inr, ℕ, Bool, true, false, List, [], ◌∷◌, ◌++◌, Option, Some, None, IfSome, refl, sym, ap, ◌∙◌, subst}
 use Rattle.handlers.specs.Calls.{HandlerCall, Take, Give, End, ToEnd, EndsAs, taken}
-use Rattle.ms_select.specs.Rows.{x, y, header_bytes, y_bytes}
+use Rattle.ms_select.specs.Rows.{header_bytes, y_bytes}
 use Rattle.talks.specs.Rows.{answers}
 use Rattle.talks.proofs.Rows.{answer_rows}
 use Rattle.yamux_session.specs.declared.event.Role.TheVariants.{Client}
@@ -15,7 +15,7 @@ use Rattle.streams.specs.Streams.{Past}
 use Rattle.streams.specs.State.{Streaming, StandsAt, Served, kind_of, is_talking, is_open, awaits_handler, has_closed, has_finished, was_handed_out}
 use Rattle.conn_log.specs.Entries.{Entry, items}
 use Rattle.conn_log.specs.Entries.Entry.{Of, Calls}
-use Rattle.conn_log.specs.EntryRows.{frame, opened, done}
+use Rattle.conn_log.specs.EntryRows.{frame}
 use Rattle.conn_log.specs.PlaceRows as rows
 use Rattle.conn_log.specs.PlaceRows.{is_due}
 use Rattle.row_check.specs.PlacedRows.{EndPlaceRows, ServedPlaceRows, AtRestRows, closed_both, quiet, rests}
@@ -130,8 +130,8 @@ abbrev asked_log : List (Entry ℕ)
 asked_log = Calls 2 (Give rows.all_room []) ∷ rows.begun
 
 writes : is_due asked_log (Of (Did (Write 2 ((header_bytes ++ y_bytes) ∷ []))))
-writes = (
-  record {
+writes = record {
+  there = record {
     so_far = record { side = answers; got = header_bytes ++ y_bytes; ended = false; sent = header_bytes ++ y_bytes; made = Some 51; calls = Take [] ∷ Give rows.all_room [] ∷ []; left = None };
     stream = record { waiting = []; stage = stages.Serving 51 };
     come = record { side_is = (refl, refl); rest = []; got_is = refl; ended_by = λ e. absurd (off_is_on e); sent_is = refl; made_is = refl; calls_is = refl };
@@ -144,9 +144,12 @@ writes = (
       made_is = refl;
       handled = record { was_handed = record { calls = Take [] ∷ Give rows.all_room [] ∷ []; arises = (51, refl, (51, refl, refl)); joined = refl; ends = refl }; calls_are = refl; gave_is = refl; asked = tt };
     };
-  },
-  refl,
-)
+  };
+  all_came = refl;
+  was_made = refl;
+  handed = λ serves. refl;
+  was_told = λ out. absurd (off_is_on out);
+}
 
 -- what it was called for, where it was handed a byte behind a give
 abbrev told_behind : List HandlerCall
@@ -173,7 +176,7 @@ takes_unasked : ¬ is_due (Calls 2 (Take (99 ∷ [])) ∷ rows.byte_came ++ quie
 takes_unasked (count, inl (shut, there)) = off_is_on shut
 takes_unasked (count, inr (some, gave)) =
     let log : List (Entry ℕ) = Calls 2 (Take (99 ∷ [])) ∷ rows.byte_came ++ quiet in
-    unasked gave.there.so_far gave.there.stream.stage gave.there.stream.waiting (credit Client (items (Calls 2 (Take (99 ∷ [])) ∷ rows.byte_came ++ quiet)) 2) gave.there.come.calls_is gave.was_told gave.asked gave.there.stands
+    unasked gave.by_all.there.so_far gave.by_all.there.stream.stage gave.by_all.there.stream.waiting (credit Client (items (Calls 2 (Take (99 ∷ [])) ∷ rows.byte_came ++ quiet)) 2) gave.by_all.there.come.calls_is gave.by_all.was_told gave.asked gave.by_all.there.stands
 
 still_gives : (so_far : Past ℕ) (stage : Stage ℕ) (waiting : List ℕ) → (was_handed_out stage ≡ true → false ≡ true)
     → (has_closed never stage ≡ true) ⊎ (has_finished never stage ≡ true) → StandsAt step stage so_far waiting → ⊥
@@ -189,7 +192,7 @@ still_gives so_far stages.Done waiting out e s = absurd (off_is_on (out refl))
 still_gives so_far stages.Over waiting out e s = absurd s
 
 closes_serving : ¬ is_due quiet (Of (Did (Close 2)))
-closes_serving h = still_gives h.all.there.so_far h.all.there.stream.stage h.all.there.stream.waiting h.all.was_told h.over h.all.there.stands
+closes_serving h = still_gives h.all.by_all.there.so_far h.all.by_all.there.stream.stage h.all.by_all.there.stream.waiting h.all.by_all.was_told h.over h.all.by_all.there.stands
 
 pub served_place_rows : ServedPlaceRows
 served_place_rows = record {

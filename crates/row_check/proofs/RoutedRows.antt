@@ -28,7 +28,7 @@ use Rattle.dispatch.specs.Dispatch.{IsMade}
 use Rattle.routing.specs.declared.delivered.Outcome.{Outcome}
 use Rattle.routing.specs.declared.delivered.Outcome.TheVariants as outcomes
 use Rattle.routing.specs.Routing.{Takes, Fails, Hands, InTalk, HasAgreed}
-use Rattle.row_check.specs.RoutedRows.{WantingRows, RoutedRows, StoppedRows, SpentRows, agreed, runs_out_taking, runs_out, serving_of, over_of, talking_of, asking, never, Takes7, TakesOnly, makes_0, answers_none, fails_so, broken_by}
+use Rattle.row_check.specs.RoutedRows.{WantingRows, RoutedRows, StoppedRows, SpentRows, agreed, runs_out_taking, runs_out, serving_of, talking_of, asking, never, Takes7, TakesOnly, makes_0, answers_none, fails_so, broken_by}
 
 number_of : (a b : ℕ) → Some a ≡ Some b → b ≡ a
 number_of a b e = cc e

@@ -42,7 +42,7 @@ use Rattle.conn_log.specs.Turns.{AreInTurn}
 use Rattle.conn_log.specs.Held.{IsSide, IsHeld, IsAtRest, IsPast, AreLeft, earlier_of}
 use Rattle.conn_log.specs.Due.{was_reset, end_was_told, HasJustAgreed, MayBeMade, HasCome, IsThere, IsAskedFor}
 use Rattle.conn_log.specs.Due.{is_asked_anew, MayBeAsked, HasHeard, IsCutOff}
-use Rattle.conn_log.specs.Due.{IsInTurn, HandlerFails, IsBroken, IsDone, GaveAll, HasGiven, IsDue, AllDue}
+use Rattle.conn_log.specs.Due.{IsInTurn, HandlerFails, IsBroken, IsDone, StandsByAll, GaveAll, HasGiven, IsDue, AllDue}
 use Rattle.conn_log.specs.Rests.{AreAtRest, IsRested, AreRested, Grows}
 use Rattle.conn_log.specs.Asked.{IsBrokenOf, Asked as AskedOf}
 
@@ -152,6 +152,9 @@ module _ {P H : Type 0} (step : H → HandlerCall → H → Type 0) (fails : H �
 
   abbrev pub is_done : List (Entry H) → ℕ → H → Type 0
   is_done = IsDone step fails is_closed is_finished inbound_makes outbound_makes eager names peer role
+
+  abbrev pub stands_by_all : List (Entry H) → ℕ → Type 0
+  stands_by_all = StandsByAll step fails is_closed is_finished inbound_makes outbound_makes eager names peer role
 
   abbrev pub gave_all : List (Entry H) → ℕ → Type 0
   gave_all = GaveAll step fails is_closed is_finished inbound_makes outbound_makes eager names peer role
@@ -267,27 +270,29 @@ module _ {P H : Type 0} (step : H → HandlerCall → H → Type 0) (fails : H �
         → so_far.left ≡ Some (credit role (items log) n))
         × (is_live role (items log) n ≡ true → closed role (items log) n ≡ false → 0 < credit role (items log) n
         → waiting ≡ []) × (has_taken (calls_of role log n) ≡ true)
-    pub gave : (log : List (Entry H)) (n : ℕ) (there : is_there log n)
-        → inbound role (items log) n ≡ there.so_far.got → there.stream.waiting ≡ []
-        → (is_open is_closed there.stream.stage ≡ true → there.so_far.left ≡ Some (credit role (items log) n))
-        → (was_handed_out there.stream.stage ≡ true → was_done role log n ≡ true)
-        → is_over role log n ≡ was_done role log n → gave_all log n
-    pub gave_is : (log : List (Entry H)) (n : ℕ) → gave_all log n → (there : is_there log n)
-        × (inbound role (items log) n ≡ there.so_far.got) × (there.stream.waiting ≡ [])
-        × (is_open is_closed there.stream.stage ≡ true → there.so_far.left ≡ Some (credit role (items log) n))
-        × (was_handed_out there.stream.stage ≡ true → was_done role log n ≡ true)
-        × (is_over role log n ≡ was_done role log n)
+    pub by_all : (log : List (Entry H)) (n : ℕ) (there : is_there log n) → inbound role (items log) n ≡ there.so_far.got
+        → awaits_handler there.stream.stage ≡ false
+        → (kind_of there.stream.stage ≡ Served → has_taken (calls_of role log n) ≡ true)
+        → (was_handed_out there.stream.stage ≡ true → was_done role log n ≡ true) → stands_by_all log n
     -- it is the stream that it names
-    pub gave_by_name : (log : List (Entry H)) (n : ℕ) (g : gave_all log n)
-        → (inbound role (items log) n ≡ g.there.so_far.got) × (g.there.stream.waiting ≡ [])
-        × (is_open is_closed g.there.stream.stage ≡ true → g.there.so_far.left ≡ Some (credit role (items log) n))
-        × (was_handed_out g.there.stream.stage ≡ true → was_done role log n ≡ true)
+    pub by_all_is : (log : List (Entry H)) (n : ℕ) (all : stands_by_all log n)
+        → (inbound role (items log) n ≡ all.there.so_far.got) × (awaits_handler all.there.stream.stage ≡ false)
+        × (kind_of all.there.stream.stage ≡ Served → has_taken (calls_of role log n) ≡ true)
+        × (was_handed_out all.there.stream.stage ≡ true → was_done role log n ≡ true)
+    pub gave : (log : List (Entry H)) (n : ℕ) (all : stands_by_all log n) → all.there.stream.waiting ≡ []
+        → (is_open is_closed all.there.stream.stage ≡ true
+        → all.there.so_far.left ≡ Some (credit role (items log) n))
+        → is_over role log n ≡ was_done role log n → gave_all log n
+    pub gave_is : (log : List (Entry H)) (n : ℕ) (g : gave_all log n) → (g.by_all.there.stream.waiting ≡ [])
+        × (is_open is_closed g.by_all.there.stream.stage ≡ true
+        → g.by_all.there.so_far.left ≡ Some (credit role (items log) n))
+        × (is_over role log n ≡ was_done role log n)
     pub given : (log : List (Entry H)) (n : ℕ) (all : gave_all log n)
-        → (has_closed is_closed all.there.stream.stage ≡ true)
-        ⊎ (has_finished is_finished all.there.stream.stage ≡ true) → has_given log n
+        → (has_closed is_closed all.by_all.there.stream.stage ≡ true)
+        ⊎ (has_finished is_finished all.by_all.there.stream.stage ≡ true) → has_given log n
     pub given_is : (log : List (Entry H)) (n : ℕ) → has_given log n → (all : gave_all log n)
-        × ((has_closed is_closed all.there.stream.stage ≡ true)
-        ⊎ (has_finished is_finished all.there.stream.stage ≡ true))
+        × ((has_closed is_closed all.by_all.there.stream.stage ≡ true)
+        ⊎ (has_finished is_finished all.by_all.there.stream.stage ≡ true))
     -- a stream that was refused or broken didn't give all, and isn't closed
     pub not_gave : (log : List (Entry H)) (n : ℕ) → is_over role log n ≡ true → was_done role log n ≡ false
         → ¬ gave_all log n × ¬ has_given log n
@@ -302,11 +307,10 @@ module _ {P H : Type 0} (step : H → HandlerCall → H → Type 0) (fails : H �
     pub unasked : (log : List (Entry H)) (n code : ℕ) → ¬ is_due log (Of (Did (Start n)))
         × ¬ is_due log (Of (Did (Act.GoAway code)))
     pub writes : (log : List (Entry H)) (n : ℕ) (pieces : List (List ℕ)) → is_due log (Of (Did (Write n pieces)))
-        ↔ ((there : is_there (Of (Did (Write n pieces)) ∷ log) n) × (inbound role (items log) n ≡ there.so_far.got))
+        ↔ stands_by_all (Of (Did (Write n pieces)) ∷ log) n
     pub takes : (log : List (Entry H)) (n count : ℕ) → is_due log (Of (Did (Taken n count)))
         ↔ ((count ≡ untaken role (items log) n)
-        × (((closed role (items log) n ≡ true)
-        × ((there : is_there log n) × (inbound role (items log) n ≡ there.so_far.got)))
+        × (((closed role (items log) n ≡ true) × stands_by_all log n)
         ⊎ ((0 < credit role (items log) n) × gave_all log n)))
     pub closes : (log : List (Entry H)) (n : ℕ) → is_due log (Of (Did (Close n))) ↔ has_given log n
     pub resets_refused : (log : List (Entry H)) (n m : ℕ)

@@ -1,8 +1,8 @@
 -- Worked rows of which entries may stand where, and of streams that aren't at rest (hashicorp yamux, "Flow Control" and
 -- "Flag Field"; what a connection tells is this project's profile): of a client's connection whose protocols are called
 -- x and y, and on which the other end has opened stream 2. Lists have the newest first.
-use Rattle.std.specs.Prelude.{◌≡◌, ◌+◌, ℕ, Bool, true, false, List, [], ◌∷◌, ◌++◌, Option, None, length}
-use Rattle.handlers.specs.Calls.{HandlerCall, Take, Give, End, Asked}
+use Rattle.std.specs.Prelude.{◌≡◌, ℕ, false, List, [], ◌∷◌, ◌++◌, None, length}
+use Rattle.handlers.specs.Calls.{Take, Give, End}
 use Rattle.handlers.specs.declared.handler.HandlerFault.{HandlerFault}
 use Rattle.ms_select.specs.Rows.{x, y, header_bytes, y_bytes}
 use Rattle.yamux_session.specs.declared.event.Role.TheVariants.{Client}

@@ -18,7 +18,7 @@ use Rattle.yamux_session.specs.State.{State, Stands as SessionStands}
 use Rattle.streams.specs.declared.stage.Stage.{Stage}
 use Rattle.streams.specs.declared.stage.Stage.TheVariants as stages
 use Rattle.streams.specs.Streams.{Past, IsServed, with_call}
-use Rattle.streams.specs.State.{Streaming, Stands, StandsAt, is_open, has_closed, has_finished, was_handed_out}
+use Rattle.streams.specs.State.{Streaming, Stands, StandsAt, Kind, Served, kind_of, is_open, has_closed, has_finished}
 use Rattle.serving.specs.Served.{Asking, Goes, GaveAll, HasGiven, HasSent, HandsOut, Serves, with_sent}
 use Rattle.serving.specs.Wanting.{IsUndone}
 use Rattle.serving.specs.Steps.{Sends, WasAsked, WasClosed, Closes, Counts, CloseRunsOut, CountRunsOut}
@@ -32,10 +32,15 @@ empty_or (x ∷ xs) h = absurd (h (λ e. cc e))
 not_both : {b : Bool} → b ≡ true → b ≡ false → ⊥
 not_both on off = let e : true ≡ false = sym on ∙ off in cc e
 
-module _ {H : Type 0} (step : H → HandlerCall → H → Type 0) (is_closed is_finished : H → Bool) (was_done : Bool) where
+-- a stream of this kind is one still, or its handler, which served it, is handed out
+abbrev pub WasOf : {H : Type 0} → Kind → Option H → Streaming H → Type 0
+WasOf kind None x = kind_of x.stage ≡ kind
+WasOf kind (Some it) x = kind ≡ Served
+
+module _ {H : Type 0} (step : H → HandlerCall → H → Type 0) (is_closed is_finished : H → Bool) (kind : Kind) where
   begins : (role : Role) (past : List Item) (fed sent : List ℕ) (n : ℕ) (so_far : Past H) (session : State) (x : Streaming H)
       → SessionStands role past fed sent session → Stands step x so_far → so_far.sent ≡ written role past n
-      → Goes step is_closed is_finished was_done role past fed sent n so_far session x
+      → Goes step is_closed is_finished kind role past fed sent n so_far session x
   begins role past fed sent n so_far session x at stands e = record {
     acts = [];
     now = past;
@@ -49,7 +54,7 @@ module _ {H : Type 0} (step : H → HandlerCall → H → Type 0) (is_closed is_
   -- this direction isn't open: the stream isn't asked
   pub not_asked : (role : Role) (past : List Item) (fed sent : List ℕ) (n : ℕ) (so_far : Past H) (session : State) (x : Streaming H)
       → SessionStands role past fed sent session → Stands step x so_far → so_far.sent ≡ written role past n → open_credit role past n ≡ None
-      → Asking step is_closed role past n x so_far (λ now. WasAsked step is_closed is_finished was_done role past fed sent n now session x)
+      → Asking step is_closed role past n x so_far (λ now. WasAsked step is_closed is_finished kind role past fed sent n now session x)
   unfolding begins
   not_asked role past fed sent n so_far session x at stands e none = (
     None,
@@ -67,8 +72,8 @@ module _ {H : Type 0} (step : H → HandlerCall → H → Type 0) (is_closed is_
   module _ (acts_do : ActsDo) (acts_move : ActsMove) where
     asked_by : (role : Role) (past : List Item) (fed sent : List ℕ) (n amount : ℕ) (so_far : Past H) (session : State) (x : Streaming H)
         → (s : Sends step is_closed role past fed sent n amount so_far session x) → so_far.sent ≡ written role past n → open_credit role past n ≡ Some amount
-        → (s.acts ≡ Write n s.pieces ∷ []) ⊎ ((s.acts ≡ []) × (s.pieces ≡ [])) → WasAsked step is_closed is_finished was_done role past fed sent n so_far session x
-    asked_by role past fed sent n amount so_far session x s e is_open (inl are) =
+        → (s.acts ≡ Write n s.pieces ∷ []) ⊎ ((s.acts ≡ []) × (s.pieces ≡ [])) → kind_of x.stage ≡ kind → WasAsked step is_closed is_finished kind role past fed sent n so_far session x
+    asked_by role past fed sent n amount so_far session x s e is_open (inl are) same_kind =
         let w = has_written acts_do acts_move role past n s.pieces in
         let before = (open_with role past n amount is_open).credit_is in
         let there : Stands step x (with_sent role (Did (Write n s.pieces) ∷ past) n so_far s.left) =
@@ -79,7 +84,7 @@ module _ {H : Type 0} (step : H → HandlerCall → H → Type 0) (is_closed is_
             acts = Write n s.pieces ∷ [];
             now = Did (Write n s.pieces) ∷ past;
             now_is = refl;
-            due = ((refl, record { stream = x; left = s.left; stands = there }), tt);
+            due = ((refl, record { stream = x; left = s.left; stands = there; kind_is = same_kind }), tt);
             session_stands = subst (λ (t : List Act). SessionStands role (map Did t ++ past) fed sent session) are s.session_stands;
             left = s.left;
             stream_stands = there;
@@ -90,7 +95,7 @@ module _ {H : Type 0} (step : H → HandlerCall → H → Type 0) (is_closed is_
           none_waits = λ live unclosed some. empty_or x.waiting (λ waits. let all = s.full waits in omega (arith, all, left));
           untaken_is = w.untaken_is;
         }
-    asked_by role past fed sent n amount so_far session x s e is_open (inr (none, nothing)) =
+    asked_by role past fed sent n amount so_far session x s e is_open (inr (none, nothing)) same_kind =
         let before = (open_with role past n amount is_open).credit_is in
         let no_bytes : concat s.pieces ≡ [] = ap concat nothing in
         let same : so_far.sent ++ concat s.pieces ≡ written role past n = ap (λ t. so_far.sent ++ t) no_bytes ∙ append-nil so_far.sent ∙ e in
@@ -116,23 +121,23 @@ module _ {H : Type 0} (step : H → HandlerCall → H → Type 0) (is_closed is_
     -- what the stream gave was written, where it gave anything
     pub was_asked : (role : Role) (past : List Item) (fed sent : List ℕ) (n amount : ℕ) (so_far : Past H) (session : State) (old x : Streaming H)
         → Asking step is_closed role past n old so_far (λ now. Sends step is_closed role past fed sent n amount now session x) → so_far.sent ≡ written role past n
-        → open_credit role past n ≡ Some amount
-        → Asking step is_closed role past n old so_far (λ now. WasAsked step is_closed is_finished was_done role past fed sent n now session x)
-    was_asked role past fed sent n amount so_far session old x (gave, may, s) e is_open =
-        (gave, may, asked_by role past fed sent n amount (with_call so_far gave) session x s e is_open s.acts_are)
+        → open_credit role past n ≡ Some amount → kind_of x.stage ≡ kind
+        → Asking step is_closed role past n old so_far (λ now. WasAsked step is_closed is_finished kind role past fed sent n now session x)
+    was_asked role past fed sent n amount so_far session old x (gave, may, s) e is_open same_kind =
+        (gave, may, asked_by role past fed sent n amount (with_call so_far gave) session x s e is_open s.acts_are same_kind)
 
     -- a handler that is finished is handed out
     pub record HasFinished (role : Role) (past : List Item) (fed sent : List ℕ) (n : ℕ) (so_far : Past H)
         (handler : Option H) (session : State) (x : Streaming H) : Type 0 where
-      pub was_asked : WasAsked step is_closed is_finished was_done role past fed sent n so_far session x
+      pub was_asked : WasAsked step is_closed is_finished kind role past fed sent n so_far session x
       pub handed_out : HandsOut step is_closed is_finished (with_sent role was_asked.goes.now n so_far was_asked.goes.left) handler x
       pub asked_last : is_live role was_asked.goes.now n ≡ true → closed role was_asked.goes.now n ≡ false
           → IfSome handler (λ it. is_closed it ≡ false → was_asked.goes.left ≡ Some (credit role was_asked.goes.now n))
 
     handed_on : (role : Role) (past : List Item) (fed sent : List ℕ) (n : ℕ) (so_far : Past H) (session : State) (old new : Streaming H)
-        → (a : WasAsked step is_closed is_finished was_done role past fed sent n so_far session old) → new ≡ record old { stage = stages.Done }
+        → (a : WasAsked step is_closed is_finished kind role past fed sent n so_far session old) → new ≡ record old { stage = stages.Done }
         → Stands step new (with_sent role a.goes.now n so_far a.goes.left)
-        → WasAsked step is_closed is_finished was_done role past fed sent n so_far session new
+        → WasAsked step is_closed is_finished kind role past fed sent n so_far session new
     handed_on role past fed sent n so_far session old new a is stands =
         let shut : is_open is_closed new.stage ≡ false = ap (λ (x : Streaming H). is_open is_closed x.stage) is in
         record {
@@ -153,7 +158,7 @@ module _ {H : Type 0} (step : H → HandlerCall → H → Type 0) (is_closed is_
         }
 
     pub has_finished_on : (role : Role) (past : List Item) (fed sent : List ℕ) (n : ℕ) (so_far : Past H) (session : State) (handler : Option H) (old new : Streaming H)
-        → WasAsked step is_closed is_finished was_done role past fed sent n so_far session old
+        → WasAsked step is_closed is_finished kind role past fed sent n so_far session old
         → IfSome handler (λ it. (old.stage ≡ stages.Serving it) × (is_finished it ≡ true) × (new ≡ record old { stage = stages.Done }))
         → IfNone handler ((has_finished is_finished old.stage ≡ false) × (new ≡ old))
         → ((past : Past H) → Stands step old past → Stands step new past)
@@ -162,7 +167,7 @@ module _ {H : Type 0} (step : H → HandlerCall → H → Type 0) (is_closed is_
     has_finished_on role past fed sent n so_far session None old new a some none stands =
         let same : new ≡ old = none.1 in
         record {
-          was_asked = subst (λ (x : Streaming H). WasAsked step is_closed is_finished was_done role past fed sent n so_far session x) (sym same) a;
+          was_asked = subst (λ (x : Streaming H). WasAsked step is_closed is_finished kind role past fed sent n so_far session x) (sym same) a;
           handed_out = (tt, ap (λ (x : Streaming H). has_finished is_finished x.stage) same ∙ none.0);
           asked_last = λ live unclosed. tt;
         }
@@ -199,71 +204,78 @@ module _ {H : Type 0} (step : H → HandlerCall → H → Type 0) (is_closed is_
     open_by false e = refl
 
     -- a handler that is handed out was held before
+    has_sent : (role : Role) (now : List Item) (n : ℕ) (so_far : Past H) (left : Option ℕ) (handler : Option H) (x : Streaming H)
+        → HandsOut step is_closed is_finished (with_sent role now n so_far left) handler x → WasOf kind handler x
+        → Stands step x (with_sent role now n so_far left) → HasSent step is_closed is_finished kind role now n so_far
+    has_sent role now n so_far left None x out was stands = record { stream = x; left = left; stands = stands; kind_is = was }
+    has_sent role now n so_far left (Some it) x out was stands =
+        record { stream = record { waiting = x.waiting; stage = stages.Serving it }; left = left; stands = out.0.0; kind_is = sym was }
+
     gave_all : (role : Role) (now : List Item) (n : ℕ) (so_far : Past H) (left : Option ℕ) (handler : Option H) (x : Streaming H)
         → HandsOut step is_closed is_finished (with_sent role now n so_far left) handler x
-        → (handler ≡ None → was_handed_out x.stage ≡ true → was_done ≡ true)
+        → WasOf kind handler x
         → IfSome handler (λ it. is_closed it ≡ false → left ≡ Some (credit role now n))
         → Stands step x (with_sent role now n so_far left) → x.waiting ≡ []
         → (is_open is_closed x.stage ≡ true → left ≡ Some (credit role now n))
-        → GaveAll step is_closed is_finished was_done role now n so_far
-    gave_all role now n so_far left None x out out_before asked_last stands none asked =
-        record { stream = x; left = left; stands = stands; none_waits = none; asked = asked; out_before = out_before refl }
-    gave_all role now n so_far left (Some it) x out out_before asked_last stands none asked = record {
+        → GaveAll step is_closed is_finished kind role now n so_far
+    gave_all role now n so_far left None x out was asked_last stands none asked =
+        record { stream = x; left = left; stands = stands; none_waits = none; asked = asked; kind_is = was }
+    gave_all role now n so_far left (Some it) x out was asked_last stands none asked = record {
       stream = record { waiting = x.waiting; stage = stages.Serving it };
       left = left;
       stands = out.0.0;
       none_waits = none;
       asked = λ open_still. asked_last (open_by (is_closed it) open_still);
-      out_before = λ done. absurd (cc done);
+      kind_is = sym was;
     }
 
     -- and finished
     has_given : (role : Role) (now : List Item) (n : ℕ) (so_far : Past H) (left : Option ℕ) (handler : Option H) (x : Streaming H)
         → HandsOut step is_closed is_finished (with_sent role now n so_far left) handler x
-        → (handler ≡ None → was_handed_out x.stage ≡ true → was_done ≡ true)
+        → WasOf kind handler x
         → IfSome handler (λ it. is_closed it ≡ false → left ≡ Some (credit role now n))
         → Stands step x (with_sent role now n so_far left) → x.waiting ≡ []
         → (is_open is_closed x.stage ≡ true → left ≡ Some (credit role now n)) → has_closed is_closed x.stage ≡ true
-        → HasGiven step is_closed is_finished was_done role now n so_far
+        → HasGiven step is_closed is_finished kind role now n so_far
     unfolding gave_all
-    has_given role now n so_far left None x out out_before asked_last stands none asked over =
-        record { all = gave_all role now n so_far left None x out out_before asked_last stands none asked; over = inl over }
-    has_given role now n so_far left (Some it) x out out_before asked_last stands none asked over =
-        record { all = gave_all role now n so_far left (Some it) x out out_before asked_last stands none asked; over = inr out.0.1 }
+    has_given role now n so_far left None x out was asked_last stands none asked over =
+        record { all = gave_all role now n so_far left None x out was asked_last stands none asked; over = inl over }
+    has_given role now n so_far left (Some it) x out was asked_last stands none asked over =
+        record { all = gave_all role now n so_far left (Some it) x out was asked_last stands none asked; over = inr out.0.1 }
 
     -- what came may be taken
     may_take : (role : Role) (now : List Item) (n : ℕ) (so_far : Past H) → (0 < credit role now n) ⊎ (closed role now n ≡ true)
-        → HasSent step is_closed is_finished was_done role now n so_far
-        → (closed role now n ≡ false → 0 < credit role now n → GaveAll step is_closed is_finished was_done role now n so_far)
-        → ((closed role now n ≡ true) × HasSent step is_closed is_finished was_done role now n so_far) ⊎ ((0 < credit role now n) × GaveAll step is_closed is_finished was_done role now n so_far)
+        → HasSent step is_closed is_finished kind role now n so_far
+        → (closed role now n ≡ false → 0 < credit role now n → GaveAll step is_closed is_finished kind role now n so_far)
+        → ((closed role now n ≡ true) × HasSent step is_closed is_finished kind role now n so_far) ⊎ ((0 < credit role now n) × GaveAll step is_closed is_finished kind role now n so_far)
     may_take role now n so_far (inr shut) sent gave = inl (shut, sent)
     may_take role now n so_far (inl some) sent gave = by_closed (closed role now n) refl where
       by_closed : (b : Bool) → closed role now n ≡ b
-          → ((closed role now n ≡ true) × HasSent step is_closed is_finished was_done role now n so_far) ⊎ ((0 < credit role now n) × GaveAll step is_closed is_finished was_done role now n so_far)
+          → ((closed role now n ≡ true) × HasSent step is_closed is_finished kind role now n so_far) ⊎ ((0 < credit role now n) × GaveAll step is_closed is_finished kind role now n so_far)
       by_closed true is = inl (is, sent)
       by_closed false is = inr (some, gave is some)
 
     -- closing is due, where the stream gives no more
     closing_is_due : (role : Role) (past : List Item) (fed sent : List ℕ) (n : ℕ) (so_far : Past H) (handler : Option H) (before : State) (x : Streaming H)
-        → (a : WasAsked step is_closed is_finished was_done role past fed sent n so_far before x)
+        → (a : WasAsked step is_closed is_finished kind role past fed sent n so_far before x)
         → HandsOut step is_closed is_finished (with_sent role a.goes.now n so_far a.goes.left) handler x
-        → (handler ≡ None → was_handed_out x.stage ≡ true → was_done ≡ true)
+        → WasOf kind handler x
         → IfSome handler (λ it. is_closed it ≡ false → a.goes.left ≡ Some (credit role a.goes.now n))
         → (length x.waiting == 0) && has_closed is_closed x.stage ≡ true → is_live role a.goes.now n ≡ true → closed role a.goes.now n ≡ false
-        → HasGiven step is_closed is_finished was_done role a.goes.now n so_far
-    closing_is_due role past fed sent n so_far handler before x a out out_before asked_last is_over live unclosed =
+        → HasGiven step is_closed is_finished kind role a.goes.now n so_far
+    closing_is_due role past fed sent n so_far handler before x a out was asked_last is_over live unclosed =
         let given = both x.waiting (has_closed is_closed x.stage) is_over in
-        has_given role a.goes.now n so_far a.goes.left handler x out out_before asked_last a.goes.stream_stands given.0 (a.asked live unclosed) given.1
+        has_given role a.goes.now n so_far a.goes.left handler x out was asked_last a.goes.stream_stands given.0 (a.asked live unclosed) given.1
 
     pub was_closed : (role : Role) (past : List Item) (fed sent : List ℕ) (n : ℕ) (so_far : Past H) (handler : Option H) (before session : State) (x : Streaming H)
-        → (a : WasAsked step is_closed is_finished was_done role past fed sent n so_far before x)
+        → (a : WasAsked step is_closed is_finished kind role past fed sent n so_far before x)
         → HandsOut step is_closed is_finished (with_sent role a.goes.now n so_far a.goes.left) handler x
-        → (handler ≡ None → was_handed_out x.stage ≡ true → was_done ≡ true)
+        → WasOf kind handler x
         → (is_live role a.goes.now n ≡ true → closed role a.goes.now n ≡ false
         → IfSome handler (λ it. is_closed it ≡ false → a.goes.left ≡ Some (credit role a.goes.now n)))
         → Closes role a.goes.now fed sent n ((length x.waiting == 0) && has_closed is_closed x.stage) before session
-        → WasClosed step is_closed is_finished was_done role past fed sent n so_far handler session x
-    was_closed role past fed sent n so_far handler before session x a out out_before asked_last (inl (same, why)) = record {
+        → WasClosed step is_closed is_finished kind role past fed sent n so_far handler session x
+    was_closed role past fed sent n so_far handler before session x a out was asked_last (inl (same, why)) = record {
       goes = record {
         acts = a.goes.acts;
         now = a.goes.now;
@@ -286,7 +298,7 @@ module _ {H : Type 0} (step : H → HandlerCall → H → Type 0) (is_closed is_
           → is_live role a.goes.now n ≡ true → has_closed is_closed x.stage ≡ true → x.waiting ≡ [] → closed role a.goes.now n ≡ true
       by_why (inl off) live on none = absurd (nothing_more x.waiting (has_closed is_closed x.stage) off on none)
       by_why (inr none_open) live on none = not_open role a.goes.now n none_open live
-    was_closed role past fed sent n so_far handler before session x a out out_before asked_last (inr (is_over, live, unclosed, at)) =
+    was_closed role past fed sent n so_far handler before session x a out was asked_last (inr (is_over, live, unclosed, at)) =
         let now = Did (Close n) ∷ a.goes.now in
         let shut : closed role now n ≡ true = is_closed_then acts_do acts_move role a.goes.now n in
         let given = both x.waiting (has_closed is_closed x.stage) is_over in
@@ -298,8 +310,8 @@ module _ {H : Type 0} (step : H → HandlerCall → H → Type 0) (is_closed is_
             due = (
               (
                 refl,
-                subst (λ (t : List Item). HasGiven step is_closed is_finished was_done role t n so_far) a.goes.now_is
-                    (closing_is_due role past fed sent n so_far handler before x a out out_before (asked_last live unclosed) is_over live unclosed),
+                subst (λ (t : List Item). HasGiven step is_closed is_finished kind role t n so_far) a.goes.now_is
+                    (closing_is_due role past fed sent n so_far handler before x a out was (asked_last live unclosed) is_over live unclosed),
               ),
               a.goes.due,
             );
@@ -322,7 +334,7 @@ module _ {H : Type 0} (step : H → HandlerCall → H → Type 0) (is_closed is_
     pub left_on : (role : Role) (past : List Item) (fed sent : List ℕ) (n : ℕ) (so_far : Past H) (handler : Option H) (before session : State) (now : List Item) (x : Streaming H)
         → Closes role now fed sent n ((length x.waiting == 0) && has_closed is_closed x.stage) before session
         → ((role : Role) (past : List Item) (fed sent : List ℕ) → SessionStands role past fed sent before → open_credit role past n ≢ Some 0)
-        → (w : WasClosed step is_closed is_finished was_done role past fed sent n so_far handler session x) → open_credit role w.goes.now n ≢ Some 0
+        → (w : WasClosed step is_closed is_finished kind role past fed sent n so_far handler session x) → open_credit role w.goes.now n ≢ Some 0
     left_on role past fed sent n so_far handler before session now x (inl (same, why)) still w =
         still role w.goes.now fed sent (subst (λ (s : State). SessionStands role w.goes.now fed sent s) same w.goes.session_stands)
     left_on role past fed sent n so_far handler before session now x (inr (over, live, unclosed, stands)) still w =
@@ -335,22 +347,22 @@ module _ {H : Type 0} (step : H → HandlerCall → H → Type 0) (is_closed is_
 
     -- what came is due to be taken
     taking_is_due : (role : Role) (past : List Item) (fed sent : List ℕ) (n : ℕ) (so_far : Past H) (handler : Option H) (before : State) (x : Streaming H)
-        → (a : WasClosed step is_closed is_finished was_done role past fed sent n so_far handler before x)
-        → (handler ≡ None → was_handed_out x.stage ≡ true → was_done ≡ true)
+        → (a : WasClosed step is_closed is_finished kind role past fed sent n so_far handler before x)
+        → WasOf kind handler x
         → open_credit role a.goes.now n ≢ Some 0 → is_live role a.goes.now n ≡ true
-        → ((closed role a.goes.now n ≡ true) × HasSent step is_closed is_finished was_done role a.goes.now n so_far)
-        ⊎ ((0 < credit role a.goes.now n) × GaveAll step is_closed is_finished was_done role a.goes.now n so_far)
-    taking_is_due role past fed sent n so_far handler before x a out_before not_none live =
-        may_take role a.goes.now n so_far (some_left role a.goes.now n not_none live) (record { stream = x; left = a.goes.left; stands = a.goes.stream_stands }) (λ unclosed some.
-        gave_all role a.goes.now n so_far a.goes.left handler x a.handed_out out_before (a.asked_still live unclosed) a.goes.stream_stands (a.none_waits live unclosed some) (a.asked live unclosed))
+        → ((closed role a.goes.now n ≡ true) × HasSent step is_closed is_finished kind role a.goes.now n so_far)
+        ⊎ ((0 < credit role a.goes.now n) × GaveAll step is_closed is_finished kind role a.goes.now n so_far)
+    taking_is_due role past fed sent n so_far handler before x a was not_none live =
+        may_take role a.goes.now n so_far (some_left role a.goes.now n not_none live) (has_sent role a.goes.now n so_far a.goes.left handler x a.handed_out was a.goes.stream_stands) (λ unclosed some.
+        gave_all role a.goes.now n so_far a.goes.left handler x a.handed_out was (a.asked_still live unclosed) a.goes.stream_stands (a.none_waits live unclosed some) (a.asked live unclosed))
 
     -- and what came was counted as taken
     pub was_settled : (role : Role) (past : List Item) (fed sent : List ℕ) (n : ℕ) (so_far : Past H) (handler : Option H) (before session : State) (x : Streaming H)
-        → (a : WasClosed step is_closed is_finished was_done role past fed sent n so_far handler before x)
-        → (handler ≡ None → was_handed_out x.stage ≡ true → was_done ≡ true)
+        → (a : WasClosed step is_closed is_finished kind role past fed sent n so_far handler before x)
+        → WasOf kind handler x
         → Counts role a.goes.now fed sent n before session
-        → Serves step is_closed is_finished was_done role past fed sent n so_far handler session x
-    was_settled role past fed sent n so_far handler before session x a out_before (inl (same, why)) = record {
+        → Serves step is_closed is_finished kind role past fed sent n so_far handler session x
+    was_settled role past fed sent n so_far handler before session x a was (inl (same, why)) = record {
       goes = record {
         acts = a.goes.acts;
         now = a.goes.now;
@@ -375,7 +387,7 @@ module _ {H : Type 0} (step : H → HandlerCall → H → Type 0) (is_closed is_
           → (0 < credit role a.goes.now n) ⊎ (closed role a.goes.now n ≡ true) → untaken role a.goes.now n ≡ 0
       by_why (inl none) live some = absurd (nothing_left role a.goes.now n none some)
       by_why (inr dead) live some = absurd (not_both live dead)
-    was_settled role past fed sent n so_far handler before session x a out_before (inr (not_none, live, at)) =
+    was_settled role past fed sent n so_far handler before session x a was (inr (not_none, live, at)) =
         let count = untaken role a.goes.now n in
         let now = Did (Taken n count) ∷ a.goes.now in
         let k = taken_keeps acts_do acts_move role a.goes.now n count in
@@ -388,8 +400,8 @@ module _ {H : Type 0} (step : H → HandlerCall → H → Type 0) (is_closed is_
               (
                 refl,
                 ap (λ (t : List Item). untaken role t n) a.goes.now_is,
-                subst (λ (t : List Item). ((closed role t n ≡ true) × HasSent step is_closed is_finished was_done role t n so_far) ⊎ ((0 < credit role t n) × GaveAll step is_closed is_finished was_done role t n so_far)) a.goes.now_is
-                    (taking_is_due role past fed sent n so_far handler before x a out_before not_none live),
+                subst (λ (t : List Item). ((closed role t n ≡ true) × HasSent step is_closed is_finished kind role t n so_far) ⊎ ((0 < credit role t n) × GaveAll step is_closed is_finished kind role t n so_far)) a.goes.now_is
+                    (taking_is_due role past fed sent n so_far handler before x a was not_none live),
               ),
               a.goes.due,
             );
@@ -412,8 +424,8 @@ module _ {H : Type 0} (step : H → HandlerCall → H → Type 0) (is_closed is_
 
     -- acts were done, and session and stream stand there
     goes_still : (role : Role) (past : List Item) (fed sent : List ℕ) (n : ℕ) (so_far : Past H) (before session : State) (x : Streaming H)
-        → session ≡ before → Goes step is_closed is_finished was_done role past fed sent n so_far before x
-        → Goes step is_closed is_finished was_done role past fed sent n so_far session x
+        → session ≡ before → Goes step is_closed is_finished kind role past fed sent n so_far before x
+        → Goes step is_closed is_finished kind role past fed sent n so_far session x
     goes_still role past fed sent n so_far before session x same g = record {
       acts = g.acts;
       now = g.now;
@@ -426,33 +438,33 @@ module _ {H : Type 0} (step : H → HandlerCall → H → Type 0) (is_closed is_
 
     -- this direction isn't closed, for which memory is wanting
     pub unclosed_then : (role : Role) (past : List Item) (fed sent : List ℕ) (n : ℕ) (so_far : Past H) (handler : Option H) (before session : State) (x : Streaming H)
-        → (a : WasAsked step is_closed is_finished was_done role past fed sent n so_far before x)
+        → (a : WasAsked step is_closed is_finished kind role past fed sent n so_far before x)
         → HandsOut step is_closed is_finished (with_sent role a.goes.now n so_far a.goes.left) handler x
-        → (handler ≡ None → was_handed_out x.stage ≡ true → was_done ≡ true)
+        → WasOf kind handler x
         → (is_live role a.goes.now n ≡ true → closed role a.goes.now n ≡ false
         → IfSome handler (λ it. is_closed it ≡ false → a.goes.left ≡ Some (credit role a.goes.now n)))
         → CloseRunsOut role a.goes.now n ((length x.waiting == 0) && has_closed is_closed x.stage) before session
-        → IsUndone step is_closed is_finished was_done role past fed sent n so_far session x
+        → IsUndone step is_closed is_finished kind role past fed sent n so_far session x
     unfolding goes_still
-    unclosed_then role past fed sent n so_far handler before session x a out out_before asked_last (same, is_over, live, unclosed, no_room) = record {
+    unclosed_then role past fed sent n so_far handler before session x a out was asked_last (same, is_over, live, unclosed, no_room) = record {
       goes = goes_still role past fed sent n so_far before session x same a.goes;
       act = Close n;
-      due = (refl, closing_is_due role past fed sent n so_far handler before x a out out_before (asked_last live unclosed) is_over live unclosed);
+      due = (refl, closing_is_due role past fed sent n so_far handler before x a out was (asked_last live unclosed) is_over live unclosed);
       sends = λ none. absurd (not_both (not_open role a.goes.now n none live) unclosed);
       no_room = subst (λ (s : State). s.room < 12) (sym same) no_room;
     }
 
     -- what came isn't taken, for which memory is wanting
     pub untaken_then : (role : Role) (past : List Item) (fed sent : List ℕ) (n : ℕ) (so_far : Past H) (handler : Option H) (before session : State) (x : Streaming H)
-        → (a : WasClosed step is_closed is_finished was_done role past fed sent n so_far handler before x)
-        → (handler ≡ None → was_handed_out x.stage ≡ true → was_done ≡ true)
+        → (a : WasClosed step is_closed is_finished kind role past fed sent n so_far handler before x)
+        → WasOf kind handler x
         → CountRunsOut role a.goes.now n before session
-        → IsUndone step is_closed is_finished was_done role past fed sent n so_far session x
+        → IsUndone step is_closed is_finished kind role past fed sent n so_far session x
     unfolding goes_still
-    untaken_then role past fed sent n so_far handler before session x a out_before (same, not_none, live, sends, no_room) = record {
+    untaken_then role past fed sent n so_far handler before session x a was (same, not_none, live, sends, no_room) = record {
       goes = goes_still role past fed sent n so_far before session x same a.goes;
       act = Taken n (untaken role a.goes.now n);
-      due = (refl, refl, taking_is_due role past fed sent n so_far handler before x a out_before not_none live);
+      due = (refl, refl, taking_is_due role past fed sent n so_far handler before x a was not_none live);
       sends = sends;
       no_room = subst (λ (s : State). s.room < 12) (sym same) no_room;
     }

@@ -13,7 +13,7 @@ use Rattle.streams.specs.declared.stage.Stage.{Stage}
 use Rattle.streams.specs.declared.stage.Stage.TheVariants as stages
 use Rattle.streams.specs.Handled.{AskedLast}
 use Rattle.streams.specs.Streams.{Past, HasAgreed}
-use Rattle.streams.specs.State.{StandsAt, is_open, has_closed, has_finished, was_handed_out}
+use Rattle.streams.specs.State.{StandsAt, Served, HandedOut, kind_of, is_open, has_closed, has_finished}
 use Rattle.talks.proofs.Rows.{answer_rows}
 use Rattle.streams.proofs.Rows.{something_waits, sends_its_talk}
 use Rattle.serving.specs.Served.{MayGrow, GaveAll, with_sent}
@@ -84,7 +84,7 @@ begins_otherwise stages.Over waiting left s = s
 
 pub write_rows : WriteRows
 write_rows = record {
-  written = (refl, record { stream = record { waiting = y_bytes; stage = stages.Serving true }; left = None; stands = sent_header });
+  written = (refl, record { stream = record { waiting = y_bytes; stage = stages.Serving true }; left = None; stands = sent_header; kind_is = refl });
   something_else = λ d. let sent = d.1 in begins_otherwise sent.stream.stage sent.stream.waiting sent.left sent.stands;
 }
 
@@ -182,7 +182,7 @@ both_ways on off = absurd (let e : true ≡ false = sym on ∙ off in cc e)
 
 -- a handler that is neither closed nor finished, and wasn't handed out, may give more
 serves_on : (stage : Stage Bool) (waiting : List ℕ) (left : Option ℕ) → StandsAt Stays stage (with_sent Server talk_sent 1 (record (unsent_with false) { calls = then_asked }) left) waiting
-    → (has_closed itself stage ≡ true) ⊎ (has_finished itself stage ≡ true) → (was_handed_out stage ≡ true → false ≡ true) → ⊥
+    → (has_closed itself stage ≡ true) ⊎ (has_finished itself stage ≡ true) → kind_of stage ≡ Served → ⊥
 serves_on (stages.Talking talk None) waiting left s over out = absurd (let e = s.early.0 in cc e)
 serves_on (stages.Talking talk (Some handler)) waiting left s over out = s.early.0
 serves_on (stages.Agreed index) waiting left s over out = absurd (let e = s.none_made in cc e)
@@ -193,13 +193,13 @@ serves_on (stages.Serving handler) waiting left s over out = by_either over wher
   by_either : (handler ≡ true) ⊎ (handler ≡ true) → ⊥
   by_either (inl over) = both_ways over unclosed
   by_either (inr over) = both_ways over unclosed
-serves_on stages.Done waiting left s over out = absurd (let e = out refl in cc e)
+serves_on stages.Done waiting left s over out = absurd (cc out)
 serves_on stages.Over waiting left s over out = s
 
 -- nor did one give what it has that is open, and was never asked
 may_give : (closed : Bool → Bool) (made : Bool) → closed made ≡ false → (stage : Stage Bool) (waiting : List ℕ) (left : Option ℕ)
     → StandsAt Stays stage (with_sent Server talk_sent 1 (unsent_with made) left) waiting
-    → (is_open closed stage ≡ true → left ≡ Some (credit Server talk_sent 1)) → (was_handed_out stage ≡ true → false ≡ true) → ⊥
+    → (is_open closed stage ≡ true → left ≡ Some (credit Server talk_sent 1)) → kind_of stage ≡ Served → ⊥
 may_give closed made unclosed (stages.Talking talk None) waiting left s asked out = absurd (let e = s.early.0 in cc e)
 may_give closed made unclosed (stages.Talking talk (Some handler)) waiting left s asked out = s.early.0
 may_give closed made unclosed (stages.Agreed index) waiting left s asked out = absurd (let e = s.none_made in cc e)
@@ -208,21 +208,21 @@ may_give closed made unclosed (stages.Serving handler) waiting left s asked out 
     let open_still : not (closed handler) ≡ true = ap (λ b. not (closed b)) same ∙ ap not unclosed in
     asked_never s.handled.was_handed.calls (credit Server talk_sent 1) s.handled.calls_are
     (subst (λ (l : Option ℕ). IfSome l (AskedLast s.handled.was_handed.calls)) (asked open_still) s.handled.asked)
-may_give closed made unclosed stages.Done waiting left s asked out = absurd (let e = out refl in cc e)
+may_give closed made unclosed stages.Done waiting left s asked out = absurd (cc out)
 may_give closed made unclosed stages.Over waiting left s asked out = s
 
 -- those that gave what they have
-closed_gave : GaveAll Stays itself never false Server talk_sent 1 (unsent_with true)
+closed_gave : GaveAll Stays itself never Served Server talk_sent 1 (unsent_with true)
 closed_gave = record {
   stream = record { waiting = []; stage = stages.Serving true };
   left = None;
   stands = unasked_with true;
   none_waits = refl;
   asked = λ open_still. absurd (cc open_still);
-  out_before = λ out. absurd (cc out);
+  kind_is = refl;
 }
 
-asked_gave : (closed finished : Bool → Bool) (handler : Bool) → GaveAll Stays closed finished false Server talk_sent 1 (record (unsent_with handler) { calls = then_asked })
+asked_gave : (closed finished : Bool → Bool) (handler : Bool) → GaveAll Stays closed finished Served Server talk_sent 1 (record (unsent_with handler) { calls = then_asked })
 unfolding left_then asked_past
 asked_gave closed finished handler = record {
   stream = record { waiting = []; stage = stages.Serving handler };
@@ -230,17 +230,17 @@ asked_gave closed finished handler = record {
   stands = asked_with handler;
   none_waits = refl;
   asked = λ open_still. refl;
-  out_before = λ out. absurd (cc out);
+  kind_is = refl;
 }
 
-out_gave : (closed : Bool → Bool) → GaveAll Stays closed never true Server talk_sent 1 (unsent_with false)
+out_gave : (closed : Bool → Bool) → GaveAll Stays closed never HandedOut Server talk_sent 1 (unsent_with false)
 out_gave closed = record {
   stream = record { waiting = []; stage = stages.Done };
   left = None;
   stands = done_with_it false;
   none_waits = refl;
   asked = λ open_still. absurd (cc open_still);
-  out_before = λ out. refl;
+  kind_is = refl;
 }
 
 pub close_rows : CloseRows
@@ -249,9 +249,9 @@ close_rows = record {
   waiting = λ d. let all = d.1.all in gives_more all.stream.stage all.stream.waiting all.left all.stands all.none_waits;
   closed = (refl, record { all = closed_gave; over = inl refl });
   finished = (refl, record { all = asked_gave never itself true; over = inr refl });
-  finished_unasked = λ d. let all = d.1.all in may_give never true refl all.stream.stage all.stream.waiting all.left all.stands all.asked all.out_before;
+  finished_unasked = λ d. let all = d.1.all in may_give never true refl all.stream.stage all.stream.waiting all.left all.stands all.asked all.kind_is;
   handed_out = (refl, record { all = out_gave never; over = inl refl });
-  serving = λ d. let all = d.1.all in serves_on all.stream.stage all.stream.waiting all.left all.stands d.1.over all.out_before;
+  serving = λ d. let all = d.1.all in serves_on all.stream.stage all.stream.waiting all.left all.stands d.1.over all.kind_is;
 }
 
 pub take_rows : TakeRows
@@ -260,10 +260,10 @@ take_rows = record {
   waiting = λ d. by_gave gives_nothing d.2;
   closed = (refl, refl, inr (omega arith, closed_gave));
   asked = (refl, refl, inr (omega arith, asked_gave itself never false));
-  unasked = λ d. by_gave (λ all. may_give itself false refl all.stream.stage all.stream.waiting all.left all.stands all.asked all.out_before) d.2;
+  unasked = λ d. by_gave (λ all. may_give itself false refl all.stream.stage all.stream.waiting all.left all.stands all.asked all.kind_is) d.2;
   handed_out = (refl, refl, inr (omega arith, out_gave itself));
 } where
-  gives_nothing : GaveAll any_step itself itself false Server two_bytes 1 unsent → ⊥
+  gives_nothing : GaveAll any_step itself itself Served Server two_bytes 1 unsent → ⊥
   gives_nothing all = gives_more all.stream.stage all.stream.waiting all.left all.stands all.none_waits
 
   by_gave : {A B C : Type 0} → (C → ⊥) → ((false ≡ true) × A) ⊎ (B × C) → ⊥

@@ -18,7 +18,7 @@ use Rattle.streams.specs.declared.stage.Stage.TheVariants.{Done}
 use Rattle.streams.specs.declared.stop.Stop.{Stop}
 use Rattle.streams.specs.Streams.{Past, IsServed, with_call}
 use Rattle.streams.specs.State.{Streaming, Stands, Answered, handler_of, is_open, has_closed, has_finished}
-use Rattle.streams.specs.State.{was_handed_out}
+use Rattle.streams.specs.State.{Kind, kind_of}
 use Rattle.streams.specs.Stops.{FailsBy}
 
 -- ---- the call by which a stream is served
@@ -64,8 +64,8 @@ module _ {H : Type 0} (step : H → HandlerCall → H → Type 0) (is_closed is_
       IfSome handler (λ it. IsServed step so_far it stream.waiting × (is_finished it ≡ true) × (stream.stage ≡ Done))
       × IfNone handler (has_finished is_finished stream.stage ≡ false)
 
--- Of a stream whose handler was handed out before it was served, or was not.
-module _ {H : Type 0} (step : H → HandlerCall → H → Type 0) (is_closed is_finished : H → Bool) (was_done : Bool) where
+-- Of a stream that was of this kind before it was served: each act is due by the stream while it was so.
+module _ {H : Type 0} (step : H → HandlerCall → H → Type 0) (is_closed is_finished : H → Bool) (kind : Kind) where
   -- The stream gave what it has: nothing waits, and its handler was asked last with all the credit, unless it is closed
   -- or was handed out before.
   pub record GaveAll (role : Role) (past : List Item) (n : ℕ) (so_far : Past H) : Type 0 where
@@ -74,7 +74,7 @@ module _ {H : Type 0} (step : H → HandlerCall → H → Type 0) (is_closed is_
     pub stands : Stands step stream (with_sent role past n so_far left)
     pub none_waits : stream.waiting ≡ []
     pub asked : is_open is_closed stream.stage ≡ true → left ≡ Some (credit role past n)
-    pub out_before : was_handed_out stream.stage ≡ true → was_done ≡ true
+    pub kind_is : kind_of stream.stage ≡ kind
 
   -- It gives no more: its handler is closed, or finished, or was handed out before.
   pub record HasGiven (role : Role) (past : List Item) (n : ℕ) (so_far : Past H) : Type 0 where
@@ -86,6 +86,7 @@ module _ {H : Type 0} (step : H → HandlerCall → H → Type 0) (is_closed is_
     pub stream : Streaming H
     pub left : Option ℕ
     pub stands : Stands step stream (with_sent role past n so_far left)
+    pub kind_is : kind_of stream.stage ≡ kind
 
   -- Why an act is due that serves the stream: all that came is taken, once the stream stands by it, where this
   -- direction is closed, or credit is left by a stream that gave what it has; this direction is closed where the stream

@@ -12,7 +12,7 @@ use Rattle.yamux_session.specs.Windows.{credit, untaken, given_back}
 use Rattle.yamux_session.specs.Acts.{open_credit}
 use Rattle.yamux_session.specs.State.{State, Stands as SessionStands}
 use Rattle.streams.specs.Streams.{Past}
-use Rattle.streams.specs.State.{Streaming, Stands, is_open, has_closed}
+use Rattle.streams.specs.State.{Streaming, Stands, Kind, is_open, has_closed}
 use Rattle.serving.specs.Served.{Goes, HandsOut, with_sent}
 
 -- the stream was asked with this much credit, and what it gave was written, where it gave anything
@@ -53,11 +53,11 @@ CountRunsOut role past n old session = (session ≡ old) × (open_credit role pa
     × (is_live role past n ≡ true) × (0 < given_back role n past (Did (Taken n (untaken role past n))))
     × (old.room < 12)
 
-module _ {H : Type 0} (step : H → HandlerCall → H → Type 0) (is_closed is_finished : H → Bool) (was_done : Bool) where
+module _ {H : Type 0} (step : H → HandlerCall → H → Type 0) (is_closed is_finished : H → Bool) (kind : Kind) where
   -- The stream was asked with all the credit, where this direction is open.
   pub record WasAsked (role : Role) (past : List Item) (fed sent : List ℕ) (n : ℕ) (so_far : Past H) (session : State)
       (stream : Streaming H) : Type 0 where
-    pub goes : Goes step is_closed is_finished was_done role past fed sent n so_far session stream
+    pub goes : Goes step is_closed is_finished kind role past fed sent n so_far session stream
     pub live_is : is_live role goes.now n ≡ is_live role past n
     pub closed_is : closed role goes.now n ≡ closed role past n
     pub asked : is_live role goes.now n ≡ true → closed role goes.now n ≡ false
@@ -69,7 +69,7 @@ module _ {H : Type 0} (step : H → HandlerCall → H → Type 0) (is_closed is_
   -- A handler that is finished was handed out, and this direction is closed where the stream gives no more.
   pub record WasClosed (role : Role) (past : List Item) (fed sent : List ℕ) (n : ℕ) (so_far : Past H)
       (handler : Option H) (session : State) (stream : Streaming H) : Type 0 where
-    pub goes : Goes step is_closed is_finished was_done role past fed sent n so_far session stream
+    pub goes : Goes step is_closed is_finished kind role past fed sent n so_far session stream
     pub asked : is_live role goes.now n ≡ true → closed role goes.now n ≡ false
         → is_open is_closed stream.stage ≡ true → goes.left ≡ Some (credit role goes.now n)
     pub none_waits : is_live role goes.now n ≡ true → closed role goes.now n ≡ false → 0 < credit role goes.now n
