@@ -212,6 +212,7 @@ ASKS = [
         [UPGRADE, "out", "ask 2", data(Flags.FIN, 1, HELLO), "out"],
     ),
     Trace("a reset of this end's stream", "dialer", [UPGRADE, "ask 2", "ask 2", resets(1), "ask 2", "out"]),
+    Trace("a reset right behind its ask", "dialer", [UPGRADE, "out", "ask 2", resets(1), "out", "ask 2"]),
     Trace("going away", "dialer", [UPGRADE, GOES_AWAY, "ask 2", "ask 3", "end"]),
     Trace(
         "asks for no protocol, before it is up and behind the end",
