@@ -27,7 +27,7 @@ use Rattle.board.specs.Boards.{MakesInOrder, MakesOnBoard}
 use Rattle.mux.specs.Faults.{Faults}
 use Rattle.mux.proofs.Framing.{faults_made}
 use Rattle.mux.specs.declared.mux.Mux.{Mux}
-use Rattle.conn_core.specs.Connects.{IsUp, IsUpWith, IsFaulty, session_role}
+use Rattle.conn_core.specs.Connects.{IsUp, IsUpWith, IsFaulty, TellsFirst, session_role}
 
 -- what is said of a board is said of what it is known to be
 pub as_known : (e known_e : ℕ → Bool) (n known_n : List (List ℕ)) (p known_p : List ℕ) (r known_r : Role) → e ≡ known_e → n ≡ known_n → p ≡ known_p → r ≡ known_r
@@ -138,6 +138,23 @@ module _ {P H : Type 0} (step : H → HandlerCall → H → Type 0) (fails : H �
       }
 
   -- what the session wrote was moved behind what waited
+  -- what it tells then stands behind what was told before
+  pub breaks_behind : (input taken waiting : List ℕ) (piece : List ℕ) (asked : List (ℕ × ℕ)) (before old new : List (ConnEvent H)) (mux after : Mux P H)
+      → IsUpWith step fails is_closed is_finished inbound_makes outbound_makes listed is_eager inbound_leads outbound_leads start role own input asked (before ++ old) (taken ++ waiting) mux
+      → ((log : List (Entry H)) (fed sent : List ℕ) → AreAtRest step fails is_closed is_finished inbound_makes outbound_makes (is_eager mux.board.protocols) (listed mux.board.protocols) mux.board.peer mux.board.role log fed sent mux.session (tree.get nat_cmp mux.board.streams) mux.board.past.items
+      → after.session.failed ≡ true
+      → Faults step fails is_closed is_finished inbound_makes outbound_makes (is_eager mux.board.protocols) (listed mux.board.protocols) mux.board.peer mux.board.role (MakesOnBoard inbound_leads outbound_leads mux.board after.board) log [] old new fed piece sent after.session.pending (tree.get nat_cmp after.board.streams) after.board.past.items)
+      → after.session.failed ≡ true → TellsFirst old (new ++ event.Fault fault.Mux ∷ [])
+  breaks_behind input taken waiting piece asked before old new mux after upw faults_by failed =
+      let board = mux.board in
+      let up = upw.3.0 in
+      let faults = as_known (is_eager board.protocols) (is_eager start) (listed board.protocols) (listed start) board.peer (id_of up.key) board.role (session_role role) upw.1 upw.0 upw.3.1 upw.2
+      (λ e n p r. AreAtRest step fails is_closed is_finished inbound_makes outbound_makes e n p r up.log up.rest (output (session_role role) (items up.log)) mux.session (tree.get nat_cmp board.streams) board.past.items
+      → after.session.failed ≡ true
+      → Faults step fails is_closed is_finished inbound_makes outbound_makes e n p r (MakesInOrder inbound_leads outbound_leads p r board.protocols after.board.protocols board.order after.board.order) up.log [] old new up.rest piece (output (session_role role) (items up.log)) after.session.pending (tree.get nat_cmp after.board.streams) after.board.past.items)
+      (faults_by up.log up.rest (output (session_role role) (items up.log))) up.at_rest failed in
+      (said faults.newer ++ event.Fault fault.Mux ∷ [], ap (λ t. t ++ event.Fault fault.Mux ∷ []) faults.told_is ∙ append_assoc old (said faults.newer) (event.Fault fault.Mux ∷ []))
+
   pub up_breaks : (input piece taken waiting moved : List ℕ) (asked : List (ℕ × ℕ)) (before old new : List (ConnEvent H)) (mux after : Mux P H)
       → IsUpWith step fails is_closed is_finished inbound_makes outbound_makes listed is_eager inbound_leads outbound_leads start role own input asked (before ++ old) (taken ++ waiting) mux
       → ((log : List (Entry H)) (fed sent : List ℕ) → AreAtRest step fails is_closed is_finished inbound_makes outbound_makes (is_eager mux.board.protocols) (listed mux.board.protocols) mux.board.peer mux.board.role log fed sent mux.session (tree.get nat_cmp mux.board.streams) mux.board.past.items

@@ -194,9 +194,11 @@ module _ {P H : Type 0} (step : H → HandlerCall → H → Type 0) (fails : H �
   pub answer_rows : AnswerRows step fails is_closed is_finished inbound_makes outbound_makes listed is_eager inbound_leads
       outbound_leads start role own
   answer_rows = record {
-    fed = λ bytes more owed next. (λ it. it.1, λ is. (refl, is));
+    fed = λ bytes more owed next. (λ it. (it.1, it.2), λ is. (refl, is.0, is.1));
     fed_behind_the_end = λ bytes more next it. cc it.0;
-    ended = λ more owed next. (λ it. it.1, λ is. (refl, is));
+    ended = λ more owed next. (λ it. (it.1, it.2), λ is. (refl, is.0, is.1));
+    owed_last = λ owed other more bytes next is it. let e : ◌≡◌ {A = List (ConnEvent H)} (other ∷ owed ∷ []) (owed ∷ it.2.0) = sym is ∙ it.2.1 in cc e;
+    owed_is_lost = λ owed more next is it. let e : ◌≡◌ {A = List (ConnEvent H)} [] (owed ∷ it.2.0) = sym is ∙ it.2.1 in cc e;
     ended_behind_the_end = λ more next it. cc it.0;
     fed_a_stream = λ bytes next it. it;
     ended_by_a_stream = λ next it. it;

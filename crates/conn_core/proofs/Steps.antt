@@ -15,7 +15,7 @@ use Rattle.conn_core.specs.declared.calls.ConnAct.{ConnAct}
 use Rattle.conn_core.specs.declared.calls.ConnAct.TheVariants.{Ask}
 use Rattle.conn_core.specs.declared.calls.ConnAnswer.{ConnAnswer}
 use Rattle.conn_core.specs.declared.calls.ConnAnswer.TheVariants.{Events, Refused}
-use Rattle.conn_core.specs.Connects.{Connects, Stands, MayOpen, IsRefused, OwesOf, is_over, is_spent, waiting_in, held_in, IsOrderedIn}
+use Rattle.conn_core.specs.Connects.{Connects, Stands, MayOpen, IsRefused, OwesOf, is_over, is_spent, waiting_in, held_in, IsOrderedIn, TellsFirst}
 use Rattle.upgrade.specs.Upgrades.{Grows}
 use Rattle.conn_core.specs.Wanting.{Wrote}
 use Rattle.conn_core.specs.Runs.{Point, Explains, IsExplained, MayBeAsked, IsNotOpened, IsTurnedAway, IsKept, AnswersAt, Holds, Leaves, HasWritten, Answers, AnswersAll, IsAt, has_ended, events_or, stream_or}
@@ -134,36 +134,40 @@ module _ {P H : Type 0} (step : H → HandlerCall → H → Type 0) (fails : H �
   -- ---- a feed, or the end of the input
 
   pub tells : (point : Point H) (call : ConnAct) (after : List ℕ → List ℕ) (b : Bool) (old new : ConnCore P H) (r : Result (Vec (ConnEvent H)) ConnRefused)
-      → ((input : List ℕ) (ended : Bool) (asked : List (ℕ × ℕ)) (told owed : List (ConnEvent H)) (more : Vec (ConnEvent H)) (next : Point H) → has_ended told ≡ false → next ≡ At (after input) b asked (told ++ more.items) []
+      → ((input : List ℕ) (ended : Bool) (asked : List (ℕ × ℕ)) (told owed : List (ConnEvent H)) (more : Vec (ConnEvent H)) (next : Point H) → has_ended told ≡ false → next ≡ At (after input) b asked (told ++ more.items) [] → TellsFirst owed more.items
       → AnswersAt step fails is_closed is_finished inbound_makes outbound_makes listed is_eager inbound_leads outbound_leads start role own input ended asked told owed call (Events more) next)
       → ((input : List ℕ) (ended : Bool) (asked : List (ℕ × ℕ)) (told owed : List (ConnEvent H)) (why : ConnRefused) (next : Point H) → IsTurnedAway told why (At input ended asked told owed) next
       → AnswersAt step fails is_closed is_finished inbound_makes outbound_makes listed is_eager inbound_leads outbound_leads start role own input ended asked told owed call (Refused why) next)
       → ((input : List ℕ) (asked : List (ℕ × ℕ)) (told : List (ConnEvent H)) → Stands step fails is_closed is_finished inbound_makes outbound_makes listed is_eager inbound_leads outbound_leads start role own input false asked told taken old → is_over old.phase ≡ false
       → IfOk r (λ events. Stands step fails is_closed is_finished inbound_makes outbound_makes listed is_eager inbound_leads outbound_leads start role own (after input) b asked (told ++ events.items) taken new × (new.owed.items ≡ [])))
+      → ((input : List ℕ) (asked : List (ℕ × ℕ)) (told : List (ConnEvent H)) → Stands step fails is_closed is_finished inbound_makes outbound_makes listed is_eager inbound_leads outbound_leads start role own input false asked told taken old → is_over old.phase ≡ false
+      → IfOk r (λ events. TellsFirst old.owed.items events.items))
       → (is_over old.phase ≡ false → OnErr r ((r ≡ Err refusals.OutOfMemory) × (is_spent new.phase ≡ true)))
       → ((input : List ℕ) (asked : List (ℕ × ℕ)) (told owed : List (ConnEvent H)) → Explains step fails is_closed is_finished inbound_makes outbound_makes listed is_eager inbound_leads outbound_leads start role own input false asked told owed (taken ++ waiting_in old.phase old.output.items)
       → Stands step fails is_closed is_finished inbound_makes outbound_makes listed is_eager inbound_leads outbound_leads start role own input false asked told taken old → is_over old.phase ≡ false
       → OnErr r (IsKept step fails is_closed is_finished inbound_makes outbound_makes listed is_eager inbound_leads outbound_leads start role own input false asked told owed call (taken ++ waiting_in new.phase new.output.items)))
       → (is_over old.phase ≡ true → (r ≡ Err refusals.Failed) × (new ≡ old))
       → IsAt step fails is_closed is_finished inbound_makes outbound_makes listed is_eager inbound_leads outbound_leads start role own taken point old → Leads point call (events_or r) new
-  tells (At input ended asked told owed) call after b old new (Ok events) shape away fed refused kept failed at = by_over (is_over old.phase) refl
+  tells (At input ended asked told owed) call after b old new (Ok events) shape away fed first refused kept failed at = by_over (is_over old.phase) refl
     where
       by_over : (c : Bool) → is_over old.phase ≡ c → Leads (At input ended asked told owed) call (Events events) new
       by_over true over = absurd (let e = (failed over).0 in cc)
       by_over false going =
           let open_still = unended step fails is_closed is_finished inbound_makes outbound_makes listed is_eager inbound_leads outbound_leads start role own input ended asked told taken old.phase old.owed.items old.output.items at.1.1 going in
-          let now = fed input asked told (subst (λ (x : Bool). Stands step fails is_closed is_finished inbound_makes outbound_makes listed is_eager inbound_leads outbound_leads start role own input x asked told taken old) open_still at.1) going in
+          let stood = subst (λ (x : Bool). Stands step fails is_closed is_finished inbound_makes outbound_makes listed is_eager inbound_leads outbound_leads start role own input x asked told taken old) open_still at.1 in
+          let now = fed input asked told stood going in
+          let tells_first = subst (λ (o : List (ConnEvent H)). TellsFirst o events.items) at.0 (first input asked told stood going) in
           let next : Point H = At (after input) b asked (told ++ events.items) [] in
           let there : IsAt step fails is_closed is_finished inbound_makes outbound_makes listed is_eager inbound_leads outbound_leads start role own taken next new = (now.1, now.0) in (
             next,
             (
-              shape input ended asked told owed events next (told_over step fails is_closed is_finished inbound_makes outbound_makes listed is_eager inbound_leads outbound_leads start role own input ended asked told taken old.phase old.owed.items old.output.items at.1.1 ∙ going) refl,
+              shape input ended asked told owed events next (told_over step fails is_closed is_finished inbound_makes outbound_makes listed is_eager inbound_leads outbound_leads start role own input ended asked told taken old.phase old.owed.items old.output.items at.1.1 ∙ going) refl tells_first,
               explained_at next new there,
               tt,
             ),
             there,
           )
-  tells (At input ended asked told owed) call after b old new (Err why) shape away fed refused kept failed at = by_over (is_over old.phase) refl
+  tells (At input ended asked told owed) call after b old new (Err why) shape away fed first refused kept failed at = by_over (is_over old.phase) refl
     where
       by_over : (c : Bool) → is_over old.phase ≡ c → Leads (At input ended asked told owed) call (Refused why) new
       by_over true over =
@@ -194,8 +198,8 @@ module _ {P H : Type 0} (step : H → HandlerCall → H → Type 0) (fails : H �
             ),
             (out.1, refl),
           )
-  tells (Spent w) call after b old new (Ok events) shape away fed refused kept failed at = absurd (let e = (failed (spent_over old.phase at.0)).0 in cc)
-  tells (Spent w) call after b old new (Err why) shape away fed refused kept failed at =
+  tells (Spent w) call after b old new (Ok events) shape away fed first refused kept failed at = absurd (let e = (failed (spent_over old.phase at.0)).0 in cc)
+  tells (Spent w) call after b old new (Err why) shape away fed first refused kept failed at =
       let same = failed (spent_over old.phase at.0) in
       let why_is : why ≡ refusals.Failed = (let e = same.0 in cc) in
       (Spent w, (ap Refused why_is, refl), subst (λ (c : ConnCore P H). (is_spent c.phase ≡ true) × (taken ++ waiting_in c.phase c.output.items ≡ w)) (sym same.1) at)

@@ -204,6 +204,10 @@ abbrev pub OwesOf : {H : Type 0} → ℕ → List (ConnEvent H) → List (ConnEv
 OwesOf number before after = (more : List (ConnEvent _)) × AllByRecursion (IsBrokenOf number) more
     × (after ≡ before ++ more)
 
+-- what is owed is told first
+abbrev pub TellsFirst : {H : Type 0} → List (ConnEvent H) → List (ConnEvent H) → Type 0
+TellsFirst owed told = (more : List (ConnEvent _)) × (told ≡ owed ++ more)
+
 -- what was written and not yet taken
 abbrev pub waiting_in : {P H : Type 0} → Phase P H → List ℕ → List ℕ
 waiting_in (phases.Upgrading x protocols) output = x.pending

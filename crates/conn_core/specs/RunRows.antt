@@ -17,6 +17,7 @@ use Rattle.conn_core.specs.declared.calls.ConnAct.TheVariants.{Feed, Ask, Ended}
 use Rattle.conn_core.specs.declared.calls.ConnAnswer.{ConnAnswer}
 use Rattle.conn_core.specs.declared.calls.ConnAnswer.TheVariants.{Events, Stream, Refused}
 use Rattle.conn_core.specs.Runs.{Point, is_end, has_ended, events_or, stream_or, IsTurnedAway, StaysBehind}
+use Rattle.conn_core.specs.Connects.{TellsFirst}
 use Rattle.conn_core.specs.Runs.{AnswersAt, Answers, AnswersAll, Leaves}
 use Rattle.conn_core.specs.Runs.Point.{At, Spent}
 use Rattle.conn_core.specs.Promises.{fed_by, told_by, opened_by}
@@ -87,15 +88,22 @@ module _ {P H : Type 0} (step : H → HandlerCall → H → Type 0) (fails : H �
       outbound_leads start role own
 
   pub record AnswerRows : Type 0 where
-    -- what was owed is told by it, so nothing is owed behind it
+    -- what was owed is told by it, first, so nothing is owed behind it
     pub fed : (bytes : Vec ℕ) (more : Vec (ConnEvent H)) (owed : List (ConnEvent H)) (next : Point H)
         → answers_at (event.Refused 1 ∷ []) owed (Feed bytes) (Events more) next
-        ↔ (next ≡ At (1 ∷ bytes.items) false ((3, 0) ∷ []) (event.Refused 1 ∷ more.items) [])
+        ↔ ((next ≡ At (1 ∷ bytes.items) false ((3, 0) ∷ []) (event.Refused 1 ∷ more.items) [])
+        × TellsFirst owed more.items)
     pub fed_behind_the_end : (bytes : Vec ℕ) (more : Vec (ConnEvent H)) (next : Point H)
         → ¬ answers_at (event.Shut ∷ []) [] (Feed bytes) (Events more) next
     pub ended : (more : Vec (ConnEvent H)) (owed : List (ConnEvent H)) (next : Point H)
         → answers_at (event.Refused 1 ∷ []) owed Ended (Events more) next
-        ↔ (next ≡ At (1 ∷ []) true ((3, 0) ∷ []) (event.Refused 1 ∷ more.items) [])
+        ↔ ((next ≡ At (1 ∷ []) true ((3, 0) ∷ []) (event.Refused 1 ∷ more.items) [])
+        × TellsFirst owed more.items)
+    -- not behind what else is told
+    pub owed_last : (owed other : ConnEvent H) (more : Vec (ConnEvent H)) (bytes : Vec ℕ) (next : Point H)
+        → more.items ≡ other ∷ owed ∷ [] → answers_at [] (owed ∷ []) (Feed bytes) (Events more) next → other ≡ owed
+    pub owed_is_lost : (owed : ConnEvent H) (more : Vec (ConnEvent H)) (next : Point H) → more.items ≡ []
+        → ¬ answers_at [] (owed ∷ []) Ended (Events more) next
     pub ended_behind_the_end : (more : Vec (ConnEvent H)) (next : Point H)
         → ¬ answers_at (event.Shut ∷ []) [] Ended (Events more) next
     pub fed_a_stream : (bytes : Vec ℕ) (next : Point H) → ¬ answers_at [] [] (Feed bytes) (Stream 1) next

@@ -31,7 +31,7 @@ use Rattle.conn_core.specs.declared.calls.ConnAnswer.{ConnAnswer}
 use Rattle.conn_core.specs.declared.calls.ConnAnswer.TheVariants.{Events, Stream, Refused}
 use Rattle.held_order.specs.Orders.{newest_held, arranged}
 use Rattle.conn_core.specs.Wanting.{Wrote}
-use Rattle.conn_core.specs.Connects.{IsUp, Ends, Stands, session_role, is_spent, waiting_in}
+use Rattle.conn_core.specs.Connects.{IsUp, Ends, Stands, session_role, is_spent, waiting_in, TellsFirst}
 
 -- Where an end is. At: this came, whether the input has ended, these streams were opened for these protocols, these
 -- events were told, and these are owed: they are told by the next call. Spent: memory was refused, and this was written
@@ -148,11 +148,12 @@ module _ {P H : Type 0} (step : H → HandlerCall → H → Type 0) (fails : H �
 
   -- ---- each call
 
-  -- the call has this answer there, and leads on to the next point
+  -- the call has this answer there, and leads on to the next point; what is owed is told first
   abbrev pub AnswersAt : List ℕ → Bool → List (ℕ × ℕ) → List (ConnEvent H) → List (ConnEvent H) → ConnAct
       → ConnAnswer H → Point H → Type 0
   AnswersAt input ended asked told owed (Feed bytes) (Events more) next =
       (has_ended told ≡ false) × (next ≡ At (input ++ bytes.items) false asked (told ++ more.items) [])
+      × TellsFirst owed more.items
   AnswersAt input ended asked told owed (Feed bytes) (Refused why) next =
       IsTurnedAway told why (At input ended asked told owed) next
   -- of a stream that was just opened nothing is owed but that its eager handler gave up
@@ -166,7 +167,7 @@ module _ {P H : Type 0} (step : H → HandlerCall → H → Type 0) (fails : H �
       × IsNotOpened input ended asked told owed written there index why)
       × StaysBehind why (At input ended asked told owed) next
   AnswersAt input ended asked told owed Ended (Events more) next =
-      (has_ended told ≡ false) × (next ≡ At input true asked (told ++ more.items) [])
+      (has_ended told ≡ false) × (next ≡ At input true asked (told ++ more.items) []) × TellsFirst owed more.items
   AnswersAt input ended asked told owed Ended (Refused why) next =
       IsTurnedAway told why (At input ended asked told owed) next
   AnswersAt input ended asked told owed call answer next = ⊥

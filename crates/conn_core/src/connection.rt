@@ -14,7 +14,7 @@ ghost use Rattle.yamux_session.specs.State.{Stands as SessionStands, Whenever};
 ghost use Rattle.conn_log.specs.Asked.{IsRefusedAs};
 ghost use Rattle.yamux_session.specs.declared.event.Role.{Role};
 ghost use Rattle.conn_core.specs.Connects.{Stands, Connects, IsComing, IsUpWith, MayOpen, IsRefused, is_over, is_spent};
-ghost use Rattle.conn_core.specs.Connects.{session_role, OwesOf, waiting_in, held_in, IsOrderedIn};
+ghost use Rattle.conn_core.specs.Connects.{session_role, OwesOf, TellsFirst, waiting_in, held_in, IsOrderedIn};
 ghost use Rattle.conn_core.specs.Wanting.{WroteOn, Wrote};
 
 use crate::telling::{fail, last_event, last_output, session_role, tell};
@@ -112,6 +112,11 @@ fn go_on<P: Protocols>(
         → OnErr result (WroteOn P.H.steps P.H.fails P.H.is_closed P.H.is_finished P.makes_inbound P.makes_outbound
         P.listed P.is_eager P.leads_inbound P.leads_outbound start role own input piece.now asked before
         (taken ++ output.new.items)) }
+    ensures owed_first { (role : ConnRole) (own : Key) (start : P) (input taken : List ℕ) (asked : List (ℕ × ℕ))
+        (before : List (ConnEvent P.H)) → IsUpWith P.H.steps P.H.fails P.H.is_closed P.H.is_finished P.makes_inbound
+        P.makes_outbound P.listed P.is_eager P.leads_inbound P.leads_outbound start role own input asked
+        (before ++ told.old.items) (taken ++ output.old.items) mux.old
+        → IfOk result (λ is_up. TellsFirst told.old.items told.new.items) }
 {
     let Ok(()) = mux.feed(piece, told) else {
         return Err(ConnRefused::OutOfMemory);
@@ -272,6 +277,11 @@ fn take_on<P: Protocols>(
         → OnErr result (Wrote P.H.steps P.H.fails P.H.is_closed P.H.is_finished P.makes_inbound P.makes_outbound
         P.listed P.is_eager P.leads_inbound P.leads_outbound start role own input piece.now asked before
         (taken ++ output.new.items)) }
+    ensures owed_first { (own : Key) (start : P) (input taken : List ℕ) (asked : List (ℕ × ℕ))
+        (before : List (ConnEvent P.H)) → Connects P.H.steps P.H.fails P.H.is_closed P.H.is_finished P.makes_inbound
+        P.makes_outbound P.listed P.is_eager P.leads_inbound P.leads_outbound start role own input false asked before
+        taken phase.old told.old.items output.old.items → is_over phase.old ≡ false
+        → OnOk result (TellsFirst told.old.items told.new.items) }
 {
     if let Phase::Up(mux) = phase {
         if !go_on(mux, output, piece, told)? {
@@ -343,6 +353,12 @@ impl<P: Protocols> ConnCore<P> {
             → IfOk result (λ events. Stands P.H.steps P.H.fails P.H.is_closed P.H.is_finished P.makes_inbound
             P.makes_outbound P.listed P.is_eager P.leads_inbound P.leads_outbound start role own (input ++ piece) false
             asked (told ++ events.items) taken self.new) }
+        // What an ask owes is told before all else.
+        ensures owed_first { (role : ConnRole) (own : Key) (start : P) (input taken : List ℕ) (asked : List (ℕ × ℕ))
+            (told : List (ConnEvent P.H)) → Stands P.H.steps P.H.fails P.H.is_closed P.H.is_finished P.makes_inbound
+            P.makes_outbound P.listed P.is_eager P.leads_inbound P.leads_outbound start role own input false asked told
+            taken self.old → is_over self.old.phase ≡ false
+            → IfOk result (λ events. TellsFirst self.old.owed.items events.items) }
         ensures none_owed { OnOk result (self.new.owed.items ≡ []) }
         ensures refused { is_over self.old.phase ≡ false
             → OnErr result ((result ≡ Err ConnRefused.OutOfMemory) × (is_spent self.new.phase ≡ true)) }
@@ -387,6 +403,12 @@ impl<P: Protocols> ConnCore<P> {
             → IfOk result (λ events. Stands P.H.steps P.H.fails P.H.is_closed P.H.is_finished P.makes_inbound
             P.makes_outbound P.listed P.is_eager P.leads_inbound P.leads_outbound start role own (input ++ bytes.now)
             false asked (told ++ events.items) taken self.new) }
+        // What an ask owes is told before all else.
+        ensures owed_first { (role : ConnRole) (own : Key) (start : P) (input taken : List ℕ) (asked : List (ℕ × ℕ))
+            (told : List (ConnEvent P.H)) → Stands P.H.steps P.H.fails P.H.is_closed P.H.is_finished P.makes_inbound
+            P.makes_outbound P.listed P.is_eager P.leads_inbound P.leads_outbound start role own input false asked told
+            taken self.old → is_over self.old.phase ≡ false
+            → IfOk result (λ events. TellsFirst self.old.owed.items events.items) }
         ensures none_owed { OnOk result (self.new.owed.items ≡ []) }
         ensures refused { is_over self.old.phase ≡ false
             → OnErr result ((result ≡ Err ConnRefused.OutOfMemory) × (is_spent self.new.phase ≡ true)) }
@@ -461,6 +483,8 @@ impl<P: Protocols> ConnCore<P> {
             → IfOk result (λ events. Stands P.H.steps P.H.fails P.H.is_closed P.H.is_finished P.makes_inbound
             P.makes_outbound P.listed P.is_eager P.leads_inbound P.leads_outbound start role own input true asked
             (told ++ events.items) taken self.new) }
+        // What an ask owes is told before all else.
+        ensures owed_first { IfOk result (λ events. TellsFirst self.old.owed.items events.items) }
         ensures over { is_over self.new.phase ≡ true }
         ensures refused { is_over self.old.phase ≡ false
             → OnErr result ((result ≡ Err ConnRefused.OutOfMemory) × (is_spent self.new.phase ≡ true)) }

@@ -104,7 +104,7 @@ run_rows gives steps = record {
             (
               (
                 answer.Events told,
-                ((refl, ap over (sym is)), (header_message, Over refl (Early refl (nothing key) refl refl)), tt),
+                ((refl, ap over (sym is), (event.Fault fault.EarlyEnd ∷ [], is)), (header_message, Over refl (Early refl (nothing key) refl refl)), tt),
                 ap texts_of (sym is),
               ),
               refl,
@@ -134,7 +134,7 @@ run_rows gives steps = record {
           [],
           [],
           At (19 ∷ []) false [] [] [],
-          (first, first_is, (answer.Events none, ((refl, cc (first_is, none_is)), (header_message, Coming refl refl refl refl (within key [] (omega arith))), tt), ap texts_of (sym none_is))),
+          (first, first_is, (answer.Events none, ((refl, cc (first_is, none_is), ([], none_is)), (header_message, Coming refl refl refl refl (within key [] (omega arith))), tt), ap texts_of (sym none_is))),
           refl,
           inl (
             refl,
@@ -142,7 +142,7 @@ run_rows gives steps = record {
               [],
               [],
               At (19 ∷ 47 ∷ []) false [] [] [],
-              (second, second_is, (answer.Events none, ((refl, cc (second_is, none_is)), (header_message, Coming refl refl refl refl (within key (47 ∷ []) (omega arith))), tt), ap texts_of (sym none_is))),
+              (second, second_is, (answer.Events none, ((refl, cc (second_is, none_is), ([], none_is)), (header_message, Coming refl refl refl refl (within key (47 ∷ []) (omega arith))), tt), ap texts_of (sym none_is))),
               refl,
               inl (refl, (refl, refl)),
             ),

@@ -482,7 +482,8 @@ module _ {P H : Type 0} (step : H → HandlerCall → H → Type 0) (fails : H �
     pub fed : (input : List ℕ) (ended : Bool) (asked : List (ℕ × ℕ)) (told owed : List (ConnEvent H)) (bytes : Vec ℕ)
         (more : Vec (ConnEvent H)) (next : Point H)
         → answers_at input ended asked told owed (Feed bytes) (Events more) next
-        ↔ ((has_ended told ≡ false) × (next ≡ At (input ++ bytes.items) false asked (told ++ more.items) []))
+        ↔ ((has_ended told ≡ false) × (next ≡ At (input ++ bytes.items) false asked (told ++ more.items) [])
+        × ((rest : List (ConnEvent H)) × (more.items ≡ owed ++ rest)))
     pub fed_in_vain : (input : List ℕ) (ended : Bool) (asked : List (ℕ × ℕ)) (told owed : List (ConnEvent H))
         (bytes : Vec ℕ) (why : ConnRefused) (next : Point H)
         → answers_at input ended asked told owed (Feed bytes) (Refused why) next
@@ -502,7 +503,8 @@ module _ {P H : Type 0} (step : H → HandlerCall → H → Type 0) (fails : H �
     pub ended : (input : List ℕ) (over : Bool) (asked : List (ℕ × ℕ)) (told owed : List (ConnEvent H))
         (more : Vec (ConnEvent H)) (next : Point H)
         → answers_at input over asked told owed Ended (Events more) next
-        ↔ ((has_ended told ≡ false) × (next ≡ At input true asked (told ++ more.items) []))
+        ↔ ((has_ended told ≡ false) × (next ≡ At input true asked (told ++ more.items) [])
+        × ((rest : List (ConnEvent H)) × (more.items ≡ owed ++ rest)))
     pub ended_in_vain : (input : List ℕ) (over : Bool) (asked : List (ℕ × ℕ)) (told owed : List (ConnEvent H))
         (why : ConnRefused) (next : Point H) → answers_at input over asked told owed Ended (Refused why) next
         ↔ IsTurnedAway told why (At input over asked told owed) next

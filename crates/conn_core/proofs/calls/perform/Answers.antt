@@ -14,11 +14,12 @@ returns-in-Feed g c = λ start role own taken point at.
     let call = act.Feed c.in-Feed.bytes in
     leads_as H.steps H.fails H.is_closed H.is_finished makes.makes_inbound makes.makes_outbound makes.listed makes.is_eager makes.leads_inbound makes.leads_outbound start role own taken point c.args.act.now call c.told.result (events_or c.feed.result) c.feed.new.self c.in-Feed.is c.told.ensures
     (tells H.steps H.fails H.is_closed H.is_finished makes.makes_inbound makes.makes_outbound makes.listed makes.is_eager makes.leads_inbound makes.leads_outbound start role own taken point call (λ input. input ++ c.in-Feed.bytes.items) false c.args.core.now c.feed.new.self c.feed.result
-    (λ input ended asked told owed more next going next_is. (going, next_is))
+    (λ input ended asked told owed more next going next_is first. (going, next_is, first))
     (λ input ended asked told owed why next away. away)
     (λ input asked told stands going. and_then _ _ c.feed.result c.feed.ensures.none_owed
     (subst (λ (bytes : List ℕ). IfOk c.feed.result (λ events. Stands H.steps H.fails H.is_closed H.is_finished makes.makes_inbound makes.makes_outbound makes.listed makes.is_eager makes.leads_inbound makes.leads_outbound start role own (input ++ bytes) false asked (told ++ events.items) taken c.feed.new.self)) c.deref.ensures.value
     (c.feed.ensures.fed role own start input taken asked told stands going)))
+    (λ input asked told stands going. c.feed.ensures.owed_first role own start input taken asked told stands going)
     c.feed.ensures.refused
     (λ input asked told owed there stands going. feed_keeps H.steps H.fails H.is_closed H.is_finished makes.makes_inbound makes.makes_outbound makes.listed makes.is_eager makes.leads_inbound makes.leads_outbound start role own
     input c.in-Feed.bytes.items asked told owed _ _ c.feed.result there (grows_behind c.feed.result taken _ _ c.feed.ensures.waits)
@@ -33,11 +34,12 @@ returns-in-Ended g c = λ start role own taken point at.
     let new = c.ended.new.self in
     leads_as H.steps H.fails H.is_closed H.is_finished makes.makes_inbound makes.makes_outbound makes.listed makes.is_eager makes.leads_inbound makes.leads_outbound start role own taken point c.args.act.now act.Ended c.told-in-Ended.result (events_or c.ended.result) new c.in-Ended.is c.told-in-Ended.ensures
     (tells H.steps H.fails H.is_closed H.is_finished makes.makes_inbound makes.makes_outbound makes.listed makes.is_eager makes.leads_inbound makes.leads_outbound start role own taken point act.Ended (λ input. input) true c.args.core.now new c.ended.result
-    (λ input ended asked told owed more next going next_is. (going, next_is))
+    (λ input ended asked told owed more next going next_is first. (going, next_is, first))
     (λ input ended asked told owed why next away. away)
     (λ input asked told stands going. ok_on _ _ c.ended.result c.ended.result refl
     (λ events there. (there, over_owes H.steps H.fails H.is_closed H.is_finished makes.makes_inbound makes.makes_outbound makes.listed makes.is_eager makes.leads_inbound makes.leads_outbound start role own input true asked (told ++ events.items) taken new.phase new.owed.items new.output.items c.ended.ensures.over there.1))
     (c.ended.ensures.ends role own start input taken asked told stands going))
+    (λ input asked told stands going. c.ended.ensures.owed_first)
     c.ended.ensures.refused
     (λ input asked told owed there stands going. on_err _ c.ended.result
     (subst (λ (w : List ℕ). Explains H.steps H.fails H.is_closed H.is_finished makes.makes_inbound makes.makes_outbound makes.listed makes.is_eager makes.leads_inbound makes.leads_outbound start role own input false asked told owed w)

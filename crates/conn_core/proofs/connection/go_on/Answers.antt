@@ -8,15 +8,15 @@ use Rattle.yamux_session.specs.State.{State}
 use Rattle.conn_log.specs.declared.event.ConnEvent.{ConnEvent}
 use Rattle.conn_log.specs.declared.event.ConnEvent.TheVariants as event
 use Rattle.conn_log.specs.declared.event.ConnFault.TheVariants as fault
-use Rattle.conn_log.specs.Entries.{items}
+use Rattle.conn_log.specs.Entries.{items, said}
 use Rattle.conn_log.specs.Rests.{AreAtRest, Grows}
 use Rattle.held_order.specs.Orders.{newest_held}
 use Rattle.board.specs.Boards.{MakesInOrder}
-use Rattle.conn_core.specs.Connects.{IsUp, IsFaulty, session_role}
+use Rattle.conn_core.specs.Connects.{IsUp, IsFaulty, TellsFirst, session_role}
 use Rattle.conn_core.specs.Connects.Ends.{Session}
 use Rattle.conn_core.specs.Wanting.{WroteOn}
 use Rattle.conn_core.specs.Wanting.WroteOn.{Over}
-use Rattle.conn_core.proofs.Going.{as_known, up_on, up_breaks}
+use Rattle.conn_core.proofs.Going.{as_known, up_on, up_breaks, breaks_behind}
 use Rattle.conn_core.proofs.Waiting.{if_err}
 use Rattle.conn_core.proofs.Wanting.{wrote_up}
 use Rattle.conn_core.proofs.connection.go_on.Goals as goal
@@ -99,3 +99,30 @@ returns-clause-goes g c = λ role own start input taken asked before upw.
     (input ++ piece) asked t ((taken ++ c.args.output.now.items) ++ after.session.pending) c.collect.new.session later after.board.past.items) × (after.board.peer ≡ id_of x.key) × (after.board.protocols ≡ x.now) × (after.board.order ≡ newest_held (session_role role) x.log)) told
     (it.0, keeps.peer_is ∙ upw.3.1 ∙ sym (ap id_of it.1), sym it.2, it.3)) in
     (refl, (keeps.names_are ∙ upw.0, keeps.eager_are ∙ upw.1, keeps.role_is ∙ upw.2, all))
+
+pub returns-then-has_failed-clause-owed_first : goal.returns-then-has_failed-clause-owed_first
+returns-then-has_failed-clause-owed_first g c = λ role own start input taken asked before upw.
+    let H = g.P.H.Handler in
+    let makes = g.P.Protocols in
+    let failed : c.feed.new.self.session.failed ≡ true = sym (ap (λ (s : State). s.failed) c.in_ok-collect.ensures.rest) ∙ sym c.has_failed.ensures ∙ c.if-has_failed.true in
+    subst (λ (t : List (ConnEvent _)). TellsFirst c.args.told.now.items t) (sym c.in_ok-tell.ensures.told)
+    (breaks_behind H.steps H.fails H.is_closed H.is_finished makes.makes_inbound makes.makes_outbound makes.listed makes.is_eager makes.leads_inbound makes.leads_outbound start role own
+    input taken c.args.output.now.items c.args.piece.now asked before c.args.told.now.items c.feed.new.told.items c.args.mux.now c.feed.new.self upw c.in-Ok.ensures.faults failed)
+
+pub returns-clause-owed_first : goal.returns-clause-owed_first
+returns-clause-owed_first g c = λ role own start input taken asked before upw.
+    let H = g.P.H.Handler in
+    let makes = g.P.Protocols in
+    let mux = c.args.mux.now in
+    let board = mux.board in
+    let up = upw.3.0 in
+    let sent = output (session_role role) (items up.log) in
+    let after = c.feed.new.self in
+    let still : after.session.failed ≡ false = sym (ap (λ (s : State). s.failed) c.in_ok-collect.ensures.rest) ∙ sym c.has_failed.ensures ∙ c.if-has_failed.false in
+    let grows = as_known (makes.is_eager board.protocols) (makes.is_eager start) (makes.listed board.protocols) (makes.listed start) board.peer (id_of up.key) board.role (session_role role) upw.1 upw.0 upw.3.1 upw.2
+    (λ e n p r. AreAtRest H.steps H.fails H.is_closed H.is_finished makes.makes_inbound makes.makes_outbound e n p r up.log up.rest sent mux.session (tree.get nat_cmp board.streams) board.past.items
+    → after.session.failed ≡ false
+    → Grows H.steps H.fails H.is_closed H.is_finished makes.makes_inbound makes.makes_outbound e n p r (MakesInOrder makes.leads_inbound makes.leads_outbound p r board.protocols after.board.protocols board.order after.board.order) up.log c.args.told.now.items c.feed.new.told.items (up.rest ++ c.args.piece.now) sent after.session
+    (tree.get nat_cmp after.board.streams) after.board.past.items)
+    (c.in-Ok.ensures.goes up.log up.rest sent) up.at_rest still in
+    (said grows.newer, grows.told_is)

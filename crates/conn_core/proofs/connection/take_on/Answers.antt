@@ -1,4 +1,4 @@
-use Rattle.std.proofs.Common.{◌≡◌, ℕ, Bool, false, if◌then◌else◌, List, [], ◌++◌, sym, ◌∙◌, subst}
+use Rattle.std.proofs.Common.{◌≡◌, ℕ, Bool, false, if◌then◌else◌, List, [], ◌++◌, sym, ap, ◌∙◌, subst}
 use Rattle.conn_log.specs.declared.event.ConnEvent.{ConnEvent}
 use Rattle.conn_core.specs.declared.connection.Phase.{Phase}
 use Rattle.conn_core.specs.declared.connection.Phase.TheVariants as phases
@@ -76,3 +76,28 @@ returns-in_err-go_on-clause-wrote g c = λ own start input taken asked before co
     let it = subst (λ (x : Phase _ _). Connects H.steps H.fails H.is_closed H.is_finished makes.makes_inbound makes.makes_outbound makes.listed makes.is_eager makes.leads_inbound makes.leads_outbound start role own
     input false asked before taken x c.args.told.now.items c.args.output.now.items) c.in-Up.is connects in
     if_err c.from_residual.result (Later (c.in_err-go_on.ensures.wrote role own start input taken asked before it.1))
+
+-- nothing is owed while it comes up
+pub returns-in_ok-next-in-Upgrading-clause-owed_first : goal.returns-in_ok-next-in-Upgrading-clause-owed_first
+returns-in_ok-next-in-Upgrading-clause-owed_first g c = λ own start input taken asked before connects going.
+    let H = g.P.H.Handler in
+    let makes = g.P.Protocols in
+    let it = subst (λ (x : Phase _ _). Connects H.steps H.fails H.is_closed H.is_finished makes.makes_inbound makes.makes_outbound makes.listed makes.is_eager makes.leads_inbound makes.leads_outbound start c.args.role own
+    input false asked before taken x c.args.told.now.items c.args.output.now.items) (sym c.replace-2.ensures.value ∙ c.in-Upgrading.is) connects in
+    (c.bring_up.new.told.items, sym (ap (λ (t : List (ConnEvent _)). t ++ c.bring_up.new.told.items) it.2))
+
+pub returns-then-not-branch-clause-owed_first : goal.returns-then-not-branch-clause-owed_first
+returns-then-not-branch-clause-owed_first g c = λ own start input taken asked before connects going.
+    let H = g.P.H.Handler in
+    let makes = g.P.Protocols in
+    let it = subst (λ (x : Phase _ _). Connects H.steps H.fails H.is_closed H.is_finished makes.makes_inbound makes.makes_outbound makes.listed makes.is_eager makes.leads_inbound makes.leads_outbound start c.args.role own
+    input false asked before taken x c.args.told.now.items c.args.output.now.items) c.in-Up.is connects in
+    c.in_ok-go_on.ensures.owed_first c.args.role own start input taken asked before it.1
+
+pub returns-else-not-branch-clause-owed_first : goal.returns-else-not-branch-clause-owed_first
+returns-else-not-branch-clause-owed_first g c = λ own start input taken asked before connects going.
+    let H = g.P.H.Handler in
+    let makes = g.P.Protocols in
+    let it = subst (λ (x : Phase _ _). Connects H.steps H.fails H.is_closed H.is_finished makes.makes_inbound makes.makes_outbound makes.listed makes.is_eager makes.leads_inbound makes.leads_outbound start c.args.role own
+    input false asked before taken x c.args.told.now.items c.args.output.now.items) c.in-Up.is connects in
+    c.in_ok-go_on.ensures.owed_first c.args.role own start input taken asked before it.1

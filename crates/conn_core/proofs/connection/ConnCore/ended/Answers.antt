@@ -27,3 +27,8 @@ returns-clause-ends g c = λ role own start input taken asked told stands going.
                 input true asked t (taken ++ c.last_event-last.new.output.items)) (sym told_is) ends,
           ),
     )
+
+pub returns-clause-owed_first : goal.returns-clause-owed_first
+returns-clause-owed_first g c =
+    let last = c.last_event-last.result in
+    (last ∷ [], c.in_ok-tell.ensures.told ∙ ap (λ (v : Vec (ConnEvent _) _). v.items ++ last ∷ []) c.replace-told.ensures.value)

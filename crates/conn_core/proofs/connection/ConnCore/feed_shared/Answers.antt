@@ -3,7 +3,7 @@ use Rattle.std.specs.Global.{Vec}
 use Rattle.upgrade.specs.declared.role.ConnRole.{ConnRole}
 use Rattle.conn_log.specs.declared.event.ConnEvent.{ConnEvent}
 use Rattle.conn_core.specs.declared.connection.Phase.{Phase}
-use Rattle.conn_core.specs.Connects.{Connects, waiting_in}
+use Rattle.conn_core.specs.Connects.{Connects, TellsFirst, waiting_in}
 use Rattle.conn_core.specs.Wanting.{Wrote}
 use Rattle.conn_core.proofs.Taking.{connects_by}
 use Rattle.conn_core.proofs.connection.ConnCore.feed_shared.Goals as goal
@@ -38,3 +38,14 @@ returns-clause-wrote g c = λ role own start input taken asked told stands going
     (subst (λ (r : ConnRole). Wrote H.steps H.fails H.is_closed H.is_finished makes.makes_inbound makes.makes_outbound makes.listed makes.is_eager makes.leads_inbound makes.leads_outbound start r own
     input c.args.piece asked told (taken ++ c.take_on.new.output.items)) stands.0
     (c.in-Err.ensures.wrote own start input taken asked told from_owed going))
+
+pub returns-in-Ok-clause-owed_first : goal.returns-in-Ok-clause-owed_first
+returns-in-Ok-clause-owed_first g c = λ role own start input taken asked told stands going.
+    let H = g.P.H.Handler in
+    let makes = g.P.Protocols in
+    let core = c.args.self.now in
+    let owed_is = ap (λ (v : Vec (ConnEvent _)). v.items) c.replace-told.ensures.value in
+    let from_owed = connects_by (λ r x o. Connects H.steps H.fails H.is_closed H.is_finished makes.makes_inbound makes.makes_outbound makes.listed makes.is_eager makes.leads_inbound makes.leads_outbound start r own
+    input false asked told taken x o core.output.items) core.role role core.phase core.phase c.replace-told.result.items core.owed.items
+    stands.0 refl owed_is stands.1 in
+    subst (λ (o : List (ConnEvent _)). TellsFirst o c.take_on.new.told.items) owed_is (c.in-Ok.ensures.owed_first own start input taken asked told from_owed going)
