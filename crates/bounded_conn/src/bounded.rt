@@ -8,10 +8,11 @@ ghost use Rattle.futures.specs.declared.task.Poll.TheVariants.{Ready};
 ghost use Rattle.conn_log.specs.declared.event.ConnEvent.{ConnEvent};
 ghost use Rattle.conn_log.specs.declared.event.ConnEvent.TheVariants as event;
 ghost use Rattle.conn_log.specs.declared.event.ConnFault.TheVariants as fault;
-ghost use Rattle.conn_core.specs.Connects.{MayOpen, IsRefused, is_over};
+ghost use Rattle.conn_log.specs.Entries.{Entry};
+ghost use Rattle.conn_core.specs.Connects.{IsOpened, MayOpen, IsRefused, is_over};
 ghost use Rattle.conn_future.specs.Stages.{is_live, shut_stage, Came, Drains, WaitsAt};
 ghost use Rattle.conn_future.specs.Polling.{Polls};
-ghost use Rattle.conn_future.specs.Follows.{Carries, Follows, given_by};
+ghost use Rattle.conn_future.specs.Follows.{Carries, Gives, Follows, given_by};
 ghost use Rattle.peer_ids.specs.Key.{Key};
 ghost use Rattle.upgrade.specs.declared.role.ConnRole.{ConnRole};
 ghost use Rattle.bounded_conn.specs.Bounds.{Bounds, IfStands, Leaves, waiting_of};
@@ -79,11 +80,12 @@ impl<L: Link, P: Protocols> BoundedConn<L, P> {
     /// Opens a stream for the protocol of this index, as [`Conn::ask`] does; Failed, where it was or is dropped.
     pub fn ask(&mut self, index: usize) -> Result<u32, ConnRefused>
         ensures asks { Bounds (λ conn. length conn.unsent.items) (λ before answer after.
-            OnErr answer (Carries L.Link P.Protocols P.H.Handler before [] after)
-            × ((start : P) (role : ConnRole) (own : Key) (first : L) (asked : List (ℕ × ℕ))
+            OnErr answer (Gives L.Link P.Protocols P.H.Handler before [] after)
+            × ((start : P) (role : ConnRole) (own : Key) (first : L) (log : List (Entry P.H))
             (gave : List (ConnEvent P.H))
-            → Follows L.Link P.Protocols P.H.Handler start role own first asked gave before → IfOk answer (λ number.
-            Follows L.Link P.Protocols P.H.Handler start role own first (asked ++ (number, index) ∷ []) gave after)))
+            → Follows L.Link P.Protocols P.H.Handler start role own first log gave before → IfOk answer (λ number.
+            (now : List (Entry P.H)) × IsOpened number index log now
+            × Follows L.Link P.Protocols P.H.Handler start role own first now gave after)))
             (Err ConnRefused.Failed) self.old.conn result self.new.conn }
         // Where it stands, the connection's own clauses hold of it.
         ensures failed { IfStands (λ before after. before.stage ≢ Stage.Going
@@ -142,8 +144,8 @@ impl<L: Link, P: Protocols> BoundedConn<L, P> {
         ensures rose { IfStands (λ before after. L.failed before.link < L.failed after.link
             → result ≡ Ready (Some (event.Fault fault.Link))) self.old.conn self.new.conn }
         ensures fault { IfStands (λ before after. (start : P) (role : ConnRole) (own : Key) (first : L)
-            (asked : List (ℕ × ℕ)) (gave : List (ConnEvent P.H))
-            → Follows L.Link P.Protocols P.H.Handler start role own first asked gave before
+            (log : List (Entry P.H)) (gave : List (ConnEvent P.H))
+            → Follows L.Link P.Protocols P.H.Handler start role own first log gave before
             → result ≡ Ready (Some (event.Fault fault.Link))
             → L.failed after.link ≡ L.failed before.link + 1) self.old.conn self.new.conn }
         ensures held { IfStands (λ before after. (event : ConnEvent P.H) (rest : List (ConnEvent P.H))
@@ -156,8 +158,8 @@ impl<L: Link, P: Protocols> BoundedConn<L, P> {
             → (result ≡ Ready None) × (after.held.items ≡ []) × (after.stage ≡ Stage.Over))
             self.old.conn self.new.conn }
         ensures ends { IfStands (λ before after. (start : P) (role : ConnRole) (own : Key) (first : L)
-            (asked : List (ℕ × ℕ)) (gave : List (ConnEvent P.H))
-            → Follows L.Link P.Protocols P.H.Handler start role own first asked gave before
+            (log : List (Entry P.H)) (gave : List (ConnEvent P.H))
+            → Follows L.Link P.Protocols P.H.Handler start role own first log gave before
             → result ≡ Ready None → (before.held.items ≡ []) × (before.stage ≡ Stage.Over))
             self.old.conn self.new.conn }
         ensures stage { IfStands (λ before after. is_live after.stage ≡ true → after.stage ≡ before.stage)

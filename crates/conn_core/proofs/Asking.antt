@@ -1,8 +1,8 @@
 -- A stream was opened for a protocol that was asked for.
-use Rattle.std.proofs.Common.{◌≡◌, ◌<◌, ◌≤◌, ◌⊎◌, inl, inr, ℕ, Bool, true, false, List, [], ◌∷◌, ◌++◌, Option, Result, Ok, Err, refl, sym, ap, ◌∙◌, subst, arith, nat_lt}
+use Rattle.std.proofs.Common.{◌≡◌, ◌<◌, ◌≤◌, ◌⊎◌, inl, inr, ℕ, Bool, true, false, List, ◌∷◌, ◌++◌, Option, Result, Ok, Err, refl, sym, ap, ◌∙◌, subst, arith, nat_lt}
 use Rattle.std.specs.Prelude.{IfOk, IfErr}
 use Rattle.std.proofs.lemmas.Bool.Decides.{nat_tests}
-use Rattle.std.proofs.lemmas.List.{append_assoc, append-nil}
+use Rattle.std.proofs.lemmas.List.{append_assoc}
 use Rattle.std.proofs.lemmas.Result.{IfOk-weaker, IfErr-weaker}
 use Rattle.handlers.specs.Calls.{HandlerCall, Asked as AskedFor}
 use Rattle.peer_ids.specs.Key.{Key}
@@ -16,10 +16,10 @@ use Rattle.conn_log.specs.declared.event.ConnEvent.{ConnEvent}
 use Rattle.conn_log.specs.declared.event.ConnRefused.{ConnRefused}
 use Rattle.conn_log.specs.declared.event.ConnRefused.TheVariants as refusals
 use Rattle.conn_log.specs.declared.event.ConnEvent.TheVariants as event
-use Rattle.conn_log.specs.Entries.{items, said, asks}
+use Rattle.conn_log.specs.Entries.{Entry, items, said}
 use Rattle.conn_log.specs.Entries.Entry.{Asks}
 use Rattle.conn_log.specs.Asked.{Asked}
-use Rattle.conn_log.proofs.Settling.{said_append, asks_append}
+use Rattle.conn_log.proofs.Settling.{said_append}
 use Rattle.conn_log.proofs.Early.{early_asked}
 use Rattle.held_order.specs.Orders.{newest_held}
 use Rattle.board.specs.Boards.{MakesInOrder}
@@ -67,28 +67,27 @@ module _ {P H : Type 0} (step : H → HandlerCall → H → Type 0) (fails : H �
     (listed : P → List (List ℕ)) (is_eager : P → ℕ → Bool)
     (inbound_leads outbound_leads : P → ℕ → List ℕ → H → P → Type 0) (start : P) (role : ConnRole) (own : Key) where
   -- the list has grown by the opening and what followed it, and what the session wrote was moved
-  pub up_asked : (input : List ℕ) (asked : List (ℕ × ℕ)) (number index : ℕ) (before old new : List (ConnEvent H)) (written : List ℕ) (session between after : State)
+  pub up_asked : (input : List ℕ) (log : List (Entry H)) (number index : ℕ) (before old new : List (ConnEvent H)) (written : List ℕ) (session between after : State)
       (streams later : ℕ → Option (Streaming H)) (past last : List (Earlier H))
-      (up : IsUp step fails is_closed is_finished inbound_makes outbound_makes listed is_eager inbound_leads outbound_leads start role own input asked (before ++ old) written session streams past)
+      (up : IsUp step fails is_closed is_finished inbound_makes outbound_makes listed is_eager inbound_leads outbound_leads start role own input log (before ++ old) written session streams past)
       (behind : P) (order then : List ℕ)
       (a : Asked step fails is_closed is_finished inbound_makes outbound_makes (is_eager start) (listed start) (id_of up.key) (session_role role)
-      (MakesInOrder inbound_leads outbound_leads (id_of up.key) (session_role role) up.now behind order then) number index up.log old new up.rest
-      (output (session_role role) (items up.log)) between later last)
-      → order ≡ newest_held (session_role role) up.log
-      → SessionStands (session_role role) (items (a.later ++ Asks number index ∷ up.log)) up.rest (output (session_role role) (items up.log) ++ between.pending) after
-      → (x : IsUp step fails is_closed is_finished inbound_makes outbound_makes listed is_eager inbound_leads outbound_leads start role own input (asked ++ (number, index) ∷ []) (before ++ new) (written ++ between.pending)
-      after later last) × (x.key ≡ up.key) × (x.now ≡ behind) × (then ≡ newest_held (session_role role) x.log)
-  up_asked input asked number index before old new written session between after streams later past last up behind order then a held there =
-      let opened = Asks number index ∷ up.log in
+      (MakesInOrder inbound_leads outbound_leads (id_of up.key) (session_role role) up.now behind order then) number index log old new up.rest
+      (output (session_role role) (items log)) between later last)
+      → order ≡ newest_held (session_role role) log
+      → SessionStands (session_role role) (items (a.later ++ Asks number index ∷ log)) up.rest (output (session_role role) (items log) ++ between.pending) after
+      → (x : IsUp step fails is_closed is_finished inbound_makes outbound_makes listed is_eager inbound_leads outbound_leads start role own input (a.later ++ Asks number index ∷ log) (before ++ new) (written ++ between.pending)
+      after later last) × (x.key ≡ up.key) × (x.now ≡ behind) × (then ≡ newest_held (session_role role) (a.later ++ Asks number index ∷ log))
+  up_asked input log number index before old new written session between after streams later past last up behind order then a held there =
+      let opened = Asks number index ∷ log in
       let now = a.later ++ opened in
-      let sent = output (session_role role) (items up.log) in
+      let sent = output (session_role role) (items log) in
       let all_sent : sent ++ between.pending ≡ output (session_role role) (items now) = a.at_rest.session_stands.output in (
         record {
           key = up.key;
           first = up.first;
           rest = up.rest;
           greeting = up.greeting;
-          log = now;
           input_is = up.input_is;
           upgraded = up.upgraded;
           at_rest = record {
@@ -103,8 +102,7 @@ module _ {P H : Type 0} (step : H → HandlerCall → H → Type 0) (fails : H �
             past_is = a.at_rest.past_is;
           };
           rested = a.rested up.rested;
-          asks_are = asks_append a.later opened ∙ ap (λ t. (asks up.log ++ (number, index) ∷ []) ++ t) a.alone ∙ append-nil (asks up.log ++ (number, index) ∷ []) ∙ ap (λ t. t ++ (number, index) ∷ []) up.asks_are;
-          early = early_asked (is_eager start) a.later up.log number index a.alone a.at_once up.early;
+          early = early_asked (is_eager start) a.later log number index a.alone a.at_once up.early;
           now = behind;
           makes = a.makes.0 start up.makes;
           told_is = ap (λ t. before ++ t) a.told_is ∙ sym (append_assoc before old (said a.later)) ∙ ap (λ t. t ++ said a.later) up.told_is ∙ ap (λ t. event.Upgraded up.key ∷ t) (sym (said_append a.later opened));

@@ -40,13 +40,11 @@ module _ {P H : Type 0} (step : H → HandlerCall → H → Type 0) (fails : H �
         first = first;
         rest = [];
         greeting = written;
-        log = [];
         input_is = sym (append-nil first);
         upgraded = upgraded;
         at_rest = as_known (is_eager protocols) (is_eager start) (listed protocols) (listed start) peer (id_of key) side (session_role role) (ap is_eager started) (ap listed started) peer_is side_is
             (λ e n p r. AreAtRest step fails is_closed is_finished inbound_makes outbound_makes e n p r [] [] [] mux.session (tree.get nat_cmp mux.board.streams) mux.board.past.items) fresh;
         rested = tt;
-        asks_are = refl;
         now = start;
         makes = refl;
         early = λ n index is. absurd (cc is);

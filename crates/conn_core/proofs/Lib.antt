@@ -1,3 +1,4 @@
+pub mod Growing
 pub mod Going
 pub mod Coming
 pub mod Taking
@@ -8,6 +9,7 @@ pub mod Steps
 pub mod Agreeing
 pub mod WhileUp
 pub mod Counting
+pub mod InTurn
 pub mod Listed
 pub mod Waiting
 pub mod Wanting

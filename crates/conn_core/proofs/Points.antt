@@ -71,34 +71,34 @@ module _ {P H : Type 0} (step : H → HandlerCall → H → Type 0) (fails : H �
     (is_closed is_finished : H → Bool) (inbound_makes outbound_makes : P → ℕ → List ℕ → H → Type 0)
     (listed : P → List (List ℕ)) (is_eager : P → ℕ → Bool)
     (inbound_leads outbound_leads : P → ℕ → List ℕ → H → P → Type 0) (start : P) (role : ConnRole) (own : Key) where
-  ends_told : (input : List ℕ) (ended : Bool) (asked : List (ℕ × ℕ)) (told : List (ConnEvent H)) (written : List ℕ)
-      → Ends step fails is_closed is_finished inbound_makes outbound_makes listed is_eager inbound_leads outbound_leads start role own input ended asked told written → has_ended told ≡ true
-  ends_told input ended asked told written (Upgrade why named first told_is comes unasked is) = ap has_ended is
-  ends_told input ended asked told written (Session faulty) = ap has_ended faulty.told_is ∙ ends_append faulty.before (event.Fault fault.Mux) refl
-  ends_told input ended asked told written (Early is_ended upgrades unasked is) = ap has_ended is
-  ends_told input ended asked told written (Within before session streams past is_ended up within is) = ap has_ended is ∙ ends_append before (event.Fault fault.EarlyEnd) refl
-  ends_told input ended asked told written (Shut before session streams past is_ended up between is) = ap has_ended is ∙ ends_append before event.Shut refl
+  ends_told : (input : List ℕ) (ended : Bool) (log : List (Entry H)) (told : List (ConnEvent H)) (written : List ℕ)
+      → Ends step fails is_closed is_finished inbound_makes outbound_makes listed is_eager inbound_leads outbound_leads start role own input ended log told written → has_ended told ≡ true
+  ends_told input ended log told written (Upgrade why named first told_is comes unasked is) = ap has_ended is
+  ends_told input ended log told written (Session faulty) = ap has_ended faulty.told_is ∙ ends_append faulty.before (event.Fault fault.Mux) refl
+  ends_told input ended log told written (Early is_ended upgrades unasked is) = ap has_ended is
+  ends_told input ended log told written (Within before session streams past is_ended up within is) = ap has_ended is ∙ ends_append before (event.Fault fault.EarlyEnd) refl
+  ends_told input ended log told written (Shut before session streams past is_ended up between is) = ap has_ended is ∙ ends_append before event.Shut refl
 
   -- it is over where a Fault or Shut was told
-  pub told_over : (input : List ℕ) (ended : Bool) (asked : List (ℕ × ℕ)) (told : List (ConnEvent H)) (taken : List ℕ) (phase : Phase P H) (owed : List (ConnEvent H)) (waiting : List ℕ)
-      → Connects step fails is_closed is_finished inbound_makes outbound_makes listed is_eager inbound_leads outbound_leads start role own input ended asked told taken phase owed waiting
+  pub told_over : (input : List ℕ) (ended : Bool) (log : List (Entry H)) (told : List (ConnEvent H)) (taken : List ℕ) (phase : Phase P H) (owed : List (ConnEvent H)) (waiting : List ℕ)
+      → Connects step fails is_closed is_finished inbound_makes outbound_makes listed is_eager inbound_leads outbound_leads start role own input ended log told taken phase owed waiting
       → has_ended told ≡ is_over phase
-  told_over input ended asked told taken (phases.Upgrading x protocols) owed waiting it = ap has_ended it.4.none_told
-  told_over input ended asked told taken (phases.Up mux) owed waiting it =
+  told_over input ended log told taken (phases.Upgrading x protocols) owed waiting it = ap has_ended it.4.none_told
+  told_over input ended log told taken (phases.Up mux) owed waiting it =
       let up = it.1.3.0 in
       front_goes_on told owed (ap has_ended up.told_is
-      ∙ said_goes_on step fails is_closed is_finished inbound_makes outbound_makes (is_eager start) (listed start) (id_of up.key) (session_role role) up.log up.at_rest.due)
-  told_over input ended asked told taken phases.Over owed waiting it = ends_told input ended asked told (taken ++ waiting) it.1
-  told_over input ended asked told taken phases.Spent owed waiting it = absurd it
+      ∙ said_goes_on step fails is_closed is_finished inbound_makes outbound_makes (is_eager start) (listed start) (id_of up.key) (session_role role) log up.at_rest.due)
+  told_over input ended log told taken phases.Over owed waiting it = ends_told input ended log told (taken ++ waiting) it.1
+  told_over input ended log told taken phases.Spent owed waiting it = absurd it
 
   -- the input ends only where it is over
-  pub unended : (input : List ℕ) (ended : Bool) (asked : List (ℕ × ℕ)) (told : List (ConnEvent H)) (taken : List ℕ) (phase : Phase P H) (owed : List (ConnEvent H)) (waiting : List ℕ)
-      → Connects step fails is_closed is_finished inbound_makes outbound_makes listed is_eager inbound_leads outbound_leads start role own input ended asked told taken phase owed waiting
+  pub unended : (input : List ℕ) (ended : Bool) (log : List (Entry H)) (told : List (ConnEvent H)) (taken : List ℕ) (phase : Phase P H) (owed : List (ConnEvent H)) (waiting : List ℕ)
+      → Connects step fails is_closed is_finished inbound_makes outbound_makes listed is_eager inbound_leads outbound_leads start role own input ended log told taken phase owed waiting
       → is_over phase ≡ false → ended ≡ false
-  unended input ended asked told taken (phases.Upgrading x protocols) owed waiting it going = it.0
-  unended input ended asked told taken (phases.Up mux) owed waiting it going = it.0
-  unended input ended asked told taken phases.Over owed waiting it going = absurd (cc going)
-  unended input ended asked told taken phases.Spent owed waiting it going = absurd it
+  unended input ended log told taken (phases.Upgrading x protocols) owed waiting it going = it.0
+  unended input ended log told taken (phases.Up mux) owed waiting it going = it.0
+  unended input ended log told taken phases.Over owed waiting it going = absurd (cc going)
+  unended input ended log told taken phases.Spent owed waiting it going = absurd it
 
   -- ---- why it is there
 
@@ -109,71 +109,71 @@ module _ {P H : Type 0} (step : H → HandlerCall → H → Type 0) (fails : H �
       subst (λ (r : ConnRole). Upgrades r own input (Ok None) (taken ++ x.pending)) it.role_is
       (subst (λ (k : Key). Upgrades x.role k input (Ok None) (taken ++ x.pending)) it.own_is there)
 
-  pub why_there : (input : List ℕ) (ended : Bool) (asked : List (ℕ × ℕ)) (told : List (ConnEvent H)) (taken : List ℕ) (phase : Phase P H) (owed : List (ConnEvent H)) (waiting : List ℕ)
-      → Connects step fails is_closed is_finished inbound_makes outbound_makes listed is_eager inbound_leads outbound_leads start role own input ended asked told taken phase owed waiting
-      → Explains step fails is_closed is_finished inbound_makes outbound_makes listed is_eager inbound_leads outbound_leads start role own input ended asked told owed (taken ++ waiting_in phase waiting)
-  why_there input ended asked told taken (phases.Upgrading x protocols) owed waiting it = Coming it.0 it.1 it.4.none_told it.2 (coming input taken told x protocols it.4)
-  why_there input ended asked told taken (phases.Up mux) owed waiting it = Up mux.session (tree.get nat_cmp mux.board.streams) mux.board.past.items it.0 it.1.3.0
-  why_there input ended asked told taken phases.Over owed waiting it = Over it.0 it.1
-  why_there input ended asked told taken phases.Spent owed waiting it = absurd it
+  pub why_there : (input : List ℕ) (ended : Bool) (log : List (Entry H)) (told : List (ConnEvent H)) (taken : List ℕ) (phase : Phase P H) (owed : List (ConnEvent H)) (waiting : List ℕ)
+      → Connects step fails is_closed is_finished inbound_makes outbound_makes listed is_eager inbound_leads outbound_leads start role own input ended log told taken phase owed waiting
+      → Explains step fails is_closed is_finished inbound_makes outbound_makes listed is_eager inbound_leads outbound_leads start role own input ended log told owed (taken ++ waiting_in phase waiting)
+  why_there input ended log told taken (phases.Upgrading x protocols) owed waiting it = Coming it.0 it.1 it.4.none_told it.2 (coming input taken told x protocols it.4)
+  why_there input ended log told taken (phases.Up mux) owed waiting it = Up mux.session (tree.get nat_cmp mux.board.streams) mux.board.past.items it.0 it.1.3.0
+  why_there input ended log told taken phases.Over owed waiting it = Over it.0 it.1
+  why_there input ended log told taken phases.Spent owed waiting it = absurd it
 
   -- a stream may be opened
-  pub may_ask : (input : List ℕ) (ended : Bool) (asked : List (ℕ × ℕ)) (told : List (ConnEvent H)) (taken : List ℕ) (phase : Phase P H) (owed : List (ConnEvent H)) (waiting : List ℕ) (index : ℕ)
-      → Connects step fails is_closed is_finished inbound_makes outbound_makes listed is_eager inbound_leads outbound_leads start role own input ended asked told taken phase owed waiting
+  pub may_ask : (input : List ℕ) (ended : Bool) (log : List (Entry H)) (told : List (ConnEvent H)) (taken : List ℕ) (phase : Phase P H) (owed : List (ConnEvent H)) (waiting : List ℕ) (index : ℕ)
+      → Connects step fails is_closed is_finished inbound_makes outbound_makes listed is_eager inbound_leads outbound_leads start role own input ended log told taken phase owed waiting
       → MayOpen listed phase index
-      → (there : Explains step fails is_closed is_finished inbound_makes outbound_makes listed is_eager inbound_leads outbound_leads start role own input ended asked told owed (taken ++ waiting_in phase waiting))
-      × MayBeAsked step fails is_closed is_finished inbound_makes outbound_makes listed is_eager inbound_leads outbound_leads start role own input ended asked told owed (taken ++ waiting_in phase waiting) there index
+      → (there : Explains step fails is_closed is_finished inbound_makes outbound_makes listed is_eager inbound_leads outbound_leads start role own input ended log told owed (taken ++ waiting_in phase waiting))
+      × MayBeAsked step fails is_closed is_finished inbound_makes outbound_makes listed is_eager inbound_leads outbound_leads start role own input ended log told owed (taken ++ waiting_in phase waiting) there index
   unfolding why_there
-  may_ask input ended asked told taken (phases.Upgrading x protocols) owed waiting index it may = absurd may
-  may_ask input ended asked told taken (phases.Up mux) owed waiting index it may =
+  may_ask input ended log told taken (phases.Upgrading x protocols) owed waiting index it may = absurd may
+  may_ask input ended log told taken (phases.Up mux) owed waiting index it may =
       let up = it.1.3.0 in (
-        why_there input ended asked told taken (phases.Up mux) owed waiting it,
+        why_there input ended log told taken (phases.Up mux) owed waiting it,
         (
           subst (λ (n : List (List ℕ)). index < length n) it.1.0 may.0,
-          may.1 (session_role role) (items up.log) up.rest (output (session_role role) (items up.log)) up.at_rest.session_stands,
+          may.1 (session_role role) (items log) up.rest (output (session_role role) (items log)) up.at_rest.session_stands,
         ),
       )
-  may_ask input ended asked told taken phases.Over owed waiting index it may = absurd may
-  may_ask input ended asked told taken phases.Spent owed waiting index it may = absurd may
+  may_ask input ended log told taken phases.Over owed waiting index it may = absurd may
+  may_ask input ended log told taken phases.Spent owed waiting index it may = absurd may
 
   -- or why none is
-  pub not_asked : (input : List ℕ) (ended : Bool) (asked : List (ℕ × ℕ)) (told : List (ConnEvent H)) (taken : List ℕ) (phase : Phase P H) (owed : List (ConnEvent H)) (waiting : List ℕ) (index : ℕ) (why : ConnRefused)
-      → Connects step fails is_closed is_finished inbound_makes outbound_makes listed is_eager inbound_leads outbound_leads start role own input ended asked told taken phase owed waiting
+  pub not_asked : (input : List ℕ) (ended : Bool) (log : List (Entry H)) (told : List (ConnEvent H)) (taken : List ℕ) (phase : Phase P H) (owed : List (ConnEvent H)) (waiting : List ℕ) (index : ℕ) (why : ConnRefused)
+      → Connects step fails is_closed is_finished inbound_makes outbound_makes listed is_eager inbound_leads outbound_leads start role own input ended log told taken phase owed waiting
       → IsRefused listed phase index why
-      → (there : Explains step fails is_closed is_finished inbound_makes outbound_makes listed is_eager inbound_leads outbound_leads start role own input ended asked told owed (taken ++ waiting_in phase waiting))
-      × IsNotOpened step fails is_closed is_finished inbound_makes outbound_makes listed is_eager inbound_leads outbound_leads start role own input ended asked told owed (taken ++ waiting_in phase waiting) there index why
+      → (there : Explains step fails is_closed is_finished inbound_makes outbound_makes listed is_eager inbound_leads outbound_leads start role own input ended log told owed (taken ++ waiting_in phase waiting))
+      × IsNotOpened step fails is_closed is_finished inbound_makes outbound_makes listed is_eager inbound_leads outbound_leads start role own input ended log told owed (taken ++ waiting_in phase waiting) there index why
   unfolding why_there
-  not_asked input ended asked told taken (phases.Upgrading x protocols) owed waiting index why it refused = (why_there input ended asked told taken (phases.Upgrading x protocols) owed waiting it, refused)
-  not_asked input ended asked told taken (phases.Up mux) owed waiting index why it (inl beyond) = (
-    why_there input ended asked told taken (phases.Up mux) owed waiting it,
+  not_asked input ended log told taken (phases.Upgrading x protocols) owed waiting index why it refused = (why_there input ended log told taken (phases.Upgrading x protocols) owed waiting it, refused)
+  not_asked input ended log told taken (phases.Up mux) owed waiting index why it (inl beyond) = (
+    why_there input ended log told taken (phases.Up mux) owed waiting it,
     inl (subst (λ (n : List (List ℕ)). length n ≤ index) it.1.0 beyond.0, beyond.1),
   )
-  not_asked input ended asked told taken (phases.Up mux) owed waiting index why it (inr within) =
+  not_asked input ended log told taken (phases.Up mux) owed waiting index why it (inr within) =
       let up = it.1.3.0 in (
-        why_there input ended asked told taken (phases.Up mux) owed waiting it,
+        why_there input ended log told taken (phases.Up mux) owed waiting it,
         inr (
           subst (λ (n : List (List ℕ)). index < length n) it.1.0 within.0,
-          within.1 (session_role role) (items up.log) up.rest (output (session_role role) (items up.log)) up.at_rest.session_stands,
+          within.1 (session_role role) (items log) up.rest (output (session_role role) (items log)) up.at_rest.session_stands,
         ),
       )
-  not_asked input ended asked told taken phases.Over owed waiting index why it refused = (why_there input ended asked told taken phases.Over owed waiting it, refused)
-  not_asked input ended asked told taken phases.Spent owed waiting index why it refused = absurd it
+  not_asked input ended log told taken phases.Over owed waiting index why it refused = (why_there input ended log told taken phases.Over owed waiting it, refused)
+  not_asked input ended log told taken phases.Spent owed waiting index why it refused = absurd it
 
   -- the handlers that are held there
-  pub holds : (input : List ℕ) (ended : Bool) (asked : List (ℕ × ℕ)) (told : List (ConnEvent H)) (taken : List ℕ) (phase : Phase P H) (owed : List (ConnEvent H)) (waiting : List ℕ)
-      → (it : Connects step fails is_closed is_finished inbound_makes outbound_makes listed is_eager inbound_leads outbound_leads start role own input ended asked told taken phase owed waiting)
+  pub holds : (input : List ℕ) (ended : Bool) (log : List (Entry H)) (told : List (ConnEvent H)) (taken : List ℕ) (phase : Phase P H) (owed : List (ConnEvent H)) (waiting : List ℕ)
+      → (it : Connects step fails is_closed is_finished inbound_makes outbound_makes listed is_eager inbound_leads outbound_leads start role own input ended log told taken phase owed waiting)
       → IsOrderedIn phase
-      → Holds step fails is_closed is_finished inbound_makes outbound_makes listed is_eager inbound_leads outbound_leads start role own input ended asked told owed (taken ++ waiting_in phase waiting)
-      (why_there input ended asked told taken phase owed waiting it) (held_in phase)
+      → Holds step fails is_closed is_finished inbound_makes outbound_makes listed is_eager inbound_leads outbound_leads start role own input ended log told owed (taken ++ waiting_in phase waiting)
+      (why_there input ended log told taken phase owed waiting it) (held_in phase)
   unfolding why_there
-  holds input ended asked told taken (phases.Upgrading x protocols) owed waiting it ordered = refl
-  holds input ended asked told taken (phases.Up mux) owed waiting it ordered = (
+  holds input ended log told taken (phases.Upgrading x protocols) owed waiting it ordered = refl
+  holds input ended log told taken (phases.Up mux) owed waiting it ordered = (
     handlers_past mux.board.past.items ++ handlers_of mux.board.streams.entries,
     record { table = mux.board.streams.entries; ascend = ordered; found = λ n. refl; handlers_are = refl },
     ap (λ (order : List ℕ). arranged (reverse order) (handlers_past mux.board.past.items ++ handlers_of mux.board.streams.entries)) it.1.3.3,
   )
-  holds input ended asked told taken phases.Over owed waiting it ordered = refl
-  holds input ended asked told taken phases.Spent owed waiting it ordered = absurd it
+  holds input ended log told taken phases.Over owed waiting it ordered = refl
+  holds input ended log told taken phases.Spent owed waiting it ordered = absurd it
 
 -- where memory was refused none is held
 pub spent_holds : {P H : Type 0} (phase : Phase P H) → is_spent phase ≡ true → held_in phase ≡ []

@@ -1,5 +1,6 @@
 -- The worked rows of an end of a connection.
 use Rattle.std.proofs.Common.{◌≡◌, ◌⊎◌, inl, inr, ℕ, Bool, true, false, List, [], ◌∷◌, ◌++◌, drop, Option, Some, refl, sym, ap, ◌∙◌, subst}
+use Rattle.std.proofs.lemmas.List.{append_assoc, append_cancel_right}
 use Rattle.std.specs.List.{AllByRecursion}
 use Rattle.handlers.specs.Calls.{HandlerCall, Asked}
 use Rattle.peer_ids.specs.Key.{Key}
@@ -7,24 +8,29 @@ use Rattle.streams.specs.declared.stop.Cause.{Cause}
 use Rattle.upgrade.specs.declared.role.ConnRole.{ConnRole}
 use Rattle.upgrade.specs.declared.fault.UpgradeFault.{UpgradeFault}
 use Rattle.upgrade.specs.declared.fault.UpgradeFault.TheVariants as upgrade
+use Rattle.yamux_frames.specs.Frames.{Arrival}
 use Rattle.yamux_session.specs.declared.event.Role.{Role}
+use Rattle.yamux_session.specs.History.Item.{Came}
 use Rattle.conn_log.specs.declared.event.ConnEvent.{ConnEvent}
 use Rattle.conn_log.specs.declared.event.ConnEvent.TheVariants as event
 use Rattle.conn_log.specs.declared.event.ConnFault.{ConnFault}
 use Rattle.conn_log.specs.declared.event.ConnFault.TheVariants as fault
 use Rattle.conn_log.specs.declared.event.ConnRefused.TheVariants as refusals
 use Rattle.conn_log.specs.Asked.{IsBrokenOf}
+use Rattle.conn_log.specs.Entries.{Entry, asks}
+use Rattle.conn_log.specs.Entries.Entry.{Of, Says, Asks}
 use Rattle.conn_core.specs.declared.calls.ConnAct.{ConnAct}
 use Rattle.conn_core.specs.declared.calls.ConnAct.TheVariants.{Ask}
 use Rattle.conn_core.specs.declared.calls.ConnAnswer.{ConnAnswer}
 use Rattle.conn_core.specs.declared.calls.ConnAnswer.TheVariants as answers
-use Rattle.conn_core.specs.Connects.{OwesOf, told_of}
+use Rattle.conn_core.specs.Connects.{OwesOf, IsGrown, IsOpened, told_of}
 use Rattle.conn_core.specs.Connects.Ends.{Upgrade, Session, Early, Within, Shut}
 use Rattle.conn_core.specs.Runs.{Point, is_end, IsTurnedAway, StaysBehind}
 use Rattle.conn_core.specs.Runs.Point.{At, Spent}
-use Rattle.conn_core.specs.ConnectRows.{NameRows, PhaseRows, EndRows, ends}
+use Rattle.conn_core.specs.ConnectRows.{NameRows, PhaseRows, GrownRows, OpenedRows, EndRows, ends}
 use Rattle.board.specs.Handlers.{numbered}
 use Rattle.conn_core.specs.PromiseRows.{ServingRows, EarlyRows, HandedRows}
+use Rattle.conn_core.proofs.Growing.{stays, one_opened}
 use Rattle.conn_core.specs.RunRows.{LastRows, SumRows, RefusedRows, AnswerRows, going, over, answers_at, answers_all}
 
 -- ---- lists of events
@@ -40,6 +46,65 @@ one_is x y (z ∷ before) is = absurd (none_behind before y (ap (λ l. drop 1 l)
 two_are : {A : Type 0} (x y z : A) (before : List A) → x ∷ y ∷ [] ≡ before ++ z ∷ [] → y ≡ z
 two_are x y z [] is = absurd (let e : y ∷ [] ≡ [] = ap (λ l. drop 1 l) is in cc e)
 two_are x y z (w ∷ before) is = (one_is y z before (ap (λ l. drop 1 l) is)).1
+
+-- ---- a list that has grown
+
+abbrev first_number : List (ℕ × ℕ) → ℕ
+first_number [] = 0
+first_number (opened ∷ rest) = opened.0
+
+abbrev first_index : List (ℕ × ℕ) → ℕ
+first_index [] = 0
+first_index (opened ∷ rest) = opened.1
+
+module _ {H : Type 0} where
+  -- what stands before the list is what is new
+  asks_are : (opened : List (ℕ × ℕ)) (front log now : List (Entry H)) → IsGrown opened log now → front ++ log ≡ now → asks front ≡ opened
+  asks_are opened front log now grown is =
+      ap (λ (l : List (Entry H)). asks l) (append_cancel_right front grown.newer log (is ∙ grown.now_is)) ∙ grown.opened_are
+
+  -- what comes behind an opening doesn't stand before it
+  not_before : (n index : ℕ) (arrival : Arrival) (opened : List (ℕ × ℕ)) (now : List (Entry H)) → IsGrown opened (Asks n index ∷ []) now
+      → Asks n index ∷ Of (Came arrival) ∷ [] ≡ now → ⊥
+  not_before n index arrival opened now grown is =
+      let same : ◌≡◌ {A = Entry H} (Of (Came arrival)) (Asks n index) = two_are _ _ _ grown.newer (is ∙ grown.now_is) in cc same
+
+  pub grown_rows : GrownRows H
+  grown_rows = record {
+    by_nothing = stays;
+    by_one = λ log e. record { newer = Says e ∷ []; now_is = refl; opened_are = refl };
+    by_an_opening = λ log. record { newer = Asks 3 0 ∷ []; now_is = refl; opened_are = refl };
+    in_order = λ log. record { newer = Asks 3 0 ∷ Asks 1 4 ∷ []; now_is = refl; opened_are = refl };
+    unopened = λ log grown. cc (asks_are [] (Asks 3 0 ∷ []) log _ grown refl);
+    of_another_index = λ log grown. let e : ◌≡◌ {A = ℕ} 0 1 = ap first_index (asks_are ((3, 1) ∷ []) (Asks 3 0 ∷ []) log _ grown refl) in cc e;
+    never_opened = λ log grown. cc (asks_are ((3, 0) ∷ []) [] log _ grown refl);
+    lost = λ e opened grown. none_behind grown.newer e grown.now_is;
+    changed = λ e other opened grown. (one_is other e grown.newer grown.now_is).1;
+    before_the_opening = λ arrival opened grown. not_before 1 0 arrival opened _ grown refl;
+  }
+
+  -- what stands before the list is what is new, also behind an opening
+  asked_are : (number index : ℕ) (front log now : List (Entry H)) → IsOpened number index log now → front ++ log ≡ now → asks front ≡ (number, index) ∷ []
+  asked_are number index front log now opened is = asks_are ((number, index) ∷ []) front log now (one_opened number index log now opened) is
+
+  -- nothing stands between the list and the opening
+  not_late : (number index : ℕ) (e : ConnEvent H) (log now : List (Entry H)) → IsOpened number index log now → Asks number index ∷ Says e ∷ log ≡ now → ⊥
+  not_late number index e log now opened is =
+      let front : Asks number index ∷ Says e ∷ [] ≡ opened.later ++ Asks number index ∷ [] =
+      append_cancel_right (Asks number index ∷ Says e ∷ []) (opened.later ++ Asks number index ∷ []) log (is ∙ opened.now_is ∙ sym (append_assoc opened.later (Asks number index ∷ []) log)) in
+      let same : ◌≡◌ {A = Entry H} (Says e) (Asks number index) = two_are _ _ _ opened.later front in cc same
+
+  pub opened_rows : OpenedRows H
+  opened_rows = record {
+    alone = λ log. record { later = []; now_is = refl; alone = refl };
+    followed = λ log e. record { later = Says e ∷ []; now_is = refl; alone = refl };
+    by_nothing = λ log opened. cc (asked_are 3 4 [] log _ opened refl);
+    of_another_number = λ log opened. let e : ◌≡◌ {A = ℕ} 5 3 = ap first_number (asked_are 3 4 (Asks 5 4 ∷ []) log _ opened refl) in cc e;
+    of_another_index = λ log opened. let e : ◌≡◌ {A = ℕ} 5 4 = ap first_index (asked_are 3 4 (Asks 3 5 ∷ []) log _ opened refl) in cc e;
+    twice = λ log opened. cc (asked_are 3 4 (Asks 5 4 ∷ Asks 3 4 ∷ []) log _ opened refl);
+    late = λ e opened. not_late 3 4 e [] _ opened refl;
+    changed = λ e other opened. two_are _ other e (opened.later ++ Asks 3 4 ∷ []) (opened.now_is ∙ sym (append_assoc opened.later (Asks 3 4 ∷ []) (e ∷ [])));
+  }
 
 -- ---- names and phases
 
@@ -184,8 +249,8 @@ module _ {P H : Type 0} (step : H → HandlerCall → H → Type 0) (fails : H �
       subst (λ (here : Point H). All here (other ∷ []) (answers.Refused refusals.Failed ∷ []) last → last ≡ Spent written) (sym answered.1)
       (λ rest. rest.2 ∙ rest.1.1) (behind, next_answered, is)
 
-  other_broken : (cause : Cause) → Call [] [] (Ask 2) (answers.Stream 5) (At (1 ∷ []) false ((3, 0) ∷ (5, 2) ∷ []) [] (event.Broken 3 cause ∷ [])) → ⊥
-  other_broken cause (there, (more, broken, is)) = not_five more broken (cc is) where
+  other_broken : (cause : Cause) → Call [] [] (Ask 2) (answers.Stream 5) (At (1 ∷ []) false (Asks 5 2 ∷ Asks 3 0 ∷ []) [] (event.Broken 3 cause ∷ [])) → ⊥
+  other_broken cause (there, (more, broken, now, grown, is)) = not_five more broken (cc is) where
     not_five : (more : List (ConnEvent H)) → AllByRecursion (IsBrokenOf 5) more → event.Broken 3 cause ∷ [] ≡ more → ⊥
     not_five [] all is = cc is
     not_five (e ∷ more) all is = let same : e ≡ event.Broken 3 cause = cc is in
@@ -195,6 +260,8 @@ module _ {P H : Type 0} (step : H → HandlerCall → H → Type 0) (fails : H �
       outbound_leads start role own
   answer_rows = record {
     fed = λ bytes more owed next. (λ it. (it.1, it.2), λ is. (refl, is.0, is.1));
+    fed_before = λ bytes more arrival told it. not_before 3 0 arrival [] it.1.0 it.1.1 (cc it.1.2);
+    fed_opens = λ bytes more told it. cc (asks_are [] (Asks 5 2 ∷ []) (Asks 3 0 ∷ []) it.1.0 it.1.1 (cc it.1.2));
     fed_behind_the_end = λ bytes more next it. cc it.0;
     ended = λ more owed next. (λ it. (it.1, it.2), λ is. (refl, is.0, is.1));
     owed_last = λ owed other more bytes next is it. let e : ◌≡◌ {A = List (ConnEvent H)} (other ∷ owed ∷ []) (owed ∷ it.2.0) = sym is ∙ it.2.1 in cc e;
@@ -203,7 +270,10 @@ module _ {P H : Type 0} (step : H → HandlerCall → H → Type 0) (fails : H �
     fed_a_stream = λ bytes next it. it;
     ended_by_a_stream = λ next it. it;
     asked_for_events = λ more next it. it;
-    opened = λ owed next it. (it.1.0, it.1.2);
+    opened = λ owed next it. (it.1.0, it.1.2, it.1.3, it.1.4);
+    opens_another = λ told it. let e : ◌≡◌ {A = ℕ} 7 5 = ap first_number (asked_are 5 2 (Asks 7 2 ∷ []) (Asks 3 0 ∷ []) it.1.2 it.1.3 (cc it.1.4)) in cc e;
+    opens_none = λ told it. cc (asked_are 5 2 [] (Asks 3 0 ∷ []) it.1.2 it.1.3 (cc it.1.4));
+    opens_late = λ e told it. not_late 5 2 e (Asks 3 0 ∷ []) it.1.2 it.1.3 (cc it.1.4);
     owes_of_another = other_broken;
     spent = λ written call answer next. (λ it. it, λ it. it);
     no_call = λ point last. (λ is. is, λ is. is);
@@ -215,7 +285,7 @@ module _ {P H : Type 0} (step : H → HandlerCall → H → Type 0) (fails : H �
 
   -- ---- ends
 
-  abbrev End : List ℕ → Bool → List (ℕ × ℕ) → List (ConnEvent H) → List ℕ → Type 0
+  abbrev End : List ℕ → Bool → List (Entry H) → List (ConnEvent H) → List ℕ → Type 0
   End = ends step fails is_closed is_finished inbound_makes outbound_makes listed is_eager inbound_leads outbound_leads
       start role own
 
@@ -308,7 +378,7 @@ module _ {P H : Type 0} (step : H → HandlerCall → H → Type 0) (fails : H �
   select_late input written ended key (Within before session streams past has up within told) = cc (two_are _ _ _ before told)
   select_late input written ended key (Shut before session streams past has up within told) = cc (two_are _ _ _ before told)
 
-  select_asked : (input written : List ℕ) (ended : Bool) → End input ended ((1, 0) ∷ []) (event.Fault fault.Select ∷ []) written → ⊥
+  select_asked : (input written : List ℕ) (ended : Bool) → End input ended (Asks 1 0 ∷ []) (event.Fault fault.Select ∷ []) written → ⊥
   select_asked input written ended (Upgrade why named first named_is comes none told) = cc none
   select_asked input written ended (Session faulty) = cc ((one_is _ _ faulty.before faulty.told_is).1)
   select_asked input written ended (Early has upgrades none told) = cc none

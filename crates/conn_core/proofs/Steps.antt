@@ -8,6 +8,7 @@ use Rattle.upgrade.specs.declared.role.ConnRole.{ConnRole}
 use Rattle.conn_log.specs.declared.event.ConnEvent.{ConnEvent}
 use Rattle.conn_log.specs.declared.event.ConnRefused.{ConnRefused}
 use Rattle.conn_log.specs.declared.event.ConnRefused.TheVariants as refusals
+use Rattle.conn_log.specs.Entries.{Entry}
 use Rattle.conn_core.specs.declared.connection.Phase.{Phase}
 use Rattle.conn_core.specs.declared.connection.Phase.TheVariants as phases
 use Rattle.conn_core.specs.declared.connection.ConnCore.{ConnCore}
@@ -15,7 +16,7 @@ use Rattle.conn_core.specs.declared.calls.ConnAct.{ConnAct}
 use Rattle.conn_core.specs.declared.calls.ConnAct.TheVariants.{Ask}
 use Rattle.conn_core.specs.declared.calls.ConnAnswer.{ConnAnswer}
 use Rattle.conn_core.specs.declared.calls.ConnAnswer.TheVariants.{Events, Refused}
-use Rattle.conn_core.specs.Connects.{Connects, Stands, MayOpen, IsRefused, OwesOf, is_over, is_spent, waiting_in, held_in, IsOrderedIn, TellsFirst}
+use Rattle.conn_core.specs.Connects.{Connects, Stands, IsOpened, MayOpen, IsRefused, OwesOf, is_over, is_spent, waiting_in, held_in, IsOrderedIn, TellsFirst}
 use Rattle.upgrade.specs.Upgrades.{Grows}
 use Rattle.conn_core.specs.Wanting.{Wrote}
 use Rattle.conn_core.specs.Runs.{Point, Explains, IsExplained, MayBeAsked, IsNotOpened, IsTurnedAway, IsKept, AnswersAt, Holds, Leaves, HasWritten, Answers, AnswersAll, IsAt, has_ended, events_or, stream_or}
@@ -67,19 +68,19 @@ module _ {P H : Type 0} (step : H → HandlerCall → H → Type 0) (fails : H �
     (listed : P → List (List ℕ)) (is_eager : P → ℕ → Bool)
     (inbound_leads outbound_leads : P → ℕ → List ℕ → H → P → Type 0) (start : P) (role : ConnRole) (own : Key) where
   -- where memory was refused to a feed
-  pub feed_keeps : {A : Type 0} (input piece : List ℕ) (asked : List (ℕ × ℕ)) (told owed : List (ConnEvent H)) (before after : List ℕ) (r : Result A ConnRefused)
-      → Explains step fails is_closed is_finished inbound_makes outbound_makes listed is_eager inbound_leads outbound_leads start role own input false asked told owed before → OnErr r (Grows before after) → OnErr r (Wrote step fails is_closed is_finished inbound_makes outbound_makes listed is_eager inbound_leads outbound_leads start role own input piece asked told after)
-      → OnErr r ((first : List ℕ) × Explains step fails is_closed is_finished inbound_makes outbound_makes listed is_eager inbound_leads outbound_leads start role own input false asked told owed first × Grows first after × Wrote step fails is_closed is_finished inbound_makes outbound_makes listed is_eager inbound_leads outbound_leads start role own input piece asked told after)
-  feed_keeps input piece asked told owed before after (Ok x) there waits wrote = tt
-  feed_keeps input piece asked told owed before after (Err why) there waits wrote = (before, there, waits, wrote)
+  pub feed_keeps : {A : Type 0} (input piece : List ℕ) (log : List (Entry H)) (told owed : List (ConnEvent H)) (before after : List ℕ) (r : Result A ConnRefused)
+      → Explains step fails is_closed is_finished inbound_makes outbound_makes listed is_eager inbound_leads outbound_leads start role own input false log told owed before → OnErr r (Grows before after) → OnErr r (Wrote step fails is_closed is_finished inbound_makes outbound_makes listed is_eager inbound_leads outbound_leads start role own input piece log told after)
+      → OnErr r ((first : List ℕ) × Explains step fails is_closed is_finished inbound_makes outbound_makes listed is_eager inbound_leads outbound_leads start role own input false log told owed first × Grows first after × Wrote step fails is_closed is_finished inbound_makes outbound_makes listed is_eager inbound_leads outbound_leads start role own input piece log told after)
+  feed_keeps input piece log told owed before after (Ok x) there waits wrote = tt
+  feed_keeps input piece log told owed before after (Err why) there waits wrote = (before, there, waits, wrote)
 
   -- what is over owes nothing
-  pub over_owes : (input : List ℕ) (ended : Bool) (asked : List (ℕ × ℕ)) (told : List (ConnEvent H)) (taken : List ℕ) (phase : Phase P H) (owed : List (ConnEvent H)) (waiting : List ℕ)
-      → is_over phase ≡ true → Connects step fails is_closed is_finished inbound_makes outbound_makes listed is_eager inbound_leads outbound_leads start role own input ended asked told taken phase owed waiting → owed ≡ []
-  over_owes input ended asked told taken (phases.Upgrading x protocols) owed waiting over it = absurd (cc over)
-  over_owes input ended asked told taken (phases.Up mux) owed waiting over it = absurd (cc over)
-  over_owes input ended asked told taken phases.Over owed waiting over it = it.0
-  over_owes input ended asked told taken phases.Spent owed waiting over it = absurd it
+  pub over_owes : (input : List ℕ) (ended : Bool) (log : List (Entry H)) (told : List (ConnEvent H)) (taken : List ℕ) (phase : Phase P H) (owed : List (ConnEvent H)) (waiting : List ℕ)
+      → is_over phase ≡ true → Connects step fails is_closed is_finished inbound_makes outbound_makes listed is_eager inbound_leads outbound_leads start role own input ended log told taken phase owed waiting → owed ≡ []
+  over_owes input ended log told taken (phases.Upgrading x protocols) owed waiting over it = absurd (cc over)
+  over_owes input ended log told taken (phases.Up mux) owed waiting over it = absurd (cc over)
+  over_owes input ended log told taken phases.Over owed waiting over it = it.0
+  over_owes input ended log told taken phases.Spent owed waiting over it = absurd it
 
   -- ---- one call after another
 
@@ -93,17 +94,17 @@ module _ {P H : Type 0} (step : H → HandlerCall → H → Type 0) (fails : H �
   -- ---- the last point
 
   pub leaves : (point : Point H) (old new : ConnCore P H) (output : List ℕ) (handlers : List (ℕ × H))
-      → ((input : List ℕ) (ended : Bool) (asked : List (ℕ × ℕ)) (told : List (ConnEvent H)) → Stands step fails is_closed is_finished inbound_makes outbound_makes listed is_eager inbound_leads outbound_leads start role own input ended asked told [] old → Stands step fails is_closed is_finished inbound_makes outbound_makes listed is_eager inbound_leads outbound_leads start role own input ended asked told output new)
+      → ((input : List ℕ) (ended : Bool) (log : List (Entry H)) (told : List (ConnEvent H)) → Stands step fails is_closed is_finished inbound_makes outbound_makes listed is_eager inbound_leads outbound_leads start role own input ended log told [] old → Stands step fails is_closed is_finished inbound_makes outbound_makes listed is_eager inbound_leads outbound_leads start role own input ended log told output new)
       → output ≡ waiting_in old.phase old.output.items → waiting_in new.phase new.output.items ≡ [] → new.owed.items ≡ old.owed.items → is_spent new.phase ≡ is_spent old.phase
       → handlers ≡ held_in new.phase → IsOrderedIn new.phase → IsAt step fails is_closed is_finished inbound_makes outbound_makes listed is_eager inbound_leads outbound_leads start role own [] point old → Leaves step fails is_closed is_finished inbound_makes outbound_makes listed is_eager inbound_leads outbound_leads start role own point output handlers
-  leaves (At input ended asked told owed) old new output handlers stands taken none same spent held ordered at =
-      let now = (stands input ended asked told at.1).1 in
+  leaves (At input ended log told owed) old new output handlers stands taken none same spent held ordered at =
+      let now = (stands input ended log told at.1).1 in
       let written = output ++ waiting_in new.phase new.output.items in
       let written_is : written ≡ output = ap (λ t. output ++ t) none ∙ append-nil output in
-      subst (λ (w : List ℕ). (there : Explains step fails is_closed is_finished inbound_makes outbound_makes listed is_eager inbound_leads outbound_leads start role own input ended asked told owed w) × Holds step fails is_closed is_finished inbound_makes outbound_makes listed is_eager inbound_leads outbound_leads start role own input ended asked told owed w there handlers) written_is
-      (subst (λ (o : List (ConnEvent H)). (there : Explains step fails is_closed is_finished inbound_makes outbound_makes listed is_eager inbound_leads outbound_leads start role own input ended asked told o written) × Holds step fails is_closed is_finished inbound_makes outbound_makes listed is_eager inbound_leads outbound_leads start role own input ended asked told o written there handlers) (same ∙ at.0)
-      (subst (λ (h : List (ℕ × H)). (there : Explains step fails is_closed is_finished inbound_makes outbound_makes listed is_eager inbound_leads outbound_leads start role own input ended asked told new.owed.items written) × Holds step fails is_closed is_finished inbound_makes outbound_makes listed is_eager inbound_leads outbound_leads start role own input ended asked told new.owed.items written there h) (sym held)
-      (why_there step fails is_closed is_finished inbound_makes outbound_makes listed is_eager inbound_leads outbound_leads start role own input ended asked told output new.phase new.owed.items new.output.items now, holds step fails is_closed is_finished inbound_makes outbound_makes listed is_eager inbound_leads outbound_leads start role own input ended asked told output new.phase new.owed.items new.output.items now ordered)))
+      subst (λ (w : List ℕ). (there : Explains step fails is_closed is_finished inbound_makes outbound_makes listed is_eager inbound_leads outbound_leads start role own input ended log told owed w) × Holds step fails is_closed is_finished inbound_makes outbound_makes listed is_eager inbound_leads outbound_leads start role own input ended log told owed w there handlers) written_is
+      (subst (λ (o : List (ConnEvent H)). (there : Explains step fails is_closed is_finished inbound_makes outbound_makes listed is_eager inbound_leads outbound_leads start role own input ended log told o written) × Holds step fails is_closed is_finished inbound_makes outbound_makes listed is_eager inbound_leads outbound_leads start role own input ended log told o written there handlers) (same ∙ at.0)
+      (subst (λ (h : List (ℕ × H)). (there : Explains step fails is_closed is_finished inbound_makes outbound_makes listed is_eager inbound_leads outbound_leads start role own input ended log told new.owed.items written) × Holds step fails is_closed is_finished inbound_makes outbound_makes listed is_eager inbound_leads outbound_leads start role own input ended log told new.owed.items written there h) (sym held)
+      (why_there step fails is_closed is_finished inbound_makes outbound_makes listed is_eager inbound_leads outbound_leads start role own input ended log told output new.phase new.owed.items new.output.items now, holds step fails is_closed is_finished inbound_makes outbound_makes listed is_eager inbound_leads outbound_leads start role own input ended log told output new.phase new.owed.items new.output.items now ordered)))
   leaves (Spent w) old new output handlers stands taken none same spent held ordered at = (taken ∙ at.1, held ∙ spent_holds new.phase (spent ∙ at.0))
 
 module _ {P H : Type 0} (step : H → HandlerCall → H → Type 0) (fails : H → Asked → ℕ → Type 0)
@@ -121,63 +122,64 @@ module _ {P H : Type 0} (step : H → HandlerCall → H → Type 0) (fails : H �
       subst (λ (a : ConnAct). Leads point a answer new) (sym call_is) (subst (λ (x : ConnAnswer H). Leads point given_call x new) (sym answer_is) leads)
 
   -- what was taken, and what waits there, is what was written
-  written_at : (input : List ℕ) (ended : Bool) (asked : List (ℕ × ℕ)) (told owed : List (ConnEvent H)) (core : ConnCore P H) → IsAt step fails is_closed is_finished inbound_makes outbound_makes listed is_eager inbound_leads outbound_leads start role own taken (At input ended asked told owed) core
-      → Explains step fails is_closed is_finished inbound_makes outbound_makes listed is_eager inbound_leads outbound_leads start role own input ended asked told owed (taken ++ waiting_in core.phase core.output.items)
-  written_at input ended asked told owed core at =
-      subst (λ (o : List (ConnEvent H)). Explains step fails is_closed is_finished inbound_makes outbound_makes listed is_eager inbound_leads outbound_leads start role own input ended asked told o (taken ++ waiting_in core.phase core.output.items)) at.0
-      (why_there step fails is_closed is_finished inbound_makes outbound_makes listed is_eager inbound_leads outbound_leads start role own input ended asked told taken core.phase core.owed.items core.output.items at.1.1)
+  written_at : (input : List ℕ) (ended : Bool) (log : List (Entry H)) (told owed : List (ConnEvent H)) (core : ConnCore P H) → IsAt step fails is_closed is_finished inbound_makes outbound_makes listed is_eager inbound_leads outbound_leads start role own taken (At input ended log told owed) core
+      → Explains step fails is_closed is_finished inbound_makes outbound_makes listed is_eager inbound_leads outbound_leads start role own input ended log told owed (taken ++ waiting_in core.phase core.output.items)
+  written_at input ended log told owed core at =
+      subst (λ (o : List (ConnEvent H)). Explains step fails is_closed is_finished inbound_makes outbound_makes listed is_eager inbound_leads outbound_leads start role own input ended log told o (taken ++ waiting_in core.phase core.output.items)) at.0
+      (why_there step fails is_closed is_finished inbound_makes outbound_makes listed is_eager inbound_leads outbound_leads start role own input ended log told taken core.phase core.owed.items core.output.items at.1.1)
 
   explained_at : (point : Point H) (core : ConnCore P H) → IsAt step fails is_closed is_finished inbound_makes outbound_makes listed is_eager inbound_leads outbound_leads start role own taken point core → IsExplained step fails is_closed is_finished inbound_makes outbound_makes listed is_eager inbound_leads outbound_leads start role own point
-  explained_at (At input ended asked told owed) core at = (taken ++ waiting_in core.phase core.output.items, written_at input ended asked told owed core at)
+  explained_at (At input ended log told owed) core at = (taken ++ waiting_in core.phase core.output.items, written_at input ended log told owed core at)
   explained_at (Spent w) core at = tt
 
   -- ---- a feed, or the end of the input
 
-  pub tells : (point : Point H) (call : ConnAct) (after : List ℕ → List ℕ) (b : Bool) (old new : ConnCore P H) (r : Result (Vec (ConnEvent H)) ConnRefused)
-      → ((input : List ℕ) (ended : Bool) (asked : List (ℕ × ℕ)) (told owed : List (ConnEvent H)) (more : Vec (ConnEvent H)) (next : Point H) → has_ended told ≡ false → next ≡ At (after input) b asked (told ++ more.items) [] → TellsFirst owed more.items
-      → AnswersAt step fails is_closed is_finished inbound_makes outbound_makes listed is_eager inbound_leads outbound_leads start role own input ended asked told owed call (Events more) next)
-      → ((input : List ℕ) (ended : Bool) (asked : List (ℕ × ℕ)) (told owed : List (ConnEvent H)) (why : ConnRefused) (next : Point H) → IsTurnedAway told why (At input ended asked told owed) next
-      → AnswersAt step fails is_closed is_finished inbound_makes outbound_makes listed is_eager inbound_leads outbound_leads start role own input ended asked told owed call (Refused why) next)
-      → ((input : List ℕ) (asked : List (ℕ × ℕ)) (told : List (ConnEvent H)) → Stands step fails is_closed is_finished inbound_makes outbound_makes listed is_eager inbound_leads outbound_leads start role own input false asked told taken old → is_over old.phase ≡ false
-      → IfOk r (λ events. Stands step fails is_closed is_finished inbound_makes outbound_makes listed is_eager inbound_leads outbound_leads start role own (after input) b asked (told ++ events.items) taken new × (new.owed.items ≡ [])))
-      → ((input : List ℕ) (asked : List (ℕ × ℕ)) (told : List (ConnEvent H)) → Stands step fails is_closed is_finished inbound_makes outbound_makes listed is_eager inbound_leads outbound_leads start role own input false asked told taken old → is_over old.phase ≡ false
+  pub tells : (point : Point H) (call : ConnAct) (after : List ℕ → List ℕ) (b : Bool) (leads : List (Entry H) → List (Entry H) → Type 0) (old new : ConnCore P H) (r : Result (Vec (ConnEvent H)) ConnRefused)
+      → ((input : List ℕ) (ended : Bool) (log : List (Entry H)) (told owed : List (ConnEvent H)) (more : Vec (ConnEvent H)) (now : List (Entry H)) (next : Point H) → has_ended told ≡ false → leads log now → next ≡ At (after input) b now (told ++ more.items) [] → TellsFirst owed more.items
+      → AnswersAt step fails is_closed is_finished inbound_makes outbound_makes listed is_eager inbound_leads outbound_leads start role own input ended log told owed call (Events more) next)
+      → ((input : List ℕ) (ended : Bool) (log : List (Entry H)) (told owed : List (ConnEvent H)) (why : ConnRefused) (next : Point H) → IsTurnedAway told why (At input ended log told owed) next
+      → AnswersAt step fails is_closed is_finished inbound_makes outbound_makes listed is_eager inbound_leads outbound_leads start role own input ended log told owed call (Refused why) next)
+      → ((input : List ℕ) (log : List (Entry H)) (told : List (ConnEvent H)) → Stands step fails is_closed is_finished inbound_makes outbound_makes listed is_eager inbound_leads outbound_leads start role own input false log told taken old → is_over old.phase ≡ false
+      → IfOk r (λ events. ((now : List (Entry H)) × leads log now × Stands step fails is_closed is_finished inbound_makes outbound_makes listed is_eager inbound_leads outbound_leads start role own (after input) b now (told ++ events.items) taken new) × (new.owed.items ≡ [])))
+      → ((input : List ℕ) (log : List (Entry H)) (told : List (ConnEvent H)) → Stands step fails is_closed is_finished inbound_makes outbound_makes listed is_eager inbound_leads outbound_leads start role own input false log told taken old → is_over old.phase ≡ false
       → IfOk r (λ events. TellsFirst old.owed.items events.items))
       → (is_over old.phase ≡ false → OnErr r ((r ≡ Err refusals.OutOfMemory) × (is_spent new.phase ≡ true)))
-      → ((input : List ℕ) (asked : List (ℕ × ℕ)) (told owed : List (ConnEvent H)) → Explains step fails is_closed is_finished inbound_makes outbound_makes listed is_eager inbound_leads outbound_leads start role own input false asked told owed (taken ++ waiting_in old.phase old.output.items)
-      → Stands step fails is_closed is_finished inbound_makes outbound_makes listed is_eager inbound_leads outbound_leads start role own input false asked told taken old → is_over old.phase ≡ false
-      → OnErr r (IsKept step fails is_closed is_finished inbound_makes outbound_makes listed is_eager inbound_leads outbound_leads start role own input false asked told owed call (taken ++ waiting_in new.phase new.output.items)))
+      → ((input : List ℕ) (log : List (Entry H)) (told owed : List (ConnEvent H)) → Explains step fails is_closed is_finished inbound_makes outbound_makes listed is_eager inbound_leads outbound_leads start role own input false log told owed (taken ++ waiting_in old.phase old.output.items)
+      → Stands step fails is_closed is_finished inbound_makes outbound_makes listed is_eager inbound_leads outbound_leads start role own input false log told taken old → is_over old.phase ≡ false
+      → OnErr r (IsKept step fails is_closed is_finished inbound_makes outbound_makes listed is_eager inbound_leads outbound_leads start role own input false log told owed call (taken ++ waiting_in new.phase new.output.items)))
       → (is_over old.phase ≡ true → (r ≡ Err refusals.Failed) × (new ≡ old))
       → IsAt step fails is_closed is_finished inbound_makes outbound_makes listed is_eager inbound_leads outbound_leads start role own taken point old → Leads point call (events_or r) new
-  tells (At input ended asked told owed) call after b old new (Ok events) shape away fed first refused kept failed at = by_over (is_over old.phase) refl
+  tells (At input ended log told owed) call after b leads old new (Ok events) shape away fed first refused kept failed at = by_over (is_over old.phase) refl
     where
-      by_over : (c : Bool) → is_over old.phase ≡ c → Leads (At input ended asked told owed) call (Events events) new
+      by_over : (c : Bool) → is_over old.phase ≡ c → Leads (At input ended log told owed) call (Events events) new
       by_over true over = absurd (let e = (failed over).0 in cc)
       by_over false going =
-          let open_still = unended step fails is_closed is_finished inbound_makes outbound_makes listed is_eager inbound_leads outbound_leads start role own input ended asked told taken old.phase old.owed.items old.output.items at.1.1 going in
-          let stood = subst (λ (x : Bool). Stands step fails is_closed is_finished inbound_makes outbound_makes listed is_eager inbound_leads outbound_leads start role own input x asked told taken old) open_still at.1 in
-          let now = fed input asked told stood going in
-          let tells_first = subst (λ (o : List (ConnEvent H)). TellsFirst o events.items) at.0 (first input asked told stood going) in
-          let next : Point H = At (after input) b asked (told ++ events.items) [] in
-          let there : IsAt step fails is_closed is_finished inbound_makes outbound_makes listed is_eager inbound_leads outbound_leads start role own taken next new = (now.1, now.0) in (
+          let open_still = unended step fails is_closed is_finished inbound_makes outbound_makes listed is_eager inbound_leads outbound_leads start role own input ended log told taken old.phase old.owed.items old.output.items at.1.1 going in
+          let stood = subst (λ (x : Bool). Stands step fails is_closed is_finished inbound_makes outbound_makes listed is_eager inbound_leads outbound_leads start role own input x log told taken old) open_still at.1 in
+          let fed_now = fed input log told stood going in
+          let now = fed_now.0.0 in
+          let tells_first = subst (λ (o : List (ConnEvent H)). TellsFirst o events.items) at.0 (first input log told stood going) in
+          let next : Point H = At (after input) b now (told ++ events.items) [] in
+          let there : IsAt step fails is_closed is_finished inbound_makes outbound_makes listed is_eager inbound_leads outbound_leads start role own taken next new = (fed_now.1, fed_now.0.2) in (
             next,
             (
-              shape input ended asked told owed events next (told_over step fails is_closed is_finished inbound_makes outbound_makes listed is_eager inbound_leads outbound_leads start role own input ended asked told taken old.phase old.owed.items old.output.items at.1.1 ∙ going) refl tells_first,
+              shape input ended log told owed events now next (told_over step fails is_closed is_finished inbound_makes outbound_makes listed is_eager inbound_leads outbound_leads start role own input ended log told taken old.phase old.owed.items old.output.items at.1.1 ∙ going) fed_now.0.1 refl tells_first,
               explained_at next new there,
               tt,
             ),
             there,
           )
-  tells (At input ended asked told owed) call after b old new (Err why) shape away fed first refused kept failed at = by_over (is_over old.phase) refl
+  tells (At input ended log told owed) call after b leads old new (Err why) shape away fed first refused kept failed at = by_over (is_over old.phase) refl
     where
-      by_over : (c : Bool) → is_over old.phase ≡ c → Leads (At input ended asked told owed) call (Refused why) new
+      by_over : (c : Bool) → is_over old.phase ≡ c → Leads (At input ended log told owed) call (Refused why) new
       by_over true over =
           let same = failed over in
           let why_is : why ≡ refusals.Failed = (let e = same.0 in cc) in
-          let here : Point H = At input ended asked told owed in
+          let here : Point H = At input ended log told owed in
           let there : IsAt step fails is_closed is_finished inbound_makes outbound_makes listed is_eager inbound_leads outbound_leads start role own taken here new = subst (IsAt step fails is_closed is_finished inbound_makes outbound_makes listed is_eager inbound_leads outbound_leads start role own taken here) (sym same.1) at in (
             here,
             (
-              away input ended asked told owed why here (inl (told_over step fails is_closed is_finished inbound_makes outbound_makes listed is_eager inbound_leads outbound_leads start role own input ended asked told taken old.phase old.owed.items old.output.items at.1.1 ∙ over, why_is, refl)),
+              away input ended log told owed why here (inl (told_over step fails is_closed is_finished inbound_makes outbound_makes listed is_eager inbound_leads outbound_leads start role own input ended log told taken old.phase old.owed.items old.output.items at.1.1 ∙ over, why_is, refl)),
               explained_at here new there,
               tt,
             ),
@@ -186,20 +188,20 @@ module _ {P H : Type 0} (step : H → HandlerCall → H → Type 0) (fails : H �
       by_over false going =
           let out = refused going in
           let why_is : why ≡ refusals.OutOfMemory = (let e = out.0 in cc) in
-          let open_still = unended step fails is_closed is_finished inbound_makes outbound_makes listed is_eager inbound_leads outbound_leads start role own input ended asked told taken old.phase old.owed.items old.output.items at.1.1 going in
+          let open_still = unended step fails is_closed is_finished inbound_makes outbound_makes listed is_eager inbound_leads outbound_leads start role own input ended log told taken old.phase old.owed.items old.output.items at.1.1 going in
           let written = taken ++ waiting_in new.phase new.output.items in (
             Spent written,
             (
-              away input ended asked told owed why (Spent written) (inr (told_over step fails is_closed is_finished inbound_makes outbound_makes listed is_eager inbound_leads outbound_leads start role own input ended asked told taken old.phase old.owed.items old.output.items at.1.1 ∙ going, why_is, (written, refl))),
+              away input ended log told owed why (Spent written) (inr (told_over step fails is_closed is_finished inbound_makes outbound_makes listed is_eager inbound_leads outbound_leads start role own input ended log told taken old.phase old.owed.items old.output.items at.1.1 ∙ going, why_is, (written, refl))),
               tt,
-              subst (λ (x : Bool). IsKept step fails is_closed is_finished inbound_makes outbound_makes listed is_eager inbound_leads outbound_leads start role own input x asked told owed call written) (sym open_still)
-                  (kept input asked told owed (subst (λ (x : Bool). Explains step fails is_closed is_finished inbound_makes outbound_makes listed is_eager inbound_leads outbound_leads start role own input x asked told owed (taken ++ waiting_in old.phase old.output.items)) open_still (written_at input ended asked told owed old at))
-                  (subst (λ (x : Bool). Stands step fails is_closed is_finished inbound_makes outbound_makes listed is_eager inbound_leads outbound_leads start role own input x asked told taken old) open_still at.1) going),
+              subst (λ (x : Bool). IsKept step fails is_closed is_finished inbound_makes outbound_makes listed is_eager inbound_leads outbound_leads start role own input x log told owed call written) (sym open_still)
+                  (kept input log told owed (subst (λ (x : Bool). Explains step fails is_closed is_finished inbound_makes outbound_makes listed is_eager inbound_leads outbound_leads start role own input x log told owed (taken ++ waiting_in old.phase old.output.items)) open_still (written_at input ended log told owed old at))
+                  (subst (λ (x : Bool). Stands step fails is_closed is_finished inbound_makes outbound_makes listed is_eager inbound_leads outbound_leads start role own input x log told taken old) open_still at.1) going),
             ),
             (out.1, refl),
           )
-  tells (Spent w) call after b old new (Ok events) shape away fed first refused kept failed at = absurd (let e = (failed (spent_over old.phase at.0)).0 in cc)
-  tells (Spent w) call after b old new (Err why) shape away fed first refused kept failed at =
+  tells (Spent w) call after b leads old new (Ok events) shape away fed first refused kept failed at = absurd (let e = (failed (spent_over old.phase at.0)).0 in cc)
+  tells (Spent w) call after b leads old new (Err why) shape away fed first refused kept failed at =
       let same = failed (spent_over old.phase at.0) in
       let why_is : why ≡ refusals.Failed = (let e = same.0 in cc) in
       (Spent w, (ap Refused why_is, refl), subst (λ (c : ConnCore P H). (is_spent c.phase ≡ true) × (taken ++ waiting_in c.phase c.output.items ≡ w)) (sym same.1) at)
@@ -207,9 +209,9 @@ module _ {P H : Type 0} (step : H → HandlerCall → H → Type 0) (fails : H �
   -- ---- an opening
 
   pub asks : (point : Point H) (index : ℕ) (old new : ConnCore P H) (r : Result ℕ ConnRefused)
-      → ((input : List ℕ) (asked : List (ℕ × ℕ)) (told : List (ConnEvent H)) → Stands step fails is_closed is_finished inbound_makes outbound_makes listed is_eager inbound_leads outbound_leads start role own input false asked told taken old
-      → IfOk r (λ number. Stands step fails is_closed is_finished inbound_makes outbound_makes listed is_eager inbound_leads outbound_leads start role own input false (asked ++ (number, index) ∷ []) told taken new))
-      → ((input : List ℕ) (asked : List (ℕ × ℕ)) (told : List (ConnEvent H)) → Stands step fails is_closed is_finished inbound_makes outbound_makes listed is_eager inbound_leads outbound_leads start role own input false asked told taken old
+      → ((input : List ℕ) (log : List (Entry H)) (told : List (ConnEvent H)) → Stands step fails is_closed is_finished inbound_makes outbound_makes listed is_eager inbound_leads outbound_leads start role own input false log told taken old
+      → IfOk r (λ number. (now : List (Entry H)) × IsOpened number index log now × Stands step fails is_closed is_finished inbound_makes outbound_makes listed is_eager inbound_leads outbound_leads start role own input false now told taken new))
+      → ((input : List ℕ) (log : List (Entry H)) (told : List (ConnEvent H)) → Stands step fails is_closed is_finished inbound_makes outbound_makes listed is_eager inbound_leads outbound_leads start role own input false log told taken old
       → IfOk r (λ number. OwesOf number old.owed.items new.owed.items))
       → IfOk r (λ number. MayOpen listed old.phase index)
       → IfErr r (λ why. IsRefused listed old.phase index why)
@@ -217,42 +219,43 @@ module _ {P H : Type 0} (step : H → HandlerCall → H → Type 0) (fails : H �
       → (r ≡ Err refusals.OutOfMemory → is_spent new.phase ≡ true)
       → OnErr r (waiting_in new.phase new.output.items ≡ waiting_in old.phase old.output.items)
       → IsAt step fails is_closed is_finished inbound_makes outbound_makes listed is_eager inbound_leads outbound_leads start role own taken point old → Leads point (Ask index) (stream_or r) new
-  asks (At input ended asked told owed) index old new (Ok n) stands owes may refused kept memory waits at =
+  asks (At input ended log told owed) index old new (Ok n) stands owes may refused kept memory waits at =
       let going = open_goes_on listed old.phase index may in
-      let open_still = unended step fails is_closed is_finished inbound_makes outbound_makes listed is_eager inbound_leads outbound_leads start role own input ended asked told taken old.phase old.owed.items old.output.items at.1.1 going in
-      let before = subst (λ (x : Bool). Stands step fails is_closed is_finished inbound_makes outbound_makes listed is_eager inbound_leads outbound_leads start role own input x asked told taken old) open_still at.1 in
-      let more = owes input asked told before in
+      let open_still = unended step fails is_closed is_finished inbound_makes outbound_makes listed is_eager inbound_leads outbound_leads start role own input ended log told taken old.phase old.owed.items old.output.items at.1.1 going in
+      let before = subst (λ (x : Bool). Stands step fails is_closed is_finished inbound_makes outbound_makes listed is_eager inbound_leads outbound_leads start role own input x log told taken old) open_still at.1 in
+      let more = owes input log told before in
       let written = taken ++ waiting_in old.phase old.output.items in
-      let why = may_ask step fails is_closed is_finished inbound_makes outbound_makes listed is_eager inbound_leads outbound_leads start role own input ended asked told taken old.phase old.owed.items old.output.items index at.1.1 may in
-      let next : Point H = At input false (asked ++ (n, index) ∷ []) told (owed ++ more.0) in
-      let there : IsAt step fails is_closed is_finished inbound_makes outbound_makes listed is_eager inbound_leads outbound_leads start role own taken next new = (more.2 ∙ ap (λ o. o ++ more.0) at.0, stands input asked told before) in (
+      let why = may_ask step fails is_closed is_finished inbound_makes outbound_makes listed is_eager inbound_leads outbound_leads start role own input ended log told taken old.phase old.owed.items old.output.items index at.1.1 may in
+      let stood = stands input log told before in
+      let next : Point H = At input false stood.0 told (owed ++ more.0) in
+      let there : IsAt step fails is_closed is_finished inbound_makes outbound_makes listed is_eager inbound_leads outbound_leads start role own taken next new = (more.2 ∙ ap (λ o. o ++ more.0) at.0, stood.2) in (
         next,
         (
           (
-            subst (λ (o : List (ConnEvent H)). (w : List ℕ) × (e : Explains step fails is_closed is_finished inbound_makes outbound_makes listed is_eager inbound_leads outbound_leads start role own input ended asked told o w) × MayBeAsked step fails is_closed is_finished inbound_makes outbound_makes listed is_eager inbound_leads outbound_leads start role own input ended asked told o w e index) at.0
+            subst (λ (o : List (ConnEvent H)). (w : List ℕ) × (e : Explains step fails is_closed is_finished inbound_makes outbound_makes listed is_eager inbound_leads outbound_leads start role own input ended log told o w) × MayBeAsked step fails is_closed is_finished inbound_makes outbound_makes listed is_eager inbound_leads outbound_leads start role own input ended log told o w e index) at.0
                 (written, why.0, why.1),
-            (more.0, more.1, refl),
+            (more.0, more.1, stood.0, stood.1, refl),
           ),
           explained_at next new there,
           tt,
         ),
         there,
       )
-  asks (At input ended asked told owed) index old new (Err why) stands owes may refused kept memory waits at = by_memory (is_memory why)
+  asks (At input ended log told owed) index old new (Err why) stands owes may refused kept memory waits at = by_memory (is_memory why)
     where
       here : Point H
-      here = At input ended asked told owed
+      here = At input ended log told owed
 
-      reason : (w : List ℕ) × (e : Explains step fails is_closed is_finished inbound_makes outbound_makes listed is_eager inbound_leads outbound_leads start role own input ended asked told owed w) × IsNotOpened step fails is_closed is_finished inbound_makes outbound_makes listed is_eager inbound_leads outbound_leads start role own input ended asked told owed w e index why
+      reason : (w : List ℕ) × (e : Explains step fails is_closed is_finished inbound_makes outbound_makes listed is_eager inbound_leads outbound_leads start role own input ended log told owed w) × IsNotOpened step fails is_closed is_finished inbound_makes outbound_makes listed is_eager inbound_leads outbound_leads start role own input ended log told owed w e index why
       reason =
-          let it = not_asked step fails is_closed is_finished inbound_makes outbound_makes listed is_eager inbound_leads outbound_leads start role own input ended asked told taken old.phase old.owed.items old.output.items index why at.1.1 refused in
-          subst (λ (o : List (ConnEvent H)). (w : List ℕ) × (e : Explains step fails is_closed is_finished inbound_makes outbound_makes listed is_eager inbound_leads outbound_leads start role own input ended asked told o w) × IsNotOpened step fails is_closed is_finished inbound_makes outbound_makes listed is_eager inbound_leads outbound_leads start role own input ended asked told o w e index why) at.0
+          let it = not_asked step fails is_closed is_finished inbound_makes outbound_makes listed is_eager inbound_leads outbound_leads start role own input ended log told taken old.phase old.owed.items old.output.items index why at.1.1 refused in
+          subst (λ (o : List (ConnEvent H)). (w : List ℕ) × (e : Explains step fails is_closed is_finished inbound_makes outbound_makes listed is_eager inbound_leads outbound_leads start role own input ended log told o w) × IsNotOpened step fails is_closed is_finished inbound_makes outbound_makes listed is_eager inbound_leads outbound_leads start role own input ended log told o w e index why) at.0
           (taken ++ waiting_in old.phase old.output.items, it.0, it.1)
 
       by_memory : (why ≡ refusals.OutOfMemory) ⊎ (why ≢ refusals.OutOfMemory) → Leads here (Ask index) (Refused why) new
       by_memory (inl is) =
           let written = taken ++ waiting_in old.phase old.output.items in
-          (Spent written, ((reason, inr (is, (written, refl))), tt, written_at input ended asked told owed old at), (memory (ap Err is), ap (λ (t : List ℕ). taken ++ t) waits))
+          (Spent written, ((reason, inr (is, (written, refl))), tt, written_at input ended log told owed old at), (memory (ap Err is), ap (λ (t : List ℕ). taken ++ t) waits))
       by_memory (inr other) =
           let there : IsAt step fails is_closed is_finished inbound_makes outbound_makes listed is_eager inbound_leads outbound_leads start role own taken here new = subst (IsAt step fails is_closed is_finished inbound_makes outbound_makes listed is_eager inbound_leads outbound_leads start role own taken here) (sym (kept other)) at in
           (here, ((reason, inl (other, refl)), explained_at here new there, tt), there)
@@ -266,15 +269,15 @@ module _ {P H : Type 0} (step : H → HandlerCall → H → Type 0) (fails : H �
 
   -- what is taken was written, and the end stays where it is
   pub takes : (point : Point H) (old new : ConnCore P H) (output : List ℕ)
-      → ((input : List ℕ) (ended : Bool) (asked : List (ℕ × ℕ)) (told : List (ConnEvent H)) → Stands step fails is_closed is_finished inbound_makes outbound_makes listed is_eager inbound_leads outbound_leads start role own input ended asked told taken old → Stands step fails is_closed is_finished inbound_makes outbound_makes listed is_eager inbound_leads outbound_leads start role own input ended asked told (taken ++ output) new)
+      → ((input : List ℕ) (ended : Bool) (log : List (Entry H)) (told : List (ConnEvent H)) → Stands step fails is_closed is_finished inbound_makes outbound_makes listed is_eager inbound_leads outbound_leads start role own input ended log told taken old → Stands step fails is_closed is_finished inbound_makes outbound_makes listed is_eager inbound_leads outbound_leads start role own input ended log told (taken ++ output) new)
       → output ≡ waiting_in old.phase old.output.items → waiting_in new.phase new.output.items ≡ [] → new.owed.items ≡ old.owed.items → is_spent new.phase ≡ is_spent old.phase
       → IsAt step fails is_closed is_finished inbound_makes outbound_makes listed is_eager inbound_leads outbound_leads start role own taken point old
       → HasWritten step fails is_closed is_finished inbound_makes outbound_makes listed is_eager inbound_leads outbound_leads start role own point (taken ++ output)
       × IsAt step fails is_closed is_finished inbound_makes outbound_makes listed is_eager inbound_leads outbound_leads start role own (taken ++ output) point new
-  takes (At input ended asked told owed) old new output stands took none same spent at = (
-    subst (λ (t : List ℕ). Explains step fails is_closed is_finished inbound_makes outbound_makes listed is_eager inbound_leads outbound_leads start role own input ended asked told owed (taken ++ t)) (sym took)
-        (written_at input ended asked told owed old at),
-    (same ∙ at.0, stands input ended asked told at.1),
+  takes (At input ended log told owed) old new output stands took none same spent at = (
+    subst (λ (t : List ℕ). Explains step fails is_closed is_finished inbound_makes outbound_makes listed is_eager inbound_leads outbound_leads start role own input ended log told owed (taken ++ t)) (sym took)
+        (written_at input ended log told owed old at),
+    (same ∙ at.0, stands input ended log told at.1),
   )
   takes (Spent w) old new output stands took none same spent at =
       let all : taken ++ output ≡ w = ap (λ (t : List ℕ). taken ++ t) took ∙ at.1 in

@@ -99,23 +99,23 @@ module _ {P H : Type 0} (step : H → HandlerCall → H → Type 0) (fails : H �
     (listed : P → List (List ℕ)) (is_eager : P → ℕ → Bool)
     (inbound_leads outbound_leads : P → ℕ → List ℕ → H → P → Type 0) (start : P) (role : ConnRole) (own : Key) where
   pub are_serving : AreServing step fails is_closed is_finished inbound_makes outbound_makes listed is_eager inbound_leads outbound_leads start role own
-  are_serving session streams past input asked told written up n stream handler is stage_is =
-      serving step is_closed is_finished (listed start) (session_role role) up.log n stream handler stage_is
-      (told_agreement step fails is_closed is_finished inbound_makes outbound_makes (is_eager start) (listed start) (id_of up.key) (session_role role) up.log n up.at_rest.due)
+  are_serving session streams past input log told written up n stream handler is stage_is =
+      serving step is_closed is_finished (listed start) (session_role role) log n stream handler stage_is
+      (told_agreement step fails is_closed is_finished inbound_makes outbound_makes (is_eager start) (listed start) (id_of up.key) (session_role role) log n up.at_rest.due)
       (given_some _ (streams n) stream is (up.at_rest.each n))
 
   pub are_early : AreEarly step fails is_closed is_finished inbound_makes outbound_makes listed is_eager inbound_leads outbound_leads start role own
-  are_early session streams past input asked told written up n stream handler talk is stage_is =
-      early step is_closed is_finished (listed start) (session_role role) up.log n stream handler talk stage_is (given_some _ (streams n) stream is (up.at_rest.each n))
+  are_early session streams past input log told written up n stream handler talk is stage_is =
+      early step is_closed is_finished (listed start) (session_role role) log n stream handler talk stage_is (given_some _ (streams n) stream is (up.at_rest.each n))
 
   pub live_are_held : LiveAreHeld step fails is_closed is_finished inbound_makes outbound_makes listed is_eager inbound_leads outbound_leads start role own
-  live_are_held session streams past input asked told written up n live =
+  live_are_held session streams past input log told written up n live =
       let it = some_of (streams n) (up.at_rest.live_held n live) in
       let rests = given_some _ (streams n) it.0 it.1 (up.at_rest.each n) in
       (it.0, it.1, rests.held.over, rests.held.done)
 
   pub up_is_split : UpIsSplit step fails is_closed is_finished inbound_makes outbound_makes listed is_eager inbound_leads outbound_leads start role own
-  up_is_split session streams past input asked told written up = record {
+  up_is_split session streams past input log told written up = record {
     key = up.key;
     first = up.first;
     rest = up.rest;

@@ -10,16 +10,20 @@ use Rattle.upgrade.specs.declared.role.ConnRole.{ConnRole}
 use Rattle.upgrade.specs.declared.role.ConnRole.TheVariants.{Dialer, Listener}
 use Rattle.upgrade.specs.declared.fault.UpgradeFault.TheVariants as upgrade
 use Rattle.upgrade.specs.State.{Upgrading}
+use Rattle.yamux_frames.specs.Frames.{Arrival}
 use Rattle.yamux_session.specs.declared.event.Role.TheVariants.{Client, Server}
+use Rattle.yamux_session.specs.History.Item.{Came}
 use Rattle.conn_log.specs.declared.event.ConnEvent.{ConnEvent}
 use Rattle.conn_log.specs.declared.event.ConnEvent.TheVariants as event
 use Rattle.conn_log.specs.declared.event.ConnFault.TheVariants as fault
 use Rattle.conn_log.specs.declared.event.ConnRefused.{ConnRefused}
+use Rattle.conn_log.specs.Entries.{Entry}
+use Rattle.conn_log.specs.Entries.Entry.{Of, Says, Asks}
 use Rattle.conn_log.specs.declared.event.ConnRefused.TheVariants as refusals
 use Rattle.mux.specs.declared.mux.Mux.{Mux}
 use Rattle.conn_core.specs.declared.connection.Phase.TheVariants as phases
-use Rattle.conn_core.specs.Connects.{session_role, told_of, Ends, is_over, is_spent, MayOpen, IsRefused, OwesOf}
-use Rattle.conn_core.specs.Connects.{waiting_in, held_in}
+use Rattle.conn_core.specs.Connects.{session_role, told_of, IsGrown, IsOpened, Ends, is_over, is_spent, MayOpen, IsRefused}
+use Rattle.conn_core.specs.Connects.{OwesOf, waiting_in, held_in}
 use Rattle.conn_core.specs.Runs.{is_end}
 
 pub record NameRows : Type 0 where
@@ -65,11 +69,37 @@ pub record PhaseRows (P H : Type 0) : Type 0 where
   pub owes_of_another : (cause : Cause) → ¬ OwesOf {H = H} 3 [] (event.Broken 5 cause ∷ [])
   pub owes_another_event : ¬ OwesOf {H = H} 3 [] (event.Refused 3 ∷ [])
 
+-- how the list of an end may grow: what stood in it stays, as it was and where it was, behind what is new
+pub record GrownRows (H : Type 0) : Type 0 where
+  pub by_nothing : (log : List (Entry H)) → IsGrown [] log log
+  pub by_one : (log : List (Entry H)) (e : ConnEvent H) → IsGrown [] log (Says e ∷ log)
+  pub by_an_opening : (log : List (Entry H)) → IsGrown ((3, 0) ∷ []) log (Asks 3 0 ∷ log)
+  pub in_order : (log : List (Entry H)) → IsGrown ((1, 4) ∷ (3, 0) ∷ []) log (Asks 3 0 ∷ Asks 1 4 ∷ log)
+  pub unopened : (log : List (Entry H)) → ¬ IsGrown [] log (Asks 3 0 ∷ log)
+  pub of_another_index : (log : List (Entry H)) → ¬ IsGrown ((3, 1) ∷ []) log (Asks 3 0 ∷ log)
+  pub never_opened : (log : List (Entry H)) → ¬ IsGrown ((3, 0) ∷ []) log log
+  pub lost : (e : Entry H) (opened : List (ℕ × ℕ)) → ¬ IsGrown opened (e ∷ []) []
+  pub changed : (e other : Entry H) (opened : List (ℕ × ℕ)) → IsGrown opened (e ∷ []) (other ∷ []) → other ≡ e
+  -- what comes behind an opening doesn't stand before it
+  pub before_the_opening : (arrival : Arrival) (opened : List (ℕ × ℕ))
+      → ¬ IsGrown {H = H} opened (Asks 1 0 ∷ []) (Asks 1 0 ∷ Of (Came arrival) ∷ [])
+
+-- and by the opening of a stream: that one first, and no other behind it
+pub record OpenedRows (H : Type 0) : Type 0 where
+  pub alone : (log : List (Entry H)) → IsOpened 3 4 log (Asks 3 4 ∷ log)
+  pub followed : (log : List (Entry H)) (e : ConnEvent H) → IsOpened 3 4 log (Says e ∷ Asks 3 4 ∷ log)
+  pub by_nothing : (log : List (Entry H)) → ¬ IsOpened 3 4 log log
+  pub of_another_number : (log : List (Entry H)) → ¬ IsOpened 3 4 log (Asks 5 4 ∷ log)
+  pub of_another_index : (log : List (Entry H)) → ¬ IsOpened 3 4 log (Asks 3 5 ∷ log)
+  pub twice : (log : List (Entry H)) → ¬ IsOpened 3 4 log (Asks 5 4 ∷ Asks 3 4 ∷ log)
+  pub late : (e : ConnEvent H) → ¬ IsOpened 3 4 [] (Asks 3 4 ∷ Says e ∷ [])
+  pub changed : (e other : Entry H) → IsOpened 3 4 (e ∷ []) (Asks 3 4 ∷ other ∷ []) → other ≡ e
+
 module _ {P H : Type 0} (step : H → HandlerCall → H → Type 0) (fails : H → Asked → ℕ → Type 0)
     (is_closed is_finished : H → Bool) (inbound_makes outbound_makes : P → ℕ → List ℕ → H → Type 0)
     (listed : P → List (List ℕ)) (is_eager : P → ℕ → Bool)
     (inbound_leads outbound_leads : P → ℕ → List ℕ → H → P → Type 0) (start : P) (role : ConnRole) (own : Key) where
-  abbrev pub ends : List ℕ → Bool → List (ℕ × ℕ) → List (ConnEvent H) → List ℕ → Type 0
+  abbrev pub ends : List ℕ → Bool → List (Entry H) → List (ConnEvent H) → List ℕ → Type 0
   ends = Ends step fails is_closed is_finished inbound_makes outbound_makes listed is_eager inbound_leads outbound_leads
       start role own
 
@@ -96,4 +126,4 @@ module _ {P H : Type 0} (step : H → HandlerCall → H → Type 0) (fails : H �
     pub select_late : (input written : List ℕ) (ended : Bool) (key : Key)
         → ¬ ends input ended [] (event.Upgraded key ∷ event.Fault fault.Select ∷ []) written
     pub select_asked : (input written : List ℕ) (ended : Bool)
-        → ¬ ends input ended ((1, 0) ∷ []) (event.Fault fault.Select ∷ []) written
+        → ¬ ends input ended (Asks 1 0 ∷ []) (event.Fault fault.Select ∷ []) written

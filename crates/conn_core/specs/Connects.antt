@@ -1,4 +1,5 @@
--- Where an end of a connection stands, after this input was fed to it, these events were told, and this was written.
+-- Where an end of a connection stands, after this input was fed to it, these events were told, and this was written, by
+-- the list of all that came, was asked for, done and told, which each call makes longer and none changes.
 -- Source: libp2p connections, "Establishing connections" and "Opening new streams over a connection"; plaintext 2.0.0;
 -- hashicorp yamux; what a connection tells is this project's profile.
 use Rattle.std.specs.Prelude.{◌≡◌, ℕ, Bool, true, false, List, [], ◌∷◌, ◌++◌, Option, Some, None}
@@ -28,6 +29,7 @@ use Rattle.conn_log.specs.declared.event.ConnEvent.TheVariants as event
 use Rattle.conn_log.specs.declared.event.ConnFault.{ConnFault}
 use Rattle.conn_log.specs.declared.event.ConnFault.TheVariants as fault
 use Rattle.conn_log.specs.Entries.{Entry, items, said, asks}
+use Rattle.conn_log.specs.Entries.Entry.{Asks}
 use Rattle.conn_log.specs.Asked.{AreMadeEarly, IsRefusedAs, IsBrokenOf}
 use Rattle.conn_log.specs.declared.event.ConnRefused.{ConnRefused}
 use Rattle.conn_log.specs.declared.event.ConnRefused.TheVariants as refusals
@@ -40,6 +42,20 @@ use Rattle.mux.specs.Faults.{Faults}
 use Rattle.conn_core.specs.declared.connection.Phase.{Phase}
 use Rattle.conn_core.specs.declared.connection.Phase.TheVariants as phases
 use Rattle.conn_core.specs.declared.connection.ConnCore.{ConnCore}
+
+-- The list has grown to this one, and in what is new this end opened just these streams, each with the index of the
+-- protocol that was asked for: what stood in it before stands there still, behind what is new.
+pub record IsGrown {H : Type 0} (opened : List (ℕ × ℕ)) (log now : List (Entry H)) : Type 0 where
+  pub newer : List (Entry H)
+  pub now_is : now ≡ newer ++ log
+  pub opened_are : asks newer ≡ opened
+
+-- The list has grown by the opening of this stream of this end, for the protocol of this index, next to what stood in it
+-- before, and by what followed, in which it opened no other.
+pub record IsOpened {H : Type 0} (number index : ℕ) (log now : List (Entry H)) : Type 0 where
+  pub later : List (Entry H)
+  pub now_is : now ≡ later ++ Asks number index ∷ log
+  pub alone : asks later ≡ []
 
 -- the dialer is the client of the session
 abbrev pub session_role : ConnRole → Role
@@ -67,17 +83,15 @@ module _ {P H : Type 0} (step : H → HandlerCall → H → Type 0) (fails : H �
     pub stands : UpgradeStands x input taken
     pub none_told : told ≡ []
 
-  -- It is up, with the end that has proven this key: a first part of the input is the upgrade's, and the rest the
-  -- session's. Upgraded was told first, and then what the list says, each event where it was; what was written is what
-  -- the upgrade wrote, and behind it the output of the session. The streams that this end opened are those that were
-  -- asked for.
-  pub record IsUp (input : List ℕ) (asked : List (ℕ × ℕ)) (told : List (ConnEvent H)) (written : List ℕ)
+  -- It is up by this list, with the end that has proven this key: a first part of the input is the upgrade's, and the
+  -- rest the session's. Upgraded was told first, and then what the list says, each event where it was; what was written
+  -- is what the upgrade wrote, and behind it the output of the session.
+  pub record IsUp (input : List ℕ) (log : List (Entry H)) (told : List (ConnEvent H)) (written : List ℕ)
       (session : State) (streams : ℕ → Option (Streaming H)) (past : List (Earlier H)) : Type 0 where
     pub key : Key
     pub first : List ℕ
     pub rest : List ℕ
     pub greeting : List ℕ
-    pub log : List (Entry H)
     pub input_is : input ≡ first ++ rest
     pub upgraded : Upgrades role own first (Ok (Some key)) greeting
     pub at_rest : AreAtRest step fails is_closed is_finished inbound_makes outbound_makes (is_eager start)
@@ -87,7 +101,6 @@ module _ {P H : Type 0} (step : H → HandlerCall → H → Type 0) (fails : H �
     -- opened
     pub rested : AreRested step fails is_closed is_finished inbound_makes outbound_makes (is_eager start) (listed start)
         (id_of key) (session_role role) log
-    pub asks_are : asks log ≡ asked
     pub early : AreMadeEarly (is_eager start) log
     -- the protocols that it has now: each handler was made once, in turn, from those that it was given on
     pub now : P
@@ -95,9 +108,9 @@ module _ {P H : Type 0} (step : H → HandlerCall → H → Type 0) (fails : H �
     pub told_is : told ≡ event.Upgraded key ∷ said log
     pub written_is : written ≡ greeting ++ output (session_role role) (items log)
 
-  -- It was up, and the other end broke the rules of the session. What was told and written before is that of the list
-  -- up to the fault.
-  pub record IsFaulty (input : List ℕ) (asked : List (ℕ × ℕ)) (told : List (ConnEvent H)) (written : List ℕ) : Type 0
+  -- It was up, and the other end broke the rules of the session. What was told and written before is that of this list,
+  -- which goes up to the fault.
+  pub record IsFaulty (input : List ℕ) (log : List (Entry H)) (told : List (ConnEvent H)) (written : List ℕ) : Type 0
     where
       pub key : Key
       pub first : List ℕ
@@ -113,59 +126,61 @@ module _ {P H : Type 0} (step : H → HandlerCall → H → Type 0) (fails : H �
       pub upgraded : Upgrades role own first (Ok (Some key)) greeting
       pub faults : Faults step fails is_closed is_finished inbound_makes outbound_makes (is_eager start) (listed start)
           (id_of key) (session_role role)
-          (MakesOn inbound_leads outbound_leads (id_of key) (session_role role) start now) [] asked
+          (MakesOn inbound_leads outbound_leads (id_of key) (session_role role) start now) [] (asks log)
           (event.Upgraded key ∷ []) before [] rest sent pending streams past
-      pub early : AreMadeEarly (is_eager start) faults.newer
+      pub log_is : faults.newer ≡ log
+      pub early : AreMadeEarly (is_eager start) log
       pub told_is : told ≡ before ++ event.Fault fault.Mux ∷ []
       pub written_is : written ≡ greeting ++ (sent ++ pending)
 
-  -- What a connection that is over has told and written: its last event is a Fault, or Shut.
-  pub data Ends (input : List ℕ) (ended : Bool) (asked : List (ℕ × ℕ)) (told : List (ConnEvent H)) (written : List ℕ)
+  -- What a connection that is over has told and written, and by which list: its last event is a Fault, or Shut.
+  pub data Ends (input : List ℕ) (ended : Bool) (log : List (Entry H)) (told : List (ConnEvent H)) (written : List ℕ)
       : Type 0 where
     -- the upgrade failed
     Upgrade : (why : UpgradeFault) (named : ConnFault) (first : List ℕ) → told_of why ≡ Some named
-        → ComesTo role own input first (Err why) written → asked ≡ [] → told ≡ event.Fault named ∷ []
-        → Ends input ended asked told written
+        → ComesTo role own input first (Err why) written → log ≡ [] → told ≡ event.Fault named ∷ []
+        → Ends input ended log told written
     -- the other end broke the rules of the session
-    Session : IsFaulty input asked told written → Ends input ended asked told written
+    Session : IsFaulty input log told written → Ends input ended log told written
     -- the input ended within the upgrade
-    Early : ended ≡ true → Upgrades role own input (Ok None) written → asked ≡ []
-        → told ≡ event.Fault fault.EarlyEnd ∷ [] → Ends input ended asked told written
+    Early : ended ≡ true → Upgrades role own input (Ok None) written → log ≡ []
+        → told ≡ event.Fault fault.EarlyEnd ∷ [] → Ends input ended log told written
     -- or within a frame
     Within : (before : List (ConnEvent H)) (session : State) (streams : ℕ → Option (Streaming H))
-        (past : List (Earlier H)) → ended ≡ true → (up : IsUp input asked before written session streams past)
-        → EndsWithin up.rest → told ≡ before ++ event.Fault fault.EarlyEnd ∷ [] → Ends input ended asked told written
+        (past : List (Earlier H)) → ended ≡ true → (up : IsUp input log before written session streams past)
+        → EndsWithin up.rest → told ≡ before ++ event.Fault fault.EarlyEnd ∷ [] → Ends input ended log told written
     -- or between two frames
     Shut : (before : List (ConnEvent H)) (session : State) (streams : ℕ → Option (Streaming H))
-        (past : List (Earlier H)) → ended ≡ true → (up : IsUp input asked before written session streams past)
-        → ¬ EndsWithin up.rest → told ≡ before ++ event.Shut ∷ [] → Ends input ended asked told written
+        (past : List (Earlier H)) → ended ≡ true → (up : IsUp input log before written session streams past)
+        → ¬ EndsWithin up.rest → told ≡ before ++ event.Shut ∷ [] → Ends input ended log told written
 
-  -- it is up, with this session and these streams, and knows in which order the handlers that are held were made
-  abbrev pub IsUpWith : List ℕ → List (ℕ × ℕ) → List (ConnEvent H) → List ℕ → Mux P H → Type 0
-  IsUpWith input asked told written mux =
+  -- it is up by this list, with this session and these streams, and knows in which order the handlers that are held
+  -- were made
+  abbrev pub IsUpWith : List ℕ → List (Entry H) → List (ConnEvent H) → List ℕ → Mux P H → Type 0
+  IsUpWith input log told written mux =
       (listed mux.board.protocols ≡ listed start) × (is_eager mux.board.protocols ≡ is_eager start)
       × (mux.board.role ≡ session_role role)
-      × ((up : IsUp input asked told written mux.session (tree.get nat_cmp mux.board.streams) mux.board.past.items)
+      × ((up : IsUp input log told written mux.session (tree.get nat_cmp mux.board.streams) mux.board.past.items)
       × (mux.board.peer ≡ id_of up.key) × (mux.board.protocols ≡ up.now)
-      × (mux.board.order ≡ newest_held (session_role role) up.log))
+      × (mux.board.order ≡ newest_held (session_role role) log))
 
   -- Where it stands, in each phase; what is owed is told by the next call. Where memory was refused to it, it stands
   -- nowhere.
-  abbrev pub Connects : List ℕ → Bool → List (ℕ × ℕ) → List (ConnEvent H) → List ℕ → Phase P H → List (ConnEvent H)
+  abbrev pub Connects : List ℕ → Bool → List (Entry H) → List (ConnEvent H) → List ℕ → Phase P H → List (ConnEvent H)
       → List ℕ → Type 0
-  Connects input ended asked told taken (phases.Upgrading x protocols) owed waiting =
-      (ended ≡ false) × (asked ≡ []) × (owed ≡ []) × (waiting ≡ []) × IsComing input told taken x protocols
-  Connects input ended asked told taken (phases.Up mux) owed waiting =
-      (ended ≡ false) × IsUpWith input asked (told ++ owed) (taken ++ waiting) mux
-  Connects input ended asked told taken phases.Over owed waiting =
-      (owed ≡ []) × Ends input ended asked told (taken ++ waiting)
-  Connects input ended asked told taken phases.Spent owed waiting = ⊥
+  Connects input ended log told taken (phases.Upgrading x protocols) owed waiting =
+      (ended ≡ false) × (log ≡ []) × (owed ≡ []) × (waiting ≡ []) × IsComing input told taken x protocols
+  Connects input ended log told taken (phases.Up mux) owed waiting =
+      (ended ≡ false) × IsUpWith input log (told ++ owed) (taken ++ waiting) mux
+  Connects input ended log told taken phases.Over owed waiting =
+      (owed ≡ []) × Ends input ended log told (taken ++ waiting)
+  Connects input ended log told taken phases.Spent owed waiting = ⊥
 
-  -- An end of this role, with this key and these protocols, that was fed this input, opened the streams that it was
-  -- asked for, has told these events, and of whose output this was taken.
-  abbrev pub Stands : List ℕ → Bool → List (ℕ × ℕ) → List (ConnEvent H) → List ℕ → ConnCore P H → Type 0
-  Stands input ended asked told taken core =
-      (core.role ≡ role) × Connects input ended asked told taken core.phase core.owed.items core.output.items
+  -- An end of this role, with this key and these protocols, that was fed this input, stands by this list, has told
+  -- these events, and of whose output this was taken.
+  abbrev pub Stands : List ℕ → Bool → List (Entry H) → List (ConnEvent H) → List ℕ → ConnCore P H → Type 0
+  Stands input ended log told taken core =
+      (core.role ≡ role) × Connects input ended log told taken core.phase core.owed.items core.output.items
 
 -- the connection has failed or was shut, or ran out of memory
 abbrev pub is_over : {P H : Type 0} → Phase P H → Bool

@@ -26,13 +26,13 @@ use Rattle.streams.specs.State.{Streaming, handler_of, was_handed_out}
 use Rattle.conn_log.specs.declared.earlier.Earlier.{Earlier}
 use Rattle.conn_log.specs.declared.event.ConnEvent.{ConnEvent}
 use Rattle.conn_log.specs.declared.event.ConnEvent.TheVariants as event
-use Rattle.conn_log.specs.Entries.{Entry, items, said, agreed, is_over, was_done, made_of, calls_of}
+use Rattle.conn_log.specs.Entries.{Entry, items, said, asks, agreed, is_over, was_done, made_of, calls_of}
 use Rattle.conn_log.specs.Held.{IsSide}
 use Rattle.conn_core.specs.declared.calls.ConnAct.{ConnAct}
 use Rattle.conn_core.specs.declared.calls.ConnAct.TheVariants.{Feed, Ask}
 use Rattle.conn_core.specs.declared.calls.ConnAnswer.{ConnAnswer}
 use Rattle.conn_core.specs.declared.calls.ConnAnswer.TheVariants.{Events, Stream, Refused}
-use Rattle.conn_core.specs.Connects.{IsUp, session_role}
+use Rattle.conn_core.specs.Connects.{IsUp, IsGrown, session_role}
 use Rattle.conn_core.specs.Runs.{Point, AnswersAll, AreHeld}
 use Rattle.conn_core.specs.Runs.Point.{At}
 
@@ -132,34 +132,34 @@ module _ {P H : Type 0} (step : H → HandlerCall → H → Type 0) (fails : H �
     (inbound_leads outbound_leads : P → ℕ → List ℕ → H → P → Type 0) (start : P) (role : ConnRole) (own : Key) where
   -- of an end that is up, with these streams
   abbrev pub WhileUp : ((session : State) (streams : ℕ → Option (Streaming H)) (past : List (Earlier H))
-      (input : List ℕ) (asked : List (ℕ × ℕ)) (told : List (ConnEvent H)) (written : List ℕ)
+      (input : List ℕ) (log : List (Entry H)) (told : List (ConnEvent H)) (written : List ℕ)
       → IsUp step fails is_closed is_finished inbound_makes outbound_makes listed is_eager inbound_leads outbound_leads
-      start role own input asked told written session streams past → Type 0) → Type 0
+      start role own input log told written session streams past → Type 0) → Type 0
   WhileUp fact = (session : State) (streams : ℕ → Option (Streaming H)) (past : List (Earlier H)) (input : List ℕ)
-      (asked : List (ℕ × ℕ)) (told : List (ConnEvent H)) (written : List ℕ)
+      (log : List (Entry H)) (told : List (ConnEvent H)) (written : List ℕ)
       (up : IsUp step fails is_closed is_finished inbound_makes outbound_makes listed is_eager inbound_leads
-      outbound_leads start role own input asked told written session streams past)
-      → fact session streams past input asked told written up
+      outbound_leads start role own input log told written session streams past)
+      → fact session streams past input log told written up
 
   -- each handler that serves its stream
   abbrev pub AreServing : Type 0
-  AreServing = WhileUp (λ session streams past input asked told written up. (n : ℕ) (stream : Streaming H)
+  AreServing = WhileUp (λ session streams past input log told written up. (n : ℕ) (stream : Streaming H)
       (handler : H) → streams n ≡ Some stream → stream.stage ≡ Serving handler
-      → IsServing step is_closed is_finished (listed start) (session_role role) up.log n stream handler)
+      → IsServing step is_closed is_finished (listed start) (session_role role) log n stream handler)
 
   -- each handler of an eager protocol, before the talk agrees
   abbrev pub AreEarly : Type 0
-  AreEarly = WhileUp (λ session streams past input asked told written up. (n : ℕ) (stream : Streaming H)
+  AreEarly = WhileUp (λ session streams past input log told written up. (n : ℕ) (stream : Streaming H)
       (handler : H) (talk : Talk) → streams n ≡ Some stream → stream.stage ≡ Talking talk (Some handler)
-      → IsEarly step is_closed is_finished (listed start) (session_role role) up.log n stream handler)
+      → IsEarly step is_closed is_finished (listed start) (session_role role) log n stream handler)
 
   -- Each live stream is held; none was refused or given up, and Done was told of it exactly where its handler was
   -- handed out.
   abbrev pub LiveAreHeld : Type 0
-  LiveAreHeld = WhileUp (λ session streams past input asked told written up. (n : ℕ)
-      → is_live (session_role role) (items up.log) n ≡ true → (stream : Streaming H)
-      × (streams n ≡ Some stream) × (is_over (session_role role) up.log n ≡ was_handed_out stream.stage)
-      × (was_done (session_role role) up.log n ≡ was_handed_out stream.stage))
+  LiveAreHeld = WhileUp (λ session streams past input log told written up. (n : ℕ)
+      → is_live (session_role role) (items log) n ≡ true → (stream : Streaming H)
+      × (streams n ≡ Some stream) × (is_over (session_role role) log n ≡ was_handed_out stream.stage)
+      × (was_done (session_role role) log n ≡ was_handed_out stream.stage))
 
   -- The first part of the input is the upgrade's, and the frames of the rest are what the session's list says. Told was
   -- that it is up, and behind it what the list says; written was what the upgrade wrote, and behind it the session's
@@ -179,7 +179,7 @@ module _ {P H : Type 0} (step : H → HandlerCall → H → Type 0) (fails : H �
       pub written_is : written ≡ greeting ++ output (session_role role) (items log)
 
   abbrev pub UpIsSplit : Type 0
-  UpIsSplit = WhileUp (λ session streams past input asked told written up. IsSplit input told written up.log)
+  UpIsSplit = WhileUp (λ session streams past input log told written up. IsSplit input told written log)
 
   -- each call has one answer
   abbrev pub EachIsAnswered : Type 0
@@ -190,7 +190,28 @@ module _ {P H : Type 0} (step : H → HandlerCall → H → Type 0) (fails : H �
   -- where memory was not refused, a run is behind all that it was fed, told and was asked for
   abbrev pub AllIsCounted : Type 0
   AllIsCounted = (calls : List ConnAct) (answers : List (ConnAnswer H)) (input : List ℕ) (ended : Bool)
-      (asked : List (ℕ × ℕ)) (told owed : List (ConnEvent H))
+      (log : List (Entry H)) (told owed : List (ConnEvent H))
       → AnswersAll step fails is_closed is_finished inbound_makes outbound_makes listed is_eager inbound_leads
-      outbound_leads start role own (At [] false [] [] []) calls answers (At input ended asked told owed)
-      → (input ≡ fed_by calls answers) × (asked ≡ opened_by calls answers) × (told ≡ told_by answers)
+      outbound_leads start role own (At [] false [] [] []) calls answers (At input ended log told owed)
+      → (input ≡ fed_by calls answers) × (asks log ≡ opened_by calls answers) × (told ≡ told_by answers)
+
+  -- what the list says at a point of a run it says at each later one, and behind that what came, was asked for, done
+  -- and told since
+  abbrev pub PastStays : Type 0
+  PastStays = (calls : List ConnAct) (answers : List (ConnAnswer H)) (input input_then : List ℕ)
+      (ended ended_then : Bool) (log log_then : List (Entry H)) (told told_then owed owed_then : List (ConnEvent H))
+      → AnswersAll step fails is_closed is_finished inbound_makes outbound_makes listed is_eager inbound_leads
+      outbound_leads start role own (At input ended log told owed) calls answers
+      (At input_then ended_then log_then told_then owed_then) → IsGrown (opened_by calls answers) log log_then
+
+  -- Of an end that is up, and was up by a first part of what came: the key, the upgrade's part of the input and what the
+  -- upgrade wrote are what they were, and the frames in what the list has grown by are those of what came since.
+  abbrev pub ComesInTurn : Type 0
+  ComesInTurn = WhileUp (λ session streams past input log told written up. (more : List ℕ) (opened : List (ℕ × ℕ))
+      (now : List (Entry H)) (grown : IsGrown opened log now) (session_then : State)
+      (streams_then : ℕ → Option (Streaming H)) (past_then : List (Earlier H)) (told_then : List (ConnEvent H))
+      (written_then : List ℕ) (then : IsUp step fails is_closed is_finished inbound_makes outbound_makes listed
+      is_eager inbound_leads outbound_leads start role own (input ++ more) now told_then written_then session_then
+      streams_then past_then) → (then.key ≡ up.key) × (then.first ≡ up.first) × (then.greeting ≡ up.greeting)
+      × (part : List ℕ)
+      × Reads (up.rest ++ more) (arrivals (items grown.newer) ++ arrivals (items log)) part)

@@ -7,17 +7,21 @@ use Rattle.handlers.specs.Calls.{HandlerCall, Asked}
 use Rattle.peer_ids.specs.Key.{Key}
 use Rattle.upgrade.specs.declared.role.ConnRole.{ConnRole}
 use Rattle.streams.specs.declared.stop.Cause.{Cause}
+use Rattle.yamux_frames.specs.Frames.{Arrival}
+use Rattle.yamux_session.specs.History.Item.{Came}
 use Rattle.conn_log.specs.declared.event.ConnEvent.{ConnEvent}
 use Rattle.conn_log.specs.declared.event.ConnEvent.TheVariants as event
 use Rattle.conn_log.specs.declared.event.ConnFault.{ConnFault}
 use Rattle.conn_log.specs.declared.event.ConnRefused.{ConnRefused}
 use Rattle.conn_log.specs.declared.event.ConnRefused.TheVariants as refusals
+use Rattle.conn_log.specs.Entries.{Entry}
+use Rattle.conn_log.specs.Entries.Entry.{Of, Says, Asks}
 use Rattle.conn_core.specs.declared.calls.ConnAct.{ConnAct}
 use Rattle.conn_core.specs.declared.calls.ConnAct.TheVariants.{Feed, Ask, Ended}
 use Rattle.conn_core.specs.declared.calls.ConnAnswer.{ConnAnswer}
 use Rattle.conn_core.specs.declared.calls.ConnAnswer.TheVariants.{Events, Stream, Refused}
 use Rattle.conn_core.specs.Runs.{Point, is_end, has_ended, events_or, stream_or, IsTurnedAway, StaysBehind}
-use Rattle.conn_core.specs.Connects.{TellsFirst}
+use Rattle.conn_core.specs.Connects.{IsGrown, IsOpened, TellsFirst}
 use Rattle.conn_core.specs.Runs.{AnswersAt, Answers, AnswersAll, Leaves}
 use Rattle.conn_core.specs.Runs.Point.{At, Spent}
 use Rattle.conn_core.specs.Promises.{fed_by, told_by, opened_by}
@@ -78,26 +82,34 @@ module _ {P H : Type 0} (step : H → HandlerCall → H → Type 0) (fails : H �
     (is_closed is_finished : H → Bool) (inbound_makes outbound_makes : P → ℕ → List ℕ → H → Type 0)
     (listed : P → List (List ℕ)) (is_eager : P → ℕ → Bool)
     (inbound_leads outbound_leads : P → ℕ → List ℕ → H → P → Type 0) (start : P) (role : ConnRole) (own : Key) where
-  -- one call, behind the input 1 and this stream that was opened
+  -- one call, behind the input 1, by a list in which this stream was opened
   abbrev pub answers_at : (told owed : List (ConnEvent H)) → ConnAct → ConnAnswer H → Point H → Type 0
   answers_at = AnswersAt step fails is_closed is_finished inbound_makes outbound_makes listed is_eager inbound_leads
-      outbound_leads start role own (1 ∷ []) false ((3, 0) ∷ [])
+      outbound_leads start role own (1 ∷ []) false (Asks 3 0 ∷ [])
 
   abbrev pub answers_all : Point H → List ConnAct → List (ConnAnswer H) → Point H → Type 0
   answers_all = AnswersAll step fails is_closed is_finished inbound_makes outbound_makes listed is_eager inbound_leads
       outbound_leads start role own
 
   pub record AnswerRows : Type 0 where
-    -- what was owed is told by it, first, so nothing is owed behind it
+    -- what was owed is told by it, first, so nothing is owed behind it, and its list has grown
     pub fed : (bytes : Vec ℕ) (more : Vec (ConnEvent H)) (owed : List (ConnEvent H)) (next : Point H)
         → answers_at (event.Refused 1 ∷ []) owed (Feed bytes) (Events more) next
-        ↔ ((next ≡ At (1 ∷ bytes.items) false ((3, 0) ∷ []) (event.Refused 1 ∷ more.items) [])
-        × TellsFirst owed more.items)
+        ↔ (((now : List (Entry H)) × IsGrown [] (Asks 3 0 ∷ []) now
+        × (next ≡ At (1 ∷ bytes.items) false now (event.Refused 1 ∷ more.items) [])) × TellsFirst owed more.items)
+    -- what came behind an opening doesn't stand before it
+    pub fed_before : (bytes : Vec ℕ) (more : Vec (ConnEvent H)) (arrival : Arrival) (told : List (ConnEvent H))
+        → ¬ answers_at [] [] (Feed bytes) (Events more)
+        (At (1 ∷ bytes.items) false (Asks 3 0 ∷ Of (Came arrival) ∷ []) told [])
+    -- and opens no stream of this end
+    pub fed_opens : (bytes : Vec ℕ) (more : Vec (ConnEvent H)) (told : List (ConnEvent H))
+        → ¬ answers_at [] [] (Feed bytes) (Events more)
+        (At (1 ∷ bytes.items) false (Asks 5 2 ∷ Asks 3 0 ∷ []) told [])
     pub fed_behind_the_end : (bytes : Vec ℕ) (more : Vec (ConnEvent H)) (next : Point H)
         → ¬ answers_at (event.Shut ∷ []) [] (Feed bytes) (Events more) next
     pub ended : (more : Vec (ConnEvent H)) (owed : List (ConnEvent H)) (next : Point H)
         → answers_at (event.Refused 1 ∷ []) owed Ended (Events more) next
-        ↔ ((next ≡ At (1 ∷ []) true ((3, 0) ∷ []) (event.Refused 1 ∷ more.items) [])
+        ↔ ((next ≡ At (1 ∷ []) true (Asks 3 0 ∷ []) (event.Refused 1 ∷ more.items) [])
         × TellsFirst owed more.items)
     -- not behind what else is told
     pub owed_last : (owed other : ConnEvent H) (more : Vec (ConnEvent H)) (bytes : Vec ℕ) (next : Point H)
@@ -109,12 +121,20 @@ module _ {P H : Type 0} (step : H → HandlerCall → H → Type 0) (fails : H �
     pub fed_a_stream : (bytes : Vec ℕ) (next : Point H) → ¬ answers_at [] [] (Feed bytes) (Stream 1) next
     pub ended_by_a_stream : (next : Point H) → ¬ answers_at [] [] Ended (Stream 1) next
     pub asked_for_events : (more : Vec (ConnEvent H)) (next : Point H) → ¬ answers_at [] [] (Ask 0) (Events more) next
-    -- of the stream that was just opened it may owe that it is given up, and of no other
+    -- the list has grown by this opening; of the stream it may owe that it is given up, and of no other
     pub opened : (event_owed : ConnEvent H) (next : Point H)
         → answers_at [] (event_owed ∷ []) (Ask 2) (Stream 5) next → (more : List (ConnEvent H))
-        × (next ≡ At (1 ∷ []) false ((3, 0) ∷ (5, 2) ∷ []) [] (event_owed ∷ more))
+        × (now : List (Entry H)) × IsOpened 5 2 (Asks 3 0 ∷ []) now
+        × (next ≡ At (1 ∷ []) false now [] (event_owed ∷ more))
+    pub opens_another : (told : List (ConnEvent H))
+        → ¬ answers_at [] [] (Ask 2) (Stream 5) (At (1 ∷ []) false (Asks 7 2 ∷ Asks 3 0 ∷ []) told [])
+    pub opens_none : (told : List (ConnEvent H))
+        → ¬ answers_at [] [] (Ask 2) (Stream 5) (At (1 ∷ []) false (Asks 3 0 ∷ []) told [])
+    -- nothing is done and told between what stood in the list and the opening
+    pub opens_late : (e : ConnEvent H) (told : List (ConnEvent H)) → ¬ answers_at [] [] (Ask 2) (Stream 5)
+        (At (1 ∷ []) false (Asks 5 2 ∷ Says e ∷ Asks 3 0 ∷ []) told [])
     pub owes_of_another : (cause : Cause) → ¬ answers_at [] [] (Ask 2) (Stream 5)
-        (At (1 ∷ []) false ((3, 0) ∷ (5, 2) ∷ []) [] (event.Broken 3 cause ∷ []))
+        (At (1 ∷ []) false (Asks 5 2 ∷ Asks 3 0 ∷ []) [] (event.Broken 3 cause ∷ []))
     pub spent : (written : List ℕ) (call : ConnAct) (answer : ConnAnswer H) (next : Point H)
         → Answers step fails is_closed is_finished inbound_makes outbound_makes listed is_eager inbound_leads
         outbound_leads start role own (Spent written) call answer next

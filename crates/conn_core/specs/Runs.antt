@@ -21,7 +21,7 @@ use Rattle.conn_log.specs.declared.event.ConnEvent.{ConnEvent}
 use Rattle.conn_log.specs.declared.event.ConnEvent.TheVariants as event
 use Rattle.conn_log.specs.declared.event.ConnRefused.{ConnRefused}
 use Rattle.conn_log.specs.declared.event.ConnRefused.TheVariants as refusals
-use Rattle.conn_log.specs.Entries.{items}
+use Rattle.conn_log.specs.Entries.{Entry, items}
 use Rattle.conn_log.specs.Asked.{IsRefusedAs, IsBrokenOf}
 use Rattle.board.specs.Handlers.{handlers_of, handlers_past}
 use Rattle.conn_core.specs.declared.connection.ConnCore.{ConnCore}
@@ -31,13 +31,13 @@ use Rattle.conn_core.specs.declared.calls.ConnAnswer.{ConnAnswer}
 use Rattle.conn_core.specs.declared.calls.ConnAnswer.TheVariants.{Events, Stream, Refused}
 use Rattle.held_order.specs.Orders.{newest_held, arranged}
 use Rattle.conn_core.specs.Wanting.{Wrote}
-use Rattle.conn_core.specs.Connects.{IsUp, Ends, Stands, session_role, is_spent, waiting_in, TellsFirst}
+use Rattle.conn_core.specs.Connects.{IsUp, Ends, Stands, IsGrown, IsOpened, session_role, is_spent, waiting_in, TellsFirst}
 
--- Where an end is. At: this came, whether the input has ended, these streams were opened for these protocols, these
--- events were told, and these are owed: they are told by the next call. Spent: memory was refused, and this was written
--- until then.
+-- Where an end is. At: this came, whether the input has ended, by this list of what came, was asked for, done and told,
+-- these events were told, and these are owed: they are told by the next call. Spent: memory was refused, and this was
+-- written until then.
 pub data Point (H : Type 0) : Type 0 where
-  At : List ℕ → Bool → List (ℕ × ℕ) → List (ConnEvent H) → List (ConnEvent H) → Point H
+  At : List ℕ → Bool → List (Entry H) → List (ConnEvent H) → List (ConnEvent H) → Point H
   Spent : List ℕ → Point H
 
 -- a connection tells nothing behind it
@@ -95,88 +95,91 @@ module _ {P H : Type 0} (step : H → HandlerCall → H → Type 0) (fails : H �
     (inbound_leads outbound_leads : P → ℕ → List ℕ → H → P → Type 0) (start : P) (role : ConnRole) (own : Key) where
   -- ---- why an end is where it is
 
-  -- what came, was opened, told and is owed, and what was written until then: of an end that comes up, is up, or is
-  -- over
-  pub data Explains (input : List ℕ) (ended : Bool) (asked : List (ℕ × ℕ)) (told owed : List (ConnEvent H))
+  -- what came, by which list, what was told and is owed, and what was written until then: of an end that comes up, is
+  -- up, or is over
+  pub data Explains (input : List ℕ) (ended : Bool) (log : List (Entry H)) (told owed : List (ConnEvent H))
       (written : List ℕ) : Type 0 where
-    Coming : ended ≡ false → asked ≡ [] → told ≡ [] → owed ≡ [] → Upgrades role own input (Ok None) written
-        → Explains input ended asked told owed written
+    Coming : ended ≡ false → log ≡ [] → told ≡ [] → owed ≡ [] → Upgrades role own input (Ok None) written
+        → Explains input ended log told owed written
     Up : (session : State) (streams : ℕ → Option (Streaming H)) (past : List (Earlier H)) → ended ≡ false
         → IsUp step fails is_closed is_finished inbound_makes outbound_makes listed is_eager inbound_leads
-        outbound_leads start role own input asked (told ++ owed) written session streams past → Explains input ended
-        asked told owed written
+        outbound_leads start role own input log (told ++ owed) written session streams past → Explains input ended
+        log told owed written
     Over : owed ≡ [] → Ends step fails is_closed is_finished inbound_makes outbound_makes listed is_eager inbound_leads
-        outbound_leads start role own input ended asked told written → Explains input ended asked told owed written
+        outbound_leads start role own input ended log told written → Explains input ended log told owed written
 
   abbrev pub IsExplained : Point H → Type 0
-  IsExplained (At input ended asked told owed) = (written : List ℕ) × Explains input ended asked told owed written
+  IsExplained (At input ended log told owed) = (written : List ℕ) × Explains input ended log told owed written
   IsExplained (Spent written) = Unit {0}
 
   -- Where memory is refused to a call, what had been written until then is kept. Behind it stands what a feed has
   -- written before it met that, and nothing else.
-  abbrev pub IsKept : List ℕ → Bool → List (ℕ × ℕ) → List (ConnEvent H) → List (ConnEvent H) → ConnAct → List ℕ → Type 0
-  IsKept input ended asked told owed (Feed bytes) written =
-      (before : List ℕ) × Explains input ended asked told owed before × Grows before written
-      × Wrote step fails is_closed is_finished inbound_makes outbound_makes listed is_eager inbound_leads outbound_leads
-      start role own input bytes.items asked told written
-  IsKept input ended asked told owed (Ask index) written = Explains input ended asked told owed written
-  IsKept input ended asked told owed Ended written = Explains input ended asked told owed written
-
-  abbrev pub KeepsWritten : List ℕ → Bool → List (ℕ × ℕ) → List (ConnEvent H) → List (ConnEvent H) → ConnAct → Point H
+  abbrev pub IsKept : List ℕ → Bool → List (Entry H) → List (ConnEvent H) → List (ConnEvent H) → ConnAct → List ℕ
       → Type 0
-  KeepsWritten input ended asked told owed call (Spent written) = IsKept input ended asked told owed call written
-  KeepsWritten input ended asked told owed call (At now over opened said owes) = Unit {0}
+  IsKept input ended log told owed (Feed bytes) written =
+      (before : List ℕ) × Explains input ended log told owed before × Grows before written
+      × Wrote step fails is_closed is_finished inbound_makes outbound_makes listed is_eager inbound_leads outbound_leads
+      start role own input bytes.items log told written
+  IsKept input ended log told owed (Ask index) written = Explains input ended log told owed written
+  IsKept input ended log told owed Ended written = Explains input ended log told owed written
+
+  abbrev pub KeepsWritten : List ℕ → Bool → List (Entry H) → List (ConnEvent H) → List (ConnEvent H) → ConnAct → Point H
+      → Type 0
+  KeepsWritten input ended log told owed call (Spent written) = IsKept input ended log told owed call written
+  KeepsWritten input ended log told owed call (At now over opened said owes) = Unit {0}
 
   -- a stream may be opened for the protocol of this index
-  abbrev pub MayBeAsked : (input : List ℕ) (ended : Bool) (asked : List (ℕ × ℕ)) (told owed : List (ConnEvent H))
-      (written : List ℕ) → Explains input ended asked told owed written → ℕ → Type 0
-  MayBeAsked input ended asked told owed written (Coming unended none_asked none_told none_owed upgrades) index = ⊥
-  MayBeAsked input ended asked told owed written (Up session streams past unended up) index =
+  abbrev pub MayBeAsked : (input : List ℕ) (ended : Bool) (log : List (Entry H)) (told owed : List (ConnEvent H))
+      (written : List ℕ) → Explains input ended log told owed written → ℕ → Type 0
+  MayBeAsked input ended log told owed written (Coming unended none_listed none_told none_owed upgrades) index = ⊥
+  MayBeAsked input ended log told owed written (Up session streams past unended up) index =
       (index < length (listed start))
-      × (start_refusal (session_role role) (items up.log) ≡ None)
-  MayBeAsked input ended asked told owed written (Over none_owed ends) index = ⊥
+      × (start_refusal (session_role role) (items log) ≡ None)
+  MayBeAsked input ended log told owed written (Over none_owed ends) index = ⊥
 
   -- why none is opened: where several reasons hold, the lowest is answered
-  abbrev pub IsNotOpened : (input : List ℕ) (ended : Bool) (asked : List (ℕ × ℕ)) (told owed : List (ConnEvent H))
-      (written : List ℕ) → Explains input ended asked told owed written → ℕ → ConnRefused → Type 0
-  IsNotOpened input ended asked told owed written (Coming unended none_asked none_told none_owed upgrades) index why =
+  abbrev pub IsNotOpened : (input : List ℕ) (ended : Bool) (log : List (Entry H)) (told owed : List (ConnEvent H))
+      (written : List ℕ) → Explains input ended log told owed written → ℕ → ConnRefused → Type 0
+  IsNotOpened input ended log told owed written (Coming unended none_listed none_told none_owed upgrades) index why =
       why ≡ refusals.NotUp
-  IsNotOpened input ended asked told owed written (Up session streams past unended up) index why =
+  IsNotOpened input ended log told owed written (Up session streams past unended up) index why =
       ((length (listed start) ≤ index) × (why ≡ refusals.BadIndex))
-      ⊎ ((index < length (listed start)) × IsRefusedAs (start_refusal (session_role role) (items up.log)) why)
-  IsNotOpened input ended asked told owed written (Over none_owed ends) index why = why ≡ refusals.Failed
+      ⊎ ((index < length (listed start)) × IsRefusedAs (start_refusal (session_role role) (items log)) why)
+  IsNotOpened input ended log told owed written (Over none_owed ends) index why = why ≡ refusals.Failed
 
   -- ---- each call
 
-  -- the call has this answer there, and leads on to the next point; what is owed is told first
-  abbrev pub AnswersAt : List ℕ → Bool → List (ℕ × ℕ) → List (ConnEvent H) → List (ConnEvent H) → ConnAct
+  -- The call has this answer there, and leads on to the next point; what is owed is told first. The list grows by what
+  -- the call led to: no call changes what stood in it before, and only an answered ask opens a stream, that one, and
+  -- that first.
+  abbrev pub AnswersAt : List ℕ → Bool → List (Entry H) → List (ConnEvent H) → List (ConnEvent H) → ConnAct
       → ConnAnswer H → Point H → Type 0
-  AnswersAt input ended asked told owed (Feed bytes) (Events more) next =
-      (has_ended told ≡ false) × (next ≡ At (input ++ bytes.items) false asked (told ++ more.items) [])
-      × TellsFirst owed more.items
-  AnswersAt input ended asked told owed (Feed bytes) (Refused why) next =
-      IsTurnedAway told why (At input ended asked told owed) next
+  AnswersAt input ended log told owed (Feed bytes) (Events more) next =
+      (has_ended told ≡ false) × ((now : List (Entry H)) × IsGrown [] log now
+      × (next ≡ At (input ++ bytes.items) false now (told ++ more.items) [])) × TellsFirst owed more.items
+  AnswersAt input ended log told owed (Feed bytes) (Refused why) next =
+      IsTurnedAway told why (At input ended log told owed) next
   -- of a stream that was just opened nothing is owed but that its eager handler gave up
-  AnswersAt input ended asked told owed (Ask index) (Stream n) next =
-      ((written : List ℕ) × (there : Explains input ended asked told owed written)
-      × MayBeAsked input ended asked told owed written there index)
+  AnswersAt input ended log told owed (Ask index) (Stream n) next =
+      ((written : List ℕ) × (there : Explains input ended log told owed written)
+      × MayBeAsked input ended log told owed written there index)
       × ((more : List (ConnEvent H)) × AllByRecursion (IsBrokenOf n) more
-      × (next ≡ At input false (asked ++ (n, index) ∷ []) told (owed ++ more)))
-  AnswersAt input ended asked told owed (Ask index) (Refused why) next =
-      ((written : List ℕ) × (there : Explains input ended asked told owed written)
-      × IsNotOpened input ended asked told owed written there index why)
-      × StaysBehind why (At input ended asked told owed) next
-  AnswersAt input ended asked told owed Ended (Events more) next =
-      (has_ended told ≡ false) × (next ≡ At input true asked (told ++ more.items) []) × TellsFirst owed more.items
-  AnswersAt input ended asked told owed Ended (Refused why) next =
-      IsTurnedAway told why (At input ended asked told owed) next
-  AnswersAt input ended asked told owed call answer next = ⊥
+      × (now : List (Entry H)) × IsOpened n index log now × (next ≡ At input false now told (owed ++ more)))
+  AnswersAt input ended log told owed (Ask index) (Refused why) next =
+      ((written : List ℕ) × (there : Explains input ended log told owed written)
+      × IsNotOpened input ended log told owed written there index why)
+      × StaysBehind why (At input ended log told owed) next
+  AnswersAt input ended log told owed Ended (Events more) next =
+      (has_ended told ≡ false) × (next ≡ At input true log (told ++ more.items) []) × TellsFirst owed more.items
+  AnswersAt input ended log told owed Ended (Refused why) next =
+      IsTurnedAway told why (At input ended log told owed) next
+  AnswersAt input ended log told owed call answer next = ⊥
 
   -- wherever a call leads to is explained, and what was written is not lost
   abbrev pub Answers : Point H → ConnAct → ConnAnswer H → Point H → Type 0
-  Answers (At input ended asked told owed) call answer next =
-      AnswersAt input ended asked told owed call answer next × IsExplained next
-      × KeepsWritten input ended asked told owed call next
+  Answers (At input ended log told owed) call answer next =
+      AnswersAt input ended log told owed call answer next × IsExplained next
+      × KeepsWritten input ended log told owed call next
   Answers (Spent written) call answer next = (answer ≡ Refused refusals.Failed) × (next ≡ Spent written)
 
   -- one call after another
@@ -188,25 +191,25 @@ module _ {P H : Type 0} (step : H → HandlerCall → H → Type 0) (fails : H �
 
   -- all that was written until there is this
   abbrev pub HasWritten : Point H → List ℕ → Type 0
-  HasWritten (At input ended asked told owed) written = Explains input ended asked told owed written
+  HasWritten (At input ended log told owed) written = Explains input ended log told owed written
   HasWritten (Spent before) written = written ≡ before
 
   -- ---- a whole run
 
   -- the handlers that are held there, in the order in which they were made
-  abbrev pub Holds : (input : List ℕ) (ended : Bool) (asked : List (ℕ × ℕ)) (told owed : List (ConnEvent H))
-      (written : List ℕ) → Explains input ended asked told owed written → List (ℕ × H) → Type 0
-  Holds input ended asked told owed written (Coming unended none_asked none_told none_owed upgrades) handlers =
+  abbrev pub Holds : (input : List ℕ) (ended : Bool) (log : List (Entry H)) (told owed : List (ConnEvent H))
+      (written : List ℕ) → Explains input ended log told owed written → List (ℕ × H) → Type 0
+  Holds input ended log told owed written (Coming unended none_listed none_told none_owed upgrades) handlers =
       handlers ≡ []
-  Holds input ended asked told owed written (Up session streams past unended up) handlers =
+  Holds input ended log told owed written (Up session streams past unended up) handlers =
       (held : List (ℕ × H)) × AreHeld streams past held
-      × (handlers ≡ arranged (reverse (newest_held (session_role role) up.log)) held)
-  Holds input ended asked told owed written (Over none_owed ends) handlers = handlers ≡ []
+      × (handlers ≡ arranged (reverse (newest_held (session_role role) log)) held)
+  Holds input ended log told owed written (Over none_owed ends) handlers = handlers ≡ []
 
   -- all that was written until the last call is this, and these handlers are held still
   abbrev pub Leaves : Point H → List ℕ → List (ℕ × H) → Type 0
-  Leaves (At input ended asked told owed) output handlers = (there : Explains input ended asked told owed output)
-      × Holds input ended asked told owed output there handlers
+  Leaves (At input ended log told owed) output handlers = (there : Explains input ended log told owed output)
+      × Holds input ended log told owed output there handlers
   Leaves (Spent written) output handlers = (output ≡ written) × (handlers ≡ [])
 
   -- what a run answers, and what it leaves
@@ -216,8 +219,8 @@ module _ {P H : Type 0} (step : H → HandlerCall → H → Type 0) (fails : H �
 
   -- the end is at this point, and this of its output was taken
   abbrev pub IsAt : List ℕ → Point H → ConnCore P H → Type 0
-  IsAt taken (At input ended asked told owed) core = (core.owed.items ≡ owed)
+  IsAt taken (At input ended log told owed) core = (core.owed.items ≡ owed)
       × Stands step fails is_closed is_finished inbound_makes outbound_makes listed is_eager inbound_leads
-      outbound_leads start role own input ended asked told taken core
+      outbound_leads start role own input ended log told taken core
   IsAt taken (Spent written) core = (is_spent core.phase ≡ true)
       × (taken ++ waiting_in core.phase core.output.items ≡ written)

@@ -12,9 +12,11 @@ ghost use Rattle.yamux_session.specs.History.{Item};
 ghost use Rattle.yamux_session.specs.Acts.{start_refusal};
 ghost use Rattle.yamux_session.specs.State.{Stands as SessionStands, Whenever};
 ghost use Rattle.conn_log.specs.Asked.{IsRefusedAs};
+ghost use Rattle.conn_log.specs.Entries.{Entry};
 ghost use Rattle.yamux_session.specs.declared.event.Role.{Role};
 ghost use Rattle.conn_core.specs.Connects.{Stands, Connects, IsComing, IsUpWith, MayOpen, IsRefused, is_over, is_spent};
-ghost use Rattle.conn_core.specs.Connects.{session_role, OwesOf, TellsFirst, waiting_in, held_in, IsOrderedIn};
+ghost use Rattle.conn_core.specs.Connects.{session_role, IsGrown, IsOpened, OwesOf, TellsFirst, waiting_in, held_in};
+ghost use Rattle.conn_core.specs.Connects.{IsOrderedIn};
 ghost use Rattle.conn_core.specs.Wanting.{WroteOn, Wrote};
 
 use crate::telling::{fail, last_event, last_output, session_role, tell};
@@ -95,26 +97,26 @@ fn go_on<P: Protocols>(
     piece: &Bytes,
     told: &mut Vec<ConnEvent<P::H>>,
 ) -> Result<bool, ConnRefused>
-    ensures goes { (role : ConnRole) (own : Key) (start : P) (input taken : List ℕ) (asked : List (ℕ × ℕ))
+    ensures goes { (role : ConnRole) (own : Key) (start : P) (input taken : List ℕ) (log : List (Entry P.H))
         (before : List (ConnEvent P.H)) → IsUpWith P.H.steps P.H.fails P.H.is_closed P.H.is_finished P.makes_inbound
-        P.makes_outbound P.listed P.is_eager P.leads_inbound P.leads_outbound start role own input asked
+        P.makes_outbound P.listed P.is_eager P.leads_inbound P.leads_outbound start role own input log
         (before ++ told.old.items) (taken ++ output.old.items) mux.old
-        → IfOk result (λ is_up. Connects P.H.steps P.H.fails P.H.is_closed P.H.is_finished P.makes_inbound
-        P.makes_outbound P.listed P.is_eager P.leads_inbound P.leads_outbound start role own (input ++ piece.now) false
-        asked (before ++ told.new.items) taken (if is_up then Phase.Up mux.new else Phase.Over) []
-        output.new.items) }
+        → IfOk result (λ is_up. (now : List (Entry P.H)) × IsGrown [] log now × Connects P.H.steps P.H.fails
+        P.H.is_closed P.H.is_finished P.makes_inbound P.makes_outbound P.listed P.is_eager P.leads_inbound
+        P.leads_outbound start role own (input ++ piece.now) false now (before ++ told.new.items) taken
+        (if is_up then Phase.Up mux.new else Phase.Over) [] output.new.items) }
     ensures memory { OnErr result (result ≡ Err ConnRefused.OutOfMemory) }
     ensures waits { OnErr result (Grows output.old.items output.new.items) }
-    ensures wrote { (role : ConnRole) (own : Key) (start : P) (input taken : List ℕ) (asked : List (ℕ × ℕ))
+    ensures wrote { (role : ConnRole) (own : Key) (start : P) (input taken : List ℕ) (log : List (Entry P.H))
         (before : List (ConnEvent P.H)) → IsUpWith P.H.steps P.H.fails P.H.is_closed P.H.is_finished P.makes_inbound
-        P.makes_outbound P.listed P.is_eager P.leads_inbound P.leads_outbound start role own input asked
+        P.makes_outbound P.listed P.is_eager P.leads_inbound P.leads_outbound start role own input log
         (before ++ told.old.items) (taken ++ output.old.items) mux.old
         → OnErr result (WroteOn P.H.steps P.H.fails P.H.is_closed P.H.is_finished P.makes_inbound P.makes_outbound
-        P.listed P.is_eager P.leads_inbound P.leads_outbound start role own input piece.now asked before
+        P.listed P.is_eager P.leads_inbound P.leads_outbound start role own input piece.now log before
         (taken ++ output.new.items)) }
-    ensures owed_first { (role : ConnRole) (own : Key) (start : P) (input taken : List ℕ) (asked : List (ℕ × ℕ))
+    ensures owed_first { (role : ConnRole) (own : Key) (start : P) (input taken : List ℕ) (log : List (Entry P.H))
         (before : List (ConnEvent P.H)) → IsUpWith P.H.steps P.H.fails P.H.is_closed P.H.is_finished P.makes_inbound
-        P.makes_outbound P.listed P.is_eager P.leads_inbound P.leads_outbound start role own input asked
+        P.makes_outbound P.listed P.is_eager P.leads_inbound P.leads_outbound start role own input log
         (before ++ told.old.items) (taken ++ output.old.items) mux.old
         → IfOk result (λ is_up. TellsFirst told.old.items told.new.items) }
 {
@@ -139,13 +141,13 @@ fn come_up<P: Protocols>(
     told: &mut Vec<ConnEvent<P::H>>,
 ) -> Result<Phase<P>, ConnRefused>
     requires within { used ≤ length piece.now }
-    ensures goes { (role : ConnRole) (own : Key) (start : P) (input taken : List ℕ)
-        → IsUpWith P.H.steps P.H.fails P.H.is_closed P.H.is_finished P.makes_inbound P.makes_outbound P.listed
-        P.is_eager P.leads_inbound P.leads_outbound start role own (input ++ take used piece.now) []
-        (event.Upgraded proven ∷ []) (taken ++ output.old.items) mux → told.old.items ≡ []
-        → IfOk result (λ phase. Connects P.H.steps P.H.fails P.H.is_closed P.H.is_finished P.makes_inbound
-        P.makes_outbound P.listed P.is_eager P.leads_inbound P.leads_outbound start role own (input ++ piece.now) false
-        [] told.new.items taken phase [] output.new.items) }
+    ensures goes { (role : ConnRole) (own : Key) (start : P) (input taken : List ℕ) → IsUpWith P.H.steps P.H.fails
+        P.H.is_closed P.H.is_finished P.makes_inbound P.makes_outbound P.listed P.is_eager P.leads_inbound
+        P.leads_outbound start role own (input ++ take used piece.now) [] (event.Upgraded proven ∷ [])
+        (taken ++ output.old.items) mux → told.old.items ≡ []
+        → IfOk result (λ phase. (now : List (Entry P.H)) × IsGrown [] [] now × Connects P.H.steps P.H.fails
+        P.H.is_closed P.H.is_finished P.makes_inbound P.makes_outbound P.listed P.is_eager P.leads_inbound
+        P.leads_outbound start role own (input ++ piece.now) false now told.new.items taken phase [] output.new.items) }
     ensures memory { OnErr result (result ≡ Err ConnRefused.OutOfMemory) }
     ensures waits { OnErr result (Grows output.old.items output.new.items) }
     ensures wrote { (role : ConnRole) (own : Key) (start : P) (input taken : List ℕ)
@@ -175,16 +177,16 @@ fn open<P: Protocols>(
     owed: &mut Vec<ConnEvent<P::H>>,
     output: &mut Vec<u8>,
 ) -> Result<u32, ConnRefused>
-    ensures opens { (role : ConnRole) (own : Key) (start : P) (input taken : List ℕ) (asked : List (ℕ × ℕ))
+    ensures opens { (role : ConnRole) (own : Key) (start : P) (input taken : List ℕ) (log : List (Entry P.H))
         (told : List (ConnEvent P.H)) → IsUpWith P.H.steps P.H.fails P.H.is_closed P.H.is_finished P.makes_inbound
-        P.makes_outbound P.listed P.is_eager P.leads_inbound P.leads_outbound start role own input asked
+        P.makes_outbound P.listed P.is_eager P.leads_inbound P.leads_outbound start role own input log
         (told ++ owed.old.items) (taken ++ output.old.items) mux.old
-        → IfOk result (λ number. IsUpWith P.H.steps P.H.fails P.H.is_closed P.H.is_finished P.makes_inbound
-        P.makes_outbound P.listed P.is_eager P.leads_inbound P.leads_outbound start role own input
-        (asked ++ (number, index) ∷ []) (told ++ owed.new.items) (taken ++ output.new.items) mux.new) }
-    ensures owes { (role : ConnRole) (own : Key) (start : P) (input written : List ℕ) (asked : List (ℕ × ℕ))
+        → IfOk result (λ number. (now : List (Entry P.H)) × IsOpened number index log now × IsUpWith P.H.steps
+        P.H.fails P.H.is_closed P.H.is_finished P.makes_inbound P.makes_outbound P.listed P.is_eager P.leads_inbound
+        P.leads_outbound start role own input now (told ++ owed.new.items) (taken ++ output.new.items) mux.new) }
+    ensures owes { (role : ConnRole) (own : Key) (start : P) (input written : List ℕ) (log : List (Entry P.H))
         (told : List (ConnEvent P.H)) → IsUpWith P.H.steps P.H.fails P.H.is_closed P.H.is_finished P.makes_inbound
-        P.makes_outbound P.listed P.is_eager P.leads_inbound P.leads_outbound start role own input asked told written
+        P.makes_outbound P.listed P.is_eager P.leads_inbound P.leads_outbound start role own input log told written
         mux.old → IfOk result (λ number. OwesOf number owed.old.items owed.new.items) }
     ensures within { IfOk result (λ number. index < length (P.listed mux.old.board.protocols)) }
     ensures opened { IfOk result (λ number.
@@ -217,13 +219,12 @@ fn bring_up<P: Protocols>(
     piece: &Bytes,
     told: &mut Vec<ConnEvent<P::H>>,
 ) -> Result<Phase<P>, ConnRefused>
-    ensures goes { (own : Key) (start : P) (input taken : List ℕ)
-        → IsComing P.H.steps P.H.fails P.H.is_closed P.H.is_finished P.makes_inbound P.makes_outbound P.listed
-        P.is_eager P.leads_inbound P.leads_outbound start role own input [] taken upgrade protocols
-        → output.old.items ≡ [] → told.old.items ≡ []
-        → IfOk result (λ phase. Connects P.H.steps P.H.fails P.H.is_closed P.H.is_finished P.makes_inbound
-        P.makes_outbound P.listed P.is_eager P.leads_inbound P.leads_outbound start role own (input ++ piece.now) false
-        [] told.new.items taken phase [] output.new.items) }
+    ensures goes { (own : Key) (start : P) (input taken : List ℕ) → IsComing P.H.steps P.H.fails P.H.is_closed
+        P.H.is_finished P.makes_inbound P.makes_outbound P.listed P.is_eager P.leads_inbound P.leads_outbound start role
+        own input [] taken upgrade protocols → output.old.items ≡ [] → told.old.items ≡ []
+        → IfOk result (λ phase. (now : List (Entry P.H)) × IsGrown [] [] now × Connects P.H.steps P.H.fails
+        P.H.is_closed P.H.is_finished P.makes_inbound P.makes_outbound P.listed P.is_eager P.leads_inbound
+        P.leads_outbound start role own (input ++ piece.now) false now told.new.items taken phase [] output.new.items) }
     ensures memory { OnErr result (result ≡ Err ConnRefused.OutOfMemory) }
     ensures waits { OnErr result (Grows upgrade.pending output.new.items) }
     ensures wrote { (own : Key) (start : P) (input taken : List ℕ)
@@ -261,25 +262,25 @@ fn take_on<P: Protocols>(
     piece: &Bytes,
     told: &mut Vec<ConnEvent<P::H>>,
 ) -> Result<(), ConnRefused>
-    ensures goes { (own : Key) (start : P) (input taken : List ℕ) (asked : List (ℕ × ℕ)) (before : List (ConnEvent P.H))
-        → Connects P.H.steps P.H.fails P.H.is_closed P.H.is_finished P.makes_inbound P.makes_outbound P.listed
-        P.is_eager P.leads_inbound P.leads_outbound start role own input false asked before taken phase.old
-        told.old.items output.old.items → is_over phase.old ≡ false
-        → OnOk result (Connects P.H.steps P.H.fails P.H.is_closed P.H.is_finished P.makes_inbound
-        P.makes_outbound P.listed P.is_eager P.leads_inbound P.leads_outbound start role own (input ++ piece.now) false
-        asked (before ++ told.new.items) taken phase.new [] output.new.items) }
+    ensures goes { (own : Key) (start : P) (input taken : List ℕ) (log : List (Entry P.H))
+        (before : List (ConnEvent P.H)) → Connects P.H.steps P.H.fails P.H.is_closed P.H.is_finished P.makes_inbound
+        P.makes_outbound P.listed P.is_eager P.leads_inbound P.leads_outbound start role own input false log before
+        taken phase.old told.old.items output.old.items → is_over phase.old ≡ false
+        → OnOk result ((now : List (Entry P.H)) × IsGrown [] log now × Connects P.H.steps P.H.fails P.H.is_closed
+        P.H.is_finished P.makes_inbound P.makes_outbound P.listed P.is_eager P.leads_inbound P.leads_outbound start role
+        own (input ++ piece.now) false now (before ++ told.new.items) taken phase.new [] output.new.items) }
     ensures memory { OnErr result (result ≡ Err ConnRefused.OutOfMemory) }
     ensures waits { OnErr result (Grows (waiting_in phase.old output.old.items) output.new.items) }
-    ensures wrote { (own : Key) (start : P) (input taken : List ℕ) (asked : List (ℕ × ℕ))
+    ensures wrote { (own : Key) (start : P) (input taken : List ℕ) (log : List (Entry P.H))
         (before : List (ConnEvent P.H)) → Connects P.H.steps P.H.fails P.H.is_closed P.H.is_finished P.makes_inbound
-        P.makes_outbound P.listed P.is_eager P.leads_inbound P.leads_outbound start role own input false asked before
+        P.makes_outbound P.listed P.is_eager P.leads_inbound P.leads_outbound start role own input false log before
         taken phase.old told.old.items output.old.items → is_over phase.old ≡ false
         → OnErr result (Wrote P.H.steps P.H.fails P.H.is_closed P.H.is_finished P.makes_inbound P.makes_outbound
-        P.listed P.is_eager P.leads_inbound P.leads_outbound start role own input piece.now asked before
+        P.listed P.is_eager P.leads_inbound P.leads_outbound start role own input piece.now log before
         (taken ++ output.new.items)) }
-    ensures owed_first { (own : Key) (start : P) (input taken : List ℕ) (asked : List (ℕ × ℕ))
+    ensures owed_first { (own : Key) (start : P) (input taken : List ℕ) (log : List (Entry P.H))
         (before : List (ConnEvent P.H)) → Connects P.H.steps P.H.fails P.H.is_closed P.H.is_finished P.makes_inbound
-        P.makes_outbound P.listed P.is_eager P.leads_inbound P.leads_outbound start role own input false asked before
+        P.makes_outbound P.listed P.is_eager P.leads_inbound P.leads_outbound start role own input false log before
         taken phase.old told.old.items output.old.items → is_over phase.old ≡ false
         → OnOk result (TellsFirst told.old.items told.new.items) }
 {
@@ -346,17 +347,17 @@ impl<P: Protocols> ConnCore<P> {
     /// A Fault is told last, and the connection is over. Where memory was refused, it is over too, and what was written
     /// before can still be taken.
     pub fn feed_shared(&mut self, piece: Bytes) -> Result<Vec<ConnEvent<P::H>>, ConnRefused>
-        ensures fed { (role : ConnRole) (own : Key) (start : P) (input taken : List ℕ) (asked : List (ℕ × ℕ))
+        ensures fed { (role : ConnRole) (own : Key) (start : P) (input taken : List ℕ) (log : List (Entry P.H))
             (told : List (ConnEvent P.H)) → Stands P.H.steps P.H.fails P.H.is_closed P.H.is_finished P.makes_inbound
-            P.makes_outbound P.listed P.is_eager P.leads_inbound P.leads_outbound start role own input false asked told
+            P.makes_outbound P.listed P.is_eager P.leads_inbound P.leads_outbound start role own input false log told
             taken self.old → is_over self.old.phase ≡ false
-            → IfOk result (λ events. Stands P.H.steps P.H.fails P.H.is_closed P.H.is_finished P.makes_inbound
-            P.makes_outbound P.listed P.is_eager P.leads_inbound P.leads_outbound start role own (input ++ piece) false
-            asked (told ++ events.items) taken self.new) }
+            → IfOk result (λ events. (now : List (Entry P.H)) × IsGrown [] log now × Stands P.H.steps P.H.fails
+            P.H.is_closed P.H.is_finished P.makes_inbound P.makes_outbound P.listed P.is_eager P.leads_inbound
+            P.leads_outbound start role own (input ++ piece) false now (told ++ events.items) taken self.new) }
         // What an ask owes is told before all else.
-        ensures owed_first { (role : ConnRole) (own : Key) (start : P) (input taken : List ℕ) (asked : List (ℕ × ℕ))
+        ensures owed_first { (role : ConnRole) (own : Key) (start : P) (input taken : List ℕ) (log : List (Entry P.H))
             (told : List (ConnEvent P.H)) → Stands P.H.steps P.H.fails P.H.is_closed P.H.is_finished P.makes_inbound
-            P.makes_outbound P.listed P.is_eager P.leads_inbound P.leads_outbound start role own input false asked told
+            P.makes_outbound P.listed P.is_eager P.leads_inbound P.leads_outbound start role own input false log told
             taken self.old → is_over self.old.phase ≡ false
             → IfOk result (λ events. TellsFirst self.old.owed.items events.items) }
         ensures none_owed { OnOk result (self.new.owed.items ≡ []) }
@@ -365,12 +366,12 @@ impl<P: Protocols> ConnCore<P> {
         // What was written before can still be taken, and behind it what was written until memory was refused.
         ensures waits { OnErr result (Grows (waiting_in self.old.phase self.old.output.items)
             (waiting_in self.new.phase self.new.output.items)) }
-        ensures wrote { (role : ConnRole) (own : Key) (start : P) (input taken : List ℕ) (asked : List (ℕ × ℕ))
+        ensures wrote { (role : ConnRole) (own : Key) (start : P) (input taken : List ℕ) (log : List (Entry P.H))
             (told : List (ConnEvent P.H)) → Stands P.H.steps P.H.fails P.H.is_closed P.H.is_finished P.makes_inbound
-            P.makes_outbound P.listed P.is_eager P.leads_inbound P.leads_outbound start role own input false asked told
+            P.makes_outbound P.listed P.is_eager P.leads_inbound P.leads_outbound start role own input false log told
             taken self.old → is_over self.old.phase ≡ false
             → OnErr result (Wrote P.H.steps P.H.fails P.H.is_closed P.H.is_finished P.makes_inbound P.makes_outbound
-            P.listed P.is_eager P.leads_inbound P.leads_outbound start role own input piece asked told
+            P.listed P.is_eager P.leads_inbound P.leads_outbound start role own input piece log told
             (taken ++ waiting_in self.new.phase self.new.output.items)) }
         ensures failed { is_over self.old.phase ≡ true → (result ≡ Err ConnRefused.Failed) × (self.new ≡ self.old) }
     {
@@ -396,17 +397,17 @@ impl<P: Protocols> ConnCore<P> {
 
     /// The same, of bytes that are copied once.
     pub fn feed(&mut self, bytes: &[u8]) -> Result<Vec<ConnEvent<P::H>>, ConnRefused>
-        ensures fed { (role : ConnRole) (own : Key) (start : P) (input taken : List ℕ) (asked : List (ℕ × ℕ))
+        ensures fed { (role : ConnRole) (own : Key) (start : P) (input taken : List ℕ) (log : List (Entry P.H))
             (told : List (ConnEvent P.H)) → Stands P.H.steps P.H.fails P.H.is_closed P.H.is_finished P.makes_inbound
-            P.makes_outbound P.listed P.is_eager P.leads_inbound P.leads_outbound start role own input false asked told
+            P.makes_outbound P.listed P.is_eager P.leads_inbound P.leads_outbound start role own input false log told
             taken self.old → is_over self.old.phase ≡ false
-            → IfOk result (λ events. Stands P.H.steps P.H.fails P.H.is_closed P.H.is_finished P.makes_inbound
-            P.makes_outbound P.listed P.is_eager P.leads_inbound P.leads_outbound start role own (input ++ bytes.now)
-            false asked (told ++ events.items) taken self.new) }
+            → IfOk result (λ events. (now : List (Entry P.H)) × IsGrown [] log now × Stands P.H.steps P.H.fails
+            P.H.is_closed P.H.is_finished P.makes_inbound P.makes_outbound P.listed P.is_eager P.leads_inbound
+            P.leads_outbound start role own (input ++ bytes.now) false now (told ++ events.items) taken self.new) }
         // What an ask owes is told before all else.
-        ensures owed_first { (role : ConnRole) (own : Key) (start : P) (input taken : List ℕ) (asked : List (ℕ × ℕ))
+        ensures owed_first { (role : ConnRole) (own : Key) (start : P) (input taken : List ℕ) (log : List (Entry P.H))
             (told : List (ConnEvent P.H)) → Stands P.H.steps P.H.fails P.H.is_closed P.H.is_finished P.makes_inbound
-            P.makes_outbound P.listed P.is_eager P.leads_inbound P.leads_outbound start role own input false asked told
+            P.makes_outbound P.listed P.is_eager P.leads_inbound P.leads_outbound start role own input false log told
             taken self.old → is_over self.old.phase ≡ false
             → IfOk result (λ events. TellsFirst self.old.owed.items events.items) }
         ensures none_owed { OnOk result (self.new.owed.items ≡ []) }
@@ -415,12 +416,12 @@ impl<P: Protocols> ConnCore<P> {
         // What was written before can still be taken, and behind it what was written until memory was refused.
         ensures waits { OnErr result (Grows (waiting_in self.old.phase self.old.output.items)
             (waiting_in self.new.phase self.new.output.items)) }
-        ensures wrote { (role : ConnRole) (own : Key) (start : P) (input taken : List ℕ) (asked : List (ℕ × ℕ))
+        ensures wrote { (role : ConnRole) (own : Key) (start : P) (input taken : List ℕ) (log : List (Entry P.H))
             (told : List (ConnEvent P.H)) → Stands P.H.steps P.H.fails P.H.is_closed P.H.is_finished P.makes_inbound
-            P.makes_outbound P.listed P.is_eager P.leads_inbound P.leads_outbound start role own input false asked told
+            P.makes_outbound P.listed P.is_eager P.leads_inbound P.leads_outbound start role own input false log told
             taken self.old → is_over self.old.phase ≡ false
             → OnErr result (Wrote P.H.steps P.H.fails P.H.is_closed P.H.is_finished P.makes_inbound P.makes_outbound
-            P.listed P.is_eager P.leads_inbound P.leads_outbound start role own input bytes.now asked told
+            P.listed P.is_eager P.leads_inbound P.leads_outbound start role own input bytes.now log told
             (taken ++ waiting_in self.new.phase self.new.output.items)) }
         ensures failed { is_over self.old.phase ≡ true → (result ≡ Err ConnRefused.Failed) × (self.new ≡ self.old) }
     {
@@ -444,15 +445,16 @@ impl<P: Protocols> ConnCore<P> {
     /// Where several refusals hold, the lowest is answered, and nothing changes. Where memory was refused, the
     /// connection is over, and what was written before can still be taken.
     pub fn ask(&mut self, index: usize) -> Result<u32, ConnRefused>
-        ensures asked { (role : ConnRole) (own : Key) (start : P) (input taken : List ℕ) (asked : List (ℕ × ℕ))
+        ensures asked { (role : ConnRole) (own : Key) (start : P) (input taken : List ℕ) (log : List (Entry P.H))
             (told : List (ConnEvent P.H)) → Stands P.H.steps P.H.fails P.H.is_closed P.H.is_finished P.makes_inbound
-            P.makes_outbound P.listed P.is_eager P.leads_inbound P.leads_outbound start role own input false asked told
-            taken self.old → IfOk result (λ number. Stands P.H.steps P.H.fails P.H.is_closed P.H.is_finished
-            P.makes_inbound P.makes_outbound P.listed P.is_eager P.leads_inbound P.leads_outbound start role own input
-            false (asked ++ (number, index) ∷ []) told taken self.new) }
-        ensures owes { (role : ConnRole) (own : Key) (start : P) (input taken : List ℕ) (asked : List (ℕ × ℕ))
+            P.makes_outbound P.listed P.is_eager P.leads_inbound P.leads_outbound start role own input false log told
+            taken self.old
+            → IfOk result (λ number. (now : List (Entry P.H)) × IsOpened number index log now × Stands
+            P.H.steps P.H.fails P.H.is_closed P.H.is_finished P.makes_inbound P.makes_outbound P.listed P.is_eager
+            P.leads_inbound P.leads_outbound start role own input false now told taken self.new) }
+        ensures owes { (role : ConnRole) (own : Key) (start : P) (input taken : List ℕ) (log : List (Entry P.H))
             (told : List (ConnEvent P.H)) → Stands P.H.steps P.H.fails P.H.is_closed P.H.is_finished P.makes_inbound
-            P.makes_outbound P.listed P.is_eager P.leads_inbound P.leads_outbound start role own input false asked told
+            P.makes_outbound P.listed P.is_eager P.leads_inbound P.leads_outbound start role own input false log told
             taken self.old → IfOk result (λ number. OwesOf number self.old.owed.items self.new.owed.items) }
         ensures opened { IfOk result (λ number. MayOpen P.listed self.old.phase index) }
         ensures refused { IfErr result (λ refused. IsRefused P.listed self.old.phase index refused) }
@@ -476,12 +478,12 @@ impl<P: Protocols> ConnCore<P> {
     /// The input of the link has ended: it tells what is owed, and last Shut, or Fault(EarlyEnd) within the upgrade or
     /// within a frame. Its streams and their handlers are let go of.
     pub fn ended(&mut self) -> Result<Vec<ConnEvent<P::H>>, ConnRefused>
-        ensures ends { (role : ConnRole) (own : Key) (start : P) (input taken : List ℕ) (asked : List (ℕ × ℕ))
+        ensures ends { (role : ConnRole) (own : Key) (start : P) (input taken : List ℕ) (log : List (Entry P.H))
             (told : List (ConnEvent P.H)) → Stands P.H.steps P.H.fails P.H.is_closed P.H.is_finished P.makes_inbound
-            P.makes_outbound P.listed P.is_eager P.leads_inbound P.leads_outbound start role own input false asked told
+            P.makes_outbound P.listed P.is_eager P.leads_inbound P.leads_outbound start role own input false log told
             taken self.old → is_over self.old.phase ≡ false
             → IfOk result (λ events. Stands P.H.steps P.H.fails P.H.is_closed P.H.is_finished P.makes_inbound
-            P.makes_outbound P.listed P.is_eager P.leads_inbound P.leads_outbound start role own input true asked
+            P.makes_outbound P.listed P.is_eager P.leads_inbound P.leads_outbound start role own input true log
             (told ++ events.items) taken self.new) }
         // What an ask owes is told before all else.
         ensures owed_first { IfOk result (λ events. TellsFirst self.old.owed.items events.items) }
@@ -508,11 +510,11 @@ impl<P: Protocols> ConnCore<P> {
     /// was written before a fault, or before memory was refused, is given still.
     pub fn take_output(&mut self) -> Vec<u8>
         ensures stands { (role : ConnRole) (own : Key) (start : P) (input taken : List ℕ) (ended : Bool)
-            (asked : List (ℕ × ℕ)) (told : List (ConnEvent P.H)) → Stands P.H.steps P.H.fails P.H.is_closed
+            (log : List (Entry P.H)) (told : List (ConnEvent P.H)) → Stands P.H.steps P.H.fails P.H.is_closed
             P.H.is_finished P.makes_inbound P.makes_outbound P.listed P.is_eager P.leads_inbound P.leads_outbound start
-            role own input ended asked told taken self.old → Stands P.H.steps P.H.fails P.H.is_closed P.H.is_finished
+            role own input ended log told taken self.old → Stands P.H.steps P.H.fails P.H.is_closed P.H.is_finished
             P.makes_inbound P.makes_outbound P.listed P.is_eager P.leads_inbound P.leads_outbound start role own input
-            ended asked told (taken ++ result.items) self.new }
+            ended log told (taken ++ result.items) self.new }
         ensures taken { result.items ≡ waiting_in self.old.phase self.old.output.items }
         ensures none_waits { waiting_in self.new.phase self.new.output.items ≡ [] }
         ensures owed { self.new.owed.items ≡ self.old.owed.items }

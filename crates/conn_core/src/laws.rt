@@ -5,8 +5,8 @@ ghost use Rattle.peer_ids.specs.Key.{Key};
 ghost use Rattle.upgrade.specs.declared.role.ConnRole.{ConnRole};
 ghost use Rattle.yamux_session.specs.declared.event.Role.{Role};
 ghost use Rattle.conn_core.specs.Promises.{AreServing, AreEarly, LiveAreHeld, UpIsSplit};
-ghost use Rattle.conn_core.specs.Promises.{ListedAreHeld, EachIsAnswered, AllIsCounted};
-ghost use Rattle.conn_core.specs.ConnectRows.{NameRows, PhaseRows, EndRows};
+ghost use Rattle.conn_core.specs.Promises.{ListedAreHeld, EachIsAnswered, AllIsCounted, PastStays, ComesInTurn};
+ghost use Rattle.conn_core.specs.ConnectRows.{NameRows, PhaseRows, GrownRows, OpenedRows, EndRows};
 ghost use Rattle.conn_core.specs.PromiseRows.{ServingRows, EarlyRows, HandedRows};
 ghost use Rattle.conn_core.specs.RunRows.{LastRows, SumRows, RefusedRows, AnswerRows};
 
@@ -57,6 +57,22 @@ pub fn counted<P: Protocols>()
         P.is_eager P.leads_inbound P.leads_outbound start role own }
 {}
 
+/// No call changes what the list said before it: at each later point of a run it says that still, and what came, was
+/// asked for, done and told since stands behind it.
+pub fn past_stays<P: Protocols>()
+    ensures { (start : P) (role : ConnRole) (own : Key)
+        → PastStays P.H.steps P.H.fails P.H.is_closed P.H.is_finished P.makes_inbound P.makes_outbound P.listed
+        P.is_eager P.leads_inbound P.leads_outbound start role own }
+{}
+
+/// What comes stands in the list behind what came before: the key that was proven, and which part of the input is the
+/// upgrade's, stays, and the frames in what the list has grown by are those of what came since.
+pub fn comes_in_turn<P: Protocols>()
+    ensures { (start : P) (role : ConnRole) (own : Key)
+        → ComesInTurn P.H.steps P.H.fails P.H.is_closed P.H.is_finished P.makes_inbound P.makes_outbound P.listed
+        P.is_eager P.leads_inbound P.leads_outbound start role own }
+{}
+
 /// What a run hands back is each handler that is held, with its stream's number, and no other.
 pub fn listed_are_held<H: Handler>()
     ensures { ListedAreHeld H }
@@ -66,6 +82,8 @@ pub fn listed_are_held<H: Handler>()
 pub fn worked_rows<P: Protocols>()
     ensures names { NameRows }
     ensures phases { PhaseRows P P.H }
+    ensures grown { GrownRows P.H }
+    ensures opened { OpenedRows P.H }
     ensures ends { (start : P) (role : ConnRole) (own : Key)
         → EndRows P.H.steps P.H.fails P.H.is_closed P.H.is_finished P.makes_inbound P.makes_outbound P.listed
         P.is_eager P.leads_inbound P.leads_outbound start role own }

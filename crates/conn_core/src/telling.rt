@@ -5,6 +5,7 @@ ghost use Rattle.peer_ids.specs.Key.{Key};
 ghost use Rattle.conn_log.specs.declared.event.ConnEvent.{ConnEvent};
 ghost use Rattle.conn_log.specs.declared.event.ConnEvent.TheVariants as event;
 ghost use Rattle.conn_log.specs.declared.event.ConnFault.{ConnFault};
+ghost use Rattle.conn_log.specs.Entries.{Entry};
 ghost use Rattle.upgrade.specs.declared.role.ConnRole.{ConnRole};
 ghost use Rattle.conn_core.specs.Connects.{Connects, Ends, is_over, told_of, session_role, waiting_in};
 
@@ -76,12 +77,12 @@ pub(crate) fn last_output(upgrade: Upgrade) -> Vec<u8>
 
 /// What is told last where the input ends in this phase. What an upgrade has written waits then.
 pub(crate) fn last_event<P: Protocols>(phase: Phase<P>, output: &mut Vec<u8>) -> ConnEvent<P::H>
-    ensures ends { (role : ConnRole) (own : Key) (start : P) (input taken : List ℕ) (asked : List (ℕ × ℕ))
+    ensures ends { (role : ConnRole) (own : Key) (start : P) (input taken : List ℕ) (log : List (Entry P.H))
         (before owed : List (ConnEvent P.H)) → Connects P.H.steps P.H.fails P.H.is_closed P.H.is_finished
         P.makes_inbound P.makes_outbound P.listed P.is_eager P.leads_inbound P.leads_outbound start role own input false
-        asked before taken phase owed output.old.items → is_over phase ≡ false
+        log before taken phase owed output.old.items → is_over phase ≡ false
         → Ends P.H.steps P.H.fails P.H.is_closed P.H.is_finished P.makes_inbound P.makes_outbound P.listed P.is_eager
-        P.leads_inbound P.leads_outbound start role own input true asked ((before ++ owed) ++ result ∷ [])
+        P.leads_inbound P.leads_outbound start role own input true log ((before ++ owed) ++ result ∷ [])
         (taken ++ output.new.items) }
     ensures waits { output.new.items ≡ waiting_in phase output.old.items }
 {

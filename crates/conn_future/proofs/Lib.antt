@@ -11,3 +11,4 @@ pub mod Standing
 pub mod OverLink
 pub mod Rows
 pub mod PollRows
+pub mod Leading

@@ -8,6 +8,7 @@ use Rattle.conn_log.specs.declared.event.ConnEvent.{ConnEvent}
 use Rattle.conn_log.specs.declared.event.ConnEvent.TheVariants as event
 use Rattle.conn_log.specs.declared.event.ConnFault.{ConnFault}
 use Rattle.conn_log.specs.declared.event.ConnFault.TheVariants as fault
+use Rattle.conn_log.specs.Entries.{Entry}
 use Rattle.conn_core.specs.declared.connection.ConnCore.{ConnCore}
 use Rattle.conn_core.specs.Connects.{is_over, is_spent}
 use Rattle.conn_core.specs.Runs.{is_end}
@@ -118,23 +119,23 @@ ended_not (inr is) = cc is
 
 module _ {P H : Type 0} (protocols : ProtocolsGhosts P H) (handler : HandlerGhosts H) (start : P) (role : ConnRole)
     (own : Key) where
-  abbrev Core : List ℕ → Bool → List (ℕ × ℕ) → List (ConnEvent H) → List ℕ → ConnCore P H → Type 0
+  abbrev Core : List ℕ → Bool → List (Entry H) → List (ConnEvent H) → List ℕ → ConnCore P H → Type 0
   Core = core_stands protocols handler start role own
 
   abbrev End : List (ConnEvent H) → Line → ConnCore P H → List (ConnEvent H) → Type 0
   End gave now core held = ends protocols handler start role own (line [] []) [] gave now core held
 
   -- what the link gave and took is this
-  stands_at : (input given : List ℕ) (ended : Bool) (asked : List (ℕ × ℕ)) (told : List (ConnEvent H)) (written taken left : List ℕ) (core : ConnCore P H)
-      → input ≡ given → written ≡ taken → Core given ended asked told (taken ++ left) core → Core input ended asked told (written ++ left) core
-  stands_at input given ended asked told written taken left core given_is taken_is stands =
-      subst (λ (l : List ℕ). Core l ended asked told (written ++ left) core) (sym given_is)
-      (subst (λ (l : List ℕ). Core given ended asked told (l ++ left) core) (sym taken_is) stands)
+  stands_at : (input given : List ℕ) (ended : Bool) (log : List (Entry H)) (told : List (ConnEvent H)) (written taken left : List ℕ) (core : ConnCore P H)
+      → input ≡ given → written ≡ taken → Core given ended log told (taken ++ left) core → Core input ended log told (written ++ left) core
+  stands_at input given ended log told written taken left core given_is taken_is stands =
+      subst (λ (l : List ℕ). Core l ended log told (written ++ left) core) (sym given_is)
+      (subst (λ (l : List ℕ). Core given ended log told (l ++ left) core) (sym taken_is) stands)
 
   join_rows : JoinRows protocols handler start role own
   join_rows = record {
-    joined = λ asked core one other. (
-      λ it. stands_at (2 ∷ 3 ∷ []) it.given false asked (one ∷ other ∷ []) (9 ∷ []) it.took (4 ∷ []) core (ap (λ l. drop 1 l) it.moved.0) (ap (λ l. drop 1 l) it.moved.1) it.stands,
+    joined = λ log core one other. (
+      λ it. stands_at (2 ∷ 3 ∷ []) it.given false log (one ∷ other ∷ []) (9 ∷ []) it.took (4 ∷ []) core (ap (λ l. drop 1 l) it.moved.0) (ap (λ l. drop 1 l) it.moved.1) it.stands,
       λ stands. record { given = 2 ∷ 3 ∷ []; took = 9 ∷ []; moved = (refl, refl); reached = λ is. absurd (cc is); found = λ is. absurd (cc is); stands = stands },
     );
     told_of_the_end = λ core. (
@@ -159,19 +160,19 @@ module _ {P H : Type 0} (protocols : ProtocolsGhosts P H) (handler : HandlerGhos
   still_going : (core : ConnCore P H) → is_spent core.phase ≡ false → (held : List (ConnEvent H))
       → parts protocols handler start role own (line [] []) [] [] (line [] []) core held → is_over core.phase ≡ false
   still_going core unspent held it =
-      sym (same_over lines protocols handler start role own it.given it.given it.ended it.ended [] ([] ++ it.opened) held (it.took ++ it.left) (it.took ++ (it.left ++ it.more)) it.core core it.stands (it.kept unspent)) ∙ it.goes_on
+      sym (same_over lines protocols handler start role own it.given it.given it.ended it.ended [] (it.newer ++ []) held (it.took ++ it.left) (it.took ++ (it.left ++ it.more)) it.core core it.stands (it.kept unspent)) ∙ it.goes_on
 
   refused_rows : RefusedRows protocols handler start role own
   refused_rows = record {
     heard = λ core held it. (sym (ap (λ l. drop 1 l) it.moved.0), sym it.moved.1);
     told = λ core one other it. (it.stands, it.goes_on);
-    kept = λ core unspent asked one other it. it.kept unspent;
-    wrote = λ core asked held it. subst (λ (t : List ℕ). Core it.given it.ended asked held (t ++ it.left) it.core) (sym (ap (λ l. drop 1 l) it.moved.1)) it.stands;
-    wrote_on = λ core unspent asked held it. subst (λ (t : List ℕ). Core it.given it.ended (asked ++ it.opened) held (t ++ (it.left ++ it.more)) core) (sym (ap (λ l. drop 1 l) it.moved.1)) (it.kept unspent);
+    kept = λ core unspent log one other it. it.kept unspent;
+    wrote = λ core log held it. subst (λ (t : List ℕ). Core it.given it.ended log held (t ++ it.left) it.core) (sym (ap (λ l. drop 1 l) it.moved.1)) it.stands;
+    wrote_on = λ core unspent log held it. subst (λ (t : List ℕ). Core it.given it.ended (it.newer ++ log) held (t ++ (it.left ++ it.more)) core) (sym (ap (λ l. drop 1 l) it.moved.1)) (it.kept unspent);
     over = λ core unspent held it. still_going core unspent held it;
     missing = λ core unspent key input taken stands it.
-        told_once lines protocols handler start role own input it.given false it.ended [] ([] ++ it.opened) key taken (it.took ++ (it.left ++ it.more)) core stands (it.kept unspent);
-    ended_there = λ core unspent asked held it. let e : ◌≡◌ {A = Bool} false true = it.unended unspent refl in cc e;
+        told_once lines protocols handler start role own input it.given false it.ended [] (it.newer ++ []) key taken (it.took ++ (it.left ++ it.more)) core stands (it.kept unspent);
+    ended_there = λ core unspent log held it. let e : ◌≡◌ {A = Bool} false true = it.unended unspent refl in cc e;
     spent = λ core other spent held it. record {
       given = it.given;
       lost = it.lost;
@@ -182,7 +183,7 @@ module _ {P H : Type 0} (protocols : ProtocolsGhosts P H) (handler : HandlerGhos
       moved = it.moved;
       stands = it.stands;
       goes_on = it.goes_on;
-      opened = it.opened;
+      newer = it.newer;
       more = it.more;
       kept = λ unspent. absurd (cc (unspent, spent));
       unended = λ unspent. absurd (cc (unspent, spent));
@@ -269,20 +270,20 @@ module _ {P H : Type 0} (protocols : ProtocolsGhosts P H) (handler : HandlerGhos
     told = λ core over one other stands. Told true (4 ∷ []) over (record { given = 2 ∷ []; took = 9 ∷ []; moved = (refl, refl); reached = λ is. refl; found = λ is. inl refl; stands = stands });
   }
 
-  is_ended : (first : Line) (asked : List (ℕ × ℕ)) (gave : List (ConnEvent H)) (now : Line) (core : ConnCore P H)
-      (held : List (ConnEvent H)) → ends protocols handler start role own first asked gave now core held
+  is_ended : (first : Line) (log : List (Entry H)) (gave : List (ConnEvent H)) (now : Line) (core : ConnCore P H)
+      (held : List (ConnEvent H)) → ends protocols handler start role own first log gave now core held
       → ((end : Bool) × (left : List ℕ) × (is_over core.phase ≡ true)
-      × joins protocols handler start role own first asked gave end now core left held)
+      × joins protocols handler start role own first log gave end now core left held)
       ⊎ (((before : List (ConnEvent H)) × (left : List ℕ) × (held ≡ [])
-      × (gave ≡ before ++ event.Fault fault.Link ∷ []) × joins protocols handler start role own first asked before false now core left [])
+      × (gave ≡ before ++ event.Fault fault.Link ∷ []) × joins protocols handler start role own first log before false now core left [])
       ⊎ (((before : List (ConnEvent H)) × (held ≡ []) × (gave ≡ before ++ event.Fault fault.OutOfMemory ∷ [])
-      × parts protocols handler start role own first asked before now core [])
+      × parts protocols handler start role own first log before now core [])
       ⊎ ((before : List (ConnEvent H)) × (held ≡ []) × (gave ≡ before ++ event.Shut ∷ [])
-      × (now.is_shut ≡ true) × joins protocols handler start role own first asked before false now core [] [])))
-  is_ended first asked gave now core held (Told end left over it) = inl (end, left, over, it)
-  is_ended first asked gave now core held (Failed before left none is it) = inr (inl (before, left, none, is, it))
-  is_ended first asked gave now core held (Refused before none is it) = inr (inr (inl (before, none, is, it)))
-  is_ended first asked gave now core held (Shut before none is shut it) = inr (inr (inr (before, none, is, shut, it)))
+      × (now.is_shut ≡ true) × joins protocols handler start role own first log before false now core [] [])))
+  is_ended first log gave now core held (Told end left over it) = inl (end, left, over, it)
+  is_ended first log gave now core held (Failed before left none is it) = inr (inl (before, left, none, is, it))
+  is_ended first log gave now core held (Refused before none is it) = inr (inr (inl (before, none, is, it)))
+  is_ended first log gave now core held (Shut before none is shut it) = inr (inr (inr (before, none, is, shut, it)))
 
   pub follow_rows : FollowRows protocols handler start role own
   follow_rows = record {

@@ -169,108 +169,108 @@ module _ {P H : Type 0} (step : H → HandlerCall → H → Type 0) (fails : H �
     (is_closed is_finished : H → Bool) (inbound_makes outbound_makes : P → ℕ → List ℕ → H → Type 0)
     (listed : P → List (List ℕ)) (is_eager : P → ℕ → Bool)
     (inbound_leads outbound_leads : P → ℕ → List ℕ → H → P → Type 0) (start : P) (role : ConnRole) (own : Key) where
-  ends_tell : (input : List ℕ) (ended : Bool) (asked : List (ℕ × ℕ)) (told : List (ConnEvent H)) (written : List ℕ)
-      → Ends step fails is_closed is_finished inbound_makes outbound_makes listed is_eager inbound_leads outbound_leads start role own input ended asked told written → Tells told
-  ends_tell input ended asked told written (Upgrade why named first told_is comes unasked is) =
+  ends_tell : (input : List ℕ) (ended : Bool) (log : List (Entry H)) (told : List (ConnEvent H)) (written : List ℕ)
+      → Ends step fails is_closed is_finished inbound_makes outbound_makes listed is_eager inbound_leads outbound_leads start role own input ended log told written → Tells told
+  ends_tell input ended log told written (Upgrade why named first told_is comes unasked is) =
       LastEnds [] (event.Fault named) refl (upgrade_links why named told_is) is
-  ends_tell input ended asked told written (Session faulty) =
+  ends_tell input ended log told written (Session faulty) =
       let due = subst (λ (l : List (Entry H)). AllDue step fails is_closed is_finished inbound_makes outbound_makes (is_eager start) (listed start) (id_of faulty.key) (session_role role) l)
       (append-nil faulty.faults.newer) faulty.faults.at_rest.due in
       LastEnds faulty.before (event.Fault fault.Mux) (ap has_ended faulty.faults.told_is
       ∙ said_goes_on step fails is_closed is_finished inbound_makes outbound_makes (is_eager start) (listed start) (id_of faulty.key) (session_role role) faulty.faults.newer due) refl faulty.told_is
-  ends_tell input ended asked told written (Early is_ended upgrades unasked is) = LastEnds [] (event.Fault fault.EarlyEnd) refl refl is
-  ends_tell input ended asked told written (Within before session streams past is_ended up within is) =
+  ends_tell input ended log told written (Early is_ended upgrades unasked is) = LastEnds [] (event.Fault fault.EarlyEnd) refl refl is
+  ends_tell input ended log told written (Within before session streams past is_ended up within is) =
       LastEnds before (event.Fault fault.EarlyEnd) (ap has_ended up.told_is
-      ∙ said_goes_on step fails is_closed is_finished inbound_makes outbound_makes (is_eager start) (listed start) (id_of up.key) (session_role role) up.log up.at_rest.due) refl is
-  ends_tell input ended asked told written (Shut before session streams past is_ended up between is) =
+      ∙ said_goes_on step fails is_closed is_finished inbound_makes outbound_makes (is_eager start) (listed start) (id_of up.key) (session_role role) log up.at_rest.due) refl is
+  ends_tell input ended log told written (Shut before session streams past is_ended up between is) =
       LastEnds before event.Shut (ap has_ended up.told_is
-      ∙ said_goes_on step fails is_closed is_finished inbound_makes outbound_makes (is_eager start) (listed start) (id_of up.key) (session_role role) up.log up.at_rest.due) refl is
+      ∙ said_goes_on step fails is_closed is_finished inbound_makes outbound_makes (is_eager start) (listed start) (id_of up.key) (session_role role) log up.at_rest.due) refl is
 
-  connects_tells : (input : List ℕ) (ended : Bool) (asked : List (ℕ × ℕ)) (told : List (ConnEvent H)) (taken : List ℕ) (phase : Phase P H) (owed : List (ConnEvent H)) (waiting : List ℕ)
-      → Connects step fails is_closed is_finished inbound_makes outbound_makes listed is_eager inbound_leads outbound_leads start role own input ended asked told taken phase owed waiting
+  connects_tells : (input : List ℕ) (ended : Bool) (log : List (Entry H)) (told : List (ConnEvent H)) (taken : List ℕ) (phase : Phase P H) (owed : List (ConnEvent H)) (waiting : List ℕ)
+      → Connects step fails is_closed is_finished inbound_makes outbound_makes listed is_eager inbound_leads outbound_leads start role own input ended log told taken phase owed waiting
       → Tells told
-  connects_tells input ended asked told taken (phases.Upgrading x protocols) owed waiting it = NoneEnds (ap has_ended it.4.none_told)
-  connects_tells input ended asked told taken (phases.Up mux) owed waiting it =
+  connects_tells input ended log told taken (phases.Upgrading x protocols) owed waiting it = NoneEnds (ap has_ended it.4.none_told)
+  connects_tells input ended log told taken (phases.Up mux) owed waiting it =
       let up = it.1.3.0 in
       NoneEnds (front_goes_on told owed (ap has_ended up.told_is
-      ∙ said_goes_on step fails is_closed is_finished inbound_makes outbound_makes (is_eager start) (listed start) (id_of up.key) (session_role role) up.log up.at_rest.due))
-  connects_tells input ended asked told taken phases.Over owed waiting it = ends_tell input ended asked told (taken ++ waiting) it.1
-  connects_tells input ended asked told taken phases.Spent owed waiting it = absurd it
+      ∙ said_goes_on step fails is_closed is_finished inbound_makes outbound_makes (is_eager start) (listed start) (id_of up.key) (session_role role) log up.at_rest.due))
+  connects_tells input ended log told taken phases.Over owed waiting it = ends_tell input ended log told (taken ++ waiting) it.1
+  connects_tells input ended log told taken phases.Spent owed waiting it = absurd it
 
   -- one that told that it is up stands at no list without it
-  connects_once : (input more : List ℕ) (ended end : Bool) (asked opened : List (ℕ × ℕ)) (key : Key) (taken all : List ℕ) (phase : Phase P H) (owed : List (ConnEvent H)) (waiting : List ℕ) → is_over phase ≡ false
-      → Connects step fails is_closed is_finished inbound_makes outbound_makes listed is_eager inbound_leads outbound_leads start role own input ended asked (event.Upgraded key ∷ []) taken phase owed waiting
+  connects_once : (input more : List ℕ) (ended end : Bool) (log opened : List (Entry H)) (key : Key) (taken all : List ℕ) (phase : Phase P H) (owed : List (ConnEvent H)) (waiting : List ℕ) → is_over phase ≡ false
+      → Connects step fails is_closed is_finished inbound_makes outbound_makes listed is_eager inbound_leads outbound_leads start role own input ended log (event.Upgraded key ∷ []) taken phase owed waiting
       → Connects step fails is_closed is_finished inbound_makes outbound_makes listed is_eager inbound_leads outbound_leads start role own more end opened [] all phase owed waiting
       → ⊥
-  connects_once input more ended end asked opened key taken all (phases.Upgrading x protocols) owed waiting goes it other = cc it.4.none_told
-  connects_once input more ended end asked opened key taken all (phases.Up mux) owed waiting goes it other =
+  connects_once input more ended end log opened key taken all (phases.Upgrading x protocols) owed waiting goes it other = cc it.4.none_told
+  connects_once input more ended end log opened key taken all (phases.Up mux) owed waiting goes it other =
       let up = it.1.3.0 in let also = other.1.3.0 in
-      let said_is : said up.log ≡ event.Upgraded also.key ∷ said also.log = cc (up.told_is, also.told_is) in
-      let none = said_upgrades_not step fails is_closed is_finished inbound_makes outbound_makes (is_eager start) (listed start) (id_of up.key) (session_role role) up.log up.at_rest.due in
-      let some : has_upgraded (said up.log) ≡ true = ap has_upgraded said_is in cc (none, some)
-  connects_once input more ended end asked opened key taken all phases.Over owed waiting goes it other = cc goes
-  connects_once input more ended end asked opened key taken all phases.Spent owed waiting goes it other = it
+      let said_is : said log ≡ event.Upgraded also.key ∷ said opened = cc (up.told_is, also.told_is) in
+      let none = said_upgrades_not step fails is_closed is_finished inbound_makes outbound_makes (is_eager start) (listed start) (id_of up.key) (session_role role) log up.at_rest.due in
+      let some : has_upgraded (said log) ≡ true = ap has_upgraded said_is in cc (none, some)
+  connects_once input more ended end log opened key taken all phases.Over owed waiting goes it other = cc goes
+  connects_once input more ended end log opened key taken all phases.Spent owed waiting goes it other = it
 
-  connects_unended : (input : List ℕ) (ended : Bool) (asked : List (ℕ × ℕ)) (told : List (ConnEvent H)) (taken : List ℕ) (phase : Phase P H) (owed : List (ConnEvent H)) (waiting : List ℕ) → is_over phase ≡ false
-      → Connects step fails is_closed is_finished inbound_makes outbound_makes listed is_eager inbound_leads outbound_leads start role own input ended asked told taken phase owed waiting → ended ≡ false
-  connects_unended input ended asked told taken (phases.Upgrading x protocols) owed waiting goes it = it.0
-  connects_unended input ended asked told taken (phases.Up mux) owed waiting goes it = it.0
-  connects_unended input ended asked told taken phases.Over owed waiting goes it = absurd (cc goes)
-  connects_unended input ended asked told taken phases.Spent owed waiting goes it = absurd it
+  connects_unended : (input : List ℕ) (ended : Bool) (log : List (Entry H)) (told : List (ConnEvent H)) (taken : List ℕ) (phase : Phase P H) (owed : List (ConnEvent H)) (waiting : List ℕ) → is_over phase ≡ false
+      → Connects step fails is_closed is_finished inbound_makes outbound_makes listed is_eager inbound_leads outbound_leads start role own input ended log told taken phase owed waiting → ended ≡ false
+  connects_unended input ended log told taken (phases.Upgrading x protocols) owed waiting goes it = it.0
+  connects_unended input ended log told taken (phases.Up mux) owed waiting goes it = it.0
+  connects_unended input ended log told taken phases.Over owed waiting goes it = absurd (cc goes)
+  connects_unended input ended log told taken phases.Spent owed waiting goes it = absurd it
 
 -- ---- of a connection over a link
 
 module _ {L P H : Type 0} (link : LinkGhosts L) (protocols : ProtocolsGhosts P H) (handler : HandlerGhosts H)
     (start : P) (role : ConnRole) (own : Key) where
-  core_tells : (given : List ℕ) (ended : Bool) (asked : List (ℕ × ℕ)) (told : List (ConnEvent H)) (taken : List ℕ) (core : ConnCore P H)
-      → CoreStands link protocols handler start role own given ended asked told taken core → Tells told
-  core_tells given ended asked told taken core stands =
+  core_tells : (given : List ℕ) (ended : Bool) (log : List (Entry H)) (told : List (ConnEvent H)) (taken : List ℕ) (core : ConnCore P H)
+      → CoreStands link protocols handler start role own given ended log told taken core → Tells told
+  core_tells given ended log told taken core stands =
       connects_tells handler.steps handler.fails handler.is_closed handler.is_finished protocols.makes_inbound
-      protocols.makes_outbound protocols.listed protocols.is_eager protocols.leads_inbound protocols.leads_outbound start role own given ended asked told taken core.phase core.owed.items core.output.items stands.1
+      protocols.makes_outbound protocols.listed protocols.is_eager protocols.leads_inbound protocols.leads_outbound start role own given ended log told taken core.phase core.owed.items core.output.items stands.1
 
-  pub never_links : (given : List ℕ) (ended : Bool) (asked : List (ℕ × ℕ)) (gave held : List (ConnEvent H)) (taken : List ℕ) (core : ConnCore P H)
-      → CoreStands link protocols handler start role own given ended asked (gave ++ event.Fault fault.Link ∷ held) taken core → ⊥
-  never_links given ended asked gave held taken core stands =
-      unlinked gave held (core_tells given ended asked (gave ++ event.Fault fault.Link ∷ held) taken core stands)
+  pub never_links : (given : List ℕ) (ended : Bool) (log : List (Entry H)) (gave held : List (ConnEvent H)) (taken : List ℕ) (core : ConnCore P H)
+      → CoreStands link protocols handler start role own given ended log (gave ++ event.Fault fault.Link ∷ held) taken core → ⊥
+  never_links given ended log gave held taken core stands =
+      unlinked gave held (core_tells given ended log (gave ++ event.Fault fault.Link ∷ held) taken core stands)
 
   -- nothing is told behind a Fault or Shut
-  pub none_behind_end : (given : List ℕ) (ended : Bool) (asked : List (ℕ × ℕ)) (gave : List (ConnEvent H)) (e : ConnEvent H) (held : List (ConnEvent H)) (taken : List ℕ) (core : ConnCore P H)
-      → is_end e ≡ true → CoreStands link protocols handler start role own given ended asked (gave ++ e ∷ held) taken core → held ≡ []
-  none_behind_end given ended asked gave e held taken core ends stands =
-      last_of gave e held ends (core_tells given ended asked (gave ++ e ∷ held) taken core stands)
+  pub none_behind_end : (given : List ℕ) (ended : Bool) (log : List (Entry H)) (gave : List (ConnEvent H)) (e : ConnEvent H) (held : List (ConnEvent H)) (taken : List ℕ) (core : ConnCore P H)
+      → is_end e ≡ true → CoreStands link protocols handler start role own given ended log (gave ++ e ∷ held) taken core → held ≡ []
+  none_behind_end given ended log gave e held taken core ends stands =
+      last_of gave e held ends (core_tells given ended log (gave ++ e ∷ held) taken core stands)
 
   -- whether a core is over is seen from what it told
-  pub over_is : (given : List ℕ) (ended : Bool) (asked : List (ℕ × ℕ)) (told : List (ConnEvent H)) (taken : List ℕ) (core : ConnCore P H)
-      → CoreStands link protocols handler start role own given ended asked told taken core → has_ended told ≡ is_over core.phase
-  over_is given ended asked told taken core stands =
+  pub over_is : (given : List ℕ) (ended : Bool) (log : List (Entry H)) (told : List (ConnEvent H)) (taken : List ℕ) (core : ConnCore P H)
+      → CoreStands link protocols handler start role own given ended log told taken core → has_ended told ≡ is_over core.phase
+  over_is given ended log told taken core stands =
       told_over handler.steps handler.fails handler.is_closed handler.is_finished protocols.makes_inbound
-      protocols.makes_outbound protocols.listed protocols.is_eager protocols.leads_inbound protocols.leads_outbound start role own given ended asked told taken core.phase core.owed.items core.output.items stands.1
+      protocols.makes_outbound protocols.listed protocols.is_eager protocols.leads_inbound protocols.leads_outbound start role own given ended log told taken core.phase core.owed.items core.output.items stands.1
 
   -- a core that goes on has told none
-  pub none_ends : (given : List ℕ) (ended : Bool) (asked : List (ℕ × ℕ)) (gave : List (ConnEvent H)) (e : ConnEvent H) (held : List (ConnEvent H)) (taken : List ℕ) (core : ConnCore P H)
-      → is_end e ≡ true → CoreStands link protocols handler start role own given ended asked (gave ++ e ∷ held) taken core → is_over core.phase ≡ false → ⊥
-  none_ends given ended asked gave e held taken core ends stands goes =
-      let is = over_is given ended asked (gave ++ e ∷ held) taken core stands in
+  pub none_ends : (given : List ℕ) (ended : Bool) (log : List (Entry H)) (gave : List (ConnEvent H)) (e : ConnEvent H) (held : List (ConnEvent H)) (taken : List ℕ) (core : ConnCore P H)
+      → is_end e ≡ true → CoreStands link protocols handler start role own given ended log (gave ++ e ∷ held) taken core → is_over core.phase ≡ false → ⊥
+  none_ends given ended log gave e held taken core ends stands goes =
+      let is = over_is given ended log (gave ++ e ∷ held) taken core stands in
       let some = end_within gave e held ends in cc (is, some, goes)
 
   pub fresh_goes_on : (core : ConnCore P H) → CoreStands link protocols handler start role own [] false [] [] [] core → is_over core.phase ≡ false
   fresh_goes_on core stands = sym (over_is [] false [] [] [] core stands)
 
-  pub same_over : (given more : List ℕ) (ended end : Bool) (asked opened : List (ℕ × ℕ)) (told : List (ConnEvent H)) (taken all : List ℕ) (core next : ConnCore P H)
-      → CoreStands link protocols handler start role own given ended asked told taken core → CoreStands link protocols handler start role own more end opened told all next → is_over core.phase ≡ is_over next.phase
-  same_over given more ended end asked opened told taken all core next stands other =
-      sym (over_is given ended asked told taken core stands) ∙ over_is more end opened told all next other
+  pub same_over : (given more : List ℕ) (ended end : Bool) (log opened : List (Entry H)) (told : List (ConnEvent H)) (taken all : List ℕ) (core next : ConnCore P H)
+      → CoreStands link protocols handler start role own given ended log told taken core → CoreStands link protocols handler start role own more end opened told all next → is_over core.phase ≡ is_over next.phase
+  same_over given more ended end log opened told taken all core next stands other =
+      sym (over_is given ended log told taken core stands) ∙ over_is more end opened told all next other
 
-  pub told_once : (given more : List ℕ) (ended end : Bool) (asked opened : List (ℕ × ℕ)) (key : Key) (taken all : List ℕ) (core : ConnCore P H)
-      → CoreStands link protocols handler start role own given ended asked (event.Upgraded key ∷ []) taken core → CoreStands link protocols handler start role own more end opened [] all core → ⊥
-  told_once given more ended end asked opened key taken all core stands other =
+  pub told_once : (given more : List ℕ) (ended end : Bool) (log opened : List (Entry H)) (key : Key) (taken all : List ℕ) (core : ConnCore P H)
+      → CoreStands link protocols handler start role own given ended log (event.Upgraded key ∷ []) taken core → CoreStands link protocols handler start role own more end opened [] all core → ⊥
+  told_once given more ended end log opened key taken all core stands other =
       connects_once handler.steps handler.fails handler.is_closed handler.is_finished protocols.makes_inbound
-      protocols.makes_outbound protocols.listed protocols.is_eager protocols.leads_inbound protocols.leads_outbound start role own given more ended end asked opened key taken all core.phase core.owed.items core.output.items
-      (sym (over_is given ended asked (event.Upgraded key ∷ []) taken core stands)) stands.1 other.1
+      protocols.makes_outbound protocols.listed protocols.is_eager protocols.leads_inbound protocols.leads_outbound start role own given more ended end log opened key taken all core.phase core.owed.items core.output.items
+      (sym (over_is given ended log (event.Upgraded key ∷ []) taken core stands)) stands.1 other.1
 
   -- one that goes on was told of no end
-  pub told_of_no_end : (given : List ℕ) (ended : Bool) (asked : List (ℕ × ℕ)) (told : List (ConnEvent H)) (taken : List ℕ) (core : ConnCore P H)
-      → CoreStands link protocols handler start role own given ended asked told taken core → is_over core.phase ≡ false → ended ≡ false
-  told_of_no_end given ended asked told taken core stands goes =
+  pub told_of_no_end : (given : List ℕ) (ended : Bool) (log : List (Entry H)) (told : List (ConnEvent H)) (taken : List ℕ) (core : ConnCore P H)
+      → CoreStands link protocols handler start role own given ended log told taken core → is_over core.phase ≡ false → ended ≡ false
+  told_of_no_end given ended log told taken core stands goes =
       connects_unended handler.steps handler.fails handler.is_closed handler.is_finished protocols.makes_inbound
-      protocols.makes_outbound protocols.listed protocols.is_eager protocols.leads_inbound protocols.leads_outbound start role own given ended asked told taken core.phase core.owed.items core.output.items goes stands.1
+      protocols.makes_outbound protocols.listed protocols.is_eager protocols.leads_inbound protocols.leads_outbound start role own given ended log told taken core.phase core.owed.items core.output.items goes stands.1

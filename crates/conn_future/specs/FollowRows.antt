@@ -9,6 +9,7 @@ use Rattle.conn_log.specs.declared.event.ConnEvent.{ConnEvent}
 use Rattle.conn_log.specs.declared.event.ConnEvent.TheVariants as event
 use Rattle.conn_log.specs.declared.event.ConnFault.{ConnFault}
 use Rattle.conn_log.specs.declared.event.ConnFault.TheVariants as fault
+use Rattle.conn_log.specs.Entries.{Entry}
 use Rattle.conn_core.specs.declared.connection.ConnCore.{ConnCore}
 use Rattle.conn_core.specs.Connects.{is_over, is_spent, waiting_in}
 use Rattle.conn_core.specs.Runs.{is_end}
@@ -18,29 +19,29 @@ use Rattle.conn_future.specs.StageRows.{Line, lines, line, ended, shut}
 
 module _ {P H : Type 0} (protocols : ProtocolsGhosts P H) (handler : HandlerGhosts H) (start : P) (role : ConnRole)
     (own : Key) where
-  abbrev pub core_stands : List ℕ → Bool → List (ℕ × ℕ) → List (ConnEvent H) → List ℕ → ConnCore P H → Type 0
+  abbrev pub core_stands : List ℕ → Bool → List (Entry H) → List (ConnEvent H) → List ℕ → ConnCore P H → Type 0
   core_stands = CoreStands lines protocols handler start role own
 
-  abbrev pub joins : Line → List (ℕ × ℕ) → List (ConnEvent H) → Bool → Line → ConnCore P H → List ℕ
+  abbrev pub joins : Line → List (Entry H) → List (ConnEvent H) → Bool → Line → ConnCore P H → List ℕ
       → List (ConnEvent H) → Type 0
   joins = Joins lines protocols handler start role own
 
-  abbrev pub goes_on : Line → List (ℕ × ℕ) → List (ConnEvent H) → Line → ConnCore P H → List ℕ → List (ConnEvent H)
+  abbrev pub goes_on : Line → List (Entry H) → List (ConnEvent H) → Line → ConnCore P H → List ℕ → List (ConnEvent H)
       → Type 0
   goes_on = GoesOn lines protocols handler start role own
 
-  abbrev pub parts : Line → List (ℕ × ℕ) → List (ConnEvent H) → Line → ConnCore P H → List (ConnEvent H) → Type 0
+  abbrev pub parts : Line → List (Entry H) → List (ConnEvent H) → Line → ConnCore P H → List (ConnEvent H) → Type 0
   parts = Parts lines protocols handler start role own
 
-  abbrev pub ends : Line → List (ℕ × ℕ) → List (ConnEvent H) → Line → ConnCore P H → List (ConnEvent H) → Type 0
+  abbrev pub ends : Line → List (Entry H) → List (ConnEvent H) → Line → ConnCore P H → List (ConnEvent H) → Type 0
   ends = Ends lines protocols handler start role own
 
   pub record JoinRows : Type 0 where
     -- Behind 1 the link gave 2 and 3, and behind 8 it took 9: so the core was fed 2 and 3, and has written 9 and the 4
     -- that is left; it has told what was given, and then what is held.
-    pub joined : (asked : List (ℕ × ℕ)) (core : ConnCore P H) (one other : ConnEvent H)
-        → joins (line (1 ∷ []) (8 ∷ [])) asked (one ∷ []) false (line (1 ∷ 2 ∷ 3 ∷ []) (8 ∷ 9 ∷ [])) core (4 ∷ [])
-        (other ∷ []) ↔ core_stands (2 ∷ 3 ∷ []) false asked (one ∷ other ∷ []) (9 ∷ 4 ∷ []) core
+    pub joined : (log : List (Entry H)) (core : ConnCore P H) (one other : ConnEvent H)
+        → joins (line (1 ∷ []) (8 ∷ [])) log (one ∷ []) false (line (1 ∷ 2 ∷ 3 ∷ []) (8 ∷ 9 ∷ [])) core (4 ∷ [])
+        (other ∷ []) ↔ core_stands (2 ∷ 3 ∷ []) false log (one ∷ other ∷ []) (9 ∷ 4 ∷ []) core
     -- it is told of an end exactly where a read has found it since
     pub told_of_the_end : (core : ConnCore P H) → joins (line [] []) [] [] true (ended [] []) core [] []
         ↔ core_stands [] true [] [] [] core
@@ -66,17 +67,17 @@ module _ {P H : Type 0} (protocols : ProtocolsGhosts P H) (handler : HandlerGhos
         → core_stands it.given it.ended [] (one ∷ other ∷ []) (it.took ++ it.left) it.core
         × (is_over it.core.phase ≡ false)
     -- its own core has told the same, unless memory was refused to it
-    pub kept : (core : ConnCore P H) → is_spent core.phase ≡ false → (asked : List (ℕ × ℕ)) (one other : ConnEvent H)
-        (it : parts (line [] []) asked (one ∷ []) (line [] []) core (other ∷ []))
-        → core_stands it.given it.ended (asked ++ it.opened) (one ∷ other ∷ []) (it.took ++ (it.left ++ it.more)) core
+    pub kept : (core : ConnCore P H) → is_spent core.phase ≡ false → (log : List (Entry H)) (one other : ConnEvent H)
+        (it : parts (line [] []) log (one ∷ []) (line [] []) core (other ∷ []))
+        → core_stands it.given it.ended (it.newer ++ log) (one ∷ other ∷ []) (it.took ++ (it.left ++ it.more)) core
     -- what the link took is the first part of what that core wrote, which opened the streams that were asked for; and
     -- of what its own core wrote, unless memory was refused to it
-    pub wrote : (core : ConnCore P H) (asked : List (ℕ × ℕ)) (held : List (ConnEvent H))
-        (it : parts (line [] (8 ∷ [])) asked [] (line (2 ∷ []) (8 ∷ 9 ∷ [])) core held)
-        → core_stands it.given it.ended asked held (9 ∷ it.left) it.core
-    pub wrote_on : (core : ConnCore P H) → is_spent core.phase ≡ false → (asked : List (ℕ × ℕ))
-        (held : List (ConnEvent H)) (it : parts (line [] (8 ∷ [])) asked [] (line (2 ∷ []) (8 ∷ 9 ∷ [])) core held)
-        → core_stands it.given it.ended (asked ++ it.opened) held (9 ∷ (it.left ++ it.more)) core
+    pub wrote : (core : ConnCore P H) (log : List (Entry H)) (held : List (ConnEvent H))
+        (it : parts (line [] (8 ∷ [])) log [] (line (2 ∷ []) (8 ∷ 9 ∷ [])) core held)
+        → core_stands it.given it.ended log held (9 ∷ it.left) it.core
+    pub wrote_on : (core : ConnCore P H) → is_spent core.phase ≡ false → (log : List (Entry H))
+        (held : List (ConnEvent H)) (it : parts (line [] (8 ∷ [])) log [] (line (2 ∷ []) (8 ∷ 9 ∷ [])) core held)
+        → core_stands it.given it.ended (it.newer ++ log) held (9 ∷ (it.left ++ it.more)) core
     -- so it goes on
     pub over : (core : ConnCore P H) → is_spent core.phase ≡ false → (held : List (ConnEvent H))
         → parts (line [] []) [] [] (line [] []) core held → is_over core.phase ≡ false
@@ -84,8 +85,8 @@ module _ {P H : Type 0} (protocols : ProtocolsGhosts P H) (handler : HandlerGhos
     pub missing : (core : ConnCore P H) → is_spent core.phase ≡ false → (key : Key) (input taken : List ℕ)
         → core_stands input false [] (event.Upgraded key ∷ []) taken core
         → ¬ parts (line [] []) [] [] (line input []) core []
-    pub ended_there : (core : ConnCore P H) → is_spent core.phase ≡ false → (asked : List (ℕ × ℕ))
-        (held : List (ConnEvent H)) → ¬ parts (line [] []) asked [] (ended [] []) core held
+    pub ended_there : (core : ConnCore P H) → is_spent core.phase ≡ false → (log : List (Entry H))
+        (held : List (ConnEvent H)) → ¬ parts (line [] []) log [] (ended [] []) core held
     -- and of one to which memory was refused nothing is known
     pub spent : (core other : ConnCore P H) → is_spent other.phase ≡ true → (held : List (ConnEvent H))
         → parts (line [] []) [] [] (line (2 ∷ []) []) core held → parts (line [] []) [] [] (line (2 ∷ []) []) other held
@@ -120,16 +121,16 @@ module _ {P H : Type 0} (protocols : ProtocolsGhosts P H) (handler : HandlerGhos
 
   -- why it makes no link call more: for one of these reasons, and for no other
   pub record EndKinds : Type 0 where
-    pub ended : (first : Line) (asked : List (ℕ × ℕ)) (gave : List (ConnEvent H)) (now : Line) (core : ConnCore P H)
-        (held : List (ConnEvent H)) → ends first asked gave now core held
+    pub ended : (first : Line) (log : List (Entry H)) (gave : List (ConnEvent H)) (now : Line) (core : ConnCore P H)
+        (held : List (ConnEvent H)) → ends first log gave now core held
         → ((end : Bool) × (left : List ℕ) × (is_over core.phase ≡ true)
-        × joins first asked gave end now core left held)
+        × joins first log gave end now core left held)
         ⊎ (((before : List (ConnEvent H)) × (left : List ℕ) × (held ≡ [])
-        × (gave ≡ before ++ event.Fault fault.Link ∷ []) × joins first asked before false now core left [])
+        × (gave ≡ before ++ event.Fault fault.Link ∷ []) × joins first log before false now core left [])
         ⊎ (((before : List (ConnEvent H)) × (held ≡ []) × (gave ≡ before ++ event.Fault fault.OutOfMemory ∷ [])
-        × parts first asked before now core [])
+        × parts first log before now core [])
         ⊎ ((before : List (ConnEvent H)) × (held ≡ []) × (gave ≡ before ++ event.Shut ∷ [])
-        × (now.is_shut ≡ true) × joins first asked before false now core [] [])))
+        × (now.is_shut ≡ true) × joins first log before false now core [] [])))
 
   -- what it keeps from one poll to the next: these fields, and nothing else
   pub record KeptRows : Type 0 where

@@ -13,7 +13,8 @@ use Rattle.upgrade.specs.declared.role.ConnRole.{ConnRole}
 use Rattle.conn_log.specs.declared.event.ConnEvent.{ConnEvent}
 use Rattle.conn_log.specs.declared.event.ConnEvent.TheVariants as event
 use Rattle.conn_log.specs.declared.event.ConnFault.TheVariants as fault
-use Rattle.conn_core.specs.Connects.{is_over}
+use Rattle.conn_log.specs.Entries.{Entry}
+use Rattle.conn_core.specs.Connects.{IsGrown, is_over}
 use Rattle.conn_future.specs.declared.stage.Stage.TheVariants.{Shutting, Over}
 use Rattle.conn_future.specs.declared.conn.Conn.{Conn}
 use Rattle.conn_future.specs.Stages.{Drains}
@@ -99,12 +100,14 @@ OnGoing Failed P = Unit {0}
 OnGoing Wait P = P
 
 module _ {L P H : Type 0} (link : LinkGhosts L) (protocols : ProtocolsGhosts P H) (handler : HandlerGhosts H) where
-  -- The connection stands with what the turn gave behind those events. The turn gives no event by which a call of the
-  -- link failed, nor that no more come.
+  -- The connection stands with what the turn gave behind those events, by a list that has grown. The turn gives no
+  -- event by which a call of the link failed, nor that no more come.
   pub record Leads (start : P) (role : ConnRole) (own : Key) (first : L)
-      (asked : List (ℕ × ℕ)) (gave : List (ConnEvent H)) (result : Turn H)
+      (log : List (Entry H)) (gave : List (ConnEvent H)) (result : Turn H)
       (new : Conn L P H link protocols handler) : Type 0 where
-    pub follows : Follows link protocols handler start role own first asked (gave ++ gave_by result) new
+    pub now : List (Entry H)
+    pub grown : IsGrown [] log now
+    pub follows : Follows link protocols handler start role own first now (gave ++ gave_by result) new
     pub not_link : result ≢ Give (Some (event.Fault fault.Link))
     pub not_none : result ≢ Give None
 
@@ -112,9 +115,9 @@ module _ {L P H : Type 0} (link : LinkGhosts L) (protocols : ProtocolsGhosts P H
   abbrev pub Turns : (old : Conn L P H link protocols handler) → Turn H → (new : Conn L P H link protocols handler)
       → Type 0
   Turns old result new =
-      (start : P) (role : ConnRole) (own : Key) (first : L) (asked : List (ℕ × ℕ))
-      (gave : List (ConnEvent H)) → Follows link protocols handler start role own first asked gave old
-      → Leads start role own first asked gave result new
+      (start : P) (role : ConnRole) (own : Key) (first : L) (log : List (Entry H))
+      (gave : List (ConnEvent H)) → Follows link protocols handler start role own first log gave old
+      → Leads start role own first log gave result new
 
   -- It comes to its end only where the core does, a call of the link failed, or memory was refused.
   abbrev pub EndsFor : Turn H → (new : Conn L P H link protocols handler) → Type 0

@@ -10,10 +10,11 @@ ghost use Rattle.upgrade.specs.declared.role.ConnRole.{ConnRole};
 ghost use Rattle.conn_log.specs.declared.event.ConnEvent.{ConnEvent};
 ghost use Rattle.conn_log.specs.declared.event.ConnEvent.TheVariants as event;
 ghost use Rattle.conn_log.specs.declared.event.ConnFault.TheVariants as fault;
-ghost use Rattle.conn_core.specs.Connects.{Stands, MayOpen, IsRefused, is_over};
+ghost use Rattle.conn_log.specs.Entries.{Entry};
+ghost use Rattle.conn_core.specs.Connects.{Stands, IsOpened, MayOpen, IsRefused, is_over};
 ghost use Rattle.conn_future.specs.Stages.{is_live, shut_stage, Came, Drains, WaitsAt};
 ghost use Rattle.conn_future.specs.Polling.{Polls};
-ghost use Rattle.conn_future.specs.Follows.{Carries, Follows, given_by};
+ghost use Rattle.conn_future.specs.Follows.{Carries, Gives, Follows, given_by};
 
 use crate::conn::Conn;
 use crate::stage::Stage;
@@ -81,11 +82,11 @@ impl<L: Link, P: Protocols> Conn<L, P> {
     /// Where memory was refused, the events that are held are given, then Fault(OutOfMemory), and no link call is made.
     pub fn ask(&mut self, index: usize) -> Result<u32, ConnRefused>
         ensures asked { (start : P) (role : ConnRole) (own : Key) (first : L)
-            (asked : List (ℕ × ℕ)) (gave : List (ConnEvent P.H))
-            → Follows L.Link P.Protocols P.H.Handler start role own first asked gave self.old
-            → IfOk result (λ number. Follows L.Link P.Protocols P.H.Handler start role own first (asked ++
-            (number, index) ∷ []) gave self.new) }
-        ensures refused { OnErr result (Carries L.Link P.Protocols P.H.Handler self.old [] self.new) }
+            (log : List (Entry P.H)) (gave : List (ConnEvent P.H))
+            → Follows L.Link P.Protocols P.H.Handler start role own first log gave self.old
+            → IfOk result (λ number. (now : List (Entry P.H)) × IsOpened number index log now
+            × Follows L.Link P.Protocols P.H.Handler start role own first now gave self.new) }
+        ensures refused { OnErr result (Gives L.Link P.Protocols P.H.Handler self.old [] self.new) }
         ensures failed { self.old.stage ≢ Stage.Going → (result ≡ Err ConnRefused.Failed) × (self.new ≡ self.old) }
         ensures opened { IfOk result (λ number. MayOpen P.listed self.old.core.phase index) }
         ensures why { self.old.stage ≡ Stage.Going
@@ -119,7 +120,7 @@ impl<L: Link, P: Protocols> Conn<L, P> {
 
     /// From now on it reads no more, writes the output that is left, shuts the link and gives Shut. It takes no memory.
     pub fn shut(&mut self)
-        ensures follows { Carries L.Link P.Protocols P.H.Handler self.old [] self.new }
+        ensures follows { Gives L.Link P.Protocols P.H.Handler self.old [] self.new }
         ensures stage { self.new.stage ≡ shut_stage self.old.stage }
         ensures link { self.new.link ≡ self.old.link }
         ensures core { self.new.core ≡ self.old.core }
@@ -147,8 +148,8 @@ impl<L: Link, P: Protocols> Stream for Conn<L, P> {
         ensures rose { L.failed self.old.link < L.failed self.new.link
             → result ≡ Ready (Some (event.Fault fault.Link)) }
         ensures fault { (start : P) (role : ConnRole) (own : Key) (first : L)
-            (asked : List (ℕ × ℕ)) (gave : List (ConnEvent P.H))
-            → Follows L.Link P.Protocols P.H.Handler start role own first asked gave self.old
+            (log : List (Entry P.H)) (gave : List (ConnEvent P.H))
+            → Follows L.Link P.Protocols P.H.Handler start role own first log gave self.old
             → result ≡ Ready (Some (event.Fault fault.Link))
             → L.failed self.new.link ≡ L.failed self.old.link + 1 }
         ensures held { (event : ConnEvent P.H) (rest : List (ConnEvent P.H)) → self.old.held.items ≡ event ∷ rest
@@ -160,8 +161,8 @@ impl<L: Link, P: Protocols> Stream for Conn<L, P> {
         ensures over { self.old.held.items ≡ [] → self.old.stage ≡ Stage.Over
             → (result ≡ Ready None) × (self.new.held.items ≡ []) × (self.new.stage ≡ Stage.Over) }
         ensures ends { (start : P) (role : ConnRole) (own : Key) (first : L)
-            (asked : List (ℕ × ℕ)) (gave : List (ConnEvent P.H))
-            → Follows L.Link P.Protocols P.H.Handler start role own first asked gave self.old
+            (log : List (Entry P.H)) (gave : List (ConnEvent P.H))
+            → Follows L.Link P.Protocols P.H.Handler start role own first log gave self.old
             → result ≡ Ready None → (self.old.held.items ≡ []) × (self.old.stage ≡ Stage.Over) }
         ensures stage { is_live self.new.stage ≡ true → self.new.stage ≡ self.old.stage }
         // It comes to its end by itself only where the core does, a call of the link fails, or memory is refused.

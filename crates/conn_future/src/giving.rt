@@ -8,7 +8,8 @@ ghost use Rattle.conn_log.specs.declared.event.ConnEvent.{ConnEvent};
 ghost use Rattle.conn_log.specs.declared.event.ConnEvent.TheVariants as event;
 ghost use Rattle.conn_log.specs.declared.event.ConnFault.TheVariants as fault;
 ghost use Rattle.conn_future.specs.Stages.{is_live};
-ghost use Rattle.conn_future.specs.Follows.{Carries, Follows, given_by};
+ghost use Rattle.conn_log.specs.Entries.{Entry};
+ghost use Rattle.conn_future.specs.Follows.{Gives, Follows, given_by};
 
 use crate::conn::Conn;
 use crate::stage::Stage;
@@ -20,7 +21,7 @@ use handlers::{Handler, Protocols};
 impl<L: Link, P: Protocols> Conn<L, P> {
     // The next event that it holds, and behind them that memory was refused.
     pub(crate) fn give(&mut self) -> Option<ConnEvent<P::H>>
-        ensures follows { Carries L.Link P.Protocols P.H.Handler self.old (given_by (Ready result)) self.new }
+        ensures follows { Gives L.Link P.Protocols P.H.Handler self.old (given_by (Ready result)) self.new }
         ensures held { (event : ConnEvent P.H) (rest : List (ConnEvent P.H)) → self.old.held.items ≡ event ∷ rest
             → (result ≡ Some event) × (self.new.held.items ≡ rest) × (self.new.stage ≡ self.old.stage) }
         ensures starved { self.old.held.items ≡ [] → self.old.stage ≡ Stage.Starved
@@ -35,9 +36,9 @@ impl<L: Link, P: Protocols> Conn<L, P> {
             → result ≡ Some (event.Fault fault.OutOfMemory) }
         ensures core { self.new.core ≡ self.old.core }
         ensures link { self.new.link ≡ self.old.link }
-        ensures not_link { (start : P) (role : ConnRole) (own : Key) (first : L) (asked : List (ℕ × ℕ))
+        ensures not_link { (start : P) (role : ConnRole) (own : Key) (first : L) (log : List (Entry P.H))
             (gave : List (ConnEvent P.H))
-            → Follows L.Link P.Protocols P.H.Handler start role own first asked gave self.old
+            → Follows L.Link P.Protocols P.H.Handler start role own first log gave self.old
             → result ≢ Some (event.Fault fault.Link) }
     {
         if let Some(event) = self.held.pop_front() {

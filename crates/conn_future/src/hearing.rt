@@ -4,6 +4,7 @@ ghost use Rattle.std.specs.Prelude.{◌≡◌, ◌<◌, ℕ, Bool, true, false, 
 ghost use Rattle.peer_ids.specs.Key.{Key};
 ghost use Rattle.upgrade.specs.declared.role.ConnRole.{ConnRole};
 ghost use Rattle.conn_log.specs.declared.event.ConnEvent.{ConnEvent};
+ghost use Rattle.conn_log.specs.Entries.{Entry};
 ghost use Rattle.conn_core.specs.Connects.{Stands, is_over, waiting_in};
 ghost use Rattle.conn_core.specs.Runs.{has_ended};
 ghost use Rattle.conn_future.specs.Stages.{is_live};
@@ -37,21 +38,21 @@ impl<L: Link, P: Protocols> Conn<L, P> {
     pub(crate) fn collect(&mut self) -> Result<(), AllocError>
         requires { self.old.stage ≡ Stage.Going }
         ensures stands { (start : P) (role : ConnRole) (own : Key)
-            (input taken : List ℕ) (ended : Bool) (asked : List (ℕ × ℕ)) (told : List (ConnEvent P.H))
+            (input taken : List ℕ) (ended : Bool) (log : List (Entry P.H)) (told : List (ConnEvent P.H))
             → Stands P.H.steps P.H.fails P.H.is_closed P.H.is_finished P.makes_inbound P.makes_outbound P.listed
-            P.is_eager P.leads_inbound P.leads_outbound start role own input ended asked told
+            P.is_eager P.leads_inbound P.leads_outbound start role own input ended log told
             (taken ++ self.old.unsent.items) self.old.core
             → OnOk result (Stands P.H.steps P.H.fails P.H.is_closed P.H.is_finished P.makes_inbound P.makes_outbound
-            P.listed P.is_eager P.leads_inbound P.leads_outbound start role own input ended asked told
+            P.listed P.is_eager P.leads_inbound P.leads_outbound start role own input ended log told
             (taken ++ self.new.unsent.items) self.new.core) }
         // What couldn't be put behind was taken from the core all the same.
         ensures lost { (start : P) (role : ConnRole) (own : Key)
-            (input taken : List ℕ) (ended : Bool) (asked : List (ℕ × ℕ)) (told : List (ConnEvent P.H))
+            (input taken : List ℕ) (ended : Bool) (log : List (Entry P.H)) (told : List (ConnEvent P.H))
             → Stands P.H.steps P.H.fails P.H.is_closed P.H.is_finished P.makes_inbound P.makes_outbound P.listed
-            P.is_eager P.leads_inbound P.leads_outbound start role own input ended asked told
+            P.is_eager P.leads_inbound P.leads_outbound start role own input ended log told
             (taken ++ self.old.unsent.items) self.old.core
             → OnErr result (Stands P.H.steps P.H.fails P.H.is_closed P.H.is_finished P.makes_inbound P.makes_outbound
-            P.listed P.is_eager P.leads_inbound P.leads_outbound start role own input ended asked told
+            P.listed P.is_eager P.leads_inbound P.leads_outbound start role own input ended log told
             (taken ++ (self.old.unsent.items ++ waiting_in self.old.core.phase self.old.core.output.items))
             self.new.core) }
         ensures none_waits { waiting_in self.new.core.phase self.new.core.output.items ≡ [] }
@@ -67,9 +68,9 @@ impl<L: Link, P: Protocols> Conn<L, P> {
     // Memory was refused: it tells so behind the events that it holds.
     pub(crate) fn starve(&mut self) -> Turn<P::H>
         ensures follows { (start : P) (role : ConnRole) (own : Key) (first : L)
-            (asked : List (ℕ × ℕ)) (gave : List (ConnEvent P.H))
-            → Parts L.Link P.Protocols P.H.Handler start role own first asked gave self.old.link self.old.core
-            self.old.held.items → Leads L.Link P.Protocols P.H.Handler start role own first asked gave
+            (log : List (Entry P.H)) (gave : List (ConnEvent P.H))
+            → Parts L.Link P.Protocols P.H.Handler start role own first log gave self.old.link self.old.core
+            self.old.held.items → Leads L.Link P.Protocols P.H.Handler start role own first log gave
             result self.new }
         ensures gives { OnGoing result ⊥ }
         ensures fails { faults_of result ≡ 0 }
@@ -85,11 +86,11 @@ impl<L: Link, P: Protocols> Conn<L, P> {
     fn tell(&mut self, events: Vec<ConnEvent<P::H>>) -> Turn<P::H>
         requires { self.old.stage ≡ Stage.Going }
         ensures follows { (start : P) (role : ConnRole) (own : Key) (first : L)
-            (asked : List (ℕ × ℕ)) (gave : List (ConnEvent P.H))
-            (ended : Bool) → Joins L.Link P.Protocols P.H.Handler start role own first asked gave ended
+            (log : List (Entry P.H)) (gave : List (ConnEvent P.H))
+            (ended : Bool) → Joins L.Link P.Protocols P.H.Handler start role own first log gave ended
             self.old.link self.old.core self.old.unsent.items events.items
             → (ended ≡ true → is_over self.old.core.phase ≡ true) → has_ended gave ≡ false
-            → Leads L.Link P.Protocols P.H.Handler start role own first asked gave
+            → Leads L.Link P.Protocols P.H.Handler start role own first log gave
             result self.new }
         ensures goes_on { OnGoing result ((self.new.stage ≡ Stage.Going) × (self.new.held.items ≡ [])) }
         ensures no_wait { OnWait result ⊥ }
@@ -117,12 +118,12 @@ impl<L: Link, P: Protocols> Conn<L, P> {
         requires going { self.old.stage ≡ Stage.Going }
         requires none_held { self.old.held.items ≡ [] }
         ensures follows { (start : P) (role : ConnRole) (own : Key) (first : L)
-            (asked : List (ℕ × ℕ)) (gave : List (ConnEvent P.H)) (before : L)
-            → GoesOn L.Link P.Protocols P.H.Handler start role own first asked gave before self.old.core
+            (log : List (Entry P.H)) (gave : List (ConnEvent P.H)) (before : L)
+            → GoesOn L.Link P.Protocols P.H.Handler start role own first log gave before self.old.core
             self.old.unsent.items []
             → L.moves before (take count self.old.buffer.items) [] self.old.link
             → (L.has_ended self.old.link → L.has_ended before)
-            → Leads L.Link P.Protocols P.H.Handler start role own first asked gave
+            → Leads L.Link P.Protocols P.H.Handler start role own first log gave
             result self.new }
         ensures goes_on { OnGoing result ((self.new.stage ≡ Stage.Going) × (self.new.held.items ≡ [])) }
         ensures no_wait { OnWait result ⊥ }
@@ -150,10 +151,10 @@ impl<L: Link, P: Protocols> Conn<L, P> {
         requires going { self.old.stage ≡ Stage.Going }
         requires none_held { self.old.held.items ≡ [] }
         ensures follows { (start : P) (role : ConnRole) (own : Key) (first : L)
-            (asked : List (ℕ × ℕ)) (gave : List (ConnEvent P.H)) (before : L)
-            → GoesOn L.Link P.Protocols P.H.Handler start role own first asked gave before self.old.core
+            (log : List (Entry P.H)) (gave : List (ConnEvent P.H)) (before : L)
+            → GoesOn L.Link P.Protocols P.H.Handler start role own first log gave before self.old.core
             self.old.unsent.items [] → L.moves before [] [] self.old.link → L.has_ended self.old.link
-            → Leads L.Link P.Protocols P.H.Handler start role own first asked gave
+            → Leads L.Link P.Protocols P.H.Handler start role own first log gave
             result self.new }
         ensures goes_on { OnGoing result ((self.new.stage ≡ Stage.Going) × (self.new.held.items ≡ [])) }
         ensures no_wait { OnWait result ⊥ }

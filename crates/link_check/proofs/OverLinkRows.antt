@@ -9,6 +9,7 @@ use Rattle.conn_link.specs.Calling.{Call}
 use Rattle.conn_link.specs.Calling.Kind.{Reads, Shuts}
 use Rattle.conn_link.specs.CallingRows.{did, waited}
 use Rattle.conn_log.specs.declared.event.ConnEvent.{ConnEvent}
+use Rattle.conn_log.specs.Entries.Entry.{Asks}
 use Rattle.conn_core.specs.declared.connection.ConnCore.{ConnCore}
 use Rattle.conn_core.specs.declared.connection.Phase.{Phase}
 use Rattle.conn_core.specs.Connects.{Connects, is_over}
@@ -24,17 +25,17 @@ use Rattle.link_check.specs.OverLinkRows.{AnyJoinRows, AnyEndRows, AnyStayRows, 
 module _ {L P H : Type 0} (link : LinkGhosts L) (protocols : ProtocolsGhosts P H) (handler : HandlerGhosts H) (start : P) (role : ConnRole) (own : Key) where
   pub any_join_rows : AnyJoinRows link protocols handler start role own
   any_join_rows = record {
-    core_is = λ input taken ended asked told core. (λ h. h, λ h. h);
-    joined = λ first now asked gave held ended core left. (
+    core_is = λ input taken ended log told core. (λ h. h, λ h. h);
+    joined = λ first now log gave held ended core left. (
       λ j. (j.given, j.took, j.moved, j.reached, j.found, j.stands),
       λ h. record { given = h.0; took = h.1; moved = h.2; reached = h.3; found = h.4; stands = h.5 },
     );
-    going = λ first now asked gave held core left. (
+    going = λ first now log gave held core left. (
       λ g. (g.joins, g.goes_on, g.none_waits),
       λ h. record { joins = h.0; goes_on = h.1; none_waits = h.2 },
     );
-    parted = λ first now asked gave held last. (
-      λ p. (p.given, p.lost, p.took, p.left, p.ended, p.core, p.moved, p.stands, p.goes_on, (p.opened, p.more, p.kept), p.unended),
+    parted = λ first now log gave held last. (
+      λ p. (p.given, p.lost, p.took, p.left, p.ended, p.core, p.moved, p.stands, p.goes_on, (p.newer, p.more, p.kept), p.unended),
       λ h. record {
         given = h.0;
         lost = h.1;
@@ -45,7 +46,7 @@ module _ {L P H : Type 0} (link : LinkGhosts L) (protocols : ProtocolsGhosts P H
         moved = h.6;
         stands = h.7;
         goes_on = h.8;
-        opened = h.9.0;
+        newer = h.9.0;
         more = h.9.1;
         kept = h.9.2;
         unended = h.10;
@@ -55,11 +56,11 @@ module _ {L P H : Type 0} (link : LinkGhosts L) (protocols : ProtocolsGhosts P H
 
   pub any_end_rows : AnyEndRows link protocols handler start role own
   any_end_rows = record {
-    told = λ first now asked gave held ended core left over j. Told ended left over j;
-    failed = λ first now asked before core left j. Failed before left refl refl j;
-    refused = λ first now asked before core p. Refused before refl refl p;
-    shut = λ first now asked before core is j. Shut before refl refl is j;
-    for_these_alone = λ first now asked gave held core e. elim e [
+    told = λ first now log gave held ended core left over j. Told ended left over j;
+    failed = λ first now log before core left j. Failed before left refl refl j;
+    refused = λ first now log before core p. Refused before refl refl p;
+    shut = λ first now log before core is j. Shut before refl refl is j;
+    for_these_alone = λ first now log gave held core e. elim e [
       | Told ended left over j ↦ inl (ended, left, over, j)
       | Failed before left none is j ↦ inr (inl (before, left, none, is, j))
       | Refused before none is p ↦ inr (inr (inl (before, none, is, p)))
@@ -69,17 +70,18 @@ module _ {L P H : Type 0} (link : LinkGhosts L) (protocols : ProtocolsGhosts P H
 
   pub any_stay_rows : AnyStayRows link protocols handler start role own
   any_stay_rows = record {
-    going = λ first now asked gave held core left. (λ h. h, λ h. h);
-    shutting = λ first now asked gave held core left. (λ h. h, λ h. h);
-    starved = λ first now asked gave held core left. (λ h. h, λ h. h);
-    over = λ first now asked gave held core left. (λ h. h, λ h. h);
-    follows = λ first asked gave conn. (λ h. h, λ h. h);
+    going = λ first now log gave held core left. (λ h. h, λ h. h);
+    shutting = λ first now log gave held core left. (λ h. h, λ h. h);
+    starved = λ first now log gave held core left. (λ h. h, λ h. h);
+    over = λ first now log gave held core left. (λ h. h, λ h. h);
+    follows = λ first log gave conn. (λ h. h, λ h. h);
   }
 
 module _ {L P H : Type 0} (link : LinkGhosts L) (protocols : ProtocolsGhosts P H) (handler : HandlerGhosts H) where
   pub any_carry_rows : AnyCarryRows link protocols handler
   any_carry_rows = record {
     carries = λ old new events. (λ h. h, λ h. h);
+    gives = λ old new events. (λ h. h, λ h. h);
     ends_behind = (λ h. h, λ h. h);
     in_turn = (λ h. h, λ h. h);
     up = (λ h. h, λ h. h);
@@ -137,7 +139,7 @@ module _ {P H : Type 0} (protocols : ProtocolsGhosts P H) (handler : HandlerGhos
   pub over_rows : OverRows protocols handler start role own
   over_rows = record {
     asked_while_coming = λ core x p e h. (let there = subst (λ (phase : Phase P H). Connects handler.steps handler.fails handler.is_closed handler.is_finished protocols.makes_inbound protocols.makes_outbound protocols.listed protocols.is_eager
-        protocols.leads_inbound protocols.leads_outbound start role own [] false ((1, 0) ∷ []) [] [] phase core.owed.items core.output.items) e h.1 in absurd (let none = there.1 in cc none));
+        protocols.leads_inbound protocols.leads_outbound start role own [] false (Asks 1 0 ∷ []) [] [] phase core.owed.items core.output.items) e h.1 in absurd (let none = there.1 in cc none));
     over_unsaid = λ conn is goes h. said_why conn.link conn.core conn.held.items goes
         (subst (λ (s : Stage). Stays lines protocols handler start role own (line [] []) [] [] conn.link conn.core conn.unsent.items conn.held.items s) is h);
   }

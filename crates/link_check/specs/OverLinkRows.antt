@@ -19,10 +19,11 @@ use Rattle.conn_log.specs.declared.event.ConnEvent.{ConnEvent}
 use Rattle.conn_log.specs.declared.event.ConnEvent.TheVariants as event
 use Rattle.conn_log.specs.declared.event.ConnFault.TheVariants as fault
 use Rattle.conn_log.specs.Entries.{Entry}
+use Rattle.conn_log.specs.Entries.Entry.{Asks}
 use Rattle.mux.specs.declared.mux.Mux.{Mux}
 use Rattle.conn_core.specs.declared.connection.ConnCore.{ConnCore}
 use Rattle.conn_core.specs.declared.connection.Phase.TheVariants as phases
-use Rattle.conn_core.specs.Connects.{Stands, is_over, is_spent, waiting_in}
+use Rattle.conn_core.specs.Connects.{Stands, IsGrown, is_over, is_spent, waiting_in}
 use Rattle.conn_core.specs.Promises.{IsSplit}
 use Rattle.conn_core.specs.Runs.{is_end}
 use Rattle.conn_future.specs.declared.stage.Stage.{Stage}
@@ -32,99 +33,99 @@ use Rattle.conn_future.specs.Stages.{WaitsAt, Came, Drains, is_live}
 use Rattle.conn_future.specs.StageRows.{Line, lines, line}
 use Rattle.conn_future.specs.Polling.{left_by, WritesFirst, ShutsLast, Called, Polls}
 use Rattle.conn_future.specs.PollRows.{never, never_with}
-use Rattle.conn_future.specs.Follows.{CoreStands, Joins, GoesOn, Parts, Ends, Stays, Follows, Carries, EndsBehind}
+use Rattle.conn_future.specs.Follows.{CoreStands, Joins, GoesOn, Parts, Ends, Stays, Follows, Carries, Gives, EndsBehind}
 use Rattle.conn_future.specs.Follows.{CarriesInTurn, UpOverLink}
 
 -- Of any connection over any link
 module _ {L P H : Type 0} (link : LinkGhosts L) (protocols : ProtocolsGhosts P H) (handler : HandlerGhosts H)
     (start : P) (role : ConnRole) (own : Key) where
-  abbrev pub core_stands : List ℕ → Bool → List (ℕ × ℕ) → List (ConnEvent H) → List ℕ → ConnCore P H → Type 0
+  abbrev pub core_stands : List ℕ → Bool → List (Entry H) → List (ConnEvent H) → List ℕ → ConnCore P H → Type 0
   core_stands = Stands handler.steps handler.fails handler.is_closed handler.is_finished protocols.makes_inbound
       protocols.makes_outbound protocols.listed protocols.is_eager protocols.leads_inbound protocols.leads_outbound
       start role own
 
-  abbrev pub joins : L → List (ℕ × ℕ) → List (ConnEvent H) → Bool → L → ConnCore P H → List ℕ → List (ConnEvent H)
+  abbrev pub joins : L → List (Entry H) → List (ConnEvent H) → Bool → L → ConnCore P H → List ℕ → List (ConnEvent H)
       → Type 0
   joins = Joins link protocols handler start role own
 
-  abbrev pub parts : L → List (ℕ × ℕ) → List (ConnEvent H) → L → ConnCore P H → List (ConnEvent H) → Type 0
+  abbrev pub parts : L → List (Entry H) → List (ConnEvent H) → L → ConnCore P H → List (ConnEvent H) → Type 0
   parts = Parts link protocols handler start role own
 
-  abbrev pub ends : L → List (ℕ × ℕ) → List (ConnEvent H) → L → ConnCore P H → List (ConnEvent H) → Type 0
+  abbrev pub ends : L → List (Entry H) → List (ConnEvent H) → L → ConnCore P H → List (ConnEvent H) → Type 0
   ends = Ends link protocols handler start role own
 
-  abbrev pub stays : L → List (ℕ × ℕ) → List (ConnEvent H) → L → ConnCore P H → List ℕ → List (ConnEvent H) → Stage
+  abbrev pub stays : L → List (Entry H) → List (ConnEvent H) → L → ConnCore P H → List ℕ → List (ConnEvent H) → Stage
       → Type 0
   stays = Stays link protocols handler start role own
 
   -- its core, its link, and what is between them
   pub record AnyJoinRows : Type 0 where
-    pub core_is : (input taken : List ℕ) (ended : Bool) (asked : List (ℕ × ℕ)) (told : List (ConnEvent H))
-        (core : ConnCore P H) → CoreStands link protocols handler start role own input ended asked told taken core
-        ↔ core_stands input ended asked told taken core
-    pub joined : (first now : L) (asked : List (ℕ × ℕ)) (gave held : List (ConnEvent H)) (ended : Bool)
-        (core : ConnCore P H) (left : List ℕ) → joins first asked gave ended now core left held
+    pub core_is : (input taken : List ℕ) (ended : Bool) (log : List (Entry H)) (told : List (ConnEvent H))
+        (core : ConnCore P H) → CoreStands link protocols handler start role own input ended log told taken core
+        ↔ core_stands input ended log told taken core
+    pub joined : (first now : L) (log : List (Entry H)) (gave held : List (ConnEvent H)) (ended : Bool)
+        (core : ConnCore P H) (left : List ℕ) → joins first log gave ended now core left held
         ↔ ((given took : List ℕ) × link.moves first given took now × (ended ≡ true → link.has_ended now)
         × (link.has_ended now → (ended ≡ true) ⊎ link.has_ended first)
-        × core_stands given ended asked (gave ++ held) (took ++ left) core)
-    pub going : (first now : L) (asked : List (ℕ × ℕ)) (gave held : List (ConnEvent H)) (core : ConnCore P H)
-        (left : List ℕ) → GoesOn link protocols handler start role own first asked gave now core left held
-        ↔ (joins first asked gave false now core left held × (is_over core.phase ≡ false)
+        × core_stands given ended log (gave ++ held) (took ++ left) core)
+    pub going : (first now : L) (log : List (Entry H)) (gave held : List (ConnEvent H)) (core : ConnCore P H)
+        (left : List ℕ) → GoesOn link protocols handler start role own first log gave now core left held
+        ↔ (joins first log gave false now core left held × (is_over core.phase ≡ false)
         × (waiting_in core.phase core.output.items ≡ []))
-    pub parted : (first now : L) (asked : List (ℕ × ℕ)) (gave held : List (ConnEvent H)) (last : ConnCore P H)
-        → parts first asked gave now last held
+    pub parted : (first now : L) (log : List (Entry H)) (gave held : List (ConnEvent H)) (last : ConnCore P H)
+        → parts first log gave now last held
         ↔ ((given lost took left : List ℕ) × (ended : Bool) × (core : ConnCore P H)
         × link.moves first (given ++ lost) took now
-        × core_stands given ended asked (gave ++ held) (took ++ left) core × (is_over core.phase ≡ false)
-        × ((opened : List (ℕ × ℕ)) × (more : List ℕ) × (is_spent last.phase ≡ false
-        → core_stands given ended (asked ++ opened) (gave ++ held) (took ++ (left ++ more)) last))
+        × core_stands given ended log (gave ++ held) (took ++ left) core × (is_over core.phase ≡ false)
+        × ((newer : List (Entry H)) × (more : List ℕ) × (is_spent last.phase ≡ false
+        → core_stands given ended (newer ++ log) (gave ++ held) (took ++ (left ++ more)) last))
         × (is_spent last.phase ≡ false → link.has_ended now → link.has_ended first))
 
   -- why it makes no link call more
   pub record AnyEndRows : Type 0 where
-    pub told : (first now : L) (asked : List (ℕ × ℕ)) (gave held : List (ConnEvent H)) (ended : Bool)
+    pub told : (first now : L) (log : List (Entry H)) (gave held : List (ConnEvent H)) (ended : Bool)
         (core : ConnCore P H) (left : List ℕ) → is_over core.phase ≡ true
-        → joins first asked gave ended now core left held → ends first asked gave now core held
-    pub failed : (first now : L) (asked : List (ℕ × ℕ)) (before : List (ConnEvent H)) (core : ConnCore P H)
-        (left : List ℕ) → joins first asked before false now core left []
-        → ends first asked (before ++ event.Fault fault.Link ∷ []) now core []
-    pub refused : (first now : L) (asked : List (ℕ × ℕ)) (before : List (ConnEvent H)) (core : ConnCore P H)
-        → parts first asked before now core []
-        → ends first asked (before ++ event.Fault fault.OutOfMemory ∷ []) now core []
-    pub shut : (first now : L) (asked : List (ℕ × ℕ)) (before : List (ConnEvent H)) (core : ConnCore P H)
-        → link.is_shut now → joins first asked before false now core [] []
-        → ends first asked (before ++ event.Shut ∷ []) now core []
-    pub for_these_alone : (first now : L) (asked : List (ℕ × ℕ)) (gave held : List (ConnEvent H)) (core : ConnCore P H)
-        → ends first asked gave now core held
+        → joins first log gave ended now core left held → ends first log gave now core held
+    pub failed : (first now : L) (log : List (Entry H)) (before : List (ConnEvent H)) (core : ConnCore P H)
+        (left : List ℕ) → joins first log before false now core left []
+        → ends first log (before ++ event.Fault fault.Link ∷ []) now core []
+    pub refused : (first now : L) (log : List (Entry H)) (before : List (ConnEvent H)) (core : ConnCore P H)
+        → parts first log before now core []
+        → ends first log (before ++ event.Fault fault.OutOfMemory ∷ []) now core []
+    pub shut : (first now : L) (log : List (Entry H)) (before : List (ConnEvent H)) (core : ConnCore P H)
+        → link.is_shut now → joins first log before false now core [] []
+        → ends first log (before ++ event.Shut ∷ []) now core []
+    pub for_these_alone : (first now : L) (log : List (Entry H)) (gave held : List (ConnEvent H)) (core : ConnCore P H)
+        → ends first log gave now core held
         → ((ended : Bool) × (left : List ℕ) × (is_over core.phase ≡ true)
-        × joins first asked gave ended now core left held)
+        × joins first log gave ended now core left held)
         ⊎ (((before : List (ConnEvent H)) × (left : List ℕ) × (held ≡ [])
-        × (gave ≡ before ++ event.Fault fault.Link ∷ []) × joins first asked before false now core left [])
+        × (gave ≡ before ++ event.Fault fault.Link ∷ []) × joins first log before false now core left [])
         ⊎ (((before : List (ConnEvent H)) × (held ≡ []) × (gave ≡ before ++ event.Fault fault.OutOfMemory ∷ [])
-        × parts first asked before now core [])
+        × parts first log before now core [])
         ⊎ ((before : List (ConnEvent H)) × (held ≡ []) × (gave ≡ before ++ event.Shut ∷ []) × link.is_shut now
-        × joins first asked before false now core [] [])))
+        × joins first log before false now core [] [])))
 
   -- where its parts stand at each stage
   pub record AnyStayRows : Type 0 where
-    pub going : (first now : L) (asked : List (ℕ × ℕ)) (gave held : List (ConnEvent H)) (core : ConnCore P H)
-        (left : List ℕ) → stays first asked gave now core left held stages.Going
-        ↔ GoesOn link protocols handler start role own first asked gave now core left held
-    pub shutting : (first now : L) (asked : List (ℕ × ℕ)) (gave held : List (ConnEvent H)) (core : ConnCore P H)
-        (left : List ℕ) → stays first asked gave now core left held stages.Shutting
-        ↔ GoesOn link protocols handler start role own first asked gave now core left held
-    pub starved : (first now : L) (asked : List (ℕ × ℕ)) (gave held : List (ConnEvent H)) (core : ConnCore P H)
-        (left : List ℕ) → stays first asked gave now core left held stages.Starved
-        ↔ parts first asked gave now core held
-    pub over : (first now : L) (asked : List (ℕ × ℕ)) (gave held : List (ConnEvent H)) (core : ConnCore P H)
-        (left : List ℕ) → stays first asked gave now core left held stages.Over ↔ ends first asked gave now core held
-    pub follows : (first : L) (asked : List (ℕ × ℕ)) (gave : List (ConnEvent H))
+    pub going : (first now : L) (log : List (Entry H)) (gave held : List (ConnEvent H)) (core : ConnCore P H)
+        (left : List ℕ) → stays first log gave now core left held stages.Going
+        ↔ GoesOn link protocols handler start role own first log gave now core left held
+    pub shutting : (first now : L) (log : List (Entry H)) (gave held : List (ConnEvent H)) (core : ConnCore P H)
+        (left : List ℕ) → stays first log gave now core left held stages.Shutting
+        ↔ GoesOn link protocols handler start role own first log gave now core left held
+    pub starved : (first now : L) (log : List (Entry H)) (gave held : List (ConnEvent H)) (core : ConnCore P H)
+        (left : List ℕ) → stays first log gave now core left held stages.Starved
+        ↔ parts first log gave now core held
+    pub over : (first now : L) (log : List (Entry H)) (gave held : List (ConnEvent H)) (core : ConnCore P H)
+        (left : List ℕ) → stays first log gave now core left held stages.Over ↔ ends first log gave now core held
+    pub follows : (first : L) (log : List (Entry H)) (gave : List (ConnEvent H))
         (conn : Conn L P H link protocols handler)
-        → Follows link protocols handler start role own first asked gave conn
-        ↔ stays first asked gave conn.link conn.core conn.unsent.items conn.held.items conn.stage
+        → Follows link protocols handler start role own first log gave conn
+        ↔ stays first log gave conn.link conn.core conn.unsent.items conn.held.items conn.stage
 
 module _ {L P H : Type 0} (link : LinkGhosts L) (protocols : ProtocolsGhosts P H) (handler : HandlerGhosts H) where
-  abbrev pub follows_from : (start : P) → ConnRole → Key → L → List (ℕ × ℕ) → List (ConnEvent H)
+  abbrev pub follows_from : (start : P) → ConnRole → Key → L → List (Entry H) → List (ConnEvent H)
       → Conn L P H link protocols handler → Type 0
   follows_from = Follows link protocols handler
 
@@ -132,24 +133,29 @@ module _ {L P H : Type 0} (link : LinkGhosts L) (protocols : ProtocolsGhosts P H
   pub record AnyCarryRows : Type 0 where
     pub carries : (old new : Conn L P H link protocols handler) (events : List (ConnEvent H))
         → Carries link protocols handler old events new
-        ↔ ((start : P) (role : ConnRole) (own : Key) (first : L) (asked : List (ℕ × ℕ)) (gave : List (ConnEvent H))
-        → follows_from start role own first asked gave old
-        → follows_from start role own first asked (gave ++ events) new)
+        ↔ ((start : P) (role : ConnRole) (own : Key) (first : L) (log : List (Entry H)) (gave : List (ConnEvent H))
+        → follows_from start role own first log gave old → (now : List (Entry H)) × IsGrown [] log now
+        × follows_from start role own first now (gave ++ events) new)
+    pub gives : (old new : Conn L P H link protocols handler) (events : List (ConnEvent H))
+        → Gives link protocols handler old events new
+        ↔ ((start : P) (role : ConnRole) (own : Key) (first : L) (log : List (Entry H)) (gave : List (ConnEvent H))
+        → follows_from start role own first log gave old
+        → follows_from start role own first log (gave ++ events) new)
     pub ends_behind : EndsBehind link protocols handler
-        ↔ ((start : P) (role : ConnRole) (own : Key) (first : L) (asked : List (ℕ × ℕ)) (gave : List (ConnEvent H))
+        ↔ ((start : P) (role : ConnRole) (own : Key) (first : L) (log : List (Entry H)) (gave : List (ConnEvent H))
         (last : ConnEvent H) (conn : Conn L P H link protocols handler)
-        → follows_from start role own first asked (gave ++ last ∷ []) conn → is_end last ≡ true
+        → follows_from start role own first log (gave ++ last ∷ []) conn → is_end last ≡ true
         → (conn.stage ≡ stages.Over) × (conn.held.items ≡ []))
     pub in_turn : CarriesInTurn link protocols handler
         ↔ ((first mid last : Conn L P H link protocols handler) (events more : List (ConnEvent H))
         → Carries link protocols handler first events mid → Carries link protocols handler mid more last
         → Carries link protocols handler first (events ++ more) last)
     pub up : UpOverLink link protocols handler
-        ↔ ((start : P) (role : ConnRole) (own : Key) (first : L) (asked : List (ℕ × ℕ)) (gave : List (ConnEvent H))
+        ↔ ((start : P) (role : ConnRole) (own : Key) (first : L) (log : List (Entry H)) (gave : List (ConnEvent H))
         (conn : Conn L P H link protocols handler) (mux : Mux P H)
-        → follows_from start role own first asked gave conn → is_live conn.stage ≡ true
+        → follows_from start role own first log gave conn → is_live conn.stage ≡ true
         → conn.core.phase ≡ phases.Up mux
-        → (given : List ℕ) × (took : List ℕ) × (log : List (Entry H)) × link.moves first given took conn.link
+        → (given : List ℕ) × (took : List ℕ) × link.moves first given took conn.link
         × IsSplit handler.steps handler.fails handler.is_closed handler.is_finished protocols.makes_inbound
         protocols.makes_outbound protocols.listed protocols.is_eager protocols.leads_inbound protocols.leads_outbound
         start role own given ((gave ++ conn.held.items) ++ conn.core.owed.items) (took ++ conn.unsent.items) log)
@@ -202,7 +208,7 @@ module _ {P H : Type 0} (protocols : ProtocolsGhosts P H) (handler : HandlerGhos
   pub record OverRows : Type 0 where
     -- no stream is opened while it comes up
     pub asked_while_coming : (core : ConnCore P H) (x : Upgrading) (p : P) → core.phase ≡ phases.Upgrading x p
-        → ¬ CoreStands lines protocols handler start role own [] false ((1, 0) ∷ []) [] [] core
+        → ¬ CoreStands lines protocols handler start role own [] false (Asks 1 0 ∷ []) [] [] core
     -- one whose core goes on, and that told nothing, isn't over
     pub over_unsaid : (conn : Conn Line P H lines protocols handler) → conn.stage ≡ stages.Over
         → is_over conn.core.phase ≡ false

@@ -20,6 +20,7 @@ use Rattle.conn_log.specs.declared.event.ConnFault.TheVariants as fault
 use Rattle.conn_log.specs.declared.event.ConnRefused.TheVariants as refusal
 use Rattle.conn_core.specs.declared.calls.ConnAnswer.TheVariants as answer
 use Rattle.conn_core.specs.Connects.Ends.{Early}
+use Rattle.conn_core.proofs.Growing.{stays}
 use Rattle.conn_core.specs.Runs.{Point}
 use Rattle.conn_core.specs.Runs.Point.{At}
 use Rattle.conn_core.specs.Runs.Explains.{Coming, Over}
@@ -134,7 +135,7 @@ run_rows gives steps = record {
           [],
           [],
           At (19 ∷ []) false [] [] [],
-          (first, first_is, (answer.Events none, ((refl, cc (first_is, none_is), ([], none_is)), (header_message, Coming refl refl refl refl (within key [] (omega arith))), tt), ap texts_of (sym none_is))),
+          (first, first_is, (answer.Events none, ((refl, ([], stays [], cc (first_is, none_is)), ([], none_is)), (header_message, Coming refl refl refl refl (within key [] (omega arith))), tt), ap texts_of (sym none_is))),
           refl,
           inl (
             refl,
@@ -142,7 +143,7 @@ run_rows gives steps = record {
               [],
               [],
               At (19 ∷ 47 ∷ []) false [] [] [],
-              (second, second_is, (answer.Events none, ((refl, cc (second_is, none_is), ([], none_is)), (header_message, Coming refl refl refl refl (within key (47 ∷ []) (omega arith))), tt), ap texts_of (sym none_is))),
+              (second, second_is, (answer.Events none, ((refl, ([], stays [], cc (second_is, none_is)), ([], none_is)), (header_message, Coming refl refl refl refl (within key (47 ∷ []) (omega arith))), tt), ap texts_of (sym none_is))),
               refl,
               inl (refl, (refl, refl)),
             ),

@@ -20,12 +20,12 @@ use Rattle.yamux_session.specs.History.Item.{Came}
 use Rattle.yamux_session.specs.Events.{Told, events}
 use Rattle.yamux_session.specs.Output.{output}
 use Rattle.yamux_session.specs.State.{FirstFaults, EndsWith}
-use Rattle.conn_log.specs.Entries.{items}
+use Rattle.conn_log.specs.Entries.{Entry, items}
 use Rattle.conn_core.specs.declared.calls.ConnAct.{ConnAct}
 use Rattle.conn_core.specs.declared.calls.ConnAct.TheVariants.{Feed, Ask, Ended}
 use Rattle.conn_core.specs.Promises.{fed_by, opened_by}
 use Rattle.conn_core.specs.declared.calls.ConnAnswer.{ConnAnswer}
-use Rattle.conn_core.specs.Connects.{told_of, session_role}
+use Rattle.conn_core.specs.Connects.{told_of, session_role, IsGrown}
 use Rattle.conn_core.specs.Connects.Ends.{Upgrade, Session, Early, Within, Shut}
 use Rattle.conn_core.specs.Runs.{Point, has_ended, IsSpent, IsTurnedAway, StaysBehind}
 use Rattle.conn_core.specs.Runs.Explains.{Coming, Up, Over}
@@ -68,6 +68,10 @@ any_calls = record {
   up_opens = λ listed mux index. (λ h. h, λ h. h);
   up_refuses_index = λ listed mux index reason le. (λ h. beyond (length (listed mux.board.protocols)) index reason le h, λ is. inl (le, is));
   up_refuses = λ listed mux index reason lt. (λ h. within (length (listed mux.board.protocols)) index lt h, λ h. inr (lt, h));
+  grows = λ opened newer log is. record { newer = newer; now_is = refl; opened_are = is };
+  grows_is = λ opened log now grown. (grown.newer, grown.now_is, grown.opened_are);
+  opens = λ number index later log is. record { later = later; now_is = refl; alone = is };
+  opens_is = λ number index log now opened. (opened.later, opened.now_is, opened.alone);
   owes = λ number before after. (λ h. h, λ h. h);
   waits = λ mux written. (refl, refl, refl);
   waits_coming = λ x protocols written. refl;
@@ -131,30 +135,30 @@ any_sums = record {
 module _ {P H : Type 0} (step : H → HandlerCall → H → Type 0) (fails : H → Asked → ℕ → Type 0) (is_closed is_finished : H → Bool)
     (inbound_makes outbound_makes : P → ℕ → List ℕ → H → Type 0) (listed : P → List (List ℕ)) (is_eager : P → ℕ → Bool)
     (inbound_leads outbound_leads : P → ℕ → List ℕ → H → P → Type 0) (start : P) (role : ConnRole) (own : Key) where
-  abbrev over_by : List ℕ → Bool → List (ℕ × ℕ) → List (ConnEvent H) → List ℕ → Type 0
+  abbrev over_by : List ℕ → Bool → List (Entry H) → List (ConnEvent H) → List ℕ → Type 0
   over_by = ends step fails is_closed is_finished inbound_makes outbound_makes listed is_eager inbound_leads outbound_leads start role own
 
-  abbrev up_so : List ℕ → List (ℕ × ℕ) → List (ConnEvent H) → List ℕ → State → (ℕ → Option (Streaming H)) → List (Earlier H) → Type 0
+  abbrev up_so : List ℕ → List (Entry H) → List (ConnEvent H) → List ℕ → State → (ℕ → Option (Streaming H)) → List (Earlier H) → Type 0
   up_so = is_up step fails is_closed is_finished inbound_makes outbound_makes listed is_eager inbound_leads outbound_leads start role own
 
-  abbrev faulty_so : List ℕ → List (ℕ × ℕ) → List (ConnEvent H) → List ℕ → Type 0
+  abbrev faulty_so : List ℕ → List (Entry H) → List (ConnEvent H) → List ℕ → Type 0
   faulty_so = is_faulty step fails is_closed is_finished inbound_makes outbound_makes listed is_eager inbound_leads outbound_leads start role own
 
-  ends_is : (input written : List ℕ) (ended : Bool) (asked : List (ℕ × ℕ)) (told : List (ConnEvent H)) → over_by input ended asked told written
+  ends_is : (input written : List ℕ) (ended : Bool) (log : List (Entry H)) (told : List (ConnEvent H)) → over_by input ended log told written
       → ((reason : UpgradeFault) × (named : ConnFault) × (first : List ℕ) × (told_of reason ≡ Some named)
-      × ComesTo role own input first (Err reason) written × (asked ≡ []) × (told ≡ event.Fault named ∷ []))
-      ⊎ (faulty_so input asked told written
-      ⊎ (((ended ≡ true) × Upgrades role own input (Ok None) written × (asked ≡ []) × (told ≡ event.Fault fault.EarlyEnd ∷ []))
+      × ComesTo role own input first (Err reason) written × (log ≡ []) × (told ≡ event.Fault named ∷ []))
+      ⊎ (faulty_so input log told written
+      ⊎ (((ended ≡ true) × Upgrades role own input (Ok None) written × (log ≡ []) × (told ≡ event.Fault fault.EarlyEnd ∷ []))
       ⊎ ((before : List (ConnEvent H)) × (session : State) × (streams : ℕ → Option (Streaming H)) × (past : List (Earlier H))
-      × (ended ≡ true) × (up : up_so input asked before written session streams past)
+      × (ended ≡ true) × (up : up_so input log before written session streams past)
       × ((EndsWithin up.rest × (told ≡ before ++ event.Fault fault.EarlyEnd ∷ []))
       ⊎ (¬ EndsWithin up.rest × (told ≡ before ++ event.Shut ∷ []))))))
-  ends_is input written ended asked told (Upgrade reason named first is comes none tells) = inl (reason, named, first, is, comes, none, tells)
-  ends_is input written ended asked told (Session faulty) = inr (inl faulty)
-  ends_is input written ended asked told (Early e u none tells) = inr (inr (inl (e, u, none, tells)))
-  ends_is input written ended asked told (Within before session streams past e up within tells) =
+  ends_is input written ended log told (Upgrade reason named first is comes none tells) = inl (reason, named, first, is, comes, none, tells)
+  ends_is input written ended log told (Session faulty) = inr (inl faulty)
+  ends_is input written ended log told (Early e u none tells) = inr (inr (inl (e, u, none, tells)))
+  ends_is input written ended log told (Within before session streams past e up within tells) =
       inr (inr (inr (before, session, streams, past, e, up, inl (within, tells))))
-  ends_is input written ended asked told (Shut before session streams past e up between tells) =
+  ends_is input written ended log told (Shut before session streams past e up between tells) =
       inr (inr (inr (before, session, streams, past, e, up, inr (between, tells))))
 
   pub any_ends : AnyConnEndRows step fails is_closed is_finished inbound_makes outbound_makes listed is_eager inbound_leads outbound_leads start role own
@@ -166,23 +170,21 @@ module _ {P H : Type 0} (step : H → HandlerCall → H → Type 0) (fails : H �
       first = first;
       rest = rest;
       greeting = greeting;
-      log = log;
       input_is = refl;
       upgraded = u;
       at_rest = r;
       rested = b;
-      asks_are = refl;
       early = e;
       now = now;
       makes = m;
       told_is = refl;
       written_is = refl;
     };
-    up_is = λ input written asked told session streams past u.
-        (u.key, u.first, u.rest, u.greeting, u.log, u.now, u.input_is, u.upgraded, u.at_rest, u.rested, u.asks_are, u.early, u.makes, u.told_is, u.written_is);
-    up_by_name = λ input written asked told session streams past u.
-        (u.input_is, u.upgraded, u.at_rest, u.rested, u.asks_are, u.early, u.makes, u.told_is, u.written_is);
-    faulty = λ first rest greeting sent pending key asked before now streams past u f e. record {
+    up_is = λ input written log told session streams past u.
+        (u.key, u.first, u.rest, u.greeting, u.now, u.input_is, u.upgraded, u.at_rest, u.rested, u.early, u.makes, u.told_is, u.written_is);
+    up_by_name = λ input written log told session streams past u.
+        (u.input_is, u.upgraded, u.at_rest, u.rested, u.early, u.makes, u.told_is, u.written_is);
+    faulty = λ first rest greeting sent pending key log before now streams past u f is e. record {
       key = key;
       first = first;
       rest = rest;
@@ -196,25 +198,26 @@ module _ {P H : Type 0} (step : H → HandlerCall → H → Type 0) (fails : H �
       input_is = refl;
       upgraded = u;
       faults = f;
+      log_is = is;
       early = e;
       told_is = refl;
       written_is = refl;
     };
-    faulty_is = λ input written asked told f.
-        (f.key, f.first, f.rest, f.greeting, f.sent, f.pending, f.before, f.now, f.streams, f.past, f.input_is, f.upgraded, f.faults, f.early, f.told_is, f.written_is);
+    faulty_is = λ input written log told f.
+        (f.key, f.first, f.rest, f.greeting, f.sent, f.pending, f.before, f.now, f.streams, f.past, f.input_is, f.upgraded, f.faults, f.log_is, f.early, f.told_is, f.written_is);
     upgrade_ends = λ input first written ended reason named is comes. Upgrade reason named first is comes refl refl;
-    session_ends = λ input written ended asked told f. Session f;
+    session_ends = λ input written ended log told f. Session f;
     ends_early = λ input written u. Early refl u refl refl;
-    ends_within = λ input written asked before session streams past up within. Within before session streams past refl up within refl;
-    shut = λ input written asked before session streams past up between. Shut before session streams past refl up between refl;
+    ends_within = λ input written log before session streams past up within. Within before session streams past refl up within refl;
+    shut = λ input written log before session streams past up between. Shut before session streams past refl up between refl;
     ends_is = ends_is;
-    up_with = λ input written asked told mux. (λ h. h, λ h. h);
-    connects_coming = λ input taken waiting ended asked told owed x protocols. (λ h. h, λ h. h);
-    connects_up = λ input taken waiting ended asked told owed mux. (λ h. h, λ h. h);
-    connects_over = λ input taken waiting ended asked told owed. (λ h. h, λ h. h);
-    connects_spent = λ input taken waiting ended asked told owed h. h;
-    an_end_stands = λ input taken ended asked told core. (λ h. h, λ h. h);
-    breaks = λ peer now asked told newer front rest sent pending session streams past more reason used are makes rested at_rest first alone le whole out. record {
+    up_with = λ input written log told mux. (λ h. h, λ h. h);
+    connects_coming = λ input taken waiting ended log told owed x protocols. (λ h. h, λ h. h);
+    connects_up = λ input taken waiting ended log told owed mux. (λ h. h, λ h. h);
+    connects_over = λ input taken waiting ended log told owed. (λ h. h, λ h. h);
+    connects_spent = λ input taken waiting ended log told owed h. h;
+    an_end_stands = λ input taken ended log told core. (λ h. h, λ h. h);
+    breaks = λ peer now log told newer front rest sent pending session streams past more reason used are makes rested at_rest first alone le whole out. record {
       newer = newer;
       told_is = refl;
       asks_are = are;
@@ -232,7 +235,7 @@ module _ {P H : Type 0} (step : H → HandlerCall → H → Type 0) (fails : H �
       frames = (used, le, whole);
       output_is = out;
     };
-    breaks_is = λ peer now asked told before bytes sent pending streams past f. (
+    breaks_is = λ peer now log told before bytes sent pending streams past f. (
       f.newer,
       f.front,
       f.rest,
@@ -252,103 +255,103 @@ module _ {P H : Type 0} (step : H → HandlerCall → H → Type 0) (fails : H �
       subst (λ (l : List Item). EndsWith (f.front ++ take f.frames.0 f.rest) (arrivals l)) f.came.1 f.frames.2,
       subst (λ (l : List Item). sent ++ pending ≡ output (session_role role) l) f.came.1 f.output_is,
     );
-    breaks_by_name = λ peer now asked told before bytes sent pending streams past f. (f.told_is, f.asks_are, f.makes, f.bytes_are, f.at_rest, f.rested, f.came, f.fault, f.alone, f.frames, f.output_is);
+    breaks_by_name = λ peer now log told before bytes sent pending streams past f. (f.told_is, f.asks_are, f.makes, f.bytes_are, f.at_rest, f.rested, f.came, f.fault, f.alone, f.frames, f.output_is);
   }
 
   -- ---- calls and runs
 
-  abbrev explained_by : List ℕ → Bool → List (ℕ × ℕ) → List (ConnEvent H) → List (ConnEvent H) → List ℕ → Type 0
+  abbrev explained_by : List ℕ → Bool → List (Entry H) → List (ConnEvent H) → List (ConnEvent H) → List ℕ → Type 0
   explained_by = explains step fails is_closed is_finished inbound_makes outbound_makes listed is_eager inbound_leads outbound_leads start role own
 
-  explains_is : (input written : List ℕ) (ended : Bool) (asked : List (ℕ × ℕ)) (told owed : List (ConnEvent H)) → explained_by input ended asked told owed written
-      → ((ended ≡ false) × (asked ≡ []) × (told ≡ []) × (owed ≡ []) × Upgrades role own input (Ok None) written)
+  explains_is : (input written : List ℕ) (ended : Bool) (log : List (Entry H)) (told owed : List (ConnEvent H)) → explained_by input ended log told owed written
+      → ((ended ≡ false) × (log ≡ []) × (told ≡ []) × (owed ≡ []) × Upgrades role own input (Ok None) written)
       ⊎ (((ended ≡ false) × ((session : State) × (streams : ℕ → Option (Streaming H)) × (past : List (Earlier H))
-      × up_so input asked (told ++ owed) written session streams past))
-      ⊎ ((owed ≡ []) × over_by input ended asked told written))
-  explains_is input written ended asked told owed (Coming e a t o u) = inl (e, a, t, o, u)
-  explains_is input written ended asked told owed (Up session streams past e u) = inr (inl (e, (session, streams, past, u)))
-  explains_is input written ended asked told owed (Over o x) = inr (inr (o, x))
+      × up_so input log (told ++ owed) written session streams past))
+      ⊎ ((owed ≡ []) × over_by input ended log told written))
+  explains_is input written ended log told owed (Coming e a t o u) = inl (e, a, t, o, u)
+  explains_is input written ended log told owed (Up session streams past e u) = inr (inl (e, (session, streams, past, u)))
+  explains_is input written ended log told owed (Over o x) = inr (inr (o, x))
 
-  explains_are : (input written : List ℕ) (ended : Bool) (asked : List (ℕ × ℕ)) (told owed : List (ConnEvent H)) (there : explained_by input ended asked told owed written)
-      → ((e : ended ≡ false) × (a : asked ≡ []) × (t : told ≡ []) × (o : owed ≡ []) × (u : Upgrades role own input (Ok None) written) × (there ≡ Coming e a t o u))
+  explains_are : (input written : List ℕ) (ended : Bool) (log : List (Entry H)) (told owed : List (ConnEvent H)) (there : explained_by input ended log told owed written)
+      → ((e : ended ≡ false) × (a : log ≡ []) × (t : told ≡ []) × (o : owed ≡ []) × (u : Upgrades role own input (Ok None) written) × (there ≡ Coming e a t o u))
       ⊎ (((session : State) × (streams : ℕ → Option (Streaming H)) × (past : List (Earlier H)) × (e : ended ≡ false)
-      × (u : up_so input asked (told ++ owed) written session streams past) × (there ≡ Up session streams past e u))
-      ⊎ ((o : owed ≡ []) × (x : over_by input ended asked told written) × (there ≡ Over o x)))
-  explains_are input written ended asked told owed (Coming e a t o u) = inl (e, a, t, o, u, refl)
-  explains_are input written ended asked told owed (Up session streams past e u) = inr (inl (session, streams, past, e, u, refl))
-  explains_are input written ended asked told owed (Over o x) = inr (inr (o, x, refl))
+      × (u : up_so input log (told ++ owed) written session streams past) × (there ≡ Up session streams past e u))
+      ⊎ ((o : owed ≡ []) × (x : over_by input ended log told written) × (there ≡ Over o x)))
+  explains_are input written ended log told owed (Coming e a t o u) = inl (e, a, t, o, u, refl)
+  explains_are input written ended log told owed (Up session streams past e u) = inr (inl (session, streams, past, e, u, refl))
+  explains_are input written ended log told owed (Over o x) = inr (inr (o, x, refl))
 
-  abbrev wrote_so : List ℕ → List ℕ → List (ℕ × ℕ) → List (ConnEvent H) → List ℕ → Type 0
+  abbrev wrote_so : List ℕ → List ℕ → List (Entry H) → List (ConnEvent H) → List ℕ → Type 0
   wrote_so = wrote step fails is_closed is_finished inbound_makes outbound_makes listed is_eager inbound_leads outbound_leads start role own
 
-  abbrev wrote_up : List ℕ → List ℕ → List (ℕ × ℕ) → List (ConnEvent H) → List ℕ → Type 0
+  abbrev wrote_up : List ℕ → List ℕ → List (Entry H) → List (ConnEvent H) → List ℕ → Type 0
   wrote_up = wrote_on step fails is_closed is_finished inbound_makes outbound_makes listed is_eager inbound_leads outbound_leads start role own
 
-  abbrev SoFar : List ℕ → List ℕ → List (ℕ × ℕ) → List (ConnEvent H) → List ℕ → Type 0
-  SoFar input piece asked told written =
-      ((first : List ℕ) × (rest : List ℕ) × (more : List (ConnEvent H)) × (session : State) × (streams : ℕ → Option (Streaming H)) × (past : List (Earlier H)) × (piece ≡ first ++ rest)
-      × up_so (input ++ first) asked (told ++ more) written session streams past)
-      ⊎ ((more : List (ConnEvent H)) × over_by (input ++ piece) false asked (told ++ more) written)
+  abbrev SoFar : List ℕ → List ℕ → List (Entry H) → List (ConnEvent H) → List ℕ → Type 0
+  SoFar input piece log told written =
+      ((first : List ℕ) × (rest : List ℕ) × (now : List (Entry H)) × (more : List (ConnEvent H)) × (session : State) × (streams : ℕ → Option (Streaming H)) × (past : List (Earlier H)) × (piece ≡ first ++ rest)
+      × IsGrown [] log now × up_so (input ++ first) now (told ++ more) written session streams past)
+      ⊎ ((now : List (Entry H)) × (more : List (ConnEvent H)) × IsGrown [] log now × over_by (input ++ piece) false now (told ++ more) written)
 
-  wrote_on_is : (input piece written : List ℕ) (asked : List (ℕ × ℕ)) (told : List (ConnEvent H)) → wrote_up input piece asked told written → SoFar input piece asked told written
-  wrote_on_is input piece written asked told (WroteOn.Up first rest more session streams past is up) = inl (first, rest, more, session, streams, past, is, up)
-  wrote_on_is input piece written asked told (WroteOn.Over more x) = inr (more, x)
+  wrote_on_is : (input piece written : List ℕ) (log : List (Entry H)) (told : List (ConnEvent H)) → wrote_up input piece log told written → SoFar input piece log told written
+  wrote_on_is input piece written log told (WroteOn.Up first rest now more session streams past is grown up) = inl (first, rest, now, more, session, streams, past, is, grown, up)
+  wrote_on_is input piece written log told (WroteOn.Over now more grown x) = inr (now, more, grown, x)
 
-  was_wrote_on : (input piece written : List ℕ) (asked : List (ℕ × ℕ)) (told : List (ConnEvent H)) → SoFar input piece asked told written → wrote_up input piece asked told written
-  was_wrote_on input piece written asked told (inl (first, rest, more, session, streams, past, is, up)) = WroteOn.Up first rest more session streams past is up
-  was_wrote_on input piece written asked told (inr (more, x)) = WroteOn.Over more x
+  was_wrote_on : (input piece written : List ℕ) (log : List (Entry H)) (told : List (ConnEvent H)) → SoFar input piece log told written → wrote_up input piece log told written
+  was_wrote_on input piece written log told (inl (first, rest, now, more, session, streams, past, is, grown, up)) = WroteOn.Up first rest now more session streams past is grown up
+  was_wrote_on input piece written log told (inr (now, more, grown, x)) = WroteOn.Over now more grown x
 
-  abbrev AnyWay : List ℕ → List ℕ → List (ℕ × ℕ) → List (ConnEvent H) → List ℕ → Type 0
-  AnyWay input piece asked told written = ((asked ≡ []) × (told ≡ []) × Upgrades role own input (Ok None) written)
-      ⊎ (((pending : List ℕ) × (asked ≡ []) × (told ≡ []) × RunsOut role own input piece pending written)
-      ⊎ wrote_up input piece asked told written)
+  abbrev AnyWay : List ℕ → List ℕ → List (Entry H) → List (ConnEvent H) → List ℕ → Type 0
+  AnyWay input piece log told written = ((log ≡ []) × (told ≡ []) × Upgrades role own input (Ok None) written)
+      ⊎ (((pending : List ℕ) × (log ≡ []) × (told ≡ []) × RunsOut role own input piece pending written)
+      ⊎ wrote_up input piece log told written)
 
-  wrote_is : (input piece written : List ℕ) (asked : List (ℕ × ℕ)) (told : List (ConnEvent H)) → wrote_so input piece asked told written → AnyWay input piece asked told written
-  wrote_is input piece written asked told (Wrote.Coming a t u) = inl (a, t, u)
-  wrote_is input piece written asked told (Wrote.Upgrade pending a t r) = inr (inl (pending, a, t, r))
-  wrote_is input piece written asked told (Wrote.Later w) = inr (inr w)
+  wrote_is : (input piece written : List ℕ) (log : List (Entry H)) (told : List (ConnEvent H)) → wrote_so input piece log told written → AnyWay input piece log told written
+  wrote_is input piece written log told (Wrote.Coming a t u) = inl (a, t, u)
+  wrote_is input piece written log told (Wrote.Upgrade pending a t r) = inr (inl (pending, a, t, r))
+  wrote_is input piece written log told (Wrote.Later w) = inr (inr w)
 
-  was_wrote : (input piece written : List ℕ) (asked : List (ℕ × ℕ)) (told : List (ConnEvent H)) → AnyWay input piece asked told written → wrote_so input piece asked told written
-  was_wrote input piece written asked told (inl (a, t, u)) = Wrote.Coming a t u
-  was_wrote input piece written asked told (inr (inl (pending, a, t, r))) = Wrote.Upgrade pending a t r
-  was_wrote input piece written asked told (inr (inr w)) = Wrote.Later w
+  was_wrote : (input piece written : List ℕ) (log : List (Entry H)) (told : List (ConnEvent H)) → AnyWay input piece log told written → wrote_so input piece log told written
+  was_wrote input piece written log told (inl (a, t, u)) = Wrote.Coming a t u
+  was_wrote input piece written log told (inr (inl (pending, a, t, r))) = Wrote.Upgrade pending a t r
+  was_wrote input piece written log told (inr (inr w)) = Wrote.Later w
 
   pub any_runs : AnyWholeRunRows step fails is_closed is_finished inbound_makes outbound_makes listed is_eager inbound_leads outbound_leads start role own
   any_runs = record {
     coming = λ input written u. Coming refl refl refl refl u;
-    up = λ input written asked told owed session streams past u. Up session streams past refl u;
-    over = λ input written ended asked told x. Over refl x;
+    up = λ input written log told owed session streams past u. Up session streams past refl u;
+    over = λ input written ended log told x. Over refl x;
     explains_is = explains_is;
     explains_are = explains_are;
-    explained = λ input ended asked told owed. (λ h. h, λ h. h);
+    explained = λ input ended log told owed. (λ h. h, λ h. h);
     spent = λ written. tt;
-    coming_opens_none = λ input written ended asked told owed e a t o u index reason handlers. (λ h. h, (λ h. h, λ h. h), (λ h. h, λ h. h));
-    up_opens = λ input written ended asked told owed session streams past e u index. (λ h. h, λ h. h);
-    up_refuses = λ input written ended asked told owed session streams past e u index reason. (λ h. h, λ h. h);
-    up_holds = λ input written ended asked told owed session streams past e u handlers. (λ h. h, λ h. h);
-    over_opens_none = λ input written ended asked told owed o x index reason handlers. (λ h. h, (λ h. h, λ h. h), (λ h. h, λ h. h));
-    fed = λ input ended asked told owed bytes more next. (λ h. h, λ h. h);
-    fed_in_vain = λ input ended asked told owed bytes reason next. (λ h. h, λ h. h);
-    opened = λ input ended asked told owed index n next. (λ h. h, λ h. h);
-    not_opened = λ input ended asked told owed index reason next. (λ h. h, λ h. h);
-    ended = λ input over asked told owed more next. (λ h. h, λ h. h);
-    ended_in_vain = λ input over asked told owed reason next. (λ h. h, λ h. h);
-    other_answers = λ input over asked told owed bytes more index n next. (λ h. h, λ h. h, λ h. h);
-    call = λ input ended asked told owed act answer next. (λ h. h, λ h. h);
-    kept_by_a_feed = λ input written ended asked told owed bytes. (λ h. (h.0, h.2.0, h.1, h.2.1, h.3), λ h. (h.0, h.2, (h.1, h.3), h.4));
-    kept_by_another = λ input written ended asked told owed index. ((λ h. h, λ h. h), (λ h. h, λ h. h));
-    wrote_on_is = λ input piece written asked told. (wrote_on_is input piece written asked told, was_wrote_on input piece written asked told);
-    wrote_is = λ input piece written asked told. (wrote_is input piece written asked told, was_wrote input piece written asked told);
-    kept_elsewhere = λ input now ended over asked opened told owed said owes act. tt;
+    coming_opens_none = λ input written ended log told owed e a t o u index reason handlers. (λ h. h, (λ h. h, λ h. h), (λ h. h, λ h. h));
+    up_opens = λ input written ended log told owed session streams past e u index. (λ h. h, λ h. h);
+    up_refuses = λ input written ended log told owed session streams past e u index reason. (λ h. h, λ h. h);
+    up_holds = λ input written ended log told owed session streams past e u handlers. (λ h. h, λ h. h);
+    over_opens_none = λ input written ended log told owed o x index reason handlers. (λ h. h, (λ h. h, λ h. h), (λ h. h, λ h. h));
+    fed = λ input ended log told owed bytes more next. (λ h. h, λ h. h);
+    fed_in_vain = λ input ended log told owed bytes reason next. (λ h. h, λ h. h);
+    opened = λ input ended log told owed index n next. (λ h. h, λ h. h);
+    not_opened = λ input ended log told owed index reason next. (λ h. h, λ h. h);
+    ended = λ input over log told owed more next. (λ h. h, λ h. h);
+    ended_in_vain = λ input over log told owed reason next. (λ h. h, λ h. h);
+    other_answers = λ input over log told owed bytes more index n next. (λ h. h, λ h. h, λ h. h);
+    call = λ input ended log told owed act answer next. (λ h. h, λ h. h);
+    kept_by_a_feed = λ input written ended log told owed bytes. (λ h. (h.0, h.2.0, h.1, h.2.1, h.3), λ h. (h.0, h.2, (h.1, h.3), h.4));
+    kept_by_another = λ input written ended log told owed index. ((λ h. h, λ h. h), (λ h. h, λ h. h));
+    wrote_on_is = λ input piece written log told. (wrote_on_is input piece written log told, was_wrote_on input piece written log told);
+    wrote_is = λ input piece written log told. (wrote_is input piece written log told, was_wrote input piece written log told);
+    kept_elsewhere = λ input now ended over log later told owed said owes act. tt;
     call_spent = λ written act answer next. (λ h. h, λ h. h);
     no_call = λ point last. (λ h. h, λ h. h);
     calls = λ point last act acts answer answers. (λ h. h, λ h. h);
     uneven = λ point last act acts answer answers. (λ h. h, λ h. h);
-    left = λ input written ended asked told owed handlers. (λ h. h, λ h. h);
+    left = λ input written ended log told owed handlers. (λ h. h, λ h. h);
     left_spent = λ written output handlers. (λ h. h, λ h. h);
     runs = λ acts answers written handlers. (λ h. h, λ h. h);
-    has_written_at = λ input written ended asked told owed. (λ h. h, λ h. h);
+    has_written_at = λ input written ended log told owed. (λ h. h, λ h. h);
     has_written_spent = λ before written. (λ h. h, λ h. h);
-    at_point = λ taken input ended asked told owed core. (λ h. h, λ h. h);
+    at_point = λ taken input ended log told owed core. (λ h. h, λ h. h);
     at_spent = λ taken written core. (λ h. h, λ h. h);
   }

@@ -87,9 +87,14 @@ module _ {P H : Type 0} (step : H → HandlerCall → H → Type 0) (fails : H �
     are_serving = λ law. law;
     are_early = λ law. law;
     live_are_held = λ law. law;
-    up_is_split = λ law session streams past input asked told written up.
-        let s = law session streams past input asked told written up in
+    up_is_split = λ law session streams past input log told written up.
+        let s = law session streams past input log told written up in
         (s.key, s.first, s.rest, s.greeting, s.read.0, s.input_is, s.upgraded, s.read.1, s.no_fault, s.answered, s.told_is, s.written_is);
     each_is_answered = λ law. law;
     all_is_counted = λ law. law;
+    comes_in_turn = λ law session session_then streams streams_then past past_then input more log now told told_then written written_then opened up grown then.
+        law session streams past input log told written up more opened now grown session_then streams_then past_then told_then written_then then;
+    past_stays = λ law calls answers input input_then ended ended_then log log_then told told_then owed owed_then all.
+        let grown = law calls answers input input_then ended ended_then log log_then told told_then owed owed_then all in
+        (grown.newer, grown.now_is, grown.opened_are);
   }

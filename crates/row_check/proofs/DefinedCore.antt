@@ -3,6 +3,7 @@ use Rattle.std.proofs.Common.{◌≡◌, ◌⊎◌, ℕ, Bool, List, inl, inr, r
 use Rattle.handlers.specs.Calls.{HandlerCall}
 use Rattle.streams.specs.State.{Kind, InTalk, Awaiting, Served, HandedOut, Ended}
 use Rattle.conn_log.specs.declared.event.ConnEvent.{ConnEvent}
+use Rattle.conn_log.specs.Entries.{Entry}
 use Rattle.conn_core.specs.Runs.{Point}
 use Rattle.conn_core.specs.Runs.Point.{At, Spent}
 use Rattle.row_check.specs.DefinedCore.{DefinedParts, DefinedWants, DefinedEntries, DefinedStages}
@@ -55,10 +56,10 @@ kinds Served = inr (inr (inl refl))
 kinds HandedOut = inr (inr (inr (inl refl)))
 kinds Ended = inr (inr (inr (inr refl)))
 
-points : {H : Type 0} (point : Point H) → ((input : List ℕ) × (ended : Bool) × (asked : List (ℕ × ℕ))
-    × (told : List (ConnEvent H)) × (owed : List (ConnEvent H)) × (point ≡ At input ended asked told owed))
+points : {H : Type 0} (point : Point H) → ((input : List ℕ) × (ended : Bool) × (log : List (Entry H))
+    × (told : List (ConnEvent H)) × (owed : List (ConnEvent H)) × (point ≡ At input ended log told owed))
     ⊎ ((written : List ℕ) × (point ≡ Spent written))
-points (At input ended asked told owed) = inl (input, ended, asked, told, owed, refl)
+points (At input ended log told owed) = inl (input, ended, log, told, owed, refl)
 points (Spent written) = inr (written, refl)
 
 pub defined_entries : {H : Type 0} → DefinedEntries H

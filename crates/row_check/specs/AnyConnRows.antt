@@ -35,6 +35,7 @@ use Rattle.conn_log.specs.declared.event.ConnFault.TheVariants as fault
 use Rattle.conn_log.specs.declared.event.ConnRefused.{ConnRefused}
 use Rattle.conn_log.specs.declared.event.ConnRefused.TheVariants as refusals
 use Rattle.conn_log.specs.Entries.{Entry, items, said, asks}
+use Rattle.conn_log.specs.Entries.Entry.{Asks}
 use Rattle.conn_log.specs.Asked.{AreMadeEarly, IsRefusedAs, IsBrokenOf}
 use Rattle.conn_log.specs.Making.{AreMadeInTurn, MakesOn}
 use Rattle.conn_log.specs.Rests.{AreAtRest, AreRested}
@@ -51,7 +52,7 @@ use Rattle.conn_core.specs.declared.calls.ConnAct.TheVariants.{Feed, Ask, Ended}
 use Rattle.conn_core.specs.declared.calls.ConnAnswer.{ConnAnswer}
 use Rattle.conn_core.specs.declared.calls.ConnAnswer.TheVariants.{Events, Stream, Refused}
 use Rattle.conn_core.specs.Connects.{session_role, told_of, IsComing, IsUp, IsFaulty, Ends, IsUpWith, Connects, Stands}
-use Rattle.conn_core.specs.Connects.{is_spent, MayOpen, IsRefused, OwesOf, waiting_in, held_in, IsOrderedIn}
+use Rattle.conn_core.specs.Connects.{is_spent, IsGrown, IsOpened, MayOpen, IsRefused, OwesOf, waiting_in, held_in, IsOrderedIn}
 use Rattle.conn_core.specs.Wanting.{WroteOn, Wrote}
 use Rattle.conn_core.specs.Runs.{Point, is_end, has_ended, events_or, stream_or, IsTurnedAway, StaysBehind, AreHeld}
 use Rattle.conn_core.specs.Runs.{Explains, IsExplained, MayBeAsked, IsNotOpened, AnswersAt, Answers, AnswersAll, Holds}
@@ -93,6 +94,15 @@ pub record AnyConnAnswerRows (P H : Type 0) : Type 0 where
   pub up_refuses : (listed : P → List (List ℕ)) (mux : Mux P H) (index : ℕ) (why : ConnRefused)
       → index < length (listed mux.board.protocols) → IsRefused listed (phases.Up mux) index why
       ↔ Whenever mux.session (λ role past. IsRefusedAs (start_refusal role past) why)
+  -- how its list grows: what stood in it stands behind what is new
+  pub grows : (opened : List (ℕ × ℕ)) (newer log : List (Entry H)) → asks newer ≡ opened
+      → IsGrown opened log (newer ++ log)
+  pub grows_is : (opened : List (ℕ × ℕ)) (log now : List (Entry H)) → IsGrown opened log now
+      → (newer : List (Entry H)) × (now ≡ newer ++ log) × (asks newer ≡ opened)
+  pub opens : (number index : ℕ) (later log : List (Entry H)) → asks later ≡ []
+      → IsOpened number index log (later ++ Asks number index ∷ log)
+  pub opens_is : (number index : ℕ) (log now : List (Entry H)) → IsOpened number index log now
+      → (later : List (Entry H)) × (now ≡ later ++ Asks number index ∷ log) × (asks later ≡ [])
   pub owes : (number : ℕ) (before after : List (ConnEvent H)) → OwesOf number before after
       ↔ ((more : List (ConnEvent H)) × AllByRecursion (IsBrokenOf number) more × (after ≡ before ++ more))
   pub waits : (mux : Mux P H) (written : List ℕ) → (waiting_in (phases.Up mux) written ≡ written)
@@ -182,29 +192,29 @@ module _ {P H : Type 0} (step : H → HandlerCall → H → Type 0) (fails : H �
   is_coming = IsComing step fails is_closed is_finished inbound_makes outbound_makes listed is_eager inbound_leads
       outbound_leads start role own
 
-  abbrev pub is_up : List ℕ → List (ℕ × ℕ) → List (ConnEvent H) → List ℕ → State → (ℕ → Option (Streaming H))
+  abbrev pub is_up : List ℕ → List (Entry H) → List (ConnEvent H) → List ℕ → State → (ℕ → Option (Streaming H))
       → List (Earlier H) → Type 0
   is_up = IsUp step fails is_closed is_finished inbound_makes outbound_makes listed is_eager inbound_leads
       outbound_leads start role own
 
-  abbrev pub is_faulty : List ℕ → List (ℕ × ℕ) → List (ConnEvent H) → List ℕ → Type 0
+  abbrev pub is_faulty : List ℕ → List (Entry H) → List (ConnEvent H) → List ℕ → Type 0
   is_faulty = IsFaulty step fails is_closed is_finished inbound_makes outbound_makes listed is_eager inbound_leads
       outbound_leads start role own
 
-  abbrev pub ends : List ℕ → Bool → List (ℕ × ℕ) → List (ConnEvent H) → List ℕ → Type 0
+  abbrev pub ends : List ℕ → Bool → List (Entry H) → List (ConnEvent H) → List ℕ → Type 0
   ends = Ends step fails is_closed is_finished inbound_makes outbound_makes listed is_eager inbound_leads outbound_leads
       start role own
 
-  abbrev pub is_up_with : List ℕ → List (ℕ × ℕ) → List (ConnEvent H) → List ℕ → Mux P H → Type 0
+  abbrev pub is_up_with : List ℕ → List (Entry H) → List (ConnEvent H) → List ℕ → Mux P H → Type 0
   is_up_with = IsUpWith step fails is_closed is_finished inbound_makes outbound_makes listed is_eager inbound_leads
       outbound_leads start role own
 
-  abbrev pub connects : List ℕ → Bool → List (ℕ × ℕ) → List (ConnEvent H) → List ℕ → Phase P H → List (ConnEvent H)
+  abbrev pub connects : List ℕ → Bool → List (Entry H) → List (ConnEvent H) → List ℕ → Phase P H → List (ConnEvent H)
       → List ℕ → Type 0
   connects = Connects step fails is_closed is_finished inbound_makes outbound_makes listed is_eager inbound_leads
       outbound_leads start role own
 
-  abbrev pub stands : List ℕ → Bool → List (ℕ × ℕ) → List (ConnEvent H) → List ℕ → ConnCore P H → Type 0
+  abbrev pub stands : List ℕ → Bool → List (Entry H) → List (ConnEvent H) → List ℕ → ConnCore P H → Type 0
   stands = Stands step fails is_closed is_finished inbound_makes outbound_makes listed is_eager inbound_leads
       outbound_leads start role own
 
@@ -241,90 +251,90 @@ module _ {P H : Type 0} (step : H → HandlerCall → H → Type 0) (fails : H �
         → streams_rest (id_of key) log rest (output (session_role role) (items log)) session streams past
         → streams_rested (id_of key) log → AreMadeEarly (is_eager start) log
         → AreMadeInTurn inbound_leads outbound_leads (id_of key) (session_role role) start log now
-        → is_up (first ++ rest) (asks log) (event.Upgraded key ∷ said log)
+        → is_up (first ++ rest) log (event.Upgraded key ∷ said log)
         (greeting ++ output (session_role role) (items log)) session streams past
-    pub up_is : (input written : List ℕ) (asked : List (ℕ × ℕ)) (told : List (ConnEvent H)) (session : State)
+    pub up_is : (input written : List ℕ) (log : List (Entry H)) (told : List (ConnEvent H)) (session : State)
         (streams : ℕ → Option (Streaming H)) (past : List (Earlier H))
-        → is_up input asked told written session streams past → (key : Key) × (first rest greeting : List ℕ)
-        × (log : List (Entry H)) × (now : P) × (input ≡ first ++ rest)
+        → is_up input log told written session streams past → (key : Key) × (first rest greeting : List ℕ)
+        × (now : P) × (input ≡ first ++ rest)
         × Upgrades role own first (Ok (Some key)) greeting
         × streams_rest (id_of key) log rest (output (session_role role) (items log)) session streams past
-        × streams_rested (id_of key) log × (asks log ≡ asked) × AreMadeEarly (is_eager start) log
+        × streams_rested (id_of key) log × AreMadeEarly (is_eager start) log
         × AreMadeInTurn inbound_leads outbound_leads (id_of key) (session_role role) start log now
         × (told ≡ event.Upgraded key ∷ said log) × (written ≡ greeting ++ output (session_role role) (items log))
     -- what it names is what these facts are about: the bytes of the session, by which it ends within a frame or between
     -- two, and the list, by which a stream may be opened
-    pub up_by_name : (input written : List ℕ) (asked : List (ℕ × ℕ)) (told : List (ConnEvent H)) (session : State)
+    pub up_by_name : (input written : List ℕ) (log : List (Entry H)) (told : List (ConnEvent H)) (session : State)
         (streams : ℕ → Option (Streaming H)) (past : List (Earlier H))
-        (u : is_up input asked told written session streams past) → (input ≡ u.first ++ u.rest)
+        (u : is_up input log told written session streams past) → (input ≡ u.first ++ u.rest)
         × Upgrades role own u.first (Ok (Some u.key)) u.greeting
-        × streams_rest (id_of u.key) u.log u.rest (output (session_role role) (items u.log)) session streams past
-        × streams_rested (id_of u.key) u.log × (asks u.log ≡ asked) × AreMadeEarly (is_eager start) u.log
-        × AreMadeInTurn inbound_leads outbound_leads (id_of u.key) (session_role role) start u.log u.now
-        × (told ≡ event.Upgraded u.key ∷ said u.log)
-        × (written ≡ u.greeting ++ output (session_role role) (items u.log))
-    pub faulty : (first rest greeting sent pending : List ℕ) (key : Key) (asked : List (ℕ × ℕ))
+        × streams_rest (id_of u.key) log u.rest (output (session_role role) (items log)) session streams past
+        × streams_rested (id_of u.key) log × AreMadeEarly (is_eager start) log
+        × AreMadeInTurn inbound_leads outbound_leads (id_of u.key) (session_role role) start log u.now
+        × (told ≡ event.Upgraded u.key ∷ said log)
+        × (written ≡ u.greeting ++ output (session_role role) (items log))
+    pub faulty : (first rest greeting sent pending : List ℕ) (key : Key) (log : List (Entry H))
         (before : List (ConnEvent H)) (now : P) (streams : ℕ → Option (Streaming H)) (past : List (Earlier H))
         → Upgrades role own first (Ok (Some key)) greeting
-        → (f : faults (id_of key) now asked (event.Upgraded key ∷ []) before rest sent pending streams past)
-        → AreMadeEarly (is_eager start) f.newer
-        → is_faulty (first ++ rest) asked (before ++ event.Fault fault.Mux ∷ []) (greeting ++ (sent ++ pending))
-    pub faulty_is : (input written : List ℕ) (asked : List (ℕ × ℕ)) (told : List (ConnEvent H))
-        → is_faulty input asked told written → (key : Key) × (first rest greeting sent pending : List ℕ)
+        → (f : faults (id_of key) now (asks log) (event.Upgraded key ∷ []) before rest sent pending streams past)
+        → f.newer ≡ log → AreMadeEarly (is_eager start) log
+        → is_faulty (first ++ rest) log (before ++ event.Fault fault.Mux ∷ []) (greeting ++ (sent ++ pending))
+    pub faulty_is : (input written : List ℕ) (log : List (Entry H)) (told : List (ConnEvent H))
+        → is_faulty input log told written → (key : Key) × (first rest greeting sent pending : List ℕ)
         × (before : List (ConnEvent H)) × (now : P) × (streams : ℕ → Option (Streaming H)) × (past : List (Earlier H))
         × (input ≡ first ++ rest) × Upgrades role own first (Ok (Some key)) greeting
-        × (f : faults (id_of key) now asked (event.Upgraded key ∷ []) before rest sent pending streams past)
-        × AreMadeEarly (is_eager start) f.newer × (told ≡ before ++ event.Fault fault.Mux ∷ [])
+        × (f : faults (id_of key) now (asks log) (event.Upgraded key ∷ []) before rest sent pending streams past)
+        × (f.newer ≡ log) × AreMadeEarly (is_eager start) log × (told ≡ before ++ event.Fault fault.Mux ∷ [])
         × (written ≡ greeting ++ (sent ++ pending))
     -- the five ends
     pub upgrade_ends : (input first written : List ℕ) (ended : Bool) (why : UpgradeFault) (named : ConnFault)
         → told_of why ≡ Some named → ComesTo role own input first (Err why) written
         → ends input ended [] (event.Fault named ∷ []) written
-    pub session_ends : (input written : List ℕ) (ended : Bool) (asked : List (ℕ × ℕ)) (told : List (ConnEvent H))
-        → is_faulty input asked told written → ends input ended asked told written
+    pub session_ends : (input written : List ℕ) (ended : Bool) (log : List (Entry H)) (told : List (ConnEvent H))
+        → is_faulty input log told written → ends input ended log told written
     pub ends_early : (input written : List ℕ) → Upgrades role own input (Ok None) written
         → ends input true [] (event.Fault fault.EarlyEnd ∷ []) written
-    pub ends_within : (input written : List ℕ) (asked : List (ℕ × ℕ)) (before : List (ConnEvent H)) (session : State)
+    pub ends_within : (input written : List ℕ) (log : List (Entry H)) (before : List (ConnEvent H)) (session : State)
         (streams : ℕ → Option (Streaming H)) (past : List (Earlier H))
-        → (up : is_up input asked before written session streams past) → EndsWithin up.rest
-        → ends input true asked (before ++ event.Fault fault.EarlyEnd ∷ []) written
-    pub shut : (input written : List ℕ) (asked : List (ℕ × ℕ)) (before : List (ConnEvent H)) (session : State)
+        → (up : is_up input log before written session streams past) → EndsWithin up.rest
+        → ends input true log (before ++ event.Fault fault.EarlyEnd ∷ []) written
+    pub shut : (input written : List ℕ) (log : List (Entry H)) (before : List (ConnEvent H)) (session : State)
         (streams : ℕ → Option (Streaming H)) (past : List (Earlier H))
-        → (up : is_up input asked before written session streams past) → ¬ EndsWithin up.rest
-        → ends input true asked (before ++ event.Shut ∷ []) written
-    pub ends_is : (input written : List ℕ) (ended : Bool) (asked : List (ℕ × ℕ)) (told : List (ConnEvent H))
-        → ends input ended asked told written
+        → (up : is_up input log before written session streams past) → ¬ EndsWithin up.rest
+        → ends input true log (before ++ event.Shut ∷ []) written
+    pub ends_is : (input written : List ℕ) (ended : Bool) (log : List (Entry H)) (told : List (ConnEvent H))
+        → ends input ended log told written
         → ((why : UpgradeFault) × (named : ConnFault) × (first : List ℕ) × (told_of why ≡ Some named)
-        × ComesTo role own input first (Err why) written × (asked ≡ []) × (told ≡ event.Fault named ∷ []))
-        ⊎ (is_faulty input asked told written
-        ⊎ (((ended ≡ true) × Upgrades role own input (Ok None) written × (asked ≡ [])
+        × ComesTo role own input first (Err why) written × (log ≡ []) × (told ≡ event.Fault named ∷ []))
+        ⊎ (is_faulty input log told written
+        ⊎ (((ended ≡ true) × Upgrades role own input (Ok None) written × (log ≡ [])
         × (told ≡ event.Fault fault.EarlyEnd ∷ []))
         ⊎ ((before : List (ConnEvent H)) × (session : State) × (streams : ℕ → Option (Streaming H))
-        × (past : List (Earlier H)) × (ended ≡ true) × (up : is_up input asked before written session streams past)
+        × (past : List (Earlier H)) × (ended ≡ true) × (up : is_up input log before written session streams past)
         × ((EndsWithin up.rest × (told ≡ before ++ event.Fault fault.EarlyEnd ∷ []))
         ⊎ (¬ EndsWithin up.rest × (told ≡ before ++ event.Shut ∷ []))))))
-    pub up_with : (input written : List ℕ) (asked : List (ℕ × ℕ)) (told : List (ConnEvent H)) (mux : Mux P H)
-        → is_up_with input asked told written mux ↔ ((listed mux.board.protocols ≡ listed start)
+    pub up_with : (input written : List ℕ) (log : List (Entry H)) (told : List (ConnEvent H)) (mux : Mux P H)
+        → is_up_with input log told written mux ↔ ((listed mux.board.protocols ≡ listed start)
         × (is_eager mux.board.protocols ≡ is_eager start) × (mux.board.role ≡ session_role role)
-        × ((up : is_up input asked told written mux.session (tree.get nat_cmp mux.board.streams) mux.board.past.items)
+        × ((up : is_up input log told written mux.session (tree.get nat_cmp mux.board.streams) mux.board.past.items)
         × (mux.board.peer ≡ id_of up.key) × (mux.board.protocols ≡ up.now)
-        × (mux.board.order ≡ newest_held (session_role role) up.log)))
-    pub connects_coming : (input taken waiting : List ℕ) (ended : Bool) (asked : List (ℕ × ℕ))
+        × (mux.board.order ≡ newest_held (session_role role) log)))
+    pub connects_coming : (input taken waiting : List ℕ) (ended : Bool) (log : List (Entry H))
         (told owed : List (ConnEvent H)) (x : Upgrading) (protocols : P)
-        → connects input ended asked told taken (phases.Upgrading x protocols) owed waiting
-        ↔ ((ended ≡ false) × (asked ≡ []) × (owed ≡ []) × (waiting ≡ []) × is_coming input told taken x protocols)
-    pub connects_up : (input taken waiting : List ℕ) (ended : Bool) (asked : List (ℕ × ℕ))
+        → connects input ended log told taken (phases.Upgrading x protocols) owed waiting
+        ↔ ((ended ≡ false) × (log ≡ []) × (owed ≡ []) × (waiting ≡ []) × is_coming input told taken x protocols)
+    pub connects_up : (input taken waiting : List ℕ) (ended : Bool) (log : List (Entry H))
         (told owed : List (ConnEvent H)) (mux : Mux P H)
-        → connects input ended asked told taken (phases.Up mux) owed waiting
-        ↔ ((ended ≡ false) × is_up_with input asked (told ++ owed) (taken ++ waiting) mux)
-    pub connects_over : (input taken waiting : List ℕ) (ended : Bool) (asked : List (ℕ × ℕ))
-        (told owed : List (ConnEvent H)) → connects input ended asked told taken phases.Over owed waiting
-        ↔ ((owed ≡ []) × ends input ended asked told (taken ++ waiting))
-    pub connects_spent : (input taken waiting : List ℕ) (ended : Bool) (asked : List (ℕ × ℕ))
-        (told owed : List (ConnEvent H)) → ¬ connects input ended asked told taken phases.Spent owed waiting
-    pub an_end_stands : (input taken : List ℕ) (ended : Bool) (asked : List (ℕ × ℕ)) (told : List (ConnEvent H))
-        (core : ConnCore P H) → stands input ended asked told taken core ↔ ((core.role ≡ role)
-        × connects input ended asked told taken core.phase core.owed.items core.output.items)
+        → connects input ended log told taken (phases.Up mux) owed waiting
+        ↔ ((ended ≡ false) × is_up_with input log (told ++ owed) (taken ++ waiting) mux)
+    pub connects_over : (input taken waiting : List ℕ) (ended : Bool) (log : List (Entry H))
+        (told owed : List (ConnEvent H)) → connects input ended log told taken phases.Over owed waiting
+        ↔ ((owed ≡ []) × ends input ended log told (taken ++ waiting))
+    pub connects_spent : (input taken waiting : List ℕ) (ended : Bool) (log : List (Entry H))
+        (told owed : List (ConnEvent H)) → ¬ connects input ended log told taken phases.Spent owed waiting
+    pub an_end_stands : (input taken : List ℕ) (ended : Bool) (log : List (Entry H)) (told : List (ConnEvent H))
+        (core : ConnCore P H) → stands input ended log told taken core ↔ ((core.role ≡ role)
+        × connects input ended log told taken core.phase core.owed.items core.output.items)
     -- how the other end breaks the rules of the session
     pub breaks : (peer : List ℕ) (now : P) (asked : List (ℕ × ℕ)) (told : List (ConnEvent H)) (newer : List (Entry H))
         (front rest sent pending : List ℕ) (session : State) (streams : ℕ → Option (Streaming H))
@@ -364,22 +374,22 @@ module _ {P H : Type 0} (step : H → HandlerCall → H → Type 0) (fails : H �
         × ((used : ℕ) × (used ≤ length f.rest) × EndsWith (f.front ++ take used f.rest) (arrivals f.now))
         × (sent ++ pending ≡ output (session_role role) f.now)
 
-  abbrev pub explains : List ℕ → Bool → List (ℕ × ℕ) → List (ConnEvent H) → List (ConnEvent H) → List ℕ → Type 0
+  abbrev pub explains : List ℕ → Bool → List (Entry H) → List (ConnEvent H) → List (ConnEvent H) → List ℕ → Type 0
   explains = Explains step fails is_closed is_finished inbound_makes outbound_makes listed is_eager inbound_leads
       outbound_leads start role own
 
-  abbrev pub may_be_asked : (input : List ℕ) (ended : Bool) (asked : List (ℕ × ℕ)) (told owed : List (ConnEvent H))
-      (written : List ℕ) → explains input ended asked told owed written → ℕ → Type 0
+  abbrev pub may_be_asked : (input : List ℕ) (ended : Bool) (log : List (Entry H)) (told owed : List (ConnEvent H))
+      (written : List ℕ) → explains input ended log told owed written → ℕ → Type 0
   may_be_asked = MayBeAsked step fails is_closed is_finished inbound_makes outbound_makes listed is_eager inbound_leads
       outbound_leads start role own
 
-  abbrev pub is_not_opened : (input : List ℕ) (ended : Bool) (asked : List (ℕ × ℕ)) (told owed : List (ConnEvent H))
-      (written : List ℕ) → explains input ended asked told owed written → ℕ → ConnRefused → Type 0
+  abbrev pub is_not_opened : (input : List ℕ) (ended : Bool) (log : List (Entry H)) (told owed : List (ConnEvent H))
+      (written : List ℕ) → explains input ended log told owed written → ℕ → ConnRefused → Type 0
   is_not_opened = IsNotOpened step fails is_closed is_finished inbound_makes outbound_makes listed is_eager
       inbound_leads outbound_leads start role own
 
-  abbrev pub holds : (input : List ℕ) (ended : Bool) (asked : List (ℕ × ℕ)) (told owed : List (ConnEvent H))
-      (written : List ℕ) → explains input ended asked told owed written → List (ℕ × H) → Type 0
+  abbrev pub holds : (input : List ℕ) (ended : Bool) (log : List (Entry H)) (told owed : List (ConnEvent H))
+      (written : List ℕ) → explains input ended log told owed written → List (ℕ × H) → Type 0
   holds = Holds step fails is_closed is_finished inbound_makes outbound_makes listed is_eager inbound_leads
       outbound_leads start role own
 
@@ -387,20 +397,20 @@ module _ {P H : Type 0} (step : H → HandlerCall → H → Type 0) (fails : H �
   is_explained = IsExplained step fails is_closed is_finished inbound_makes outbound_makes listed is_eager
       inbound_leads outbound_leads start role own
 
-  abbrev pub keeps_written : List ℕ → Bool → List (ℕ × ℕ) → List (ConnEvent H) → List (ConnEvent H) → ConnAct
+  abbrev pub keeps_written : List ℕ → Bool → List (Entry H) → List (ConnEvent H) → List (ConnEvent H) → ConnAct
       → Point H → Type 0
   keeps_written = KeepsWritten step fails is_closed is_finished inbound_makes outbound_makes listed is_eager
       inbound_leads outbound_leads start role own
 
-  abbrev pub wrote_on : List ℕ → List ℕ → List (ℕ × ℕ) → List (ConnEvent H) → List ℕ → Type 0
+  abbrev pub wrote_on : List ℕ → List ℕ → List (Entry H) → List (ConnEvent H) → List ℕ → Type 0
   wrote_on = WroteOn step fails is_closed is_finished inbound_makes outbound_makes listed is_eager inbound_leads
       outbound_leads start role own
 
-  abbrev pub wrote : List ℕ → List ℕ → List (ℕ × ℕ) → List (ConnEvent H) → List ℕ → Type 0
+  abbrev pub wrote : List ℕ → List ℕ → List (Entry H) → List (ConnEvent H) → List ℕ → Type 0
   wrote = Wrote step fails is_closed is_finished inbound_makes outbound_makes listed is_eager inbound_leads
       outbound_leads start role own
 
-  abbrev pub answers_at : List ℕ → Bool → List (ℕ × ℕ) → List (ConnEvent H) → List (ConnEvent H) → ConnAct
+  abbrev pub answers_at : List ℕ → Bool → List (Entry H) → List (ConnEvent H) → List (ConnEvent H) → ConnAct
       → ConnAnswer H → Point H → Type 0
   answers_at = AnswersAt step fails is_closed is_finished inbound_makes outbound_makes listed is_eager inbound_leads
       outbound_leads start role own
@@ -425,124 +435,127 @@ module _ {P H : Type 0} (step : H → HandlerCall → H → Type 0) (fails : H �
   pub record AnyWholeRunRows : Type 0 where
     pub coming : (input written : List ℕ) → Upgrades role own input (Ok None) written
         → explains input false [] [] [] written
-    pub up : (input written : List ℕ) (asked : List (ℕ × ℕ)) (told owed : List (ConnEvent H)) (session : State)
+    pub up : (input written : List ℕ) (log : List (Entry H)) (told owed : List (ConnEvent H)) (session : State)
         (streams : ℕ → Option (Streaming H)) (past : List (Earlier H))
-        → is_up input asked (told ++ owed) written session streams past → explains input false asked told owed written
-    pub over : (input written : List ℕ) (ended : Bool) (asked : List (ℕ × ℕ)) (told : List (ConnEvent H))
-        → ends input ended asked told written → explains input ended asked told [] written
-    pub explains_is : (input written : List ℕ) (ended : Bool) (asked : List (ℕ × ℕ)) (told owed : List (ConnEvent H))
-        → explains input ended asked told owed written
-        → ((ended ≡ false) × (asked ≡ []) × (told ≡ []) × (owed ≡ []) × Upgrades role own input (Ok None) written)
+        → is_up input log (told ++ owed) written session streams past → explains input false log told owed written
+    pub over : (input written : List ℕ) (ended : Bool) (log : List (Entry H)) (told : List (ConnEvent H))
+        → ends input ended log told written → explains input ended log told [] written
+    pub explains_is : (input written : List ℕ) (ended : Bool) (log : List (Entry H)) (told owed : List (ConnEvent H))
+        → explains input ended log told owed written
+        → ((ended ≡ false) × (log ≡ []) × (told ≡ []) × (owed ≡ []) × Upgrades role own input (Ok None) written)
         ⊎ (((ended ≡ false) × ((session : State) × (streams : ℕ → Option (Streaming H)) × (past : List (Earlier H))
-        × is_up input asked (told ++ owed) written session streams past))
-        ⊎ ((owed ≡ []) × ends input ended asked told written))
+        × is_up input log (told ++ owed) written session streams past))
+        ⊎ ((owed ≡ []) × ends input ended log told written))
     -- there is no other reason
-    pub explains_are : (input written : List ℕ) (ended : Bool) (asked : List (ℕ × ℕ)) (told owed : List (ConnEvent H))
-        (there : explains input ended asked told owed written)
-        → ((e : ended ≡ false) × (a : asked ≡ []) × (t : told ≡ []) × (o : owed ≡ [])
+    pub explains_are : (input written : List ℕ) (ended : Bool) (log : List (Entry H)) (told owed : List (ConnEvent H))
+        (there : explains input ended log told owed written)
+        → ((e : ended ≡ false) × (a : log ≡ []) × (t : told ≡ []) × (o : owed ≡ [])
         × (u : Upgrades role own input (Ok None) written) × (there ≡ Coming e a t o u))
         ⊎ (((session : State) × (streams : ℕ → Option (Streaming H)) × (past : List (Earlier H)) × (e : ended ≡ false)
-        × (u : is_up input asked (told ++ owed) written session streams past) × (there ≡ Up session streams past e u))
-        ⊎ ((o : owed ≡ []) × (x : ends input ended asked told written) × (there ≡ Over o x)))
-    pub explained : (input : List ℕ) (ended : Bool) (asked : List (ℕ × ℕ)) (told owed : List (ConnEvent H))
-        → is_explained (At input ended asked told owed)
-        ↔ ((written : List ℕ) × explains input ended asked told owed written)
+        × (u : is_up input log (told ++ owed) written session streams past) × (there ≡ Up session streams past e u))
+        ⊎ ((o : owed ≡ []) × (x : ends input ended log told written) × (there ≡ Over o x)))
+    pub explained : (input : List ℕ) (ended : Bool) (log : List (Entry H)) (told owed : List (ConnEvent H))
+        → is_explained (At input ended log told owed)
+        ↔ ((written : List ℕ) × explains input ended log told owed written)
     pub spent : (written : List ℕ) → is_explained (Spent written)
     -- whether a stream may be opened there, and which handlers are held
-    pub coming_opens_none : (input written : List ℕ) (ended : Bool) (asked : List (ℕ × ℕ))
-        (told owed : List (ConnEvent H)) (e : ended ≡ false) (a : asked ≡ []) (t : told ≡ []) (o : owed ≡ [])
+    pub coming_opens_none : (input written : List ℕ) (ended : Bool) (log : List (Entry H))
+        (told owed : List (ConnEvent H)) (e : ended ≡ false) (a : log ≡ []) (t : told ≡ []) (o : owed ≡ [])
         (u : Upgrades role own input (Ok None) written) (index : ℕ) (why : ConnRefused) (handlers : List (ℕ × H))
-        → ¬ may_be_asked input ended asked told owed written (Coming e a t o u) index
-        × (is_not_opened input ended asked told owed written (Coming e a t o u) index why ↔ (why ≡ refusals.NotUp))
-        × (holds input ended asked told owed written (Coming e a t o u) handlers ↔ (handlers ≡ []))
-    pub up_opens : (input written : List ℕ) (ended : Bool) (asked : List (ℕ × ℕ)) (told owed : List (ConnEvent H))
+        → ¬ may_be_asked input ended log told owed written (Coming e a t o u) index
+        × (is_not_opened input ended log told owed written (Coming e a t o u) index why ↔ (why ≡ refusals.NotUp))
+        × (holds input ended log told owed written (Coming e a t o u) handlers ↔ (handlers ≡ []))
+    pub up_opens : (input written : List ℕ) (ended : Bool) (log : List (Entry H)) (told owed : List (ConnEvent H))
         (session : State) (streams : ℕ → Option (Streaming H)) (past : List (Earlier H)) (e : ended ≡ false)
-        (u : is_up input asked (told ++ owed) written session streams past) (index : ℕ)
-        → may_be_asked input ended asked told owed written (Up session streams past e u) index
-        ↔ ((index < length (listed start)) × (start_refusal (session_role role) (items u.log) ≡ None))
-    pub up_refuses : (input written : List ℕ) (ended : Bool) (asked : List (ℕ × ℕ)) (told owed : List (ConnEvent H))
+        (u : is_up input log (told ++ owed) written session streams past) (index : ℕ)
+        → may_be_asked input ended log told owed written (Up session streams past e u) index
+        ↔ ((index < length (listed start)) × (start_refusal (session_role role) (items log) ≡ None))
+    pub up_refuses : (input written : List ℕ) (ended : Bool) (log : List (Entry H)) (told owed : List (ConnEvent H))
         (session : State) (streams : ℕ → Option (Streaming H)) (past : List (Earlier H)) (e : ended ≡ false)
-        (u : is_up input asked (told ++ owed) written session streams past) (index : ℕ) (why : ConnRefused)
-        → is_not_opened input ended asked told owed written (Up session streams past e u) index why
+        (u : is_up input log (told ++ owed) written session streams past) (index : ℕ) (why : ConnRefused)
+        → is_not_opened input ended log told owed written (Up session streams past e u) index why
         ↔ (((length (listed start) ≤ index) × (why ≡ refusals.BadIndex)) ⊎ ((index < length (listed start))
-        × IsRefusedAs (start_refusal (session_role role) (items u.log)) why))
-    pub up_holds : (input written : List ℕ) (ended : Bool) (asked : List (ℕ × ℕ)) (told owed : List (ConnEvent H))
+        × IsRefusedAs (start_refusal (session_role role) (items log)) why))
+    pub up_holds : (input written : List ℕ) (ended : Bool) (log : List (Entry H)) (told owed : List (ConnEvent H))
         (session : State) (streams : ℕ → Option (Streaming H)) (past : List (Earlier H)) (e : ended ≡ false)
-        (u : is_up input asked (told ++ owed) written session streams past) (handlers : List (ℕ × H))
-        → holds input ended asked told owed written (Up session streams past e u) handlers
+        (u : is_up input log (told ++ owed) written session streams past) (handlers : List (ℕ × H))
+        → holds input ended log told owed written (Up session streams past e u) handlers
         ↔ ((held : List (ℕ × H)) × AreHeld streams past held
-        × (handlers ≡ arranged (reverse (newest_held (session_role role) u.log)) held))
-    pub over_opens_none : (input written : List ℕ) (ended : Bool) (asked : List (ℕ × ℕ))
-        (told owed : List (ConnEvent H)) (o : owed ≡ []) (x : ends input ended asked told written)
+        × (handlers ≡ arranged (reverse (newest_held (session_role role) log)) held))
+    pub over_opens_none : (input written : List ℕ) (ended : Bool) (log : List (Entry H))
+        (told owed : List (ConnEvent H)) (o : owed ≡ []) (x : ends input ended log told written)
         (index : ℕ) (why : ConnRefused)
-        (handlers : List (ℕ × H)) → ¬ may_be_asked input ended asked told owed written (Over o x) index
-        × (is_not_opened input ended asked told owed written (Over o x) index why ↔ (why ≡ refusals.Failed))
-        × (holds input ended asked told owed written (Over o x) handlers ↔ (handlers ≡ []))
+        (handlers : List (ℕ × H)) → ¬ may_be_asked input ended log told owed written (Over o x) index
+        × (is_not_opened input ended log told owed written (Over o x) index why ↔ (why ≡ refusals.Failed))
+        × (holds input ended log told owed written (Over o x) handlers ↔ (handlers ≡ []))
     -- each call, at any point
-    pub fed : (input : List ℕ) (ended : Bool) (asked : List (ℕ × ℕ)) (told owed : List (ConnEvent H)) (bytes : Vec ℕ)
+    pub fed : (input : List ℕ) (ended : Bool) (log : List (Entry H)) (told owed : List (ConnEvent H)) (bytes : Vec ℕ)
         (more : Vec (ConnEvent H)) (next : Point H)
-        → answers_at input ended asked told owed (Feed bytes) (Events more) next
-        ↔ ((has_ended told ≡ false) × (next ≡ At (input ++ bytes.items) false asked (told ++ more.items) [])
+        → answers_at input ended log told owed (Feed bytes) (Events more) next
+        ↔ ((has_ended told ≡ false) × ((now : List (Entry H)) × IsGrown [] log now
+        × (next ≡ At (input ++ bytes.items) false now (told ++ more.items) []))
         × ((rest : List (ConnEvent H)) × (more.items ≡ owed ++ rest)))
-    pub fed_in_vain : (input : List ℕ) (ended : Bool) (asked : List (ℕ × ℕ)) (told owed : List (ConnEvent H))
+    pub fed_in_vain : (input : List ℕ) (ended : Bool) (log : List (Entry H)) (told owed : List (ConnEvent H))
         (bytes : Vec ℕ) (why : ConnRefused) (next : Point H)
-        → answers_at input ended asked told owed (Feed bytes) (Refused why) next
-        ↔ IsTurnedAway told why (At input ended asked told owed) next
-    pub opened : (input : List ℕ) (ended : Bool) (asked : List (ℕ × ℕ)) (told owed : List (ConnEvent H)) (index n : ℕ)
-        (next : Point H) → answers_at input ended asked told owed (Ask index) (Stream n) next
-        ↔ (((written : List ℕ) × (there : explains input ended asked told owed written)
-        × may_be_asked input ended asked told owed written there index)
+        → answers_at input ended log told owed (Feed bytes) (Refused why) next
+        ↔ IsTurnedAway told why (At input ended log told owed) next
+    pub opened : (input : List ℕ) (ended : Bool) (log : List (Entry H)) (told owed : List (ConnEvent H)) (index n : ℕ)
+        (next : Point H) → answers_at input ended log told owed (Ask index) (Stream n) next
+        ↔ (((written : List ℕ) × (there : explains input ended log told owed written)
+        × may_be_asked input ended log told owed written there index)
         × ((more : List (ConnEvent H)) × AllByRecursion (IsBrokenOf n) more
-        × (next ≡ At input false (asked ++ (n, index) ∷ []) told (owed ++ more))))
-    pub not_opened : (input : List ℕ) (ended : Bool) (asked : List (ℕ × ℕ)) (told owed : List (ConnEvent H))
+        × (now : List (Entry H)) × IsOpened n index log now
+        × (next ≡ At input false now told (owed ++ more))))
+    pub not_opened : (input : List ℕ) (ended : Bool) (log : List (Entry H)) (told owed : List (ConnEvent H))
         (index : ℕ) (why : ConnRefused) (next : Point H)
-        → answers_at input ended asked told owed (Ask index) (Refused why) next
-        ↔ (((written : List ℕ) × (there : explains input ended asked told owed written)
-        × is_not_opened input ended asked told owed written there index why)
-        × StaysBehind why (At input ended asked told owed) next)
-    pub ended : (input : List ℕ) (over : Bool) (asked : List (ℕ × ℕ)) (told owed : List (ConnEvent H))
+        → answers_at input ended log told owed (Ask index) (Refused why) next
+        ↔ (((written : List ℕ) × (there : explains input ended log told owed written)
+        × is_not_opened input ended log told owed written there index why)
+        × StaysBehind why (At input ended log told owed) next)
+    pub ended : (input : List ℕ) (over : Bool) (log : List (Entry H)) (told owed : List (ConnEvent H))
         (more : Vec (ConnEvent H)) (next : Point H)
-        → answers_at input over asked told owed Ended (Events more) next
-        ↔ ((has_ended told ≡ false) × (next ≡ At input true asked (told ++ more.items) [])
+        → answers_at input over log told owed Ended (Events more) next
+        ↔ ((has_ended told ≡ false) × (next ≡ At input true log (told ++ more.items) [])
         × ((rest : List (ConnEvent H)) × (more.items ≡ owed ++ rest)))
-    pub ended_in_vain : (input : List ℕ) (over : Bool) (asked : List (ℕ × ℕ)) (told owed : List (ConnEvent H))
-        (why : ConnRefused) (next : Point H) → answers_at input over asked told owed Ended (Refused why) next
-        ↔ IsTurnedAway told why (At input over asked told owed) next
-    pub other_answers : (input : List ℕ) (over : Bool) (asked : List (ℕ × ℕ)) (told owed : List (ConnEvent H))
+    pub ended_in_vain : (input : List ℕ) (over : Bool) (log : List (Entry H)) (told owed : List (ConnEvent H))
+        (why : ConnRefused) (next : Point H) → answers_at input over log told owed Ended (Refused why) next
+        ↔ IsTurnedAway told why (At input over log told owed) next
+    pub other_answers : (input : List ℕ) (over : Bool) (log : List (Entry H)) (told owed : List (ConnEvent H))
         (bytes : Vec ℕ) (more : Vec (ConnEvent H)) (index n : ℕ) (next : Point H)
-        → ¬ answers_at input over asked told owed (Feed bytes) (Stream n) next
-        × ¬ answers_at input over asked told owed (Ask index) (Events more) next
-        × ¬ answers_at input over asked told owed Ended (Stream n) next
-    pub call : (input : List ℕ) (ended : Bool) (asked : List (ℕ × ℕ)) (told owed : List (ConnEvent H)) (act : ConnAct)
-        (answer : ConnAnswer H) (next : Point H) → answers_one (At input ended asked told owed) act answer next
-        ↔ (answers_at input ended asked told owed act answer next × is_explained next
-        × keeps_written input ended asked told owed act next)
-    pub kept_by_a_feed : (input written : List ℕ) (ended : Bool) (asked : List (ℕ × ℕ))
+        → ¬ answers_at input over log told owed (Feed bytes) (Stream n) next
+        × ¬ answers_at input over log told owed (Ask index) (Events more) next
+        × ¬ answers_at input over log told owed Ended (Stream n) next
+    pub call : (input : List ℕ) (ended : Bool) (log : List (Entry H)) (told owed : List (ConnEvent H)) (act : ConnAct)
+        (answer : ConnAnswer H) (next : Point H) → answers_one (At input ended log told owed) act answer next
+        ↔ (answers_at input ended log told owed act answer next × is_explained next
+        × keeps_written input ended log told owed act next)
+    pub kept_by_a_feed : (input written : List ℕ) (ended : Bool) (log : List (Entry H))
         (told owed : List (ConnEvent H)) (bytes : Vec ℕ)
-        → keeps_written input ended asked told owed (Feed bytes) (Spent written)
-        ↔ ((before more : List ℕ) × explains input ended asked told owed before × (written ≡ before ++ more)
-        × wrote input bytes.items asked told written)
-    pub kept_by_another : (input written : List ℕ) (ended : Bool) (asked : List (ℕ × ℕ))
-        (told owed : List (ConnEvent H)) (index : ℕ) → (keeps_written input ended asked told owed (Ask index)
-        (Spent written) ↔ explains input ended asked told owed written)
-        × (keeps_written input ended asked told owed Ended (Spent written)
-        ↔ explains input ended asked told owed written)
+        → keeps_written input ended log told owed (Feed bytes) (Spent written)
+        ↔ ((before more : List ℕ) × explains input ended log told owed before × (written ≡ before ++ more)
+        × wrote input bytes.items log told written)
+    pub kept_by_another : (input written : List ℕ) (ended : Bool) (log : List (Entry H))
+        (told owed : List (ConnEvent H)) (index : ℕ) → (keeps_written input ended log told owed (Ask index)
+        (Spent written) ↔ explains input ended log told owed written)
+        × (keeps_written input ended log told owed Ended (Spent written)
+        ↔ explains input ended log told owed written)
     -- What a feed has written that met want of memory: what is written by no more than the piece, and by no less than
     -- none of it
-    pub wrote_on_is : (input piece written : List ℕ) (asked : List (ℕ × ℕ)) (told : List (ConnEvent H))
-        → wrote_on input piece asked told written
-        ↔ (((first rest : List ℕ) × (more : List (ConnEvent H)) × (session : State)
+    pub wrote_on_is : (input piece written : List ℕ) (log : List (Entry H)) (told : List (ConnEvent H))
+        → wrote_on input piece log told written
+        ↔ (((first rest : List ℕ) × (now : List (Entry H)) × (more : List (ConnEvent H)) × (session : State)
         × (streams : ℕ → Option (Streaming H)) × (past : List (Earlier H)) × (piece ≡ first ++ rest)
-        × is_up (input ++ first) asked (told ++ more) written session streams past)
-        ⊎ ((more : List (ConnEvent H)) × ends (input ++ piece) false asked (told ++ more) written))
-    pub wrote_is : (input piece written : List ℕ) (asked : List (ℕ × ℕ)) (told : List (ConnEvent H))
-        → wrote input piece asked told written
-        ↔ (((asked ≡ []) × (told ≡ []) × Upgrades role own input (Ok None) written)
-        ⊎ (((pending : List ℕ) × (asked ≡ []) × (told ≡ []) × RunsOut role own input piece pending written)
-        ⊎ wrote_on input piece asked told written))
-    pub kept_elsewhere : (input now : List ℕ) (ended over : Bool) (asked opened : List (ℕ × ℕ))
+        × IsGrown [] log now × is_up (input ++ first) now (told ++ more) written session streams past)
+        ⊎ ((now : List (Entry H)) × (more : List (ConnEvent H)) × IsGrown [] log now
+        × ends (input ++ piece) false now (told ++ more) written))
+    pub wrote_is : (input piece written : List ℕ) (log : List (Entry H)) (told : List (ConnEvent H))
+        → wrote input piece log told written
+        ↔ (((log ≡ []) × (told ≡ []) × Upgrades role own input (Ok None) written)
+        ⊎ (((pending : List ℕ) × (log ≡ []) × (told ≡ []) × RunsOut role own input piece pending written)
+        ⊎ wrote_on input piece log told written))
+    pub kept_elsewhere : (input now : List ℕ) (ended over : Bool) (log later : List (Entry H))
         (told owed said owes : List (ConnEvent H)) (act : ConnAct)
-        → keeps_written input ended asked told owed act (At now over opened said owes)
+        → keeps_written input ended log told owed act (At now over later said owes)
     pub call_spent : (written : List ℕ) (act : ConnAct) (answer : ConnAnswer H) (next : Point H)
         → answers_one (Spent written) act answer next
         ↔ ((answer ≡ Refused refusals.Failed) × (next ≡ Spent written))
@@ -553,25 +566,25 @@ module _ {P H : Type 0} (step : H → HandlerCall → H → Type 0) (fails : H �
     pub uneven : (point last : Point H) (act : ConnAct) (acts : List ConnAct) (answer : ConnAnswer H)
         (answers : List (ConnAnswer H)) → ¬ answers_all point (act ∷ acts) [] last
         × ¬ answers_all point [] (answer ∷ answers) last
-    pub left : (input written : List ℕ) (ended : Bool) (asked : List (ℕ × ℕ)) (told owed : List (ConnEvent H))
-        (handlers : List (ℕ × H)) → leaves (At input ended asked told owed) written handlers
-        ↔ ((there : explains input ended asked told owed written)
-        × holds input ended asked told owed written there handlers)
+    pub left : (input written : List ℕ) (ended : Bool) (log : List (Entry H)) (told owed : List (ConnEvent H))
+        (handlers : List (ℕ × H)) → leaves (At input ended log told owed) written handlers
+        ↔ ((there : explains input ended log told owed written)
+        × holds input ended log told owed written there handlers)
     pub left_spent : (written output : List ℕ) (handlers : List (ℕ × H)) → leaves (Spent written) output handlers
         ↔ ((output ≡ written) × (handlers ≡ []))
     pub runs : (acts : List ConnAct) (answers : List (ConnAnswer H)) (written : List ℕ) (handlers : List (ℕ × H))
         → Runs step fails is_closed is_finished inbound_makes outbound_makes listed is_eager inbound_leads
         outbound_leads start role own acts answers written handlers
         ↔ ((last : Point H) × answers_all (At [] false [] [] []) acts answers last × leaves last written handlers)
-    pub has_written_at : (input written : List ℕ) (ended : Bool) (asked : List (ℕ × ℕ)) (told owed : List (ConnEvent H))
+    pub has_written_at : (input written : List ℕ) (ended : Bool) (log : List (Entry H)) (told owed : List (ConnEvent H))
         → HasWritten step fails is_closed is_finished inbound_makes outbound_makes listed is_eager inbound_leads
-        outbound_leads start role own (At input ended asked told owed) written
-        ↔ explains input ended asked told owed written
+        outbound_leads start role own (At input ended log told owed) written
+        ↔ explains input ended log told owed written
     pub has_written_spent : (before written : List ℕ) → HasWritten step fails is_closed is_finished inbound_makes
         outbound_makes listed is_eager inbound_leads outbound_leads start role own (Spent before) written
         ↔ (written ≡ before)
-    pub at_point : (taken input : List ℕ) (ended : Bool) (asked : List (ℕ × ℕ)) (told owed : List (ConnEvent H))
-        (core : ConnCore P H) → is_at taken (At input ended asked told owed) core
-        ↔ ((core.owed.items ≡ owed) × stands input ended asked told taken core)
+    pub at_point : (taken input : List ℕ) (ended : Bool) (log : List (Entry H)) (told owed : List (ConnEvent H))
+        (core : ConnCore P H) → is_at taken (At input ended log told owed) core
+        ↔ ((core.owed.items ≡ owed) × stands input ended log told taken core)
     pub at_spent : (taken written : List ℕ) (core : ConnCore P H) → is_at taken (Spent written) core
         ↔ ((is_spent core.phase ≡ true) × (taken ++ waiting_in core.phase core.output.items ≡ written))

@@ -29,7 +29,7 @@ use Rattle.conn_log.specs.declared.earlier.Earlier.{Earlier}
 use Rattle.conn_log.specs.declared.event.ConnEvent.{ConnEvent}
 use Rattle.conn_log.specs.declared.event.ConnFault.{ConnFault}
 use Rattle.conn_log.specs.declared.event.ConnEvent.TheVariants as event
-use Rattle.conn_log.specs.Entries.{Entry, items, said, agreed, is_over, was_done, made_of, calls_of, is_kept}
+use Rattle.conn_log.specs.Entries.{Entry, items, said, asks, agreed, is_over, was_done, made_of, calls_of, is_kept}
 use Rattle.conn_log.specs.Entries.{left_behind}
 use Rattle.conn_log.specs.Due.{AllDue}
 use Rattle.conn_log.specs.Held.{IsSide}
@@ -39,12 +39,12 @@ use Rattle.held_order.specs.Laws.{LetsGo, Arranges, times, numbers, of_number}
 use Rattle.held_order.specs.HeldLaws.{IsOnce, ToldOnce, NamesEachHeld, DueIsOnce}
 use Rattle.conn_core.specs.declared.calls.ConnAct.{ConnAct}
 use Rattle.conn_core.specs.declared.calls.ConnAnswer.{ConnAnswer}
-use Rattle.conn_core.specs.Connects.{session_role}
+use Rattle.conn_core.specs.Connects.{session_role, IsGrown}
 use Rattle.conn_core.specs.Runs.{Point, AreHeld}
 use Rattle.conn_core.specs.Runs.Point.{At}
 use Rattle.conn_core.specs.Promises.{IsServing, IsEarly, ListedAreHeld, fed_by, told_by, opened_by, AreServing}
 use Rattle.conn_core.specs.Promises.{AreEarly}
-use Rattle.conn_core.specs.Promises.{LiveAreHeld, UpIsSplit, EachIsAnswered, AllIsCounted}
+use Rattle.conn_core.specs.Promises.{LiveAreHeld, UpIsSplit, EachIsAnswered, AllIsCounted, PastStays, ComesInTurn}
 use Rattle.row_check.specs.AnyConnRows.{is_up, answers_all}
 
 -- In which order handlers were made, by any entry of the list
@@ -127,7 +127,7 @@ module _ {P H : Type 0} (step : H → HandlerCall → H → Type 0) (fails : H �
     (is_closed is_finished : H → Bool) (inbound_makes outbound_makes : P → ℕ → List ℕ → H → Type 0)
     (listed : P → List (List ℕ)) (is_eager : P → ℕ → Bool)
     (inbound_leads outbound_leads : P → ℕ → List ℕ → H → P → Type 0) (start : P) (role : ConnRole) (own : Key) where
-  abbrev pub up_with_streams : List ℕ → List (ℕ × ℕ) → List (ConnEvent H) → List ℕ → State
+  abbrev pub up_with_streams : List ℕ → List (Entry H) → List (ConnEvent H) → List ℕ → State
       → (ℕ → Option (Streaming H)) → List (Earlier H) → Type 0
   up_with_streams = is_up step fails is_closed is_finished inbound_makes outbound_makes listed is_eager inbound_leads
       outbound_leads start role own
@@ -166,38 +166,54 @@ module _ {P H : Type 0} (step : H → HandlerCall → H → Type 0) (fails : H �
         × (written_on end (items log) n ++ stream.waiting ≡ output ++ gave) × AskedSo end log n stream handler left
     pub are_serving : AreServing step fails is_closed is_finished inbound_makes outbound_makes listed is_eager
         inbound_leads outbound_leads start role own → (session : State) (streams : ℕ → Option (Streaming H))
-        (past : List (Earlier H)) (input : List ℕ) (asked : List (ℕ × ℕ)) (told : List (ConnEvent H))
-        (written : List ℕ) (up : up_with_streams input asked told written session streams past) (n : ℕ)
+        (past : List (Earlier H)) (input : List ℕ) (log : List (Entry H)) (told : List (ConnEvent H))
+        (written : List ℕ) (up : up_with_streams input log told written session streams past) (n : ℕ)
         (stream : Streaming H) (handler : H) → streams n ≡ Some stream → stream.stage ≡ Serving handler
-        → IsServing step is_closed is_finished (listed start) (session_role role) up.log n stream handler
+        → IsServing step is_closed is_finished (listed start) (session_role role) log n stream handler
     pub are_early : AreEarly step fails is_closed is_finished inbound_makes outbound_makes listed is_eager inbound_leads
         outbound_leads start role own → (session : State) (streams : ℕ → Option (Streaming H))
-        (past : List (Earlier H)) (input : List ℕ) (asked : List (ℕ × ℕ)) (told : List (ConnEvent H))
-        (written : List ℕ) (up : up_with_streams input asked told written session streams past) (n : ℕ)
+        (past : List (Earlier H)) (input : List ℕ) (log : List (Entry H)) (told : List (ConnEvent H))
+        (written : List ℕ) (up : up_with_streams input log told written session streams past) (n : ℕ)
         (stream : Streaming H) (handler : H) (talk : Talk) → streams n ≡ Some stream
         → stream.stage ≡ Talking talk (Some handler)
-        → IsEarly step is_closed is_finished (listed start) (session_role role) up.log n stream handler
+        → IsEarly step is_closed is_finished (listed start) (session_role role) log n stream handler
     pub live_are_held : LiveAreHeld step fails is_closed is_finished inbound_makes outbound_makes listed is_eager
         inbound_leads outbound_leads start role own → (session : State) (streams : ℕ → Option (Streaming H))
-        (past : List (Earlier H)) (input : List ℕ) (asked : List (ℕ × ℕ)) (told : List (ConnEvent H))
-        (written : List ℕ) (up : up_with_streams input asked told written session streams past) (n : ℕ)
-        → is_live (session_role role) (items up.log) n ≡ true → (stream : Streaming H) × (streams n ≡ Some stream)
-        × (is_over (session_role role) up.log n ≡ was_handed_out stream.stage)
-        × (was_done (session_role role) up.log n ≡ was_handed_out stream.stage)
+        (past : List (Earlier H)) (input : List ℕ) (log : List (Entry H)) (told : List (ConnEvent H))
+        (written : List ℕ) (up : up_with_streams input log told written session streams past) (n : ℕ)
+        → is_live (session_role role) (items log) n ≡ true → (stream : Streaming H) × (streams n ≡ Some stream)
+        × (is_over (session_role role) log n ≡ was_handed_out stream.stage)
+        × (was_done (session_role role) log n ≡ was_handed_out stream.stage)
     pub up_is_split : UpIsSplit step fails is_closed is_finished inbound_makes outbound_makes listed is_eager
         inbound_leads outbound_leads start role own → (session : State) (streams : ℕ → Option (Streaming H))
-        (past : List (Earlier H)) (input : List ℕ) (asked : List (ℕ × ℕ)) (told : List (ConnEvent H))
-        (written : List ℕ) (up : up_with_streams input asked told written session streams past)
+        (past : List (Earlier H)) (input : List ℕ) (log : List (Entry H)) (told : List (ConnEvent H))
+        (written : List ℕ) (up : up_with_streams input log told written session streams past)
         → (key : Key) × (first rest greeting part : List ℕ) × (input ≡ first ++ rest)
-        × Upgrades role own first (Ok (Some key)) greeting × Reads rest (arrivals (items up.log)) part
-        × HasNoFault (session_role role) (items up.log) × AreAnswered (session_role role) (items up.log)
-        × (told ≡ event.Upgraded key ∷ said up.log)
-        × (written ≡ greeting ++ output (session_role role) (items up.log))
+        × Upgrades role own first (Ok (Some key)) greeting × Reads rest (arrivals (items log)) part
+        × HasNoFault (session_role role) (items log) × AreAnswered (session_role role) (items log)
+        × (told ≡ event.Upgraded key ∷ said log)
+        × (written ≡ greeting ++ output (session_role role) (items log))
     pub each_is_answered : EachIsAnswered step fails is_closed is_finished inbound_makes outbound_makes listed is_eager
         inbound_leads outbound_leads start role own → (calls : List ConnAct) (answers : List (ConnAnswer H))
         (first last : Point H) → all_answered first calls answers last → length answers ≡ length calls
     pub all_is_counted : AllIsCounted step fails is_closed is_finished inbound_makes outbound_makes listed is_eager
         inbound_leads outbound_leads start role own → (calls : List ConnAct) (answers : List (ConnAnswer H))
-        (input : List ℕ) (ended : Bool) (asked : List (ℕ × ℕ)) (told owed : List (ConnEvent H))
-        → all_answered (At [] false [] [] []) calls answers (At input ended asked told owed)
-        → (input ≡ fed_by calls answers) × (asked ≡ opened_by calls answers) × (told ≡ told_by answers)
+        (input : List ℕ) (ended : Bool) (log : List (Entry H)) (told owed : List (ConnEvent H))
+        → all_answered (At [] false [] [] []) calls answers (At input ended log told owed)
+        → (input ≡ fed_by calls answers) × (asks log ≡ opened_by calls answers) × (told ≡ told_by answers)
+    pub past_stays : PastStays step fails is_closed is_finished inbound_makes outbound_makes listed is_eager
+        inbound_leads outbound_leads start role own → (calls : List ConnAct) (answers : List (ConnAnswer H))
+        (input input_then : List ℕ) (ended ended_then : Bool) (log log_then : List (Entry H))
+        (told told_then owed owed_then : List (ConnEvent H))
+        → all_answered (At input ended log told owed) calls answers
+        (At input_then ended_then log_then told_then owed_then) → (newer : List (Entry H))
+        × (log_then ≡ newer ++ log) × (asks newer ≡ opened_by calls answers)
+    pub comes_in_turn : ComesInTurn step fails is_closed is_finished inbound_makes outbound_makes listed is_eager
+        inbound_leads outbound_leads start role own → (session session_then : State)
+        (streams streams_then : ℕ → Option (Streaming H)) (past past_then : List (Earlier H)) (input more : List ℕ)
+        (log now : List (Entry H)) (told told_then : List (ConnEvent H)) (written written_then : List ℕ)
+        (opened : List (ℕ × ℕ)) (up : up_with_streams input log told written session streams past)
+        (grown : IsGrown opened log now)
+        (then : up_with_streams (input ++ more) now told_then written_then session_then streams_then past_then)
+        → (then.key ≡ up.key) × (then.first ≡ up.first) × (then.greeting ≡ up.greeting) × (part : List ℕ)
+        × Reads (up.rest ++ more) (arrivals (items grown.newer) ++ arrivals (items log)) part

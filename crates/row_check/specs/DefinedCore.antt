@@ -155,8 +155,8 @@ pub record DefinedEntries (H : Type 0) : Type 0 where
   pub of_a_stream : (now : Option ℕ) (n : ℕ) → IsTurnOf now (Some n) ↔ (now ≡ Some n)
   pub all_numbers : (at : ℕ) (numbers : List ℕ) → (all_but (Some at) numbers ≡ remove numbers at)
       × (all_but None numbers ≡ numbers)
-  pub points : (point : Point H) → ((input : List ℕ) × (ended : Bool) × (asked : List (ℕ × ℕ))
-      × (told : List (ConnEvent H)) × (owed : List (ConnEvent H)) × (point ≡ At input ended asked told owed))
+  pub points : (point : Point H) → ((input : List ℕ) × (ended : Bool) × (log : List (Entry H))
+      × (told : List (ConnEvent H)) × (owed : List (ConnEvent H)) × (point ≡ At input ended log told owed))
       ⊎ ((written : List ℕ) × (point ≡ Spent written))
   pub spent : (next : Point H) → IsSpent next ↔ ((written : List ℕ) × (next ≡ Spent written))
   pub held_at : (streams : ℕ → Option (Streaming H)) (n : ℕ) (handler : H) → HoldsAt streams n handler

@@ -9,10 +9,11 @@ ghost use Rattle.streams.specs.Laws as stream;
 ghost use Rattle.held_order.specs.Laws.{LetsGo, Arranges};
 ghost use Rattle.held_order.specs.HeldLaws.{NamesEachHeld, DueIsOnce};
 ghost use Rattle.conn_core.specs.Promises.{AreServing, AreEarly, LiveAreHeld, UpIsSplit};
-ghost use Rattle.conn_core.specs.Promises.{ListedAreHeld, EachIsAnswered, AllIsCounted};
+ghost use Rattle.conn_core.specs.Promises.{ListedAreHeld, EachIsAnswered, AllIsCounted, PastStays, ComesInTurn};
 
 use conn_core::laws::{
-    counted, each_is_answered, early, handed, listed_are_held, live_are_held, split,
+    comes_in_turn, counted, each_is_answered, early, handed, listed_are_held, live_are_held,
+    past_stays, split,
 };
 use handlers::{Handler, Protocols};
 use held_order::laws::{all_in_order, each_told_once, names_each_held, newest_goes};
@@ -106,6 +107,12 @@ pub fn conn_laws<P: Protocols>()
     ensures counted { (start : P) (role : ConnRole) (own : Key)
         → AllIsCounted P.H.steps P.H.fails P.H.is_closed P.H.is_finished P.makes_inbound P.makes_outbound P.listed
         P.is_eager P.leads_inbound P.leads_outbound start role own }
+    ensures past { (start : P) (role : ConnRole) (own : Key)
+        → PastStays P.H.steps P.H.fails P.H.is_closed P.H.is_finished P.makes_inbound P.makes_outbound P.listed
+        P.is_eager P.leads_inbound P.leads_outbound start role own }
+    ensures in_turn { (start : P) (role : ConnRole) (own : Key)
+        → ComesInTurn P.H.steps P.H.fails P.H.is_closed P.H.is_finished P.makes_inbound P.makes_outbound P.listed
+        P.is_eager P.leads_inbound P.leads_outbound start role own }
     ensures listed { ListedAreHeld P.H }
     ensures once { DueIsOnce P.H.steps P.H.fails P.H.is_closed P.H.is_finished P.makes_inbound P.makes_outbound }
 {
@@ -115,6 +122,8 @@ pub fn conn_laws<P: Protocols>()
     split::<P>();
     each_is_answered::<P>();
     counted::<P>();
+    past_stays::<P>();
+    comes_in_turn::<P>();
     listed_are_held::<P::H>();
     each_told_once::<P>();
 }

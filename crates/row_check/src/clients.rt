@@ -1,7 +1,7 @@
 //! What calls of a connection's layers promise beyond what their own callers rest on, each by a call of it: one whose
 //! clause comes to say less no longer answers this.
 
-ghost use Rattle.std.specs.Prelude.{◌≡◌, ◌≢◌, ◌⊎◌, ◌↔◌, ℕ, ◌<◌, ◌-◌, ◌++◌, true, false, nat_lt, List, [], ◌∷◌};
+ghost use Rattle.std.specs.Prelude.{◌≡◌, ◌≢◌, ◌⊎◌, ◌↔◌, ◌||◌, ℕ, ◌<◌, ◌-◌, ◌++◌, true, false, nat_lt, List, [], ◌∷◌};
 ghost use Rattle.std.specs.Prelude.{length, take, drop};
 ghost use Rattle.std.specs.Prelude.{Some, None, Ok, Err, OnOk, IfOk, IfErr, OnErr};
 ghost use Rattle.std.specs.List.{All};
@@ -10,14 +10,19 @@ ghost use Rattle.std.specs.BTreeMap as tree;
 ghost use Rattle.ms_select.specs.Listening.{IsName};
 ghost use Rattle.ms_select.specs.Messages.{header, spelled};
 ghost use Rattle.yamux_session.specs.Acts.{open_credit};
-ghost use Rattle.yamux_session.specs.State.{Whenever};
+ghost use Rattle.yamux_session.specs.declared.event.Role.{Role};
+ghost use Rattle.yamux_session.specs.Data.{written};
+ghost use Rattle.yamux_session.specs.History.{Item};
+ghost use Rattle.yamux_session.specs.State.{Stands as SessionStands, Whenever};
 ghost use Rattle.handlers.specs.Calls.{Take, End, Give, ToTake, ToEnd};
 ghost use Rattle.streams.specs.declared.stage.Stage.TheVariants.{Serving, Over};
+ghost use Rattle.dispatch.specs.Dispatch.{IsKnown, MakingRunsOut, makes_once};
+ghost use Rattle.routing.specs.Routing.{RunsOutServing, RunsOutEnding, ServingRunsOut};
 ghost use Rattle.streams.specs.Streams.{Past};
-ghost use Rattle.streams.specs.State.{Stands, is_talking, awaits_handler, handler_of, is_open, has_finished};
+ghost use Rattle.streams.specs.State.{Stands, is_talking, is_over, awaits_handler, handler_of, is_open, has_finished};
 ghost use Rattle.streams.specs.Hearing.{HasHeard, Moves};
 ghost use Rattle.streams.specs.Stops.{FailsBy, not_now};
-ghost use Rattle.serving.specs.Served.{GivesUp};
+ghost use Rattle.serving.specs.Served.{GivesUp, MayGrow, WasAnswered};
 ghost use Rattle.conn_log.specs.Entries.{Entry};
 ghost use Rattle.conn_log.specs.Rests.{AreAtRest};
 ghost use Rattle.conn_log.specs.Routes.{set_aside};
@@ -36,6 +41,7 @@ use handlers::{Handler, Protocols};
 use ms_select::SelectFault;
 use mux::Mux;
 use peer_ids::{PeerId, PublicKey};
+use routing::{Delivered, Outcome, deliver, deliver_credit, deliver_end};
 use serving::serve;
 use std::alloc::{AllocError, Global};
 use streams::{Cause, Heard, Stop, Stream};
@@ -161,6 +167,75 @@ pub fn is_served<H: Handler>(
         × GivesUp H.fails H.is_closed stream.old credit stop))) }
 {
     serve(session, number, stream)
+}
+
+// ---- delivering to a stream
+
+/// Credit: where memory is wanting something may grow, and the handler has answered; what was done until then stands.
+pub fn credit_is_delivered<H: Handler>(
+    session: &mut Session,
+    number: u32,
+    stream: &mut Stream<H>,
+) -> Result<Outcome<H>, AllocError>
+    ensures memory { OnErr result (Whenever session.old (λ role past. MayGrow role past number)) }
+    ensures answered { OnErr result (Whenever session.old (λ role past.
+        WasAnswered H.steps H.is_closed role past number stream.old)) }
+    ensures runs_out { (role : Role) (past : List Item) (fed sent : List ℕ) (so_far : Past H)
+        → SessionStands role past fed sent session.old → Stands H.steps stream.old so_far
+        → so_far.sent ≡ written role past number → OnErr result
+        (RunsOutServing H.steps H.is_closed H.is_finished role past fed sent number session.old so_far stream.old
+        session.new stream.new) }
+    ensures idle { session.old.failed || is_over stream.old.stage ≡ true
+        → (result ≡ Ok Outcome.Going) × (session.new ≡ session.old) × (stream.new ≡ stream.old) }
+{
+    deliver_credit(session, number, stream)
+}
+
+/// The end: where memory is wanting something may grow, the talk is over, and what was done until then stands.
+pub fn an_end_is_delivered<H: Handler>(
+    session: &mut Session,
+    number: u32,
+    stream: &mut Stream<H>,
+) -> Result<Outcome<H>, AllocError>
+    ensures memory { OnErr result (Whenever session.old (λ role past. MayGrow role past number)) }
+    ensures runs_out { (role : Role) (past : List Item) (fed sent : List ℕ) (so_far : Past H)
+        → SessionStands role past fed sent session.old → Stands H.steps stream.old so_far → so_far.ended ≡ false
+        → so_far.sent ≡ written role past number → OnErr result ((is_talking stream.old.stage ≡ false)
+        × RunsOutEnding H.steps H.is_closed H.is_finished role past fed sent number session.old so_far stream.old
+        session.new stream.new) }
+    ensures idle { session.old.failed || (is_over stream.old.stage || awaits_handler stream.old.stage) ≡ true
+        → (result ≡ Ok Outcome.Going) × (session.new ≡ session.old) × (stream.new ≡ stream.old) }
+{
+    deliver_end(session, number, stream)
+}
+
+/// Data: where memory is wanting something may grow, or the talk or what it decides takes it; the protocols' names stay.
+pub fn data_are_delivered<P: Protocols>(
+    session: &mut Session,
+    number: u32,
+    protocols: &mut P,
+    direction: Direction,
+    peer: PeerId,
+    stream: &mut Stream<P::H>,
+    bytes: &[u8],
+) -> Result<Delivered<P::H>, AllocError>
+    ensures names { P.listed protocols.new ≡ P.listed protocols.old }
+    ensures eager { P.is_eager protocols.new ≡ P.is_eager protocols.old }
+    ensures memory { (role : Role) (past : List Item) (fed sent : List ℕ) (so_far : Past P.H)
+        → SessionStands role past fed sent session.old → Stands P.H.steps stream.old so_far → so_far.ended ≡ false
+        → IsKnown (P.listed protocols.old) direction so_far.side → so_far.sent ≡ written role past number
+        → OnErr result ((MayGrow role past number
+        × ServingRunsOut P.H.steps P.H.is_closed P.H.is_finished role past fed sent number session.old
+        (makes_once P.makes_inbound P.makes_outbound P.leads_inbound P.leads_outbound direction peer protocols.old
+        protocols.new) (protocols.new ≡ protocols.old) so_far bytes.now stream.old session.new stream.new)
+        ⊎ ((is_talking stream.old.stage ≡ true) × (protocols.new ≡ protocols.old) × (session.new ≡ session.old)
+        × ((more : List ℕ) × (stream.new.waiting ≡ stream.old.waiting ++ more))
+        × MakingRunsOut P.H.steps so_far stream.old bytes.now stream.new.waiting)) }
+    ensures idle { session.old.failed || (is_over stream.old.stage || awaits_handler stream.old.stage) ≡ true
+        → (result ≡ Ok (record { agreed = None; outcome = Outcome.Going })) × (session.new ≡ session.old)
+        × (stream.new ≡ stream.old) × (protocols.new ≡ protocols.old) }
+{
+    deliver(session, number, protocols, direction, peer, stream, bytes)
 }
 
 // ---- the streams of a connection

@@ -38,8 +38,8 @@ module _ {P H : Type 0} (step : H → HandlerCall → H → Type 0) (fails : H �
   pub goes_at : (taken : List ℕ) (point : Point H) (core : ConnCore P H)
       → IsAt step fails is_closed is_finished inbound_makes outbound_makes listed is_eager inbound_leads outbound_leads start role own taken point core
       → goes_on point ≡ not (is_over core.phase)
-  goes_at taken (At input ended asked told owed) core at =
-      ap not (told_over step fails is_closed is_finished inbound_makes outbound_makes listed is_eager inbound_leads outbound_leads start role own input ended asked told taken core.phase core.owed.items core.output.items at.1.1)
+  goes_at taken (At input ended log told owed) core at =
+      ap not (told_over step fails is_closed is_finished inbound_makes outbound_makes listed is_eager inbound_leads outbound_leads start role own input ended log told taken core.phase core.owed.items core.output.items at.1.1)
   goes_at taken (Spent written) core at = ap not (sym (spent_over core.phase at.0))
 
   abbrev pub feeds_each : Point H → List (List ℕ) → List ℕ → Point H → Type 0

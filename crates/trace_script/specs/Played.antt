@@ -28,7 +28,7 @@ at_first = record { point = At [] false [] [] []; taken = [] }
 
 -- The connection goes on: it has told no Fault and no Shut, and memory was not refused.
 abbrev pub goes_on : {H : Type 0} → Point H → Bool
-goes_on (At input ended asked told owed) = not (has_ended told)
+goes_on (At input ended log told owed) = not (has_ended told)
 goes_on (Spent written) = false
 
 -- The bytes, in pieces of so many, the last one perhaps of fewer.

@@ -22,6 +22,7 @@ use Rattle.conn_log.specs.declared.event.ConnEvent.{ConnEvent}
 use Rattle.conn_log.specs.declared.event.ConnEvent.TheVariants as event
 use Rattle.conn_log.specs.declared.event.ConnFault.TheVariants as fault
 use Rattle.conn_log.specs.declared.event.ConnRefused.TheVariants as refusal
+use Rattle.conn_log.specs.Entries.{Entry}
 use Rattle.conn_core.specs.declared.calls.ConnAnswer.TheVariants as answer
 use Rattle.conn_core.specs.Runs.Point.{At, Spent}
 use Rattle.trace_script.specs.Printed.{answer_text, event_text, output_text}
@@ -97,8 +98,8 @@ pub record StopRows (H : Type 0) : Type 0 where
   pub shut : goes_on {H = H} (At [] true [] (event.Shut ∷ []) []) ≡ false
   pub broken_off : goes_on {H = H} (At [] false [] (event.Fault fault.Mux ∷ []) []) ≡ false
   pub spent : (written : List ℕ) → goes_on {H = H} (Spent written) ≡ false
-  pub at : (input : List ℕ) (ended : Bool) (asked : List (ℕ × ℕ)) (told owed : List (ConnEvent H))
-      → goes_on (At input ended asked told owed) ≡ not (has_ended told)
+  pub at : (input : List ℕ) (ended : Bool) (log : List (Entry H)) (told owed : List (ConnEvent H))
+      → goes_on (At input ended log told owed) ≡ not (has_ended told)
   pub an_end : ¬ SaysNothing (codes "end")
   pub asked : ¬ SaysNothing (codes "ask 2")
   pub fed : (bytes : Vec ℕ) → vec_items bytes ≡ 10 ∷ [] → ¬ SaysNothing (codes "feed 0a")

@@ -62,7 +62,7 @@ returns g c =
         led.0,
         subst (λ (calls : List ConnAct). AnswersAll H.steps H.fails H.is_closed H.is_finished makes.makes_inbound makes.makes_outbound makes.listed makes.is_eager makes.leads_inbound makes.leads_outbound start role key (At [] false [] [] []) calls c.loop-act.answers.items led.0) all led.1,
         leaves H.steps H.fails H.is_closed H.is_finished makes.makes_inbound makes.makes_outbound makes.listed makes.is_eager makes.leads_inbound makes.leads_outbound start role key led.0 c.loop-act.core took.new.self took.result.items c.in_ok-handlers.handlers.items
-            (λ input ended asked told stands. took.ensures.stands role key start input [] ended asked told stands)
+            (λ input ended log told stands. took.ensures.stands role key start input [] ended log told stands)
             took.ensures.taken took.ensures.none_waits took.ensures.owed took.ensures.spent c.in_ok-handlers.ensures.held c.into_handlers.ensures.ordered led.2,
       );
     }

@@ -11,6 +11,7 @@ use Rattle.conn_core.specs.Connects.{told_of}
 use Rattle.conn_core.specs.Wanting.{Wrote}
 use Rattle.conn_core.specs.Wanting.Wrote.{Later}
 use Rattle.conn_core.proofs.Coming.{comes_up, upgrade_failed}
+use Rattle.conn_core.proofs.Growing.{stays}
 use Rattle.conn_core.proofs.Waiting.{on_err, grows_on}
 use Rattle.conn_core.proofs.Wanting.{wrote_failed}
 use Rattle.conn_core.proofs.connection.bring_up.Goals as goal
@@ -43,10 +44,14 @@ returns-in-Ok-clause-goes g c = λ own start input taken coming none_waits none_
     (subst (λ (k : Key). Upgrades c.args.upgrade.role k (input ++ piece) (Err why) (taken ++ pending)) coming.own_is by_piece) in
     let written : taken ++ pending ≡ taken ++ c.last_output-in-Err.result.items = ap (λ (t : List ℕ). taken ++ t) (sym c.last_output-in-Err.ensures.output) in
     let told_is = it.2 ∙ ap (λ (t : List (ConnEvent _)). t ++ event.Fault it.0 ∷ []) none_told in (
-      refl,
-      upgrade_failed H.steps H.fails H.is_closed H.is_finished makes.makes_inbound makes.makes_outbound makes.listed makes.is_eager makes.leads_inbound makes.leads_outbound start role own
-          why it.0 (input ++ piece) (taken ++ c.last_output-in-Err.result.items) c.fail.new.told.items it.1
-          (subst (λ (t : List ℕ). Upgrades role own (input ++ piece) (Err why) t) written upgraded) told_is,
+      [],
+      stays [],
+      (
+        refl,
+        upgrade_failed H.steps H.fails H.is_closed H.is_finished makes.makes_inbound makes.makes_outbound makes.listed makes.is_eager makes.leads_inbound makes.leads_outbound start role own
+            why it.0 (input ++ piece) (taken ++ c.last_output-in-Err.result.items) c.fail.new.told.items it.1
+            (subst (λ (t : List ℕ). Upgrades role own (input ++ piece) (Err why) t) written upgraded) told_is,
+      ),
     )
 
 pub returns-in-Ok-Up-clause-waits : goal.returns-in-Ok-Up-clause-waits

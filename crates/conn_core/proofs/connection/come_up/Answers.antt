@@ -4,9 +4,11 @@ use Rattle.std.specs.Ordering.{nat_cmp}
 use Rattle.std.specs.BTreeMap as tree
 use Rattle.conn_log.specs.declared.event.ConnEvent.{ConnEvent}
 use Rattle.conn_log.specs.declared.event.ConnEvent.TheVariants as event
+use Rattle.conn_log.specs.Entries.{Entry}
 use Rattle.conn_core.specs.declared.connection.Phase.TheVariants as phases
-use Rattle.conn_core.specs.Connects.{Connects, IsUpWith}
+use Rattle.conn_core.specs.Connects.{Connects, IsUpWith, IsGrown}
 use Rattle.conn_core.specs.Wanting.WroteOn.{Up}
+use Rattle.conn_core.proofs.Growing.{stays}
 use Rattle.conn_core.proofs.Waiting.{if_err, all_waits}
 use Rattle.conn_core.proofs.Wanting.{wrote_behind}
 use Rattle.conn_core.proofs.connection.come_up.Goals as goal
@@ -26,10 +28,10 @@ returns-in-Ok-true-clause-goes g c = λ role own start input taken upw none.
     ap (λ (t : List ℕ). first ++ t) rest_is ∙ append_assoc input (take used piece) (drop used piece) ∙ ap (λ (t : List ℕ). input ++ t) (take-append-drop used piece) in
     let up = subst (λ (t : List (ConnEvent _)). IsUpWith H.steps H.fails H.is_closed H.is_finished makes.makes_inbound makes.makes_outbound makes.listed makes.is_eager makes.leads_inbound makes.leads_outbound start role own
     first [] t (taken ++ c.args.output.now.items) c.args.mux) (sym told_is) upw in
-    subst (λ (t : List ℕ). Connects H.steps H.fails H.is_closed H.is_finished makes.makes_inbound makes.makes_outbound makes.listed makes.is_eager makes.leads_inbound makes.leads_outbound start role own
-    t false [] c.go_on.new.told.items taken (phases.Up c.go_on.new.mux) [] c.go_on.new.output.items) all
-    (subst (λ (b : Bool). Connects H.steps H.fails H.is_closed H.is_finished makes.makes_inbound makes.makes_outbound makes.listed makes.is_eager makes.leads_inbound makes.leads_outbound start role own
-    (first ++ c.in-Ok.rest) false [] c.go_on.new.told.items taken (if b then phases.Up c.go_on.new.mux else phases.Over) [] c.go_on.new.output.items) c.in-Ok-true.field-0-test
+    subst (λ (t : List ℕ). (now : List (Entry _)) × IsGrown [] [] now × Connects H.steps H.fails H.is_closed H.is_finished makes.makes_inbound makes.makes_outbound makes.listed makes.is_eager makes.leads_inbound makes.leads_outbound start role own
+    t false now c.go_on.new.told.items taken (phases.Up c.go_on.new.mux) [] c.go_on.new.output.items) all
+    (subst (λ (b : Bool). (now : List (Entry _)) × IsGrown [] [] now × Connects H.steps H.fails H.is_closed H.is_finished makes.makes_inbound makes.makes_outbound makes.listed makes.is_eager makes.leads_inbound makes.leads_outbound start role own
+    (first ++ c.in-Ok.rest) false now c.go_on.new.told.items taken (if b then phases.Up c.go_on.new.mux else phases.Over) [] c.go_on.new.output.items) c.in-Ok-true.field-0-test
     (c.in-Ok-true.ensures.goes role own start first taken [] [] up))
 
 pub returns-in-Ok-false-clause-goes : goal.returns-in-Ok-false-clause-goes
@@ -47,10 +49,10 @@ returns-in-Ok-false-clause-goes g c = λ role own start input taken upw none.
     ap (λ (t : List ℕ). first ++ t) rest_is ∙ append_assoc input (take used piece) (drop used piece) ∙ ap (λ (t : List ℕ). input ++ t) (take-append-drop used piece) in
     let up = subst (λ (t : List (ConnEvent _)). IsUpWith H.steps H.fails H.is_closed H.is_finished makes.makes_inbound makes.makes_outbound makes.listed makes.is_eager makes.leads_inbound makes.leads_outbound start role own
     first [] t (taken ++ c.args.output.now.items) c.args.mux) (sym told_is) upw in
-    subst (λ (t : List ℕ). Connects H.steps H.fails H.is_closed H.is_finished makes.makes_inbound makes.makes_outbound makes.listed makes.is_eager makes.leads_inbound makes.leads_outbound start role own
-    t false [] c.go_on.new.told.items taken phases.Over [] c.go_on.new.output.items) all
-    (subst (λ (b : Bool). Connects H.steps H.fails H.is_closed H.is_finished makes.makes_inbound makes.makes_outbound makes.listed makes.is_eager makes.leads_inbound makes.leads_outbound start role own
-    (first ++ c.in-Ok.rest) false [] c.go_on.new.told.items taken (if b then phases.Up c.go_on.new.mux else phases.Over) [] c.go_on.new.output.items) c.in-Ok-false.field-0-test
+    subst (λ (t : List ℕ). (now : List (Entry _)) × IsGrown [] [] now × Connects H.steps H.fails H.is_closed H.is_finished makes.makes_inbound makes.makes_outbound makes.listed makes.is_eager makes.leads_inbound makes.leads_outbound start role own
+    t false now c.go_on.new.told.items taken phases.Over [] c.go_on.new.output.items) all
+    (subst (λ (b : Bool). (now : List (Entry _)) × IsGrown [] [] now × Connects H.steps H.fails H.is_closed H.is_finished makes.makes_inbound makes.makes_outbound makes.listed makes.is_eager makes.leads_inbound makes.leads_outbound start role own
+    (first ++ c.in-Ok.rest) false now c.go_on.new.told.items taken (if b then phases.Up c.go_on.new.mux else phases.Over) [] c.go_on.new.output.items) c.in-Ok-false.field-0-test
     (c.in-Ok-false.ensures.goes role own start first taken [] [] up))
 
 pub returns-in_err-tell-clause-waits : goal.returns-in_err-tell-clause-waits
@@ -63,16 +65,16 @@ returns-in_err-tell-clause-wrote g c = λ role own start input taken upw none.
     let makes = g.P.Protocols in
     let mux = c.args.mux in
     if_err c.from_residual.result
-    (Up (take c.args.used c.args.piece.now) (drop c.args.used c.args.piece.now) (event.Upgraded c.args.proven ∷ []) mux.session (tree.get nat_cmp mux.board.streams) mux.board.past.items
-    (sym (take-append-drop c.args.used c.args.piece.now)) upw.3.0)
+    (Up (take c.args.used c.args.piece.now) (drop c.args.used c.args.piece.now) [] (event.Upgraded c.args.proven ∷ []) mux.session (tree.get nat_cmp mux.board.streams) mux.board.past.items
+    (sym (take-append-drop c.args.used c.args.piece.now)) (stays []) upw.3.0)
 
 pub returns-in_default-clause-wrote : goal.returns-in_default-clause-wrote
 returns-in_default-clause-wrote g c = λ role own start input taken upw none.
     let H = g.P.H.Handler in
     let makes = g.P.Protocols in
     let mux = c.args.mux in
-    Up (take c.args.used c.args.piece.now) (drop c.args.used c.args.piece.now) (event.Upgraded c.args.proven ∷ []) mux.session (tree.get nat_cmp mux.board.streams) mux.board.past.items
-    (sym (take-append-drop c.args.used c.args.piece.now)) upw.3.0
+    Up (take c.args.used c.args.piece.now) (drop c.args.used c.args.piece.now) [] (event.Upgraded c.args.proven ∷ []) mux.session (tree.get nat_cmp mux.board.streams) mux.board.past.items
+    (sym (take-append-drop c.args.used c.args.piece.now)) (stays []) upw.3.0
 
 pub returns-clause-wrote : goal.returns-clause-wrote
 returns-clause-wrote g c = λ role own start input taken upw none.

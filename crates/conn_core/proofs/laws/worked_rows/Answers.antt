@@ -1,4 +1,4 @@
-use Rattle.conn_core.proofs.Rows.{name_rows, phase_rows, end_rows, serving_rows, early_rows, handed_rows, last_rows, sum_rows, refused_rows, answer_rows}
+use Rattle.conn_core.proofs.Rows.{name_rows, phase_rows, grown_rows, opened_rows, end_rows, serving_rows, early_rows, handed_rows, last_rows, sum_rows, refused_rows, answer_rows}
 use Rattle.conn_core.proofs.laws.worked_rows.Goals as goal
 
 pub returns-clause-names : goal.returns-clause-names
@@ -6,6 +6,12 @@ returns-clause-names g c = name_rows
 
 pub returns-clause-phases : goal.returns-clause-phases
 returns-clause-phases g c = phase_rows
+
+pub returns-clause-grown : goal.returns-clause-grown
+returns-clause-grown g c = grown_rows
+
+pub returns-clause-opened : goal.returns-clause-opened
+returns-clause-opened g c = opened_rows
 
 pub returns-clause-ends : goal.returns-clause-ends
 returns-clause-ends g c = λ start role own.

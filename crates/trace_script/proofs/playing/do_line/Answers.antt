@@ -35,7 +35,7 @@ returns-in-Out-clause-done g c = λ start role own from text says at.
     let makes = g.P.Protocols in
     let took = c.take_output in
     let there = takes H.steps H.fails H.is_closed H.is_finished makes.makes_inbound makes.makes_outbound makes.listed makes.is_eager makes.leads_inbound makes.leads_outbound start role own from.taken from.point c.args.core.now took.new.self took.result.items
-    (λ input ended asked told. took.ensures.stands role own start input from.taken ended asked told)
+    (λ input ended log told. took.ensures.stands role own start input from.taken ended log told)
     took.ensures.taken took.ensures.none_waits took.ensures.owed took.ensures.spent at in
     rw c.in-Out.is (
     on_ok_weaker c.print_output.result (λ printed.

@@ -1,4 +1,4 @@
-use Rattle.std.proofs.Common.{IfErr, length, refl, false, [], ◌∷◌, ◌++◌, sym, subst}
+use Rattle.std.proofs.Common.{IfErr, length, refl, false, ◌++◌, sym, subst}
 use Rattle.conn_log.specs.declared.event.ConnRefused.TheVariants as refusals
 use Rattle.conn_core.specs.declared.connection.Phase.{Phase}
 use Rattle.conn_core.specs.declared.connection.ConnCore.{ConnCore}
@@ -9,7 +9,7 @@ use Rattle.conn_core.proofs.connection.ConnCore.ask.Goals as goal
 use Rattle.conn_core.proofs.connection.ConnCore.ask.Goals.{in-Upgrading, in-Up, in-Over, in-Over-2}
 
 pub returns-else-eq-clause-asked : goal.returns-else-eq-clause-asked
-returns-else-eq-clause-asked g c = λ role own start input taken asked told stands.
+returns-else-eq-clause-asked g c = λ role own start input taken log told stands.
     let H = g.P.H.Handler in
     let makes = g.P.Protocols in
     let core = c.args.self.now in
@@ -17,17 +17,21 @@ returns-else-eq-clause-asked g c = λ role own start input taken asked told stan
       | in-Upgrading w ↦ refused_none _ c.match-self.asked refusals.NotUp w.asked-is
       | in-Up w ↦
           let it = subst (λ (x : Phase _ _). Connects H.steps H.fails H.is_closed H.is_finished makes.makes_inbound makes.makes_outbound makes.listed makes.is_eager makes.leads_inbound makes.leads_outbound start role own
-          input false asked told taken x core.owed.items core.output.items) w.in-Up.is stands.1 in
+          input false log told taken x core.owed.items core.output.items) w.in-Up.is stands.1 in
           ok_on _ _ c.match-self.asked w.open-asked.result w.asked-is
-          (λ number up. subst (λ (x : ConnCore _ _). Stands H.steps H.fails H.is_closed H.is_finished makes.makes_inbound makes.makes_outbound makes.listed makes.is_eager makes.leads_inbound makes.leads_outbound start role own
-          input false (asked ++ (number, c.args.index) ∷ []) told taken x) (sym w.self-is) (stands.0, (it.0, up)))
-          (w.open-asked.ensures.opens role own start input taken asked told it.1)
+          (λ number up. (
+            up.0,
+            up.1,
+            subst (λ (x : ConnCore _ _). Stands H.steps H.fails H.is_closed H.is_finished makes.makes_inbound makes.makes_outbound makes.listed makes.is_eager makes.leads_inbound makes.leads_outbound start role own
+                input false up.0 told taken x) (sym w.self-is) (stands.0, (it.0, up.2)),
+          ))
+          (w.open-asked.ensures.opens role own start input taken log told it.1)
       | in-Over w ↦ refused_none _ c.match-self.asked refusals.Failed w.asked-is
       | in-Over-2 w ↦ refused_none _ c.match-self.asked refusals.Failed w.asked-is
     ]
 
 pub returns-else-eq-clause-owes : goal.returns-else-eq-clause-owes
-returns-else-eq-clause-owes g c = λ role own start input taken asked told stands.
+returns-else-eq-clause-owes g c = λ role own start input taken log told stands.
     let H = g.P.H.Handler in
     let makes = g.P.Protocols in
     let core = c.args.self.now in
@@ -35,10 +39,10 @@ returns-else-eq-clause-owes g c = λ role own start input taken asked told stand
       | in-Upgrading w ↦ refused_none _ c.match-self.asked refusals.NotUp w.asked-is
       | in-Up w ↦
           let it = subst (λ (x : Phase _ _). Connects H.steps H.fails H.is_closed H.is_finished makes.makes_inbound makes.makes_outbound makes.listed makes.is_eager makes.leads_inbound makes.leads_outbound start role own
-          input false asked told taken x core.owed.items core.output.items) w.in-Up.is stands.1 in
+          input false log told taken x core.owed.items core.output.items) w.in-Up.is stands.1 in
           ok_on _ _ c.match-self.asked w.open-asked.result w.asked-is
           (λ number owes. subst (λ (x : ConnCore _ _). OwesOf number core.owed.items x.owed.items) (sym w.self-is) owes)
-          (w.open-asked.ensures.owes role own start input (taken ++ core.output.items) asked (told ++ core.owed.items) it.1)
+          (w.open-asked.ensures.owes role own start input (taken ++ core.output.items) log (told ++ core.owed.items) it.1)
       | in-Over w ↦ refused_none _ c.match-self.asked refusals.Failed w.asked-is
       | in-Over-2 w ↦ refused_none _ c.match-self.asked refusals.Failed w.asked-is
     ]

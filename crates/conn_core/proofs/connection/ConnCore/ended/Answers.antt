@@ -6,25 +6,25 @@ use Rattle.conn_core.specs.Connects.{Connects, Ends, is_over}
 use Rattle.conn_core.proofs.connection.ConnCore.ended.Goals as goal
 
 pub returns-clause-ends : goal.returns-clause-ends
-returns-clause-ends g c = λ role own start input taken asked told stands going.
+returns-clause-ends g c = λ role own start input taken log told stands going.
     let H = g.P.H.Handler in
     let makes = g.P.Protocols in
     let core = c.args.self.now in
     let last = c.last_event-last.result in
     let phase_is : c.replace-phase.result ≡ core.phase = c.replace-phase.ensures.value in
-    let ends = c.last_event-last.ensures.ends role own start input taken asked told core.owed.items
+    let ends = c.last_event-last.ensures.ends role own start input taken log told core.owed.items
     (subst (λ (p : Phase _ _). Connects H.steps H.fails H.is_closed H.is_finished makes.makes_inbound makes.makes_outbound makes.listed makes.is_eager makes.leads_inbound makes.leads_outbound start role own
-    input false asked told taken p core.owed.items core.output.items) (sym phase_is) stands.1) (ap is_over phase_is ∙ going) in
+    input false log told taken p core.owed.items core.output.items) (sym phase_is) stands.1) (ap is_over phase_is ∙ going) in
     let told_is : told ++ c.tell.new.told.items ≡ (told ++ core.owed.items) ++ last ∷ [] =
     ap (λ (t : List (ConnEvent _)). told ++ t) (c.in_ok-tell.ensures.told ∙ ap (λ (v : Vec (ConnEvent _) _). v.items ++ last ∷ []) c.replace-told.ensures.value)
     ∙ sym (append_assoc told core.owed.items (last ∷ [])) in
     let owed_is : c.replace-told.new.dest.items ≡ [] = ap (λ (v : Vec (ConnEvent _) _). v.items) c.replace-told.ensures.after ∙ c.new.ensures.items in (
       stands.0,
       subst (λ (x : Phase _ _). Connects H.steps H.fails H.is_closed H.is_finished makes.makes_inbound makes.makes_outbound makes.listed makes.is_eager makes.leads_inbound makes.leads_outbound start role own
-          input true asked (told ++ c.tell.new.told.items) taken x c.replace-told.new.dest.items c.last_event-last.new.output.items) (sym c.replace.ensures.after) (
+          input true log (told ++ c.tell.new.told.items) taken x c.replace-told.new.dest.items c.last_event-last.new.output.items) (sym c.replace.ensures.after) (
             owed_is,
             subst (λ (t : List (ConnEvent _)). Ends H.steps H.fails H.is_closed H.is_finished makes.makes_inbound makes.makes_outbound makes.listed makes.is_eager makes.leads_inbound makes.leads_outbound start role own
-                input true asked t (taken ++ c.last_event-last.new.output.items)) (sym told_is) ends,
+                input true log t (taken ++ c.last_event-last.new.output.items)) (sym told_is) ends,
           ),
     )
 

@@ -13,6 +13,8 @@ use Rattle.conn_future.specs.Stages.{is_live, Drains}
 use Rattle.conn_future.specs.Polling.{Polls}
 use Rattle.conn_future.specs.Follows.{Follows, given_by}
 use Rattle.conn_future.proofs.Cases.{both_not, false_not, starved_not, some_not, given_not, of_give, pending_not, of_ready, ready_none_not, none_rose, rose_not, one_more, just_all, some_of, empty_of}
+use Rattle.conn_core.proofs.Growing.{stays, grown_on}
+use Rattle.conn_future.proofs.Leading.{gives_carries}
 use Rattle.conn_future.proofs.Making.{none_made, polls_none, polls_to, polls_all}
 use Rattle.conn_future.proofs.Moved.{drains_none, drains_on, came_on}
 use Rattle.conn_future.proofs.Stopped.{over_of}
@@ -37,7 +39,7 @@ always_pending P (Ready given) is = tt
 always_pending P Pending is = is
 
 pub returns-then-not-is_empty-clause-fault : goal.returns-then-not-is_empty-clause-fault
-returns-then-not-is_empty-clause-fault g c start role own first asked gave stays is = absurd (c.give.ensures.not_link start role own first asked gave stays (of_ready is))
+returns-then-not-is_empty-clause-fault g c start role own first log gave stays is = absurd (c.give.ensures.not_link start role own first log gave stays (of_ready is))
 
 pub loop-call-init : goal.loop-call-init
 loop-call-init g c =
@@ -46,7 +48,7 @@ loop-call-init g c =
       stage = refl;
       none_held = empty_of _ _ _ c.args.self.now.held.ok.0 c.is_empty.ensures c.if-not-is_empty.false;
       failures = refl;
-      follows = λ start role own first asked gave stays. stays;
+      follows = λ start role own first log gave standing. (log, stays log, standing);
       unshut = λ other shut. shut;
       shutting = λ is. drains_none g.L.Link g.met.L.Link.moves_nothing c.args.self.now.link c.args.self.now.unsent.items;
       moved = λ is. ([], [], g.met.L.Link.moves_nothing c.args.self.now.link);
@@ -72,8 +74,13 @@ loop-call-preserved g c = record {
   stage = c.in-Again.ensures.goes_on.0 ∙ c.loop-call.invariant.stage;
   none_held = c.in-Again.ensures.goes_on.1;
   failures = none_rose c.in-Again.ensures.failures c.loop-call.invariant.failures;
-  follows = λ start role own first asked gave stays. subst (λ (l : List (ConnEvent _)). Follows g.L.Link g.P.Protocols g.P.H.Handler start role own first asked l c.turn.new.self) (append-nil gave)
-      (c.in-Again.ensures.follows start role own first asked gave (c.loop-call.invariant.follows start role own first asked gave stays)).follows;
+  follows = λ start role own first log gave standing.
+      let before = c.loop-call.invariant.follows start role own first log gave standing in
+      let by = c.in-Again.ensures.follows start role own first before.0 gave before.2 in (
+        by.now,
+        grown_on [] [] log before.0 by.now before.1 by.grown,
+        subst (λ (l : List (ConnEvent _)). Follows g.L.Link g.P.Protocols g.P.H.Handler start role own first by.now l c.turn.new.self) (append-nil gave) by.follows,
+      );
   unshut = λ other shut. c.loop-call.invariant.unshut other (c.turn.ensures.unshut (λ is. other (sym c.loop-call.invariant.stage ∙ is)) shut);
   shutting = λ is.
       let by = c.in-Again.ensures.shutting (c.loop-call.invariant.stage ∙ is) in
@@ -92,13 +99,22 @@ loop-call-preserved g c = record {
 }
 
 pub returns-in-Give-clause-follows : goal.returns-in-Give-clause-follows
-returns-in-Give-clause-follows g c start role own first asked gave stays = (c.in-Give.ensures.follows start role own first asked gave (c.loop-call.invariant.follows start role own first asked gave stays)).follows
+returns-in-Give-clause-follows g c start role own first log gave standing =
+    let before = c.loop-call.invariant.follows start role own first log gave standing in
+    let by = c.in-Give.ensures.follows start role own first before.0 gave before.2 in
+    (by.now, grown_on [] [] log before.0 by.now before.1 by.grown, by.follows)
 
 pub returns-in-Failed-clause-follows : goal.returns-in-Failed-clause-follows
-returns-in-Failed-clause-follows g c start role own first asked gave stays = (c.in-Failed.ensures.follows start role own first asked gave (c.loop-call.invariant.follows start role own first asked gave stays)).follows
+returns-in-Failed-clause-follows g c start role own first log gave standing =
+    let before = c.loop-call.invariant.follows start role own first log gave standing in
+    let by = c.in-Failed.ensures.follows start role own first before.0 gave before.2 in
+    (by.now, grown_on [] [] log before.0 by.now before.1 by.grown, by.follows)
 
 pub returns-in-Wait-clause-follows : goal.returns-in-Wait-clause-follows
-returns-in-Wait-clause-follows g c start role own first asked gave stays = (c.in-Wait.ensures.follows start role own first asked gave (c.loop-call.invariant.follows start role own first asked gave stays)).follows
+returns-in-Wait-clause-follows g c start role own first log gave standing =
+    let before = c.loop-call.invariant.follows start role own first log gave standing in
+    let by = c.in-Wait.ensures.follows start role own first before.0 gave before.2 in
+    (by.now, grown_on [] [] log before.0 by.now before.1 by.grown, by.follows)
 
 pub returns-in-Give-clause-shutting : goal.returns-in-Give-clause-shutting
 returns-in-Give-clause-shutting g c is =
@@ -122,24 +138,32 @@ returns-in-Wait-clause-shutting g c is =
     )
 
 pub returns-in-Give-clause-fault : goal.returns-in-Give-clause-fault
-returns-in-Give-clause-fault g c start role own first asked gave stays is = absurd ((c.in-Give.ensures.follows start role own first asked gave (c.loop-call.invariant.follows start role own first asked gave stays)).not_link (ap Give (of_ready is)))
+returns-in-Give-clause-fault g c start role own first log gave standing is =
+    let before = c.loop-call.invariant.follows start role own first log gave standing in
+    absurd ((c.in-Give.ensures.follows start role own first before.0 gave before.2).not_link (ap Give (of_ready is)))
 
 pub returns-in-Wait-clause-registered : goal.returns-in-Wait-clause-registered
 returns-in-Wait-clause-registered g c = c.in-Wait.ensures.covers c.loop-call.invariant.waits
 
 pub returns-clause-follows : goal.returns-clause-follows
-returns-clause-follows g c start role own first asked gave stays = subst (λ (l : List (ConnEvent _)). Follows g.L.Link g.P.Protocols g.P.H.Handler start role own first asked l c.loop-call.self) (sym (ap (λ p. gave ++ given_by p) c.yield_now.ensures.pending ∙ append-nil gave))
-    (c.loop-call.invariant.follows start role own first asked gave stays)
+returns-clause-follows g c start role own first log gave standing =
+    let before = c.loop-call.invariant.follows start role own first log gave standing in (
+      before.0,
+      before.1,
+      subst (λ (l : List (ConnEvent _)). Follows g.L.Link g.P.Protocols g.P.H.Handler start role own first before.0 l c.loop-call.self)
+          (sym (ap (λ p. gave ++ given_by p) c.yield_now.ensures.pending ∙ append-nil gave)) before.2,
+    )
 
 pub returns-in-Give-clause-ends : goal.returns-in-Give-clause-ends
-returns-in-Give-clause-ends g c start role own first asked gave stays is =
-    absurd ((c.in-Give.ensures.follows start role own first asked gave (c.loop-call.invariant.follows start role own first asked gave stays)).not_none (ap Give (of_ready is)))
+returns-in-Give-clause-ends g c start role own first log gave standing is =
+    let before = c.loop-call.invariant.follows start role own first log gave standing in
+    absurd ((c.in-Give.ensures.follows start role own first before.0 gave before.2).not_none (ap Give (of_ready is)))
 
 pub returns-then-not-is_empty-clause-stage : goal.returns-then-not-is_empty-clause-stage
 returns-then-not-is_empty-clause-stage g c is = c.give.ensures.kept (sym c.give.ensures.live ∙ is)
 
 pub returns-then-not-is_empty-clause-ends : goal.returns-then-not-is_empty-clause-ends
-returns-then-not-is_empty-clause-ends g c start role own first asked gave stays is =
+returns-then-not-is_empty-clause-ends g c start role own first log gave stays is =
     let empty = c.give.ensures.empty (of_ready is) in (
       empty.0,
       elim c.then-not-is_empty.branch [
@@ -195,7 +219,7 @@ returns-then-not-is_empty-clause-polls g c =
     (polls_none g.L.Link.calls g.met.L.Link.calls_none (length c.args.self.now.unsent.items) _ c.args.self.now.link c.args.cx.now)
 
 pub returns-then-not-is_empty-clause-follows : goal.returns-then-not-is_empty-clause-follows
-returns-then-not-is_empty-clause-follows g c = c.give.ensures.follows
+returns-then-not-is_empty-clause-follows g c = gives_carries g.L.Link g.P.Protocols g.P.H.Handler c.args.self.now (given_by (Ready c.give.result)) c.give.new.self c.give.ensures.follows
 
 pub returns-then-not-is_empty-clause-rose : goal.returns-then-not-is_empty-clause-rose
 returns-then-not-is_empty-clause-rose g c rose = absurd (rose_not (ap g.L.Link.failed c.give.ensures.link) rose)
@@ -285,10 +309,10 @@ pub returns-in-Failed-clause-rose : goal.returns-in-Failed-clause-rose
 returns-in-Failed-clause-rose g c rose = refl
 
 pub returns-in-Failed-clause-fault : goal.returns-in-Failed-clause-fault
-returns-in-Failed-clause-fault g c start role own first asked gave stays is = c.in-Failed.ensures.failures ∙ ap (λ n. n + 1) c.loop-call.invariant.failures
+returns-in-Failed-clause-fault g c start role own first log gave stays is = c.in-Failed.ensures.failures ∙ ap (λ n. n + 1) c.loop-call.invariant.failures
 
 pub returns-in-Failed-clause-ends : goal.returns-in-Failed-clause-ends
-returns-in-Failed-clause-ends g c start role own first asked gave stays is = absurd (ready_none_not is)
+returns-in-Failed-clause-ends g c start role own first log gave stays is = absurd (ready_none_not is)
 
 pub returns-in-Failed-clause-why : goal.returns-in-Failed-clause-why
 returns-in-Failed-clause-why g c going over = inr (inl refl)
@@ -327,10 +351,10 @@ pub returns-in-Wait-clause-rose : goal.returns-in-Wait-clause-rose
 returns-in-Wait-clause-rose g c rose = absurd (rose_not (none_rose c.in-Wait.ensures.failures c.loop-call.invariant.failures) rose)
 
 pub returns-in-Wait-clause-fault : goal.returns-in-Wait-clause-fault
-returns-in-Wait-clause-fault g c start role own first asked gave stays is = absurd (pending_not refl is)
+returns-in-Wait-clause-fault g c start role own first log gave stays is = absurd (pending_not refl is)
 
 pub returns-in-Wait-clause-ends : goal.returns-in-Wait-clause-ends
-returns-in-Wait-clause-ends g c start role own first asked gave stays is = absurd (pending_not refl is)
+returns-in-Wait-clause-ends g c start role own first log gave stays is = absurd (pending_not refl is)
 
 pub returns-in-Wait-clause-why : goal.returns-in-Wait-clause-why
 returns-in-Wait-clause-why g c going over = absurd (both_not (ap is_live (c.in-Wait.ensures.goes_on.0 ∙ c.loop-call.invariant.stage ∙ going)) (ap is_live over))
@@ -360,10 +384,10 @@ pub returns-clause-rose : goal.returns-clause-rose
 returns-clause-rose g c rose = absurd (rose_not c.loop-call.invariant.failures rose)
 
 pub returns-clause-fault : goal.returns-clause-fault
-returns-clause-fault g c start role own first asked gave stays is = absurd (pending_not c.yield_now.ensures.pending is)
+returns-clause-fault g c start role own first log gave stays is = absurd (pending_not c.yield_now.ensures.pending is)
 
 pub returns-clause-ends : goal.returns-clause-ends
-returns-clause-ends g c start role own first asked gave stays is = absurd (pending_not c.yield_now.ensures.pending is)
+returns-clause-ends g c start role own first log gave stays is = absurd (pending_not c.yield_now.ensures.pending is)
 
 pub returns-clause-stage : goal.returns-clause-stage
 returns-clause-stage g c live = c.loop-call.invariant.stage

@@ -3,6 +3,8 @@ use Rattle.futures.specs.Task.{Keeps}
 use Rattle.peer_ids.specs.Key.{Key}
 use Rattle.upgrade.specs.declared.role.ConnRole.{ConnRole}
 use Rattle.conn_log.specs.declared.event.ConnEvent.{ConnEvent}
+use Rattle.conn_log.specs.Entries.{Entry}
+use Rattle.conn_core.specs.Connects.{IsGrown}
 use Rattle.conn_future.specs.declared.stage.Stage.TheVariants.{Going, Shutting}
 use Rattle.conn_future.specs.Stages.{is_live, Drains}
 use Rattle.conn_future.specs.Follows.{Follows}
@@ -15,9 +17,9 @@ invariant-loop-call g l = record {
   stage : l.self.stage ≡ l.fn.self.stage;
   none_held : l.self.held.items ≡ [];
   failures : g.L.Link.failed l.self.link ≡ g.L.Link.failed l.fn.self.link;
-  follows : (start : _) (role : ConnRole) (own : Key) (first : _) (asked : List (ℕ × ℕ)) (gave : List (ConnEvent _))
-      → Follows g.L.Link g.P.Protocols g.P.H.Handler start role own first asked gave l.fn.self
-      → Follows g.L.Link g.P.Protocols g.P.H.Handler start role own first asked gave l.self;
+  follows : (start : _) (role : ConnRole) (own : Key) (first : _) (log : List (Entry _)) (gave : List (ConnEvent _))
+      → Follows g.L.Link g.P.Protocols g.P.H.Handler start role own first log gave l.fn.self
+      → (now : List (Entry _)) × IsGrown [] log now × Follows g.L.Link g.P.Protocols g.P.H.Handler start role own first now gave l.self;
   unshut : l.fn.self.stage ≢ Shutting → g.L.Link.is_shut l.self.link → g.L.Link.is_shut l.fn.self.link;
   shutting : l.fn.self.stage ≡ Shutting → Drains g.L.Link l.fn.self.link l.fn.self.unsent.items l.self.link l.self.unsent.items;
   moved : l.fn.self.stage ≡ Going → (given : List ℕ) × (took : List ℕ) × g.L.Link.moves l.fn.self.link given took l.self.link;

@@ -4,6 +4,7 @@ use Rattle.conn_link.specs.Calling.Kind.{Shuts}
 use Rattle.conn_future.proofs.Making.{none_waited, made_to}
 use Rattle.conn_future.specs.Stages.{is_live}
 use Rattle.conn_future.proofs.Moved.{drains_shut}
+use Rattle.conn_core.proofs.Growing.{stays}
 use Rattle.conn_future.proofs.Standing.{goes_shut, closes_of, stays_failed, stays_pending}
 use Rattle.conn_future.proofs.Cases.{false_not, both_not, shut_not, none_not, failed_not, wait_not, counted_ok, counted_fault, counted_pending, of_success, shuts_read_not}
 use Rattle.conn_future.proofs.Waiting.{closing_covers}
@@ -11,28 +12,34 @@ use Rattle.futures.specs.declared.task.Poll.TheVariants.{Ready}
 use Rattle.conn_future.proofs.conn.Conn.close.Goals as goal
 
 pub returns-in-Ready-Ok-clause-follows : goal.returns-in-Ready-Ok-clause-follows
-returns-in-Ready-Ok-clause-follows g c start role own first asked gave stays = record {
+returns-in-Ready-Ok-clause-follows g c start role own first log gave standing = record {
+  now = log;
+  grown = stays log;
   follows = let shut : g.L.Link.is_shut c.poll_shut.new.self = of_success _ (c.in-Ready-Ok.is ∙ ap Ready c.in-Ready-Ok.field-0-is) c.poll_shut.ensures.shut in
-      goes_shut g.L.Link g.P.Protocols g.P.H.Handler start role own g.met.L.Link.moves_on g.met.L.Link.stays_ended first asked gave c.args.self.now.link c.poll_shut.new.self c.args.self.now.core c.args.self.now.unsent.items []
+      goes_shut g.L.Link g.P.Protocols g.P.H.Handler start role own g.met.L.Link.moves_on g.met.L.Link.stays_ended first log gave c.args.self.now.link c.poll_shut.new.self c.args.self.now.core c.args.self.now.unsent.items []
       c.args.self.now.held.items c.requires.none_held c.requires.none_left
-      (closes_of g.L.Link g.P.Protocols g.P.H.Handler start role own first asked gave c.args.self.now.link c.args.self.now.core c.args.self.now.unsent.items c.args.self.now.held.items c.args.self.now.stage c.requires.shutting stays)
+      (closes_of g.L.Link g.P.Protocols g.P.H.Handler start role own first log gave c.args.self.now.link c.args.self.now.core c.args.self.now.unsent.items c.args.self.now.held.items c.args.self.now.stage c.requires.shutting standing)
       c.poll_shut.ensures.moved c.poll_shut.ensures.not_found shut;
   not_link = shut_not;
   not_none = none_not;
 }
 
 pub returns-in-Ready-Err-clause-follows : goal.returns-in-Ready-Err-clause-follows
-returns-in-Ready-Err-clause-follows g c start role own first asked gave stays = record {
-  follows = stays_failed g.L.Link g.P.Protocols g.P.H.Handler start role own g.met.L.Link.moves_on g.met.L.Link.stays_ended first asked gave c.args.self.now.link c.poll_shut.new.self c.args.self.now.core c.args.self.now.unsent.items []
-      c.args.self.now.held.items c.args.self.now.stage (ap is_live c.requires.shutting) c.requires.none_held stays c.poll_shut.ensures.moved c.poll_shut.ensures.not_found;
+returns-in-Ready-Err-clause-follows g c start role own first log gave standing = record {
+  now = log;
+  grown = stays log;
+  follows = stays_failed g.L.Link g.P.Protocols g.P.H.Handler start role own g.met.L.Link.moves_on g.met.L.Link.stays_ended first log gave c.args.self.now.link c.poll_shut.new.self c.args.self.now.core c.args.self.now.unsent.items []
+      c.args.self.now.held.items c.args.self.now.stage (ap is_live c.requires.shutting) c.requires.none_held standing c.poll_shut.ensures.moved c.poll_shut.ensures.not_found;
   not_link = failed_not;
   not_none = failed_not;
 }
 
 pub returns-in-Pending-clause-follows : goal.returns-in-Pending-clause-follows
-returns-in-Pending-clause-follows g c start role own first asked gave stays = record {
-  follows = stays_pending g.L.Link g.P.Protocols g.P.H.Handler start role own g.met.L.Link.moves_on g.met.L.Link.stays_ended first asked gave c.args.self.now.link c.poll_shut.new.self c.args.self.now.core c.args.self.now.unsent.items
-      c.args.self.now.held.items c.args.self.now.stage (ap is_live c.requires.shutting) stays c.poll_shut.ensures.moved c.poll_shut.ensures.not_found;
+returns-in-Pending-clause-follows g c start role own first log gave standing = record {
+  now = log;
+  grown = stays log;
+  follows = stays_pending g.L.Link g.P.Protocols g.P.H.Handler start role own g.met.L.Link.moves_on g.met.L.Link.stays_ended first log gave c.args.self.now.link c.poll_shut.new.self c.args.self.now.core c.args.self.now.unsent.items
+      c.args.self.now.held.items c.args.self.now.stage (ap is_live c.requires.shutting) standing c.poll_shut.ensures.moved c.poll_shut.ensures.not_found;
   not_link = wait_not;
   not_none = wait_not;
 }

@@ -8,6 +8,7 @@ use Rattle.conn_future.proofs.Making.{none_left, made_on, answered_on}
 use Rattle.conn_future.specs.Stages.{is_live}
 use Rattle.conn_future.proofs.Moved.{of_count, of_fault, of_pending, found_none, fault_ends_not, pending_ends_not, some_end_not, none_ends, some_moved, some_room}
 use Rattle.conn_future.proofs.Lists.{written_back}
+use Rattle.conn_core.proofs.Growing.{stays}
 use Rattle.conn_future.proofs.Standing.{goes_none, stays_failed, stays_pending}
 use Rattle.conn_future.proofs.Cases.{false_not, both_not, again_not, failed_not, always_again, counted_ok, counted_fault, counted_pending, counted_heard, reads_shut_not, reads_write_not, none_below}
 use Rattle.conn_future.proofs.Waiting.{waits_read}
@@ -15,19 +16,21 @@ use Rattle.conn_future.specs.declared.stage.Stage.{Stage}
 use Rattle.conn_future.proofs.conn.Conn.read.Goals as goal
 
 pub returns-in-Ready-Ok-eq0-clause-follows : goal.returns-in-Ready-Ok-eq0-clause-follows
-returns-in-Ready-Ok-eq0-clause-follows g c start role own first asked gave stays =
-    c.end.ensures.follows start role own first asked gave
+returns-in-Ready-Ok-eq0-clause-follows g c start role own first log gave standing =
+    c.end.ensures.follows start role own first log gave
     c.args.self.now.link
-    (goes_none g.L.Link g.P.Protocols g.P.H.Handler start role own first asked gave c.args.self.now.link c.args.self.now.core c.args.self.now.unsent.items c.args.self.now.held.items c.args.self.now.stage
-    c.requires.going c.requires.none_held stays)
+    (goes_none g.L.Link g.P.Protocols g.P.H.Handler start role own first log gave c.args.self.now.link c.args.self.now.core c.args.self.now.unsent.items c.args.self.now.held.items c.args.self.now.stage
+    c.requires.going c.requires.none_held standing)
     (subst (λ (l : List ℕ). g.L.Link.moves c.args.self.now.link l [] c.poll_read.new.self)
     (of_count c.poll_read.result _ _ 0 (c.in-Ready-Ok-eq0.is ∙ ap Ready (c.in-Ready-Ok-eq0.field-0-is ∙ ap Ok c.in-Ready-Ok-eq0.field-0-0-test)) refl) c.poll_read.ensures.moved)
     (c.poll_read.ensures.end (none_ends (length c.as_mut_slice.result.now) c.poll_read.result (c.in-Ready-Ok-eq0.is ∙ ap Ready (c.in-Ready-Ok-eq0.field-0-is ∙ ap Ok c.in-Ready-Ok-eq0.field-0-0-test)) (some_room c.as_mut_slice.result.now c.args.self.now.buffer.items c.as_mut_slice.ensures.value c.args.self.now.has_room)))
 
 pub returns-in-Ready-Err-clause-follows : goal.returns-in-Ready-Err-clause-follows
-returns-in-Ready-Err-clause-follows g c start role own first asked gave stays = record {
-  follows = stays_failed g.L.Link g.P.Protocols g.P.H.Handler start role own g.met.L.Link.moves_on g.met.L.Link.stays_ended first asked gave c.args.self.now.link c.poll_read.new.self c.args.self.now.core c.args.self.now.unsent.items []
-      c.args.self.now.held.items c.args.self.now.stage (ap is_live c.requires.going) c.requires.none_held stays
+returns-in-Ready-Err-clause-follows g c start role own first log gave standing = record {
+  now = log;
+  grown = stays log;
+  follows = stays_failed g.L.Link g.P.Protocols g.P.H.Handler start role own g.met.L.Link.moves_on g.met.L.Link.stays_ended first log gave c.args.self.now.link c.poll_read.new.self c.args.self.now.core c.args.self.now.unsent.items []
+      c.args.self.now.held.items c.args.self.now.stage (ap is_live c.requires.going) c.requires.none_held standing
       (subst (λ (l : List ℕ). g.L.Link.moves c.args.self.now.link l [] c.poll_read.new.self)
       (of_fault c.poll_read.result _ c.in-Ready-Err._fault (c.in-Ready-Err.is ∙ ap Ready c.in-Ready-Err.field-0-is)) c.poll_read.ensures.moved)
       (λ there. found_none _ (length c.as_mut_slice.result.now) c.poll_read.result (Ready (Err c.in-Ready-Err._fault)) (c.in-Ready-Err.is ∙ ap Ready c.in-Ready-Err.field-0-is) (fault_ends_not (length c.as_mut_slice.result.now) c.in-Ready-Err._fault) (c.poll_read.ensures.found there));
@@ -36,9 +39,11 @@ returns-in-Ready-Err-clause-follows g c start role own first asked gave stays = 
 }
 
 pub returns-in-Pending-clause-follows : goal.returns-in-Pending-clause-follows
-returns-in-Pending-clause-follows g c start role own first asked gave stays = record {
-  follows = stays_pending g.L.Link g.P.Protocols g.P.H.Handler start role own g.met.L.Link.moves_on g.met.L.Link.stays_ended first asked gave c.args.self.now.link c.poll_read.new.self c.args.self.now.core c.args.self.now.unsent.items
-      c.args.self.now.held.items c.args.self.now.stage (ap is_live c.requires.going) stays
+returns-in-Pending-clause-follows g c start role own first log gave standing = record {
+  now = log;
+  grown = stays log;
+  follows = stays_pending g.L.Link g.P.Protocols g.P.H.Handler start role own g.met.L.Link.moves_on g.met.L.Link.stays_ended first log gave c.args.self.now.link c.poll_read.new.self c.args.self.now.core c.args.self.now.unsent.items
+      c.args.self.now.held.items c.args.self.now.stage (ap is_live c.requires.going) standing
       (subst (λ (l : List ℕ). g.L.Link.moves c.args.self.now.link l [] c.poll_read.new.self)
       (of_pending c.poll_read.result _ c.in-Pending.is) c.poll_read.ensures.moved)
       (λ there. found_none _ (length c.as_mut_slice.result.now) c.poll_read.result Pending c.in-Pending.is (pending_ends_not (length c.as_mut_slice.result.now)) (c.poll_read.ensures.found there));
@@ -47,10 +52,10 @@ returns-in-Pending-clause-follows g c start role own first asked gave stays = re
 }
 
 pub returns-in-Ready-Ok-clause-follows : goal.returns-in-Ready-Ok-clause-follows
-returns-in-Ready-Ok-clause-follows g c start role own first asked gave stays =
-    c.hear.ensures.follows start role own first asked gave c.args.self.now.link
-    (goes_none g.L.Link g.P.Protocols g.P.H.Handler start role own first asked gave c.args.self.now.link c.args.self.now.core c.args.self.now.unsent.items c.args.self.now.held.items c.args.self.now.stage
-    c.requires.going c.requires.none_held stays)
+returns-in-Ready-Ok-clause-follows g c start role own first log gave standing =
+    c.hear.ensures.follows start role own first log gave c.args.self.now.link
+    (goes_none g.L.Link g.P.Protocols g.P.H.Handler start role own first log gave c.args.self.now.link c.args.self.now.core c.args.self.now.unsent.items c.args.self.now.held.items c.args.self.now.stage
+    c.requires.going c.requires.none_held standing)
     (subst (λ (l : List ℕ). g.L.Link.moves c.args.self.now.link l [] c.poll_read.new.self)
     (of_count c.poll_read.result c.poll_read.new.buffer _ c.in-Ready-Ok.count (c.in-Ready-Ok.is ∙ ap Ready c.in-Ready-Ok.field-0-is)
     (sym (written_back c.args.self.now.buffer.len c.poll_read.new.buffer c.args.self.now.buffer.items (c.poll_read.auto.buffer ∙ c.as_mut_slice.ensures.len)))) c.poll_read.ensures.moved)

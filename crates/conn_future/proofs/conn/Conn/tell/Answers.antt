@@ -2,68 +2,73 @@ use Rattle.std.proofs.Common.{◌≡◌, ◌∙◌, ◌++◌, [], false, ap, sym
 use Rattle.conn_core.specs.Connects.{is_over, waiting_in}
 use Rattle.conn_future.specs.Stages.{is_live}
 use Rattle.conn_future.proofs.Lists.{not_true, some_given}
-use Rattle.conn_future.proofs.Standing.{told_stays, parts_of, unopened, goes_collected, going_stays, stays_none, tells_some}
+use Rattle.conn_core.proofs.Growing.{stays}
+use Rattle.conn_future.proofs.Standing.{told_stays, parts_of, goes_collected, going_stays, stays_none, tells_some}
 use Rattle.conn_future.proofs.Cases.{both_not, again_not, of_give, never_going, gives_no_wait, some_of, empty_of}
 use Rattle.conn_future.specs.declared.turns.Turn.TheVariants.{Give}
 use Rattle.conn_future.proofs.conn.Conn.tell.Goals as goal
 
 pub returns-then-is_over-clause-follows : goal.returns-then-is_over-clause-follows
-returns-then-is_over-clause-follows g c start role own first asked gave ended joins ends unended =
+returns-then-is_over-clause-follows g c start role own first log gave ended joins ends unended =
     let over = sym c.is_over.ensures ∙ c.if-is_over.true in
-    let stays =
-    told_stays g.L.Link g.P.Protocols g.P.H.Handler start role own first asked gave ended c.args.self.now.link c.stop.new.self.link c.args.self.now.core c.stop.new.self.core
+    let standing =
+    told_stays g.L.Link g.P.Protocols g.P.H.Handler start role own first log gave ended c.args.self.now.link c.stop.new.self.link c.args.self.now.core c.stop.new.self.core
     c.args.self.now.unsent.items c.stop.new.self.unsent.items c.args.events.items c.stop.new.self.held.items c.stop.new.self.stage c.stop.ensures.stage c.stop.ensures.link c.stop.ensures.core
     (ap (λ h. h.items) c.stop.ensures.held ∙ c.from.ensures.0) over joins in record {
-      follows = c.give.ensures.follows start role own first asked gave stays;
-      not_link = λ is. c.give.ensures.not_link start role own first asked gave stays (of_give is);
+      now = log;
+      grown = stays log;
+      follows = c.give.ensures.follows start role own first log gave standing;
+      not_link = λ is. c.give.ensures.not_link start role own first log gave standing (of_give is);
       not_none = λ is.
           some_given c.stop.new.self.held.items c.give.result (λ x rest held. (c.give.ensures.held x rest held).0)
-          (λ none. tells_some g.L.Link g.P.Protocols g.P.H.Handler start role own first asked gave ended c.args.self.now.link c.args.self.now.core c.args.self.now.unsent.items c.args.events.items joins unended
+          (λ none. tells_some g.L.Link g.P.Protocols g.P.H.Handler start role own first log gave ended c.args.self.now.link c.args.self.now.core c.args.self.now.unsent.items c.args.events.items joins unended
           over (sym (ap (λ h. h.items) c.stop.ensures.held ∙ c.from.ensures.0) ∙ none)) (of_give is);
     }
 
 pub returns-in_default-clause-follows : goal.returns-in_default-clause-follows
-returns-in_default-clause-follows g c start role own first asked gave ended joins ends unended =
-    c.starve.ensures.follows start role own first asked gave
-    (parts_of g.L.Link g.P.Protocols g.P.H.Handler start role own first asked [] gave ended c.args.self.now.link c.collect.new.self.link c.args.self.now.core c.collect.new.self.core
+returns-in_default-clause-follows g c start role own first log gave ended joins ends unended =
+    c.starve.ensures.follows start role own first log gave
+    (parts_of g.L.Link g.P.Protocols g.P.H.Handler start role own first log [] gave ended c.args.self.now.link c.collect.new.self.link c.args.self.now.core c.collect.new.self.core
     c.args.self.now.unsent.items (waiting_in c.args.self.now.core.phase c.args.self.now.core.output.items) c.args.events.items
     c.collect.new.self.held.items c.collect.ensures.link (ap (λ h. h.items) c.collect.ensures.held ∙ c.from.ensures.0) (sym c.is_over.ensures ∙ c.if-is_over.false)
-    (λ input taken stood _. unopened g.L.Link g.P.Protocols g.P.H.Handler start role own input ended asked (gave ++ c.args.events.items)
-    (taken ++ (c.args.self.now.unsent.items ++ waiting_in c.args.self.now.core.phase c.args.self.now.core.output.items)) c.collect.new.self.core
-    (c.in_default.ensures.lost start role own input taken ended asked (gave ++ c.args.events.items) stood)) joins)
+    joins (λ _. c.in_default.ensures.lost start role own joins.given joins.took ended log (gave ++ c.args.events.items) joins.stands))
 
 pub returns-then-is_empty-clause-follows : goal.returns-then-is_empty-clause-follows
-returns-then-is_empty-clause-follows g c start role own first asked gave ended joins ends unended =
+returns-then-is_empty-clause-follows g c start role own first log gave ended joins ends unended =
     let goes_on : is_over c.args.self.now.core.phase ≡ false = sym c.is_over.ensures ∙ c.if-is_over.false in
     let going : ended ≡ false = not_true ended (λ is. both_not (ends is) goes_on) in
-    let stays =
-    going_stays g.L.Link g.P.Protocols g.P.H.Handler start role own first asked gave c.collect.new.self.link c.collect.new.self.core c.collect.new.self.unsent.items c.collect.new.self.held.items
+    let standing =
+    going_stays g.L.Link g.P.Protocols g.P.H.Handler start role own first log gave c.collect.new.self.link c.collect.new.self.core c.collect.new.self.unsent.items c.collect.new.self.held.items
     c.collect.new.self.stage (c.collect.ensures.stage ∙ c.requires)
-    (goes_collected g.L.Link g.P.Protocols g.P.H.Handler start role own first asked gave ended c.args.self.now.link c.collect.new.self.link c.args.self.now.core c.collect.new.self.core
+    (goes_collected g.L.Link g.P.Protocols g.P.H.Handler start role own first log gave ended c.args.self.now.link c.collect.new.self.link c.args.self.now.core c.collect.new.self.core
     c.args.self.now.unsent.items c.collect.new.self.unsent.items c.args.events.items c.collect.new.self.held.items
-    (λ input taken end told stood. c.in-Ok.ensures.stands start role own input taken end asked told stood)
+    (λ input taken end told stood. c.in-Ok.ensures.stands start role own input taken end log told stood)
     c.collect.ensures.link (ap (λ h. h.items) c.collect.ensures.held ∙ c.from.ensures.0) going
     (c.collect.ensures.over ∙ goes_on) c.collect.ensures.none_waits joins) in record {
-      follows = stays_none g.L.Link g.P.Protocols g.P.H.Handler start role own first asked gave c.collect.new.self.link c.collect.new.self.core c.collect.new.self.unsent.items c.collect.new.self.held.items
-          c.collect.new.self.held.items c.collect.new.self.stage refl stays;
+      now = log;
+      grown = stays log;
+      follows = stays_none g.L.Link g.P.Protocols g.P.H.Handler start role own first log gave c.collect.new.self.link c.collect.new.self.core c.collect.new.self.unsent.items c.collect.new.self.held.items
+          c.collect.new.self.held.items c.collect.new.self.stage refl standing;
       not_link = again_not;
       not_none = again_not;
     }
 
 pub returns-clause-follows : goal.returns-clause-follows
-returns-clause-follows g c start role own first asked gave ended joins ends unended =
+returns-clause-follows g c start role own first log gave ended joins ends unended =
     let goes_on : is_over c.args.self.now.core.phase ≡ false = sym c.is_over.ensures ∙ c.if-is_over.false in
     let going : ended ≡ false = not_true ended (λ is. both_not (ends is) goes_on) in
-    let stays =
-    going_stays g.L.Link g.P.Protocols g.P.H.Handler start role own first asked gave c.collect.new.self.link c.collect.new.self.core c.collect.new.self.unsent.items c.collect.new.self.held.items
+    let standing =
+    going_stays g.L.Link g.P.Protocols g.P.H.Handler start role own first log gave c.collect.new.self.link c.collect.new.self.core c.collect.new.self.unsent.items c.collect.new.self.held.items
     c.collect.new.self.stage (c.collect.ensures.stage ∙ c.requires)
-    (goes_collected g.L.Link g.P.Protocols g.P.H.Handler start role own first asked gave ended c.args.self.now.link c.collect.new.self.link c.args.self.now.core c.collect.new.self.core
+    (goes_collected g.L.Link g.P.Protocols g.P.H.Handler start role own first log gave ended c.args.self.now.link c.collect.new.self.link c.args.self.now.core c.collect.new.self.core
     c.args.self.now.unsent.items c.collect.new.self.unsent.items c.args.events.items c.collect.new.self.held.items
-    (λ input taken end told stood. c.in-Ok.ensures.stands start role own input taken end asked told stood)
+    (λ input taken end told stood. c.in-Ok.ensures.stands start role own input taken end log told stood)
     c.collect.ensures.link (ap (λ h. h.items) c.collect.ensures.held ∙ c.from.ensures.0) going
     (c.collect.ensures.over ∙ goes_on) c.collect.ensures.none_waits joins) in record {
-      follows = c.give-2.ensures.follows start role own first asked gave stays;
-      not_link = λ is. c.give-2.ensures.not_link start role own first asked gave stays (of_give is);
+      now = log;
+      grown = stays log;
+      follows = c.give-2.ensures.follows start role own first log gave standing;
+      not_link = λ is. c.give-2.ensures.not_link start role own first log gave standing (of_give is);
       not_none = λ is.
           some_given c.collect.new.self.held.items c.give-2.result (λ x rest held. (c.give-2.ensures.held x rest held).0)
           (some_of _ _ _ c.collect.new.self.held.ok.0 c.is_empty.ensures c.if-is_empty.false) (of_give is);

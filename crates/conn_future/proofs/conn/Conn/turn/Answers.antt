@@ -3,6 +3,7 @@ use Rattle.conn_future.specs.Stages.{is_live}
 use Rattle.conn_future.proofs.Cases.{both_not, none_more, wait_not, always_again, never_again, never_wait, some_of, empty_of, going_not}
 use Rattle.conn_future.proofs.Making.{made_up_to, made_all}
 use Rattle.conn_future.proofs.Moved.{drains_none}
+use Rattle.conn_core.proofs.Growing.{stays}
 use Rattle.conn_future.proofs.Standing.{stays_none}
 use Rattle.conn_future.proofs.conn.Conn.turn.Goals as goal
 use Rattle.conn_future.proofs.conn.Conn.turn.Goals.{else-not-is_empty-via-then-not-is_empty+else-not-waits, else-not-is_empty-via-else-not-is_empty}
@@ -189,9 +190,11 @@ returns-in-Shutting-clause-kept g c = c.close.ensures.kept
 -- ---- with no call
 
 pub returns-in-Going-2-clause-follows : goal.returns-in-Going-2-clause-follows
-returns-in-Going-2-clause-follows g c start role own first asked gave stays = record {
-  follows = stays_none g.L.Link g.P.Protocols g.P.H.Handler start role own first asked gave c.args.self.now.link c.args.self.now.core c.args.self.now.unsent.items c.args.self.now.held.items
-      c.args.self.now.held.items c.args.self.now.stage refl stays;
+returns-in-Going-2-clause-follows g c start role own first log gave standing = record {
+  now = log;
+  grown = stays log;
+  follows = stays_none g.L.Link g.P.Protocols g.P.H.Handler start role own first log gave c.args.self.now.link c.args.self.now.core c.args.self.now.unsent.items c.args.self.now.held.items
+      c.args.self.now.held.items c.args.self.now.stage refl standing;
   not_link = wait_not;
   not_none = wait_not;
 }

@@ -9,6 +9,7 @@ use Rattle.conn_future.specs.Turning.{left_of}
 use Rattle.conn_future.proofs.Lists.{some_left}
 use Rattle.conn_future.proofs.Making.{made_on, answered_on}
 use Rattle.conn_future.proofs.Moved.{of_count, of_fault, of_pending, drains_some, drains_still}
+use Rattle.conn_core.proofs.Growing.{stays}
 use Rattle.conn_future.proofs.Standing.{stays_wrote_to, stays_failed, stays_pending}
 use Rattle.conn_future.proofs.Cases.{false_not, both_not, again_not, failed_not, counted_ok, counted_fault, counted_pending, writes_shut_not, writes_read_not, none_below, rest_below}
 use Rattle.conn_future.proofs.Waiting.{waits_write}
@@ -16,18 +17,22 @@ use Rattle.conn_future.specs.Stages.{is_live}
 use Rattle.conn_future.proofs.conn.Conn.write.Goals as goal
 
 pub returns-in-Ready-Ok-clause-follows : goal.returns-in-Ready-Ok-clause-follows
-returns-in-Ready-Ok-clause-follows g c start role own first asked gave stays = record {
-  follows = stays_wrote_to g.L.Link g.P.Protocols g.P.H.Handler start role own g.met.L.Link.moves_on g.met.L.Link.stays_ended first asked gave c.args.self.now.link c.poll_write.new.self c.args.self.now.core c.args.self.now.unsent.items c.advance.new.self.items
+returns-in-Ready-Ok-clause-follows g c start role own first log gave standing = record {
+  now = log;
+  grown = stays log;
+  follows = stays_wrote_to g.L.Link g.P.Protocols g.P.H.Handler start role own g.met.L.Link.moves_on g.met.L.Link.stays_ended first log gave c.args.self.now.link c.poll_write.new.self c.args.self.now.core c.args.self.now.unsent.items c.advance.new.self.items
       _ c.args.self.now.held.items c.in-Ready-Ok.count c.args.self.now.stage c.requires.live c.advance.ensures.items
-      (of_count c.poll_write.result c.as_slice.result.now c.args.self.now.unsent.items c.in-Ready-Ok.count (c.in-Ready-Ok.is ∙ ap Ready c.in-Ready-Ok.field-0-is) c.as_slice.ensures) stays c.poll_write.ensures.moved c.poll_write.ensures.not_found;
+      (of_count c.poll_write.result c.as_slice.result.now c.args.self.now.unsent.items c.in-Ready-Ok.count (c.in-Ready-Ok.is ∙ ap Ready c.in-Ready-Ok.field-0-is) c.as_slice.ensures) standing c.poll_write.ensures.moved c.poll_write.ensures.not_found;
   not_link = again_not;
   not_none = again_not;
 }
 
 pub returns-in-Ready-Err-clause-follows : goal.returns-in-Ready-Err-clause-follows
-returns-in-Ready-Err-clause-follows g c start role own first asked gave stays = record {
-  follows = stays_failed g.L.Link g.P.Protocols g.P.H.Handler start role own g.met.L.Link.moves_on g.met.L.Link.stays_ended first asked gave c.args.self.now.link c.poll_write.new.self c.args.self.now.core c.args.self.now.unsent.items []
-      c.args.self.now.held.items c.args.self.now.stage c.requires.live c.requires.none_held stays
+returns-in-Ready-Err-clause-follows g c start role own first log gave standing = record {
+  now = log;
+  grown = stays log;
+  follows = stays_failed g.L.Link g.P.Protocols g.P.H.Handler start role own g.met.L.Link.moves_on g.met.L.Link.stays_ended first log gave c.args.self.now.link c.poll_write.new.self c.args.self.now.core c.args.self.now.unsent.items []
+      c.args.self.now.held.items c.args.self.now.stage c.requires.live c.requires.none_held standing
       (subst (λ (l : List ℕ). g.L.Link.moves c.args.self.now.link [] l c.poll_write.new.self)
       (of_fault c.poll_write.result c.as_slice.result.now c.in-Ready-Err._fault (c.in-Ready-Err.is ∙ ap Ready c.in-Ready-Err.field-0-is)) c.poll_write.ensures.moved) c.poll_write.ensures.not_found;
   not_link = failed_not;
@@ -35,9 +40,11 @@ returns-in-Ready-Err-clause-follows g c start role own first asked gave stays = 
 }
 
 pub returns-in-Pending-clause-follows : goal.returns-in-Pending-clause-follows
-returns-in-Pending-clause-follows g c start role own first asked gave stays = record {
-  follows = stays_pending g.L.Link g.P.Protocols g.P.H.Handler start role own g.met.L.Link.moves_on g.met.L.Link.stays_ended first asked gave c.args.self.now.link c.poll_write.new.self c.args.self.now.core c.args.self.now.unsent.items
-      c.args.self.now.held.items c.args.self.now.stage c.requires.live stays
+returns-in-Pending-clause-follows g c start role own first log gave standing = record {
+  now = log;
+  grown = stays log;
+  follows = stays_pending g.L.Link g.P.Protocols g.P.H.Handler start role own g.met.L.Link.moves_on g.met.L.Link.stays_ended first log gave c.args.self.now.link c.poll_write.new.self c.args.self.now.core c.args.self.now.unsent.items
+      c.args.self.now.held.items c.args.self.now.stage c.requires.live standing
       (subst (λ (l : List ℕ). g.L.Link.moves c.args.self.now.link [] l c.poll_write.new.self)
       (of_pending c.poll_write.result c.as_slice.result.now c.in-Pending.is) c.poll_write.ensures.moved) c.poll_write.ensures.not_found;
   not_link = again_not;
