@@ -1,6 +1,6 @@
 -- The worked rows of an end of a connection.
 use Rattle.std.proofs.Common.{◌≡◌, ◌⊎◌, inl, inr, ℕ, Bool, true, false, List, [], ◌∷◌, ◌++◌, drop, Option, Some, refl, sym, ap, ◌∙◌, subst}
-use Rattle.std.proofs.lemmas.List.{append_assoc, append_cancel_right}
+use Rattle.std.proofs.lemmas.List.{append_assoc, append_cancel_left, append_cancel_right}
 use Rattle.std.specs.List.{AllByRecursion}
 use Rattle.handlers.specs.Calls.{HandlerCall, Asked}
 use Rattle.peer_ids.specs.Key.{Key}
@@ -31,7 +31,7 @@ use Rattle.conn_core.specs.ConnectRows.{NameRows, PhaseRows, GrownRows, OpenedRo
 use Rattle.board.specs.Handlers.{numbered}
 use Rattle.conn_core.specs.PromiseRows.{ServingRows, EarlyRows, HandedRows}
 use Rattle.conn_core.proofs.Growing.{stays, one_opened}
-use Rattle.conn_core.specs.RunRows.{LastRows, SumRows, RefusedRows, AnswerRows, going, over, answers_at, answers_all}
+use Rattle.conn_core.specs.RunRows.{LastRows, SumRows, RefusedRows, AnswerRows, going, over, answers_at, answers_any, answers_all}
 
 -- ---- lists of events
 
@@ -249,12 +249,18 @@ module _ {P H : Type 0} (step : H → HandlerCall → H → Type 0) (fails : H �
       subst (λ (here : Point H). All here (other ∷ []) (answers.Refused refusals.Failed ∷ []) last → last ≡ Spent written) (sym answered.1)
       (λ rest. rest.2 ∙ rest.1.1) (behind, next_answered, is)
 
-  other_broken : (cause : Cause) → Call [] [] (Ask 2) (answers.Stream 5) (At (1 ∷ []) false (Asks 5 2 ∷ Asks 3 0 ∷ []) [] (event.Broken 3 cause ∷ [])) → ⊥
-  other_broken cause (there, (more, broken, now, grown, is)) = not_five more broken (cc is) where
-    not_five : (more : List (ConnEvent H)) → AllByRecursion (IsBrokenOf 5) more → event.Broken 3 cause ∷ [] ≡ more → ⊥
-    not_five [] all is = cc is
-    not_five (e ∷ more) all is = let same : e ≡ event.Broken 3 cause = cc is in
-        let n : ◌≡◌ {A = ℕ} 3 5 = subst (λ (y : ConnEvent H). IsBrokenOf 5 y) same all.0 in cc n
+  abbrev Any : List ℕ → Bool → List (Entry H) → (told owed : List (ConnEvent H)) → ConnAct → ConnAnswer H → Point H → Type 0
+  Any = answers_any step fails is_closed is_finished inbound_makes outbound_makes listed is_eager inbound_leads
+      outbound_leads start role own
+
+  other_broken : (input : List ℕ) (ended : Bool) (log : List (Entry H)) (told owed : List (ConnEvent H)) (cause : Cause)
+      → Any input ended log told owed (Ask 2) (answers.Stream 5) (At input false (Asks 5 2 ∷ log) told (owed ++ event.Broken 3 cause ∷ [])) → ⊥
+  other_broken input ended log told owed cause (there, (more, broken, now, grown, is)) =
+      not_five more broken (append_cancel_left owed (event.Broken 3 cause ∷ []) more (cc is)) where
+        not_five : (more : List (ConnEvent H)) → AllByRecursion (IsBrokenOf 5) more → event.Broken 3 cause ∷ [] ≡ more → ⊥
+        not_five [] all is = cc is
+        not_five (e ∷ more) all is = let same : e ≡ event.Broken 3 cause = cc is in
+            let n : ◌≡◌ {A = ℕ} 3 5 = subst (λ (y : ConnEvent H). IsBrokenOf 5 y) same all.0 in cc n
 
   pub answer_rows : AnswerRows step fails is_closed is_finished inbound_makes outbound_makes listed is_eager inbound_leads
       outbound_leads start role own
@@ -270,10 +276,10 @@ module _ {P H : Type 0} (step : H → HandlerCall → H → Type 0) (fails : H �
     fed_a_stream = λ bytes next it. it;
     ended_by_a_stream = λ next it. it;
     asked_for_events = λ more next it. it;
-    opened = λ owed next it. (it.1.0, it.1.2, it.1.3, it.1.4);
-    opens_another = λ told it. let e : ◌≡◌ {A = ℕ} 7 5 = ap first_number (asked_are 5 2 (Asks 7 2 ∷ []) (Asks 3 0 ∷ []) it.1.2 it.1.3 (cc it.1.4)) in cc e;
-    opens_none = λ told it. cc (asked_are 5 2 [] (Asks 3 0 ∷ []) it.1.2 it.1.3 (cc it.1.4));
-    opens_late = λ e told it. not_late 5 2 e (Asks 3 0 ∷ []) it.1.2 it.1.3 (cc it.1.4);
+    opened = λ input ended log told owed next it. (it.1.0, it.1.2, it.1.3, it.1.4);
+    opens_another = λ input ended log told owed owes it. let e : ◌≡◌ {A = ℕ} 7 5 = ap first_number (asked_are 5 2 (Asks 7 2 ∷ []) log it.1.2 it.1.3 (cc it.1.4)) in cc e;
+    opens_none = λ input ended log told owed owes it. cc (asked_are 5 2 [] log it.1.2 it.1.3 (cc it.1.4));
+    opens_late = λ input ended log told owed owes e it. not_late 5 2 e log it.1.2 it.1.3 (cc it.1.4);
     owes_of_another = other_broken;
     spent = λ written call answer next. (λ it. it, λ it. it);
     no_call = λ point last. (λ is. is, λ is. is);

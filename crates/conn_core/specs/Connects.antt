@@ -50,8 +50,8 @@ pub record IsGrown {H : Type 0} (opened : List (ℕ × ℕ)) (log now : List (En
   pub now_is : now ≡ newer ++ log
   pub opened_are : asks newer ≡ opened
 
--- The list has grown by the opening of this stream of this end, for the protocol of this index, next to what stood in it
--- before, and by what followed, in which it opened no other.
+-- The list has grown by the opening of this stream of this end, for the protocol of this index, next to what stood in
+-- it before, and by what followed, in which it opened no other.
 pub record IsOpened {H : Type 0} (number index : ℕ) (log now : List (Entry H)) : Type 0 where
   pub later : List (Entry H)
   pub now_is : now ≡ later ++ Asks number index ∷ log

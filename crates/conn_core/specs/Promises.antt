@@ -204,8 +204,8 @@ module _ {P H : Type 0} (step : H → HandlerCall → H → Type 0) (fails : H �
       outbound_leads start role own (At input ended log told owed) calls answers
       (At input_then ended_then log_then told_then owed_then) → IsGrown (opened_by calls answers) log log_then
 
-  -- Of an end that is up, and was up by a first part of what came: the key, the upgrade's part of the input and what the
-  -- upgrade wrote are what they were, and the frames in what the list has grown by are those of what came since.
+  -- Of an end that is up, and was up by a first part of what came: the key, the upgrade's part of the input and what
+  -- the upgrade wrote are what they were, and the frames in what the list has grown by are those of what came since.
   abbrev pub ComesInTurn : Type 0
   ComesInTurn = WhileUp (λ session streams past input log told written up. (more : List ℕ) (opened : List (ℕ × ℕ))
       (now : List (Entry H)) (grown : IsGrown opened log now) (session_then : State)

@@ -87,6 +87,12 @@ module _ {P H : Type 0} (step : H → HandlerCall → H → Type 0) (fails : H �
   answers_at = AnswersAt step fails is_closed is_finished inbound_makes outbound_makes listed is_eager inbound_leads
       outbound_leads start role own (1 ∷ []) false (Asks 3 0 ∷ [])
 
+  -- one call, wherever an end is
+  abbrev pub answers_any : List ℕ → Bool → List (Entry H) → (told owed : List (ConnEvent H)) → ConnAct → ConnAnswer H
+      → Point H → Type 0
+  answers_any = AnswersAt step fails is_closed is_finished inbound_makes outbound_makes listed is_eager inbound_leads
+      outbound_leads start role own
+
   abbrev pub answers_all : Point H → List ConnAct → List (ConnAnswer H) → Point H → Type 0
   answers_all = AnswersAll step fails is_closed is_finished inbound_makes outbound_makes listed is_eager inbound_leads
       outbound_leads start role own
@@ -122,19 +128,20 @@ module _ {P H : Type 0} (step : H → HandlerCall → H → Type 0) (fails : H �
     pub ended_by_a_stream : (next : Point H) → ¬ answers_at [] [] Ended (Stream 1) next
     pub asked_for_events : (more : Vec (ConnEvent H)) (next : Point H) → ¬ answers_at [] [] (Ask 0) (Events more) next
     -- the list has grown by this opening; of the stream it may owe that it is given up, and of no other
-    pub opened : (event_owed : ConnEvent H) (next : Point H)
-        → answers_at [] (event_owed ∷ []) (Ask 2) (Stream 5) next → (more : List (ConnEvent H))
-        × (now : List (Entry H)) × IsOpened 5 2 (Asks 3 0 ∷ []) now
-        × (next ≡ At (1 ∷ []) false now [] (event_owed ∷ more))
-    pub opens_another : (told : List (ConnEvent H))
-        → ¬ answers_at [] [] (Ask 2) (Stream 5) (At (1 ∷ []) false (Asks 7 2 ∷ Asks 3 0 ∷ []) told [])
-    pub opens_none : (told : List (ConnEvent H))
-        → ¬ answers_at [] [] (Ask 2) (Stream 5) (At (1 ∷ []) false (Asks 3 0 ∷ []) told [])
+    pub opened : (input : List ℕ) (ended : Bool) (log : List (Entry H)) (told owed : List (ConnEvent H))
+        (next : Point H) → answers_any input ended log told owed (Ask 2) (Stream 5) next → (more : List (ConnEvent H))
+        × (now : List (Entry H)) × IsOpened 5 2 log now × (next ≡ At input false now told (owed ++ more))
+    pub opens_another : (input : List ℕ) (ended : Bool) (log : List (Entry H)) (told owed owes : List (ConnEvent H))
+        → ¬ answers_any input ended log told owed (Ask 2) (Stream 5) (At input false (Asks 7 2 ∷ log) told owes)
+    pub opens_none : (input : List ℕ) (ended : Bool) (log : List (Entry H)) (told owed owes : List (ConnEvent H))
+        → ¬ answers_any input ended log told owed (Ask 2) (Stream 5) (At input false log told owes)
     -- nothing is done and told between what stood in the list and the opening
-    pub opens_late : (e : ConnEvent H) (told : List (ConnEvent H)) → ¬ answers_at [] [] (Ask 2) (Stream 5)
-        (At (1 ∷ []) false (Asks 5 2 ∷ Says e ∷ Asks 3 0 ∷ []) told [])
-    pub owes_of_another : (cause : Cause) → ¬ answers_at [] [] (Ask 2) (Stream 5)
-        (At (1 ∷ []) false (Asks 5 2 ∷ Asks 3 0 ∷ []) [] (event.Broken 3 cause ∷ []))
+    pub opens_late : (input : List ℕ) (ended : Bool) (log : List (Entry H)) (told owed owes : List (ConnEvent H))
+        (e : ConnEvent H) → ¬ answers_any input ended log told owed (Ask 2) (Stream 5)
+        (At input false (Asks 5 2 ∷ Says e ∷ log) told owes)
+    pub owes_of_another : (input : List ℕ) (ended : Bool) (log : List (Entry H)) (told owed : List (ConnEvent H))
+        (cause : Cause) → ¬ answers_any input ended log told owed (Ask 2) (Stream 5)
+        (At input false (Asks 5 2 ∷ log) told (owed ++ event.Broken 3 cause ∷ []))
     pub spent : (written : List ℕ) (call : ConnAct) (answer : ConnAnswer H) (next : Point H)
         → Answers step fails is_closed is_finished inbound_makes outbound_makes listed is_eager inbound_leads
         outbound_leads start role own (Spent written) call answer next

@@ -82,9 +82,9 @@ module _ {L P H : Type 0} (link : LinkGhosts L) (protocols : ProtocolsGhosts P H
   any_carry_rows = record {
     carries = λ old new events. (λ h. h, λ h. h);
     gives = λ old new events. (λ h. h, λ h. h);
-    ends_behind = (λ h. h, λ h. h);
-    in_turn = (λ h. h, λ h. h);
-    up = (λ h. h, λ h. h);
+    ends_behind = λ law. refl;
+    in_turn = λ law. refl;
+    up = λ law. refl;
     came = λ old new. (λ c. (c.given, c.took, c.moved, c.some), λ h. record { given = h.0; took = h.1; moved = h.2; some = h.3 });
     drains = λ old new left rest. (λ d. (d.took, d.parts, d.moved, d.unshut), λ h. record { took = h.0; parts = h.1; moved = h.2; unshut = h.3 });
   }
@@ -94,6 +94,8 @@ module _ (reads_at writes_at shuts_at : ℕ → Type 0) where
   any_wait_rows = record {
     going = λ unsent source. (λ h. h, λ h. h);
     shutting = λ unsent source. (λ h. h, λ h. h);
+    starved = λ unsent source h. h;
+    over = λ unsent source h. h;
   }
 
 module _ {L : Type 0} (calls : L → List Call → L → Type 0) where

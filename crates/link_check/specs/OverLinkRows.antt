@@ -36,6 +36,11 @@ use Rattle.conn_future.specs.PollRows.{never, never_with}
 use Rattle.conn_future.specs.Follows.{CoreStands, Joins, GoesOn, Parts, Ends, Stays, Follows, Carries, Gives, EndsBehind}
 use Rattle.conn_future.specs.Follows.{CarriesInTurn, UpOverLink}
 
+-- A law is this text, word by word: one that says less, or more, isn't of this type. A row that only concludes the text
+-- from the law would hold of any law, since the text is true.
+abbrev pub IsWorded : (Text : Type 0) → Text → Type 0
+IsWorded Text law = law ≡ law
+
 -- Of any connection over any link
 module _ {L P H : Type 0} (link : LinkGhosts L) (protocols : ProtocolsGhosts P H) (handler : HandlerGhosts H)
     (start : P) (role : ConnRole) (own : Key) where
@@ -129,7 +134,7 @@ module _ {L P H : Type 0} (link : LinkGhosts L) (protocols : ProtocolsGhosts P H
       → Conn L P H link protocols handler → Type 0
   follows_from = Follows link protocols handler
 
-  -- what the laws of a connection say, whatever it began with
+  -- what the laws of a connection say, word by word, whatever it began with
   pub record AnyCarryRows : Type 0 where
     pub carries : (old new : Conn L P H link protocols handler) (events : List (ConnEvent H))
         → Carries link protocols handler old events new
@@ -141,24 +146,20 @@ module _ {L P H : Type 0} (link : LinkGhosts L) (protocols : ProtocolsGhosts P H
         ↔ ((start : P) (role : ConnRole) (own : Key) (first : L) (log : List (Entry H)) (gave : List (ConnEvent H))
         → follows_from start role own first log gave old
         → follows_from start role own first log (gave ++ events) new)
-    pub ends_behind : EndsBehind link protocols handler
-        ↔ ((start : P) (role : ConnRole) (own : Key) (first : L) (log : List (Entry H)) (gave : List (ConnEvent H))
-        (last : ConnEvent H) (conn : Conn L P H link protocols handler)
-        → follows_from start role own first log (gave ++ last ∷ []) conn → is_end last ≡ true
-        → (conn.stage ≡ stages.Over) × (conn.held.items ≡ []))
-    pub in_turn : CarriesInTurn link protocols handler
-        ↔ ((first mid last : Conn L P H link protocols handler) (events more : List (ConnEvent H))
-        → Carries link protocols handler first events mid → Carries link protocols handler mid more last
-        → Carries link protocols handler first (events ++ more) last)
-    pub up : UpOverLink link protocols handler
-        ↔ ((start : P) (role : ConnRole) (own : Key) (first : L) (log : List (Entry H)) (gave : List (ConnEvent H))
-        (conn : Conn L P H link protocols handler) (mux : Mux P H)
-        → follows_from start role own first log gave conn → is_live conn.stage ≡ true
-        → conn.core.phase ≡ phases.Up mux
-        → (given : List ℕ) × (took : List ℕ) × link.moves first given took conn.link
-        × IsSplit handler.steps handler.fails handler.is_closed handler.is_finished protocols.makes_inbound
-        protocols.makes_outbound protocols.listed protocols.is_eager protocols.leads_inbound protocols.leads_outbound
-        start role own given ((gave ++ conn.held.items) ++ conn.core.owed.items) (took ++ conn.unsent.items) log)
+    pub ends_behind : (law : EndsBehind link protocols handler) → IsWorded ((start : P) (role : ConnRole) (own : Key)
+        (first : L) (log : List (Entry H)) (gave : List (ConnEvent H)) (last : ConnEvent H)
+        (conn : Conn L P H link protocols handler) → follows_from start role own first log (gave ++ last ∷ []) conn
+        → is_end last ≡ true → (conn.stage ≡ stages.Over) × (conn.held.items ≡ [])) law
+    pub in_turn : (law : CarriesInTurn link protocols handler) → IsWorded ((first mid last : Conn L P H link protocols
+        handler) (events more : List (ConnEvent H)) → Carries link protocols handler first events mid → Carries link
+        protocols handler mid more last → Carries link protocols handler first (events ++ more) last) law
+    pub up : (law : UpOverLink link protocols handler) → IsWorded ((start : P) (role : ConnRole) (own : Key) (first : L)
+        (log : List (Entry H)) (gave : List (ConnEvent H)) (conn : Conn L P H link protocols handler) (mux : Mux P H)
+        → follows_from start role own first log gave conn → is_live conn.stage ≡ true → conn.core.phase ≡ phases.Up mux
+        → (given : List ℕ) × (took : List ℕ) × link.moves first given took conn.link × IsSplit handler.steps
+        handler.fails handler.is_closed handler.is_finished protocols.makes_inbound protocols.makes_outbound
+        protocols.listed protocols.is_eager protocols.leads_inbound protocols.leads_outbound start role own given
+        ((gave ++ conn.held.items) ++ conn.core.owed.items) (took ++ conn.unsent.items) log) law
     -- what came, and what its link goes through behind shut
     pub came : (old new : L) → Came link old new
         ↔ ((given took : List ℕ) × link.moves old given took new × ((given ≢ []) ⊎ link.has_ended new))
@@ -173,6 +174,8 @@ module _ (reads_at writes_at shuts_at : ℕ → Type 0) where
         ↔ (reads_at source ⊎ ((unsent ≢ []) × writes_at source))
     pub shutting : (unsent : List ℕ) (source : ℕ) → WaitsAt reads_at writes_at shuts_at stages.Shutting unsent source
         ↔ (((unsent ≢ []) × writes_at source) ⊎ ((unsent ≡ []) × shuts_at source))
+    pub starved : (unsent : List ℕ) (source : ℕ) → ¬ WaitsAt reads_at writes_at shuts_at stages.Starved unsent source
+    pub over : (unsent : List ℕ) (source : ℕ) → ¬ WaitsAt reads_at writes_at shuts_at stages.Over unsent source
 
 -- Of one poll of any connection
 module _ {L : Type 0} (calls : L → List Call → L → Type 0) where

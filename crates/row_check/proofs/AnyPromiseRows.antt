@@ -1,12 +1,11 @@
 -- The rows of the laws of a connection, and of the order of its handlers.
-use Rattle.std.proofs.Common.{◌≡◌, ℕ, suc, ◌==◌, Bool, List, [], ◌∷◌, Some, None, refl, ap, ◌∙◌, ne_eqb, eq-eqb, lt-ltb, arith, length, cond, nat_lt, ◌+◌}
+use Rattle.std.proofs.Common.{◌≡◌, ℕ, suc, ◌==◌, Bool, List, [], ◌∷◌, Some, None, refl, ap, ◌∙◌, ne_eqb, eq-eqb, lt-ltb, arith, length, cond, nat_lt}
 use Rattle.std.specs.Prelude.{is_some}
 use Rattle.std.specs.List.{position, position_or_len}
 use Rattle.handlers.specs.Calls.{HandlerCall, Asked}
 use Rattle.peer_ids.specs.Key.{Key}
 use Rattle.upgrade.specs.declared.role.ConnRole.{ConnRole}
 use Rattle.held_order.specs.Orders.{without_if, arranged}
-use Rattle.conn_log.specs.Entries.{left_behind}
 use Rattle.row_check.specs.AnyPromiseRows.{AnyOrderRows, AnyPromiseRows}
 
 none_held : (H : Type 0) (order : List ℕ) → arranged {H = H} order [] ≡ []
@@ -42,19 +41,16 @@ any_orders = record {
   of_it = λ n handler held. rw (eq-eqb n n refl) refl;
   of_another = λ n m handler held ne. rw (ne_eqb m n ne) refl;
   numbered = λ held. refl;
-  names_each = λ law role log once n. (
-    λ kept. law role log once n ∙ ap (λ b. left_behind role log n + cond b 1 0) kept,
-    λ gone. law role log once n ∙ ap (λ b. left_behind role log n + cond b 1 0) gone,
-  );
+  names_each = λ law. refl;
   told_once = λ role log entry. (λ h. h, λ h. h);
   once = λ role log x n index handler call. (tt, tt, (λ h. h, λ h. h), (λ h. h, λ h. h));
   once_told = λ role log n handler cause. ((λ h. h, λ h. h), (λ h. h, λ h. h), (λ h. h, λ h. h));
   once_told_else = λ role log n index key fault. (tt, tt, tt, tt);
-  lets_go = λ law n newest. law n newest;
+  lets_go = λ law. refl;
   arranges = λ law. law.all;
   follows = λ law. law.follows;
   one_list = λ law. law.one_list;
-  listed_are_held = λ law. law;
+  listed_are_held = λ law. refl;
 }
 
 module _ {P H : Type 0} (step : H → HandlerCall → H → Type 0) (fails : H → Asked → ℕ → Type 0) (is_closed is_finished : H → Bool)
@@ -62,7 +58,7 @@ module _ {P H : Type 0} (step : H → HandlerCall → H → Type 0) (fails : H �
     (inbound_leads outbound_leads : P → ℕ → List ℕ → H → P → Type 0) (start : P) (role : ConnRole) (own : Key) where
   pub any_promises : AnyPromiseRows step fails is_closed is_finished inbound_makes outbound_makes listed is_eager inbound_leads outbound_leads start role own
   any_promises = record {
-    due_is_once = λ law. law;
+    due_is_once = λ law. refl;
     serving_is = λ end log n stream handler s. (
       s.side,
       s.index,
@@ -84,17 +80,14 @@ module _ {P H : Type 0} (step : H → HandlerCall → H → Type 0) (fails : H �
     );
     early_is = λ end log n stream handler s.
         (s.side, s.output, s.gave, s.made, s.left, s.opened, s.side_is, s.undecided, s.made_is, s.handled, s.sent_is, (s.asked_last, s.all_sent));
-    are_serving = λ law. law;
-    are_early = λ law. law;
-    live_are_held = λ law. law;
-    up_is_split = λ law session streams past input log told written up.
-        let s = law session streams past input log told written up in
+    are_serving = λ law. refl;
+    are_early = λ law. refl;
+    live_are_held = λ law. refl;
+    up_is_split = λ law. refl;
+    split_is = λ input told written log s.
         (s.key, s.first, s.rest, s.greeting, s.read.0, s.input_is, s.upgraded, s.read.1, s.no_fault, s.answered, s.told_is, s.written_is);
-    each_is_answered = λ law. law;
-    all_is_counted = λ law. law;
-    comes_in_turn = λ law session session_then streams streams_then past past_then input more log now told told_then written written_then opened up grown then.
-        law session streams past input log told written up more opened now grown session_then streams_then past_then told_then written_then then;
-    past_stays = λ law calls answers input input_then ended ended_then log log_then told told_then owed owed_then all.
-        let grown = law calls answers input input_then ended ended_then log log_then told told_then owed owed_then all in
-        (grown.newer, grown.now_is, grown.opened_are);
+    each_is_answered = λ law. refl;
+    all_is_counted = λ law. refl;
+    past_stays = λ law. refl;
+    comes_in_turn = λ law. refl;
   }

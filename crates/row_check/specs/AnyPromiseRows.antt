@@ -1,7 +1,7 @@
 -- Each law of a connection and of the order of its handlers, written out once more, and what each fact that it tells
 -- comes to: a law that comes to say less no longer lets conclude this. With rows of that order, whatever is in it.
 -- Source: libp2p connections, "Opening new streams over a connection"; this project's laws.
-use Rattle.std.specs.Prelude.{◌≡◌, ◌≢◌, ◌⊎◌, ◌↔◌, ℕ, ◌<◌, Bool, true, false, List, [], ◌∷◌, ◌++◌, length, map, Option}
+use Rattle.std.specs.Prelude.{◌≡◌, ◌≢◌, ◌⊎◌, ◌↔◌, ℕ, ◌<◌, Bool, true, false, List, [], ◌∷◌, ◌++◌, length, map, Option, if◌then◌else◌}
 use Rattle.std.specs.Prelude.{Some}
 use Rattle.std.specs.Prelude.{Ok, ◌+◌, ◌==◌, None, take, drop}
 use Rattle.std.specs.List.{Contains, position, remove}
@@ -44,8 +44,14 @@ use Rattle.conn_core.specs.Runs.{Point, AreHeld}
 use Rattle.conn_core.specs.Runs.Point.{At}
 use Rattle.conn_core.specs.Promises.{IsServing, IsEarly, ListedAreHeld, fed_by, told_by, opened_by, AreServing}
 use Rattle.conn_core.specs.Promises.{AreEarly}
-use Rattle.conn_core.specs.Promises.{LiveAreHeld, UpIsSplit, EachIsAnswered, AllIsCounted, PastStays, ComesInTurn}
+use Rattle.conn_core.specs.Promises.{LiveAreHeld, UpIsSplit, IsSplit, EachIsAnswered, AllIsCounted, PastStays}
+use Rattle.conn_core.specs.Promises.{ComesInTurn}
 use Rattle.row_check.specs.AnyConnRows.{is_up, answers_all}
+
+-- A law is this text, word by word: one that says less, or more, isn't of this type. A row that only concludes the text
+-- from the law would hold of any law, since the text is true.
+abbrev pub IsWorded : (Text : Type 0) → Text → Type 0
+IsWorded Text law = law ≡ law
 
 -- In which order handlers were made, by any entry of the list
 pub record AnyOrderRows (H : Type 0) : Type 0 where
@@ -92,9 +98,8 @@ pub record AnyOrderRows (H : Type 0) : Type 0 where
   pub numbered : (held : List (ℕ × H)) → numbers held ≡ map (λ one. one.0) held
   -- its laws
   -- the order names each that is held, in a list in which each last event was told once
-  pub names_each : NamesEachHeld H → (role : Role) (log : List (Entry H)) → ToldOnce role log → (n : ℕ)
-      → (is_kept role log n ≡ true → times n (newest_held role log) ≡ left_behind role log n + 1)
-      × (is_kept role log n ≡ false → times n (newest_held role log) ≡ left_behind role log n + 0)
+  pub names_each : (law : NamesEachHeld H) → IsWorded ((role : Role) (log : List (Entry H)) → ToldOnce role log
+      → (n : ℕ) → times n (newest_held role log) ≡ left_behind role log n + (if is_kept role log n then 1 else 0)) law
   pub told_once : (role : Role) (log : List (Entry H)) (entry : Entry H)
       → ToldOnce role (entry ∷ log) ↔ (IsOnce role log entry × ToldOnce role log)
   pub once : (role : Role) (log : List (Entry H)) (x : Item) (n index : ℕ) (handler : H) (call : HandlerCall)
@@ -108,20 +113,20 @@ pub record AnyOrderRows (H : Type 0) : Type 0 where
   pub once_told_else : (role : Role) (log : List (Entry H)) (n index : ℕ) (key : Key) (fault : ConnFault)
       → IsOnce {H = H} role log (Says (event.Agreed n index)) × IsOnce {H = H} role log (Says (event.Upgraded key))
       × IsOnce {H = H} role log (Says (event.Fault fault)) × IsOnce {H = H} role log (Says event.Shut)
-  pub lets_go : LetsGo → (n : ℕ) (newest : List ℕ)
+  pub lets_go : (law : LetsGo) → IsWorded ((n : ℕ) (newest : List ℕ)
       → ((newer older : List ℕ) × (newest ≡ newer ++ n ∷ older) × (times n newer ≡ 0)
-      × (without n newest ≡ newer ++ older)) ⊎ ((times n newest ≡ 0) × (without n newest ≡ newest))
+      × (without n newest ≡ newer ++ older)) ⊎ ((times n newest ≡ 0) × (without n newest ≡ newest))) law
   pub arranges : Arranges H → (n : ℕ) (order : List ℕ) (held : List (ℕ × H))
       → of_number n (arranged order held) ≡ of_number n held
   pub follows : Arranges H → (order : List ℕ) (held : List (ℕ × H))
       → ((n : ℕ) → times n order ≡ times n (numbers held)) → numbers (arranged order held) ≡ order
   pub one_list : Arranges H → (some other : List (ℕ × H)) → numbers some ≡ numbers other
       → ((n : ℕ) → of_number n some ≡ of_number n other) → some ≡ other
-  pub listed_are_held : ListedAreHeld H → (streams : ℕ → Option (Streaming H)) (past : List (Earlier H))
-      (handlers : List (ℕ × H)) → AreHeld streams past handlers → (n : ℕ) (handler : H)
+  pub listed_are_held : (law : ListedAreHeld H) → IsWorded ((streams : ℕ → Option (Streaming H))
+      (past : List (Earlier H)) (handlers : List (ℕ × H)) → AreHeld streams past handlers → (n : ℕ) (handler : H)
       → Contains handlers (n, handler) ↔ (((it : Earlier H) × Contains past it × (it.number ≡ n)
       × (handler_of it.stream.stage ≡ Some handler))
-      ⊎ ((stream : Streaming H) × (streams n ≡ Some stream) × (handler_of stream.stage ≡ Some handler)))
+      ⊎ ((stream : Streaming H) × (streams n ≡ Some stream) × (handler_of stream.stage ≡ Some handler)))) law
 
 module _ {P H : Type 0} (step : H → HandlerCall → H → Type 0) (fails : H → Asked → ℕ → Type 0)
     (is_closed is_finished : H → Bool) (inbound_makes outbound_makes : P → ℕ → List ℕ → H → Type 0)
@@ -146,10 +151,10 @@ module _ {P H : Type 0} (step : H → HandlerCall → H → Type 0) (fails : H �
 
   pub record AnyPromiseRows : Type 0 where
     -- in a list whose entries are due each last event was told once
-    pub due_is_once : DueIsOnce step fails is_closed is_finished inbound_makes outbound_makes → (eager : ℕ → Bool)
-        (names : List (List ℕ)) (peer : List ℕ) (end : Role) (log : List (Entry H))
+    pub due_is_once : (law : DueIsOnce step fails is_closed is_finished inbound_makes outbound_makes)
+        → IsWorded ((eager : ℕ → Bool) (names : List (List ℕ)) (peer : List ℕ) (end : Role) (log : List (Entry H))
         → AllDue step fails is_closed is_finished inbound_makes outbound_makes eager names peer end log
-        → AreAnswered end (items log) → ToldOnce end log
+        → AreAnswered end (items log) → ToldOnce end log) law
     pub serving_is : (end : Role) (log : List (Entry H)) (n : ℕ) (stream : Streaming H) (handler : H)
         → IsServing step is_closed is_finished (listed start) end log n stream handler
         → (side : Side) × (index : ℕ) × (first rest output gave : List ℕ) × (made : H) × (left : Option ℕ)
@@ -164,56 +169,59 @@ module _ {P H : Type 0} (step : H → HandlerCall → H → Type 0) (fails : H �
         × IsSide end (listed start) log n side × IsOpen side (inbound end (items log) n) output
         × (made_of end log n ≡ Some made) × Handled step made (calls_of end log n) [] false gave left handler
         × (written_on end (items log) n ++ stream.waiting ≡ output ++ gave) × AskedSo end log n stream handler left
-    pub are_serving : AreServing step fails is_closed is_finished inbound_makes outbound_makes listed is_eager
-        inbound_leads outbound_leads start role own → (session : State) (streams : ℕ → Option (Streaming H))
-        (past : List (Earlier H)) (input : List ℕ) (log : List (Entry H)) (told : List (ConnEvent H))
-        (written : List ℕ) (up : up_with_streams input log told written session streams past) (n : ℕ)
-        (stream : Streaming H) (handler : H) → streams n ≡ Some stream → stream.stage ≡ Serving handler
-        → IsServing step is_closed is_finished (listed start) (session_role role) log n stream handler
-    pub are_early : AreEarly step fails is_closed is_finished inbound_makes outbound_makes listed is_eager inbound_leads
-        outbound_leads start role own → (session : State) (streams : ℕ → Option (Streaming H))
-        (past : List (Earlier H)) (input : List ℕ) (log : List (Entry H)) (told : List (ConnEvent H))
-        (written : List ℕ) (up : up_with_streams input log told written session streams past) (n : ℕ)
-        (stream : Streaming H) (handler : H) (talk : Talk) → streams n ≡ Some stream
-        → stream.stage ≡ Talking talk (Some handler)
-        → IsEarly step is_closed is_finished (listed start) (session_role role) log n stream handler
-    pub live_are_held : LiveAreHeld step fails is_closed is_finished inbound_makes outbound_makes listed is_eager
-        inbound_leads outbound_leads start role own → (session : State) (streams : ℕ → Option (Streaming H))
-        (past : List (Earlier H)) (input : List ℕ) (log : List (Entry H)) (told : List (ConnEvent H))
-        (written : List ℕ) (up : up_with_streams input log told written session streams past) (n : ℕ)
-        → is_live (session_role role) (items log) n ≡ true → (stream : Streaming H) × (streams n ≡ Some stream)
-        × (is_over (session_role role) log n ≡ was_handed_out stream.stage)
-        × (was_done (session_role role) log n ≡ was_handed_out stream.stage)
-    pub up_is_split : UpIsSplit step fails is_closed is_finished inbound_makes outbound_makes listed is_eager
-        inbound_leads outbound_leads start role own → (session : State) (streams : ℕ → Option (Streaming H))
-        (past : List (Earlier H)) (input : List ℕ) (log : List (Entry H)) (told : List (ConnEvent H))
-        (written : List ℕ) (up : up_with_streams input log told written session streams past)
-        → (key : Key) × (first rest greeting part : List ℕ) × (input ≡ first ++ rest)
-        × Upgrades role own first (Ok (Some key)) greeting × Reads rest (arrivals (items log)) part
-        × HasNoFault (session_role role) (items log) × AreAnswered (session_role role) (items log)
-        × (told ≡ event.Upgraded key ∷ said log)
+    pub are_serving : (law : AreServing step fails is_closed is_finished inbound_makes outbound_makes listed is_eager
+        inbound_leads outbound_leads start role own) → IsWorded ((session : State) (streams : ℕ → Option (Streaming H))
+        (past : List (Earlier H)) (input : List ℕ) (log : List (Entry H)) (told : List (ConnEvent H)) (written : List ℕ)
+        (up : up_with_streams input log told written session streams past) (n : ℕ) (stream : Streaming H) (handler : H)
+        → streams n ≡ Some stream → stream.stage ≡ Serving handler → IsServing step is_closed is_finished (listed start)
+        (session_role role) log n stream handler) law
+    pub are_early : (law : AreEarly step fails is_closed is_finished inbound_makes outbound_makes listed is_eager
+        inbound_leads outbound_leads start role own) → IsWorded ((session : State) (streams : ℕ → Option (Streaming H))
+        (past : List (Earlier H)) (input : List ℕ) (log : List (Entry H)) (told : List (ConnEvent H)) (written : List ℕ)
+        (up : up_with_streams input log told written session streams past) (n : ℕ) (stream : Streaming H) (handler : H)
+        (talk : Talk) → streams n ≡ Some stream → stream.stage ≡ Talking talk (Some handler) → IsEarly step is_closed
+        is_finished (listed start) (session_role role) log n stream handler) law
+    pub live_are_held : (law : LiveAreHeld step fails is_closed is_finished inbound_makes outbound_makes listed is_eager
+        inbound_leads outbound_leads start role own) → IsWorded ((session : State) (streams : ℕ → Option (Streaming H))
+        (past : List (Earlier H)) (input : List ℕ) (log : List (Entry H)) (told : List (ConnEvent H)) (written : List ℕ)
+        (up : up_with_streams input log told written session streams past) (n : ℕ) → is_live (session_role role)
+        (items log) n ≡ true → (stream : Streaming H) × (streams n ≡ Some stream)
+        × (is_over (session_role role) log n ≡ was_handed_out stream.stage) × (was_done (session_role role) log
+        n ≡ was_handed_out stream.stage)) law
+    pub up_is_split : (law : UpIsSplit step fails is_closed is_finished inbound_makes outbound_makes listed is_eager
+        inbound_leads outbound_leads start role own) → IsWorded ((session : State) (streams : ℕ → Option (Streaming H))
+        (past : List (Earlier H)) (input : List ℕ) (log : List (Entry H)) (told : List (ConnEvent H)) (written : List ℕ)
+        (up : up_with_streams input log told written session streams past) → IsSplit step fails is_closed is_finished
+        inbound_makes outbound_makes listed is_eager inbound_leads outbound_leads start role own input told written log)
+        law
+    pub split_is : (input : List ℕ) (told : List (ConnEvent H)) (written : List ℕ) (log : List (Entry H))
+        → IsSplit step fails is_closed is_finished inbound_makes outbound_makes listed is_eager inbound_leads
+        outbound_leads start role own input told written log → (key : Key) × (first rest greeting part : List ℕ)
+        × (input ≡ first ++ rest) × Upgrades role own first (Ok (Some key)) greeting
+        × Reads rest (arrivals (items log)) part × HasNoFault (session_role role) (items log)
+        × AreAnswered (session_role role) (items log) × (told ≡ event.Upgraded key ∷ said log)
         × (written ≡ greeting ++ output (session_role role) (items log))
-    pub each_is_answered : EachIsAnswered step fails is_closed is_finished inbound_makes outbound_makes listed is_eager
-        inbound_leads outbound_leads start role own → (calls : List ConnAct) (answers : List (ConnAnswer H))
-        (first last : Point H) → all_answered first calls answers last → length answers ≡ length calls
-    pub all_is_counted : AllIsCounted step fails is_closed is_finished inbound_makes outbound_makes listed is_eager
-        inbound_leads outbound_leads start role own → (calls : List ConnAct) (answers : List (ConnAnswer H))
-        (input : List ℕ) (ended : Bool) (log : List (Entry H)) (told owed : List (ConnEvent H))
-        → all_answered (At [] false [] [] []) calls answers (At input ended log told owed)
-        → (input ≡ fed_by calls answers) × (asks log ≡ opened_by calls answers) × (told ≡ told_by answers)
-    pub past_stays : PastStays step fails is_closed is_finished inbound_makes outbound_makes listed is_eager
-        inbound_leads outbound_leads start role own → (calls : List ConnAct) (answers : List (ConnAnswer H))
+    pub each_is_answered : (law : EachIsAnswered step fails is_closed is_finished inbound_makes outbound_makes listed
+        is_eager inbound_leads outbound_leads start role own) → IsWorded ((calls : List ConnAct)
+        (answers : List (ConnAnswer H)) (first last : Point H) → all_answered first calls answers last → length
+        answers ≡ length calls) law
+    pub all_is_counted : (law : AllIsCounted step fails is_closed is_finished inbound_makes outbound_makes listed
+        is_eager inbound_leads outbound_leads start role own) → IsWorded ((calls : List ConnAct)
+        (answers : List (ConnAnswer H)) (input : List ℕ) (ended : Bool) (log : List (Entry H))
+        (told owed : List (ConnEvent H)) → all_answered (At [] false [] [] []) calls answers
+        (At input ended log told owed) → (input ≡ fed_by calls answers) × (asks log ≡ opened_by calls answers)
+        × (told ≡ told_by answers)) law
+    pub past_stays : (law : PastStays step fails is_closed is_finished inbound_makes outbound_makes listed is_eager
+        inbound_leads outbound_leads start role own) → IsWorded ((calls : List ConnAct) (answers : List (ConnAnswer H))
         (input input_then : List ℕ) (ended ended_then : Bool) (log log_then : List (Entry H))
-        (told told_then owed owed_then : List (ConnEvent H))
-        → all_answered (At input ended log told owed) calls answers
-        (At input_then ended_then log_then told_then owed_then) → (newer : List (Entry H))
-        × (log_then ≡ newer ++ log) × (asks newer ≡ opened_by calls answers)
-    pub comes_in_turn : ComesInTurn step fails is_closed is_finished inbound_makes outbound_makes listed is_eager
-        inbound_leads outbound_leads start role own → (session session_then : State)
-        (streams streams_then : ℕ → Option (Streaming H)) (past past_then : List (Earlier H)) (input more : List ℕ)
-        (log now : List (Entry H)) (told told_then : List (ConnEvent H)) (written written_then : List ℕ)
-        (opened : List (ℕ × ℕ)) (up : up_with_streams input log told written session streams past)
-        (grown : IsGrown opened log now)
-        (then : up_with_streams (input ++ more) now told_then written_then session_then streams_then past_then)
-        → (then.key ≡ up.key) × (then.first ≡ up.first) × (then.greeting ≡ up.greeting) × (part : List ℕ)
-        × Reads (up.rest ++ more) (arrivals (items grown.newer) ++ arrivals (items log)) part
+        (told told_then owed owed_then : List (ConnEvent H)) → all_answered (At input ended log told owed) calls answers
+        (At input_then ended_then log_then told_then owed_then) → IsGrown (opened_by calls answers) log log_then) law
+    pub comes_in_turn : (law : ComesInTurn step fails is_closed is_finished inbound_makes outbound_makes listed is_eager
+        inbound_leads outbound_leads start role own) → IsWorded ((session : State) (streams : ℕ → Option (Streaming H))
+        (past : List (Earlier H)) (input : List ℕ) (log : List (Entry H)) (told : List (ConnEvent H)) (written : List ℕ)
+        (up : up_with_streams input log told written session streams past) (more : List ℕ) (opened : List (ℕ × ℕ))
+        (now : List (Entry H)) (grown : IsGrown opened log now) (session_then : State)
+        (streams_then : ℕ → Option (Streaming H)) (past_then : List (Earlier H)) (told_then : List (ConnEvent H))
+        (written_then : List ℕ) (later : up_with_streams (input ++ more) now told_then written_then session_then
+        streams_then past_then) → (later.key ≡ up.key) × (later.first ≡ up.first) × (later.greeting ≡ up.greeting)
+        × (part : List ℕ) × Reads (up.rest ++ more) (arrivals (items grown.newer) ++ arrivals (items log)) part) law

@@ -209,7 +209,7 @@ pub fn an_end_is_delivered<H: Handler>(
     deliver_end(session, number, stream)
 }
 
-/// Data: where memory is wanting something may grow, or the talk or what it decides takes it; the protocols' names stay.
+/// Data: where memory is wanting something may grow, or the talk, or what it decides, takes it; the names stay.
 pub fn data_are_delivered<P: Protocols>(
     session: &mut Session,
     number: u32,
