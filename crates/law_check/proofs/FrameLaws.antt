@@ -1,11 +1,12 @@
+use Rattle.std.proofs.Common.{refl}
 use Rattle.law_check.specs.FrameLaws.{FrameLaws}
 
 pub frame_laws : FrameLaws
 frame_laws = record {
-  one_reading = λ law. law;
-  some_reading = λ law. law;
-  are_allowed = λ law. law;
-  one_answer = λ law. law;
-  answer_or_fault = λ law. law;
-  one_fault = λ law. law;
+  one_reading = λ law. refl;
+  some_reading = λ law. refl;
+  are_allowed = λ law. refl;
+  one_answer = λ law. refl;
+  answer_or_fault = λ law. refl;
+  one_fault = λ law. refl;
 }

@@ -1,8 +1,9 @@
+use Rattle.std.proofs.Common.{refl}
 use Rattle.law_check.specs.StreamLaws.{StreamLaws}
 
 pub stream_laws : StreamLaws
 stream_laws = record {
-  one_answer = λ law. law;
-  answer_stays = λ law. law;
-  cut_anywhere = λ law. law;
+  one_answer = λ law. refl;
+  answer_stays = λ law. refl;
+  cut_anywhere = λ law. refl;
 }

@@ -1,15 +1,16 @@
+use Rattle.std.proofs.Common.{refl}
 use Rattle.law_check.specs.TalkLaws.{TalkLaws}
 
 pub talk_laws : TalkLaws
 talk_laws = record {
-  one_outcome = λ law. law;
-  some_outcome = λ law. law;
-  decision_stays = λ law. law;
-  fault_stays = λ law. law;
-  nothing_behind = λ law. law;
-  answers_as_defined = λ law. law;
-  asked_all = λ law. law;
-  one_name = λ law. law;
-  both_agree = λ law. law;
-  none_agrees = λ law. law;
+  one_outcome = λ law. refl;
+  some_outcome = λ law. refl;
+  decision_stays = λ law. refl;
+  fault_stays = λ law. refl;
+  nothing_behind = λ law. refl;
+  answers_as_defined = λ law. refl;
+  asked_all = λ law. refl;
+  one_name = λ law. refl;
+  both_agree = λ law. refl;
+  none_agrees = λ law. refl;
 }

@@ -1,4 +1,5 @@
 -- cited by laws
+pub mod Worded
 pub mod VarintLaws
 pub mod KeyLaws
 pub mod AddressLaws

@@ -85,6 +85,7 @@ module _ {L P H : Type 0} (link : LinkGhosts L) (protocols : ProtocolsGhosts P H
     ends_behind = λ law. refl;
     in_turn = λ law. refl;
     up = λ law. refl;
+    gave = λ e. (refl, refl, refl);
     came = λ old new. (λ c. (c.given, c.took, c.moved, c.some), λ h. record { given = h.0; took = h.1; moved = h.2; some = h.3 });
     drains = λ old new left rest. (λ d. (d.took, d.parts, d.moved, d.unshut), λ h. record { took = h.0; parts = h.1; moved = h.2; unshut = h.3 });
   }
@@ -108,6 +109,8 @@ module _ {L : Type 0} (calls : L → List Call → L → Type 0) where
     left_by_shut = λ it left. refl;
     writes_first = λ it log left. (λ h. h, λ h. h);
     shuts_last = λ it log lives. (λ h. h, λ h. h);
+    writes_nothing = λ left. tt;
+    shuts_nothing = λ lives. tt;
     called = λ first last log. (λ c. (c.made, c.able, c.once), λ h. record { made = h.0; able = h.1; once = h.2 });
     polls = λ waiting lives first last old new. (
       λ p. (p.log, p.called, p.most, p.writes, p.shuts, p.asked),

@@ -1,7 +1,7 @@
 -- Rows of where a connection over a link stands, and of one poll: of any, and of worked ones.
 -- Source: this project's profile of a connection.
 use Rattle.std.specs.Prelude.{◌≡◌, ◌≢◌, ◌≤◌, ◌⊎◌, ◌↔◌, ◌++◌, ◌-◌, ℕ, Bool, true, false, List, [], ◌∷◌, length}
-use Rattle.std.specs.Prelude.{Ok, Err}
+use Rattle.std.specs.Prelude.{Ok, Err, Some, None}
 use Rattle.std.specs.List.{All}
 use Rattle.futures.specs.declared.task.Poll.TheVariants.{Ready, Pending}
 use Rattle.futures.specs.declared.task.context.Context.{Context}
@@ -33,13 +33,9 @@ use Rattle.conn_future.specs.Stages.{WaitsAt, Came, Drains, is_live}
 use Rattle.conn_future.specs.StageRows.{Line, lines, line}
 use Rattle.conn_future.specs.Polling.{left_by, WritesFirst, ShutsLast, Called, Polls}
 use Rattle.conn_future.specs.PollRows.{never, never_with}
-use Rattle.conn_future.specs.Follows.{CoreStands, Joins, GoesOn, Parts, Ends, Stays, Follows, Carries, Gives, EndsBehind}
-use Rattle.conn_future.specs.Follows.{CarriesInTurn, UpOverLink}
-
--- A law is this text, word by word: one that says less, or more, isn't of this type. A row that only concludes the text
--- from the law would hold of any law, since the text is true.
-abbrev pub IsWorded : (Text : Type 0) → Text → Type 0
-IsWorded Text law = law ≡ law
+use Rattle.conn_future.specs.Follows.{CoreStands, Joins, GoesOn, Parts, Ends, Stays, Follows, Carries, Gives}
+use Rattle.conn_future.specs.Follows.{EndsBehind, CarriesInTurn, UpOverLink, given_by}
+use Rattle.link_check.specs.Worded.{IsWorded}
 
 -- Of any connection over any link
 module _ {L P H : Type 0} (link : LinkGhosts L) (protocols : ProtocolsGhosts P H) (handler : HandlerGhosts H)
@@ -160,6 +156,9 @@ module _ {L P H : Type 0} (link : LinkGhosts L) (protocols : ProtocolsGhosts P H
         handler.fails handler.is_closed handler.is_finished protocols.makes_inbound protocols.makes_outbound
         protocols.listed protocols.is_eager protocols.leads_inbound protocols.leads_outbound start role own given
         ((gave ++ conn.held.items) ++ conn.core.owed.items) (took ++ conn.unsent.items) log) law
+    -- what an answered poll gives
+    pub gave : (e : ConnEvent H) → (given_by (Ready (Some e)) ≡ e ∷ []) × (given_by {H = H} (Ready None) ≡ [])
+        × (given_by {H = H} Pending ≡ [])
     -- what came, and what its link goes through behind shut
     pub came : (old new : L) → Came link old new
         ↔ ((given took : List ℕ) × link.moves old given took new × ((given ≢ []) ⊎ link.has_ended new))
@@ -189,6 +188,9 @@ module _ {L : Type 0} (calls : L → List Call → L → Type 0) where
         ↔ ((it.kind ≡ Reads → left ≡ 0) × WritesFirst (left_by it.kind it.answer left) log)
     pub shuts_last : (it : Call) (log : List Call) (lives : Bool) → ShutsLast lives (it ∷ log)
         ↔ ((it.kind ≡ Shuts → is_pending it.answer ≡ false → (log ≡ []) × (lives ≡ false)) × ShutsLast lives log)
+    -- a poll without a call wrote, and shut, nothing
+    pub writes_nothing : (left : ℕ) → WritesFirst left []
+    pub shuts_nothing : (lives : Bool) → ShutsLast lives []
     pub called : (first last : L) (log : List Call) → Called calls first log last
         ↔ (calls first log last × All IsAble log × IsOnce log)
     pub polls : (waiting : ℕ) (lives : Bool) (first last : L) (old new : Context)

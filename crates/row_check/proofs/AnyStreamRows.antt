@@ -63,6 +63,7 @@ any_hearing = record {
   going_on_is = λ side talk input output g. (g.side_is, g.going, g.none_waits, g.stands);
   last_asked = λ before bytes left. record { before = before; room = length bytes + left; bytes = bytes; calls_are = refl; left_is = refl };
   last_asked_is = λ calls left a. (a.before, a.bytes, a.calls_are ∙ ap (λ room. a.before ++ Give room a.bytes ∷ []) (sym a.left_is));
+  counted = λ n index used stop. (refl, refl, refl, refl);
 }
 
 asking_is : (side : Side) → IsAsking side → (name : List ℕ) × (index : ℕ) × (side ≡ Asks name index)
@@ -119,7 +120,7 @@ module _ {H : Type 0} (step : H → HandlerCall → H → Type 0) where
         record { output = output; gave = gave; runs_out = runs; early = early; sent_is = sent };
     ran_out_is = λ past handler piece now r. (r.output, r.gave, r.runs_out, r.early, r.sent_is);
     runs_out = λ past handler piece waiting now. (λ h. h, λ h. h);
-    one_split = λ past law. law;
+    one_split = λ past law. refl;
   }
 
 module _ {H : Type 0} (step : H → HandlerCall → H → Type 0) (fails : H → Asked → ℕ → Type 0) (is_closed is_finished : H → Bool) where

@@ -1,9 +1,8 @@
--- Each law of a connection and of the order of its handlers, written out once more, and what each fact that it tells
--- comes to: a law that comes to say less no longer lets conclude this. With rows of that order, whatever is in it.
+-- Each law of a connection and of the order of its handlers, written out once more, word by word, and what each fact
+-- that it tells comes to: one that says less, or more, isn't of its row. With rows of that order, whatever is in it.
 -- Source: libp2p connections, "Opening new streams over a connection"; this project's laws.
-use Rattle.std.specs.Prelude.{◌≡◌, ◌≢◌, ◌⊎◌, ◌↔◌, ℕ, ◌<◌, Bool, true, false, List, [], ◌∷◌, ◌++◌, length, map, Option, if◌then◌else◌}
-use Rattle.std.specs.Prelude.{Some}
-use Rattle.std.specs.Prelude.{Ok, ◌+◌, ◌==◌, None, take, drop}
+use Rattle.std.specs.Prelude.{◌≡◌, ◌≢◌, ◌⊎◌, ◌↔◌, ℕ, ◌<◌, Bool, true, false, List, [], ◌∷◌, ◌++◌, length, map}
+use Rattle.std.specs.Prelude.{Option, Some, if◌then◌else◌, Ok, ◌+◌, ◌==◌, None, take, drop}
 use Rattle.std.specs.List.{Contains, position, remove}
 use Rattle.handlers.specs.Calls.{HandlerCall, Asked}
 use Rattle.peer_ids.specs.Key.{Key}
@@ -47,11 +46,7 @@ use Rattle.conn_core.specs.Promises.{AreEarly}
 use Rattle.conn_core.specs.Promises.{LiveAreHeld, UpIsSplit, IsSplit, EachIsAnswered, AllIsCounted, PastStays}
 use Rattle.conn_core.specs.Promises.{ComesInTurn}
 use Rattle.row_check.specs.AnyConnRows.{is_up, answers_all}
-
--- A law is this text, word by word: one that says less, or more, isn't of this type. A row that only concludes the text
--- from the law would hold of any law, since the text is true.
-abbrev pub IsWorded : (Text : Type 0) → Text → Type 0
-IsWorded Text law = law ≡ law
+use Rattle.row_check.specs.Worded.{IsWorded}
 
 -- In which order handlers were made, by any entry of the list
 pub record AnyOrderRows (H : Type 0) : Type 0 where
@@ -116,12 +111,12 @@ pub record AnyOrderRows (H : Type 0) : Type 0 where
   pub lets_go : (law : LetsGo) → IsWorded ((n : ℕ) (newest : List ℕ)
       → ((newer older : List ℕ) × (newest ≡ newer ++ n ∷ older) × (times n newer ≡ 0)
       × (without n newest ≡ newer ++ older)) ⊎ ((times n newest ≡ 0) × (without n newest ≡ newest))) law
-  pub arranges : Arranges H → (n : ℕ) (order : List ℕ) (held : List (ℕ × H))
-      → of_number n (arranged order held) ≡ of_number n held
-  pub follows : Arranges H → (order : List ℕ) (held : List (ℕ × H))
-      → ((n : ℕ) → times n order ≡ times n (numbers held)) → numbers (arranged order held) ≡ order
-  pub one_list : Arranges H → (some other : List (ℕ × H)) → numbers some ≡ numbers other
-      → ((n : ℕ) → of_number n some ≡ of_number n other) → some ≡ other
+  pub arranges : (law : Arranges H) → IsWorded ((n : ℕ) (order : List ℕ) (held : List (ℕ × H))
+      → of_number n (arranged order held) ≡ of_number n held) law.all
+  pub follows : (law : Arranges H) → IsWorded ((order : List ℕ) (held : List (ℕ × H))
+      → ((n : ℕ) → times n order ≡ times n (numbers held)) → numbers (arranged order held) ≡ order) law.follows
+  pub one_list : (law : Arranges H) → IsWorded ((some other : List (ℕ × H)) → numbers some ≡ numbers other
+      → ((n : ℕ) → of_number n some ≡ of_number n other) → some ≡ other) law.one_list
   pub listed_are_held : (law : ListedAreHeld H) → IsWorded ((streams : ℕ → Option (Streaming H))
       (past : List (Earlier H)) (handlers : List (ℕ × H)) → AreHeld streams past handlers → (n : ℕ) (handler : H)
       → Contains handlers (n, handler) ↔ (((it : Earlier H) × Contains past it × (it.number ≡ n)

@@ -37,7 +37,7 @@ use Rattle.streams.specs.State.{Answered, is_over, has_closed}
 use Rattle.streams.specs.State.{has_finished, was_handed_out, answering, Kind, kind_of, InTalk, Awaiting, Served}
 use Rattle.streams.specs.State.{HandedOut}
 use Rattle.streams.specs.Hearing.{used_of, Hears, HasHeard, Moves, HasNoRoom, HasRunOut, RunsOut}
-use Rattle.streams.specs.Laws.{OneSplit}
+use Rattle.streams.specs.Laws.{OneSplit, counted_from}
 use Rattle.serving.specs.Served.{with_sent, IsDue, AreDue, Goes, IsSettled, HandsOut, Serves, GivesUp}
 use Rattle.serving.specs.Served.{MayBeAsked, Asking, MayGrow, WasAnswered}
 use Rattle.serving.specs.Wanting.{SendsFrame, IsKept, IsUnwritten, IsUndone, AskingRunsOut, RunsOut as HasNoRoomLeft}
@@ -49,6 +49,7 @@ use Rattle.routing.specs.declared.delivered.Outcome.TheVariants as outcomes
 use Rattle.routing.specs.Routing.{Came, Fails, Hands, Takes, Ends, Stops, Delivers, HasAgreed as HasAgreedOn}
 use Rattle.routing.specs.Routing.{InTalk as RoutesInTalk, RunsOutServing, RunsOutBehind, RunsOutTaking}
 use Rattle.routing.specs.Routing.{RunsOutEnding, ServingRunsOut}
+use Rattle.row_check.specs.Worded.{IsWorded}
 
 -- What is asked of a stream: in each stage, whatever is held there
 pub record AnyStageRows (H : Type 0) : Type 0 where
@@ -147,6 +148,10 @@ pub record AnyHearingRows : Type 0 where
       → AskedLast (before ++ Give (length bytes + left) bytes ∷ []) left
   pub last_asked_is : (calls : List HandlerCall) (left : ℕ) → AskedLast calls left
       → (before : List HandlerCall) × (bytes : List ℕ) × (calls ≡ before ++ Give (length bytes + left) bytes ∷ [])
+  -- what a cut does to an answer: only the bytes used are counted from further on
+  pub counted : (n index used : ℕ) (stop : Stop) → (counted_from n (Ok heard.Going) ≡ Ok heard.Going)
+      × (counted_from n (Ok (heard.Agreed index used)) ≡ Ok (heard.Agreed index (n + used)))
+      × (counted_from n (Ok heard.Refused) ≡ Ok heard.Refused) × (counted_from n (Err stop) ≡ Err stop)
 
 module _ {H : Type 0} (step : H → HandlerCall → H → Type 0) where
   -- Where a stream stands, by what came and what was done: these facts, and no others
@@ -224,9 +229,9 @@ module _ {H : Type 0} (step : H → HandlerCall → H → Type 0) where
         → RunsOut step past handler piece waiting now
         ↔ (HasRunOut step past handler piece now ⊎ (HasNoRoom past.side past.got piece waiting × (now ≡ waiting)))
     -- the law of how the data is split, written out once more
-    pub one_split : (past : Past H) → OneSplit past → (i j : ℕ) (rest other gave more waiting : List ℕ)
-        → HasAgreed past i rest gave waiting → HasAgreed past j other more waiting
-        → (i ≡ j) × (rest ≡ other) × (gave ≡ more)
+    pub one_split : (past : Past H) (law : OneSplit past) → IsWorded ((i j : ℕ)
+        (rest other gave more waiting : List ℕ) → HasAgreed past i rest gave waiting
+        → HasAgreed past j other more waiting → (i ≡ j) × (rest ≡ other) × (gave ≡ more)) law
 
 module _ {H : Type 0} (step : H → HandlerCall → H → Type 0) (fails : H → Asked → ℕ → Type 0)
     (is_closed is_finished : H → Bool) where

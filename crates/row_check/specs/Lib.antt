@@ -51,6 +51,7 @@ pub mod AnyRouteRows
 pub mod PlacedRows
 pub mod RoutedRows
 pub mod AnyStreamRows
+pub mod Worded
 pub mod AnyConnRows
 pub mod AnyPromiseRows
 pub mod DefinedCodecNumbers
