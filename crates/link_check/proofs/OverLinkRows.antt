@@ -85,6 +85,7 @@ module _ {L P H : Type 0} (link : LinkGhosts L) (protocols : ProtocolsGhosts P H
     ends_behind = λ law. refl;
     in_turn = λ law. refl;
     up = λ law. refl;
+    reads_into = λ conn. conn.has_room;
     gave = λ e. (refl, refl, refl);
     came = λ old new. (λ c. (c.given, c.took, c.moved, c.some), λ h. record { given = h.0; took = h.1; moved = h.2; some = h.3 });
     drains = λ old new left rest. (λ d. (d.took, d.parts, d.moved, d.unshut), λ h. record { took = h.0; parts = h.1; moved = h.2; unshut = h.3 });

@@ -20,7 +20,7 @@ module _ {S : Type 0} (moves : S → List ℕ → List ℕ → S → Type 0) (is
     calls = λ first last log. (λ h. (h.taken, h.made, h.by), λ h. record { taken = h.0; made = h.1; by = h.2 });
     no_steps = (λ h. h, λ h. h);
     steps_in_turn = (λ h. h, λ h. h);
-    keeps = (λ h. h, λ h. h);
+    keeps = λ law. refl;
   }
 
 own_none : {A : Type 0} (own rest : List A) → own ++ rest ≡ [] → own ≡ []

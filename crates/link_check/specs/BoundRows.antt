@@ -7,6 +7,7 @@ use Rattle.conn_link.specs.declared.link.Link.{Ghosts as LinkGhosts}
 use Rattle.bounded_conn.specs.Bounds.{most, Leaves, Bounds, IfStands, waiting_of}
 use Rattle.bounded_conn.specs.KeptRows.{KeepsFields}
 use Rattle.bounded_conn.specs.declared.bounded.BoundedConn.{BoundedConn}
+use Rattle.link_check.specs.Worded.{IsWorded}
 
 -- Of any connection, of which so much waits
 module _ {C R : Type 0} (waiting : C → ℕ) (leads : C → R → C → Type 0) (fact : C → C → Type 0) where
@@ -29,10 +30,6 @@ itself waits = waits
 abbrev pub answers : ℕ → ℕ → ℕ → Type 0
 answers before answer after = after ≡ answer
 
--- a fact of two of them
-abbrev pub rises : ℕ → ℕ → Type 0
-rises before after = before < after
-
 -- 4 MiB stay, and one byte more is dropped
 pub record BoundRows : Type 0 where
   pub bound : most ≡ 4194304
@@ -49,6 +46,6 @@ pub record BoundRows : Type 0 where
 
 -- what one keeps from one call to the next
 abbrev pub KeptRows : {L P H : Type 0} → LinkGhosts L → ProtocolsGhosts P H → HandlerGhosts H → Type 0
-KeptRows {L} {P} {H} link protocols handler = KeepsFields link protocols handler
-    ↔ ((bounded : BoundedConn L P H link protocols handler)
-    → bounded ≡ record { conn = bounded.conn; bounded = bounded.bounded })
+KeptRows {L} {P} {H} link protocols handler = (law : KeepsFields link protocols handler)
+    → IsWorded ((bounded : BoundedConn L P H link protocols handler)
+    → bounded ≡ record { conn = bounded.conn; bounded = bounded.bounded }) law

@@ -156,6 +156,8 @@ module _ {L P H : Type 0} (link : LinkGhosts L) (protocols : ProtocolsGhosts P H
         handler.fails handler.is_closed handler.is_finished protocols.makes_inbound protocols.makes_outbound
         protocols.listed protocols.is_eager protocols.leads_inbound protocols.leads_outbound start role own given
         ((gave ++ conn.held.items) ++ conn.core.owed.items) (took ++ conn.unsent.items) log) law
+    -- what a read fills, however much came before
+    pub reads_into : (conn : Conn L P H link protocols handler) → length conn.buffer.items ≡ 8192
     -- what an answered poll gives
     pub gave : (e : ConnEvent H) → (given_by (Ready (Some e)) ≡ e ∷ []) × (given_by {H = H} (Ready None) ≡ [])
         × (given_by {H = H} Pending ≡ [])

@@ -16,6 +16,7 @@ use Rattle.conn_link.specs.Calling.Kind.{Reads, Writes, Shuts}
 use Rattle.conn_link.specs.CallingRows.{waited}
 use Rattle.conn_link.specs.Piping.{Piped, PipeMoves, PipeCalls, GoesBy, HasEnded, IsShut as PipeIsShut, failure}
 use Rattle.conn_link.specs.Piping.{is_pending_by, reads_left, writes_left}
+use Rattle.link_check.specs.Worded.{IsWorded}
 use Rattle.socket_link.specs.Tries.{count_tried, bytes_tried}
 use Rattle.socket_link.specs.Steps.{Side, Step, Blocked, Answers, Takes, Tries, Shutting, By, AllBy, asks_some, told}
 use Rattle.socket_link.specs.Steps.{StepsNone, StepsOn}
@@ -42,12 +43,12 @@ module _ {S : Type 0} (moves : S → List ℕ → List ℕ → S → Type 0) (is
     pub no_steps : StepsNone steps ↔ ((socket : S) → steps socket [] socket)
     pub steps_in_turn : StepsOn steps ↔ ((first mid last : S) (log next : List Step) → steps first log mid
         → steps mid next last → steps first (log ++ next) last)
-    pub keeps : KeepsFields S ↔ ((link : SocketLink S) → link ≡ record {
+    pub keeps : (law : KeepsFields S) → IsWorded ((link : SocketLink S) → link ≡ record {
       socket = link.socket;
       failures = link.failures;
       has_ended = link.has_ended;
       is_shut = link.is_shut;
-    })
+    }) law
 
 -- a socket as the bytes that it has given, and a link over it
 abbrev pub gives : List ℕ → List ℕ → List ℕ → List ℕ → Type 0

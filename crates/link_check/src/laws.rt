@@ -1,20 +1,25 @@
 //! What the definitions of links, and of connections over them, say: of any, and of worked ones. Each is a function
 //! with an empty body, whose contract is the rows.
 
-ghost use Rattle.std.specs.Prelude.{◌≡◌, ℕ, List, [], ◌++◌};
+ghost use Rattle.std.specs.Prelude.{◌≡◌, ◌↔◌, ℕ, List, [], ◌++◌};
+ghost use Rattle.handlers.specs.Calls.{HandlerCall};
 ghost use Rattle.peer_ids.specs.Key.{Key};
 ghost use Rattle.upgrade.specs.declared.role.ConnRole.{ConnRole};
 ghost use Rattle.conn_link.specs.Calling.{Call};
+ghost use Rattle.conn_future.specs.declared.conn.Conn.{Conn as ConnOver};
+ghost use Rattle.conn_future.specs.Stages.{WaitsAt};
 ghost use Rattle.socket_link.specs.Steps.{Step};
 ghost use Rattle.link_check.specs.LinkRows.{AnyLinkRows, AnyAnswerRows, AnyLogRows, AnyStepRows, LinkRows};
 ghost use Rattle.link_check.specs.SocketRows.{AnySocketRows, SocketRows, AnyCallRows, AskingRows};
 ghost use Rattle.link_check.specs.SocketRows.{AnyPipeRows, PipeRows};
-ghost use Rattle.link_check.specs.BoundRows.{AnyBoundRows, BoundRows, KeptRows, answers, rises};
+ghost use Rattle.link_check.specs.BoundRows.{AnyBoundRows, BoundRows, KeptRows};
 ghost use Rattle.link_check.specs.OverLinkRows.{AnyJoinRows, AnyEndRows, AnyStayRows, AnyCarryRows, AnyPollRows};
 ghost use Rattle.link_check.specs.OverLinkRows.{AnyWaitRows, PollEndRows, OverRows};
 ghost use Rattle.link_check.specs.KindRows.{LinkKinds};
 
+use conn_future::Conn;
 use conn_link::Link;
+use futures::Stream;
 use handlers::Protocols;
 use socket_link::Socket;
 
@@ -68,7 +73,8 @@ pub fn socket_rows<S: Socket>()
 
 /// The definitions of how much a connection may hold that its peer doesn't take say what they are to say.
 pub fn bound_rows<L: Link, P: Protocols>()
-    ensures any { (waiting : ℕ → ℕ) → AnyBoundRows waiting answers rises }
+    ensures any { (waiting : P.H → ℕ) (call : HandlerCall) → AnyBoundRows waiting P.H.steps
+        (λ before after. P.H.steps before call after) }
     ensures bounds { BoundRows }
     ensures keeps { KeptRows L.Link P.Protocols P.H.Handler }
 {}
@@ -86,6 +92,14 @@ pub fn over_link_rows<L: Link, P: Protocols>()
     ensures polls { AnyPollRows L.calls }
     ensures poll_ends { PollEndRows }
     ensures over { (start : P) (role : ConnRole) (own : Key) → OverRows P.Protocols P.H.Handler start role own }
+{}
+
+/// A connection over a link that is polled as a stream names, as what it needs, each source at which it waits.
+pub fn needs_rows<L: Link, P: Protocols>()
+    ensures { (conn : ConnOver L P P.H L.Link P.Protocols P.H.Handler) (source : ℕ)
+        → ⟦<Conn<L, P> as Stream>⟧.needs conn source
+        ↔ WaitsAt (L.reads_at conn.link) (L.writes_at conn.link) (L.shuts_at conn.link) conn.stage conn.unsent.items
+        source }
 {}
 
 /// Each stage of a connection over a link, and each step of a pipe, is of one of its kinds.

@@ -60,7 +60,7 @@ ghost use Rattle.row_check.specs.PlacedRows.{EndPlaceRows, ServedPlaceRows, AtRe
 ghost use Rattle.row_check.specs.RoutedRows.{WantingRows, RoutedRows, StoppedRows, SpentRows};
 ghost use Rattle.yamux_session.specs.History.{Item};
 ghost use Rattle.streams.specs.State.{Kind};
-ghost use Rattle.std.specs.Prelude.{◌≡◌, ℕ, Bool, true, List};
+ghost use Rattle.std.specs.Prelude.{◌≡◌, ℕ, Bool, List};
 ghost use Rattle.peer_ids.specs.Key.{Key};
 ghost use Rattle.upgrade.specs.declared.role.ConnRole.{ConnRole};
 ghost use Rattle.yamux_session.specs.declared.event.Role.{Role};
@@ -329,9 +329,9 @@ pub fn any_stream_rows<P: Protocols>()
     ensures standing { AnyStandingRows P.H.steps }
     ensures serving { (kind : Kind) → AnyServingRows P.H.steps P.H.fails P.H.is_closed P.H.is_finished kind }
     ensures directions { AnyDirectionRows P.makes_inbound P.makes_outbound P.leads_inbound P.leads_outbound }
-    ensures routing { (role : Role) (past : List Item) (fed sent peer : List ℕ) (n : ℕ) (protocols : P) (none : Bool)
+    ensures routing { (role : Role) (past : List Item) (fed sent peer : List ℕ) (n : ℕ) (protocols other : P)
         → AnyRoutingRows P.H.steps P.H.fails P.H.is_closed P.H.is_finished role past fed sent n
-        (λ index handler. P.makes_inbound protocols index peer handler) (none ≡ true) }
+        (λ index handler. P.makes_inbound protocols index peer handler) (other ≡ protocols) }
 {}
 
 /// The laws of a connection say what they are to say, and so do the definitions of the order of its handlers.

@@ -1,4 +1,4 @@
-use Rattle.std.proofs.Common.{◌≡◌, true}
+use Rattle.std.proofs.Common.{◌≡◌}
 use Rattle.row_check.proofs.AnyStreamRows.{any_stages, any_hearing, any_standing, any_serving, any_directions, any_routing}
 use Rattle.row_check.proofs.laws.any_stream_rows.Goals as goal
 
@@ -19,7 +19,7 @@ returns-clause-directions g c =
     let makes = g.P.Protocols in any_directions makes.makes_inbound makes.makes_outbound makes.leads_inbound makes.leads_outbound
 
 pub returns-clause-routing : goal.returns-clause-routing
-returns-clause-routing g c = λ role past fed sent peer n protocols none.
+returns-clause-routing g c = λ role past fed sent peer n protocols other.
     let H = g.P.H.Handler in
     let makes = g.P.Protocols in
-    any_routing H.steps H.fails H.is_closed H.is_finished role past fed sent n (λ index handler. makes.makes_inbound protocols index peer handler) (none ≡ true)
+    any_routing H.steps H.fails H.is_closed H.is_finished role past fed sent n (λ index handler. makes.makes_inbound protocols index peer handler) (other ≡ protocols)
