@@ -48,13 +48,38 @@ fn config() -> io::Result<Config> {
     })
 }
 
+/// What one thread is measured by: a swarm, a pool under a mutex, or that lock alone.
+#[derive(Clone, Copy)]
+enum Side {
+    Swarm,
+    Mutex,
+    Lock,
+}
+
+/// How often a second this side does the work of the plan, or takes its lock.
+fn rate<R: Threads + Wait + Clock + Sync>(
+    rt: &R,
+    alloc: Global,
+    plan: &Plan,
+    side: Side,
+) -> io::Result<u128> {
+    match side {
+        Side::Swarm => Ok(shared::rate(rt, alloc, config()?, plan)?.work),
+        Side::Mutex => Ok(locked::rate(rt, alloc, config()?, plan)?.work),
+        Side::Lock => locked::rate_of_locks(rt),
+    }
+}
+
 /// The most of some rounds.
-fn most<F: FnMut() -> io::Result<u128>>(mut round: F) -> io::Result<u128>
-    requires { F.IsAlwaysCallable round }
-{
+fn most<R: Threads + Wait + Clock + Sync>(
+    rt: &R,
+    alloc: Global,
+    plan: &Plan,
+    side: Side,
+) -> io::Result<u128> {
     let mut most = 0;
     for _ in 0..ROUNDS {
-        most = most.max(round()?);
+        most = most.max(rate(rt, alloc, plan, side)?);
     }
     Ok(most)
 }
@@ -72,9 +97,8 @@ fn show_cost<R: Threads + Wait + Clock + Eprint + Sync>(
     what: &str,
     plan: &Plan,
 ) -> io::Result<()> {
-    let config = config()?;
-    let ours = most(|| Ok(shared::rate(rt, alloc, config, plan)?.work))?;
-    let theirs = most(|| Ok(locked::rate(rt, alloc, config, plan)?.work))?;
+    let ours = most(rt, alloc, plan, Side::Swarm)?;
+    let theirs = most(rt, alloc, plan, Side::Mutex)?;
     let (whole, tenth) = ratio(ours, theirs);
     eprintln!(rt;
         "{what}, {} rows: {} ns each, {whole}.{tenth} times as fast as under a mutex",
@@ -116,9 +140,8 @@ fn show_unchanged<R: Threads + Wait + Clock + Eprint + Sync>(
         rows: 255,
         beside_calls: false,
     };
-    let config = config()?;
-    let ours = most(|| Ok(shared::rate(rt, alloc, config, &plan)?.work))?;
-    let locks = most(|| locked::rate_of_locks(rt))?;
+    let ours = most(rt, alloc, &plan, Side::Swarm)?;
+    let locks = most(rt, alloc, &plan, Side::Lock)?;
     let hundredths = locks.saturating_mul(100) / ours.max(1);
     eprintln!(rt;
         "borrowed listings where nothing changed: {} ns each, {hundredths} hundredths of a lock",
@@ -166,7 +189,7 @@ fn show_rates<R: Threads + Wait + Clock + Eprint + Sync>(
             threads,
             millis: SEVERAL,
             rows,
-            beside_calls: work == Work::Borrow,
+            beside_calls: matches!(work, Work::Borrow),
         };
         show_rate(rt, alloc, what, &plan)?;
     }

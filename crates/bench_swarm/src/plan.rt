@@ -11,7 +11,7 @@ use std::sync::atomic::{AtomicBool, Ordering};
 use std::time::Instant;
 
 /// What each thread does, again and again.
-#[derive(Clone, Copy, Debug, PartialEq, Eq)]
+#[derive(Clone, Copy)]
 pub enum Work {
     /// Looks at a listing that it borrows.
     Borrow,
@@ -25,7 +25,7 @@ pub enum Work {
 
 /// What is measured: so many threads do this for so many milliseconds, where so many connections stand, and where it is
 /// said beside a thread that makes calls all the time.
-#[derive(Clone, Copy, Debug)]
+#[derive(Clone, Copy)]
 pub struct Plan {
     pub work: Work,
     pub threads: usize,
@@ -43,7 +43,7 @@ impl Plan {
 }
 
 /// How often a thread has done its work, and what it has seen, added up, so that nothing goes unseen.
-#[derive(Clone, Copy, Debug, Default)]
+#[derive(Clone, Copy, Default)]
 pub struct Done {
     times: u64,
     seen: u64,
@@ -79,7 +79,7 @@ impl Done {
 }
 
 /// How often a second the threads of the plan have done their work, and how many calls a second were made beside them.
-#[derive(Clone, Copy, Debug)]
+#[derive(Clone, Copy)]
 pub struct Rates {
     pub work: u128,
     pub calls: u128,

@@ -1,5 +1,5 @@
 -- What a pass and the lock know of one history.
-use Rattle.std.proofs.Common.{◌≡◌, ◌≢◌, inl, inr, ⊎_elim, ℕ, zero, suc, ◌+◌, ◌-◌, ◌≤◌, ◌<◌, ◌^◌, List, [], ◌∷◌, ◌++◌, length, slice_index, slice_set, refl, ap, sym, ◌∙◌, arith, subst, min, append_assoc, All}
+use Rattle.std.proofs.Common.{◌≡◌, ◌≢◌, inl, inr, ⊎_elim, ℕ, zero, suc, ◌+◌, ◌-◌, ◌≤◌, ◌<◌, ◌^◌, List, [], ◌∷◌, ◌++◌, length, slice_index, slice_set, refl, ap, sym, ◌∙◌, arith, subst, append_assoc, All}
 use Rattle.std.proofs.lemmas.List.{append-nil}
 use mathlib.Core.List.{IsPrefix}
 use Rattle.logbook.specs.Pages.{Book}
@@ -127,9 +127,9 @@ pub none_left : {X : Type 0} (done rest all : List X) → length rest ≡ 0 → 
 none_left done [] all none is = sym (append-nil done) ∙ is
 none_left done (x ∷ rest) all none is = absurd (omega arith)
 
--- the passes with one more, where there are so many callers
-pub newcomers_more : (number before callers : ℕ) → number ≡ suc before → number ≤ callers → newcomers (min before callers) ++ past number [] ∷ [] ≡ newcomers (min number callers)
-newcomers_more number before callers is high =
-    let all : min before callers ≡ before = omega arith in
-    let after : min number callers ≡ suc before = omega arith in
-    ap (λ k. newcomers k ++ past number [] ∷ []) all ∙ (ap (λ m. newcomers before ++ past m [] ∷ []) is ∙ ap newcomers (sym after))
+-- the passes of the callers before this one, and its own
+pub newcomers_more : (number : ℕ) → 1 ≤ number → newcomers (number - 1) ++ past number [] ∷ [] ≡ newcomers number
+newcomers_more zero one = absurd (omega arith)
+newcomers_more (suc n) one =
+    let before : suc n - 1 ≡ n = omega arith in
+    ap (λ (k : ℕ). newcomers k ++ past (suc n) [] ∷ []) before

@@ -171,7 +171,7 @@ impl<J: Identity, L: Ledgers> Inside<J, L> {
             publish(rt, writer, length, made)
         });
         if published {
-            self.books.count(&mut pass.tally);
+            self.books.count(&mut pass.tally, 1);
             self.pool.commit(call, &reply);
             let after = &self.writer.published().beginning;
             pass.kept.follow(after, &made);

@@ -59,7 +59,6 @@ impl<
 }
 
 /// The books of all callers. Contracts see their totals.
-#[derive(Drop)]
 pub struct Books<L: Ledgers> {
     first: Book<L::First>,
     second: Book<L::Second>,
@@ -69,6 +68,22 @@ pub struct Books<L: Ledgers> {
     sixth: Book<L::Sixth>,
     seventh: Book<L::Seventh>,
     eighth: Book<L::Eighth>,
+}
+
+// By hand, so that the proof of who lets go of it is that of a call, and not of all eight.
+impl<L: Ledgers> Drop for Books<L> {
+    fn drop(self) {
+        let Self {
+            first: _first,
+            second: _second,
+            third: _third,
+            fourth: _fourth,
+            fifth: _fifth,
+            sixth: _sixth,
+            seventh: _seventh,
+            eighth: _eighth,
+        } = self;
+    }
 }
 
 impl<L: Ledgers> Model for Books<L> {
@@ -97,24 +112,18 @@ impl<L: Ledger> Model for Whole<L> {
 }
 
 impl<L: Ledger> Whole<L> {
-    fn audit(&mut self, book: &mut Book<L>)
-        ensures book { book.new.total ≡ book.old.total }
-        ensures same { self.new ≡ self.old }
-        ensures amount { self.old ≡ book.old.total }
+    // The book has counted as many entries as the share says, and counts so many more.
+    fn count(&mut self, book: &mut Book<L>, more: u64)
+        ensures same { self.old ≡ book.old.total }
+        ensures book { book.new.total ≡ book.old.total + more }
+        ensures amount { self.new ≡ self.old + more }
     {
         book.audit(&mut self.share);
-    }
-
-    fn count(&mut self, book: &mut Book<L>)
-        ensures book { book.new.total ≡ book.old.total + 1 }
-        ensures amount { self.new ≡ self.old + 1 }
-    {
-        book.add(&mut self.share, 1);
+        book.add(&mut self.share, more);
     }
 }
 
 /// The whole share of one caller's ledger.
-#[derive(Drop)]
 pub enum Tally<L: Ledgers> {
     First(Whole<L::First>),
     Second(Whole<L::Second>),
@@ -126,8 +135,23 @@ pub enum Tally<L: Ledgers> {
     Eighth(Whole<L::Eighth>),
 }
 
+// By hand, as that of `Books`.
+impl<L: Ledgers> Drop for Tally<L> {
+    fn drop(self) {
+        match self {
+            Tally::First(_whole) => {}
+            Tally::Second(_whole) => {}
+            Tally::Third(_whole) => {}
+            Tally::Fourth(_whole) => {}
+            Tally::Fifth(_whole) => {}
+            Tally::Sixth(_whole) => {}
+            Tally::Seventh(_whole) => {}
+            Tally::Eighth(_whole) => {}
+        }
+    }
+}
+
 /// New ledgers, which no type stands for yet. `Swarm::new` takes them. Each has one part.
-#[derive(Drop)]
 pub struct BlankLedgers {
     pub first: Blank,
     pub second: Blank,
@@ -140,6 +164,22 @@ pub struct BlankLedgers {
     ghost parts: { (first.parts ≡ 1) × (second.parts ≡ 1) × (third.parts ≡ 1) × (fourth.parts ≡ 1)
         × (fifth.parts ≡ 1) × (sixth.parts ≡ 1)
         × (seventh.parts ≡ 1) × (eighth.parts ≡ 1) },
+}
+
+// By hand, as that of `Books`.
+impl Drop for BlankLedgers {
+    fn drop(self) {
+        let Self {
+            first: _first,
+            second: _second,
+            third: _third,
+            fourth: _fourth,
+            fifth: _fifth,
+            sixth: _sixth,
+            seventh: _seventh,
+            eighth: _eighth,
+        } = self;
+    }
 }
 
 impl BlankLedgers {
@@ -156,24 +196,22 @@ impl BlankLedgers {
             eighth: Blank::new(1),
         }
     }
-}
 
-impl<L: Ledgers> Books<L> {
     /// The books, all at 0, and the share of each caller.
-    pub fn open(blanks: BlankLedgers) -> (Books<L>, [Tally<L>; 8])
-        requires first { (blanks.first.name ≡ L.First.name) × (blanks.first.parts ≡ L.First.parts) }
-        requires second { (blanks.second.name ≡ L.Second.name) × (blanks.second.parts ≡ L.Second.parts) }
-        requires third { (blanks.third.name ≡ L.Third.name) × (blanks.third.parts ≡ L.Third.parts) }
-        requires fourth { (blanks.fourth.name ≡ L.Fourth.name) × (blanks.fourth.parts ≡ L.Fourth.parts) }
-        requires fifth { (blanks.fifth.name ≡ L.Fifth.name) × (blanks.fifth.parts ≡ L.Fifth.parts) }
-        requires sixth { (blanks.sixth.name ≡ L.Sixth.name) × (blanks.sixth.parts ≡ L.Sixth.parts) }
-        requires seventh { (blanks.seventh.name ≡ L.Seventh.name) × (blanks.seventh.parts ≡ L.Seventh.parts) }
-        requires eighth { (blanks.eighth.name ≡ L.Eighth.name) × (blanks.eighth.parts ≡ L.Eighth.parts) }
+    pub(crate) fn open<L: Ledgers>(self) -> (Books<L>, [Tally<L>; 8])
+        requires first { (self.first.name ≡ L.First.name) × (self.first.parts ≡ L.First.parts) }
+        requires second { (self.second.name ≡ L.Second.name) × (self.second.parts ≡ L.Second.parts) }
+        requires third { (self.third.name ≡ L.Third.name) × (self.third.parts ≡ L.Third.parts) }
+        requires fourth { (self.fourth.name ≡ L.Fourth.name) × (self.fourth.parts ≡ L.Fourth.parts) }
+        requires fifth { (self.fifth.name ≡ L.Fifth.name) × (self.fifth.parts ≡ L.Fifth.parts) }
+        requires sixth { (self.sixth.name ≡ L.Sixth.name) × (self.sixth.parts ≡ L.Sixth.parts) }
+        requires seventh { (self.seventh.name ≡ L.Seventh.name) × (self.seventh.parts ≡ L.Seventh.parts) }
+        requires eighth { (self.eighth.name ≡ L.Eighth.name) × (self.eighth.parts ≡ L.Eighth.parts) }
         ensures books { result.0 ≡ 0 ∷ 0 ∷ 0 ∷ 0 ∷ 0 ∷ 0 ∷ 0 ∷ 0 ∷ [] }
         ensures callers { AreNew 1 result.1 }
         ensures all { length result.1 ≡ 8 }
     {
-        let BlankLedgers {
+        let Self {
             first,
             second,
             third,
@@ -182,7 +220,7 @@ impl<L: Ledgers> Books<L> {
             sixth,
             seventh,
             eighth,
-        } = blanks;
+        } = self;
         let (first, share1) = first.open::<L::First>();
         let (second, share2) = second.open::<L::Second>();
         let (third, share3) = third.open::<L::Third>();
@@ -214,7 +252,9 @@ impl<L: Ledgers> Books<L> {
             ],
         )
     }
+}
 
+impl<L: Ledgers> Books<L> {
     /// The caller's book counts as many entries as its share says.
     pub fn audit(&mut self, tally: &mut Tally<L>)
         ensures books { self.new ≡ self.old }
@@ -222,34 +262,26 @@ impl<L: Ledgers> Books<L> {
         ensures same { amount_of tally.new ≡ amount_of tally.old }
         ensures amount { slice_index self.old (caller_of tally.old - 1) ≡ amount_of tally.old }
     {
-        match tally {
-            Tally::First(whole) => whole.audit(&mut self.first),
-            Tally::Second(whole) => whole.audit(&mut self.second),
-            Tally::Third(whole) => whole.audit(&mut self.third),
-            Tally::Fourth(whole) => whole.audit(&mut self.fourth),
-            Tally::Fifth(whole) => whole.audit(&mut self.fifth),
-            Tally::Sixth(whole) => whole.audit(&mut self.sixth),
-            Tally::Seventh(whole) => whole.audit(&mut self.seventh),
-            Tally::Eighth(whole) => whole.audit(&mut self.eighth),
-        }
+        self.count(tally, 0);
     }
 
-    /// Counts an entry of the caller.
-    pub fn count(&mut self, tally: &mut Tally<L>)
+    /// The caller's book has counted as many entries as its share says, and counts so many more.
+    pub fn count(&mut self, tally: &mut Tally<L>, more: u64)
+        ensures same { slice_index self.old (caller_of tally.old - 1) ≡ amount_of tally.old }
         ensures books { self.new
-            ≡ slice_set self.old (caller_of tally.old - 1) (slice_index self.old (caller_of tally.old - 1) + 1) }
+            ≡ slice_set self.old (caller_of tally.old - 1) (slice_index self.old (caller_of tally.old - 1) + more) }
         ensures caller { caller_of tally.new ≡ caller_of tally.old }
-        ensures amount { amount_of tally.new ≡ amount_of tally.old + 1 }
+        ensures amount { amount_of tally.new ≡ amount_of tally.old + more }
     {
         match tally {
-            Tally::First(whole) => whole.count(&mut self.first),
-            Tally::Second(whole) => whole.count(&mut self.second),
-            Tally::Third(whole) => whole.count(&mut self.third),
-            Tally::Fourth(whole) => whole.count(&mut self.fourth),
-            Tally::Fifth(whole) => whole.count(&mut self.fifth),
-            Tally::Sixth(whole) => whole.count(&mut self.sixth),
-            Tally::Seventh(whole) => whole.count(&mut self.seventh),
-            Tally::Eighth(whole) => whole.count(&mut self.eighth),
+            Tally::First(whole) => whole.count(&mut self.first, more),
+            Tally::Second(whole) => whole.count(&mut self.second, more),
+            Tally::Third(whole) => whole.count(&mut self.third, more),
+            Tally::Fourth(whole) => whole.count(&mut self.fourth, more),
+            Tally::Fifth(whole) => whole.count(&mut self.fifth, more),
+            Tally::Sixth(whole) => whole.count(&mut self.sixth, more),
+            Tally::Seventh(whole) => whole.count(&mut self.seventh, more),
+            Tally::Eighth(whole) => whole.count(&mut self.eighth, more),
         }
     }
 }

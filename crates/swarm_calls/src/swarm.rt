@@ -1,7 +1,7 @@
 //! The swarm: the pool that threads share.
 
 ghost use Rattle.std.specs.Prelude.{◌≡◌, ◌≢◌, ◌+◌, ◌-◌, ◌<◌, ◌≤◌, ◌^◌, ◌⊎◌, ◌↔◌, ◌==◌, [], drop, length, true, false};
-ghost use Rattle.std.specs.Prelude.{List, min};
+ghost use Rattle.std.specs.Prelude.{List};
 ghost use Rattle.std.specs.Prelude.{IfOk, IfErr, OnOk};
 ghost use Rattle.std.specs.List.{list_any};
 ghost use Rattle.peer_ids.specs.PeerId.{id_of};
@@ -10,14 +10,14 @@ ghost use Rattle.pool_state.specs.History.{Entry};
 ghost use Rattle.pool_state.specs.Shown.{Shown};
 ghost use Rattle.pool_state.specs.declared.call.Call.TheVariants as call;
 ghost use Rattle.swarm_calls.specs.declared.swarm.NewRefused.TheVariants.{BadCallers};
-ghost use Rattle.swarm_calls.specs.Ledgers.{AreNew, IsNew};
+ghost use Rattle.swarm_calls.specs.Ledgers.{AreNew, amount_of, caller_of};
 ghost use Rattle.swarm_calls.specs.Snapshots.{IsShown};
 ghost use Rattle.swarm_calls.specs.Calls.{AllHere, IsCalled, IsWhole, Later, SameCalls, newcomers};
 
 use crate::history::{Beginning, BlankHistory};
 use crate::identity::Identity;
 use crate::inside::Inside;
-use crate::ledgers::{BlankLedgers, Books, Ledgers, Tally};
+use crate::ledgers::{BlankLedgers, Ledgers, Tally};
 use crate::pass::Pass;
 use crate::rule::SwarmWriter;
 use crate::snapshot::Snapshot;
@@ -67,7 +67,6 @@ impl Gate for NoGate {
 /// A pool that up to eight callers share, by a pass each. Contracts see the number of its callers. A pass fits the
 /// swarm that made it, and no other: an identity has one history, which one swarm takes, and nothing whose type names
 /// an identity leaves the function that is generic in it.
-#[derive(Drop)]
 pub struct Swarm<G: Gate, J: Identity, L: Ledgers> {
     gate: G,
     callers: usize,
@@ -75,6 +74,18 @@ pub struct Swarm<G: Gate, J: Identity, L: Ledgers> {
     // it: no clause rests on it.
     length: AtomicU64,
     inside: Mutex<Inside<J, L>>,
+}
+
+// By hand, so that the proof of who lets go of it is that of a call, and not of all that it holds.
+impl<G: Gate, J: Identity, L: Ledgers> Drop for Swarm<G, J, L> {
+    fn drop(self) {
+        let Self {
+            gate: _gate,
+            callers: _,
+            length: _length,
+            inside: _inside,
+        } = self;
+    }
 }
 
 impl<G: Gate, J: Identity, L: Ledgers> Model for Swarm<G, J, L> {
@@ -122,7 +133,7 @@ impl<G: Gate, J: Identity, L: Ledgers> Swarm<G, J, L> {
         let Ok(writer) = writer_of(alloc, &shown) else {
             return Err(NewRefused::OutOfMemory);
         };
-        let (books, tallies) = Books::open(ledgers);
+        let (books, tallies) = ledgers.open::<L>();
         let passes = match deal(alloc, &writer, &shown, tallies, callers) {
             Ok(passes) => passes,
             Err(refused) => {
@@ -363,33 +374,27 @@ fn deal<J: Identity, L: Ledgers>(
     };
     let mut passes = Vec::new(alloc);
     let mut number = 0;
-    while !rest.is_empty() {
+    while number < callers {
         let tally = rest.remove(0);
         number += 1;
-        seat(&mut passes, writer, shown, tally, number, callers)?;
+        seat(&mut passes, writer, shown, tally)?;
     }
     Ok(passes)
 }
 
-// Adds the pass of this caller, if there are so many.
+// Adds the pass of the share's caller, behind those of the callers before it.
 fn seat<J: Identity, L: Ledgers>(
     passes: &mut Vec<Pass<J, L>>,
     writer: &SwarmWriter<J>,
     shown: &Snapshot,
     tally: Tally<L>,
-    number: usize,
-    callers: usize,
 ) -> Result<(), NewRefused>
     requires shown { IsShown J.book J.config J.callers shown.now × (shown.now.beginning.log ≡ []) }
-    requires callers { (callers ≡ J.callers) × (1 ≤ number) }
-    requires tally { IsNew number tally }
-    requires passes { passes.old.items ≡ newcomers (min (number - 1) callers) }
-    ensures passes { OnOk result (passes.new.items ≡ newcomers (min number callers)) }
+    requires tally { (amount_of tally ≡ 0) × (caller_of tally ≤ J.callers) }
+    requires passes { passes.old.items ≡ newcomers (caller_of tally - 1) }
+    ensures passes { OnOk result (passes.new.items ≡ newcomers (caller_of tally)) }
     ensures refused { IfErr result (λ e. e ≢ BadCallers) }
 {
-    if number > callers {
-        return Ok(());
-    }
     let Ok(reader) = writer.factory().reader() else {
         return Err(NewRefused::NoPlace);
     };

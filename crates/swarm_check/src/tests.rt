@@ -1,5 +1,6 @@
 ghost use Rattle.std.specs.Prelude.{◌≡◌};
 
+mod asserts;
 mod both;
 mod crowd;
 mod gate;

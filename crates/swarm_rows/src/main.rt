@@ -17,7 +17,7 @@ use swarm_calls::{
 };
 
 /// How many calls answered want of memory, and how often something wasn't as it is said.
-#[derive(Clone, Copy, Debug)]
+#[derive(Clone, Copy)]
 struct Tally {
     refused: u32,
     wrong: u32,

@@ -1,5 +1,6 @@
 //! Two callers that dial, by `both_seen`.
 
+use super::asserts::holds;
 use super::peer;
 use both_seen::{Dials, both_seen};
 use peer_ids::PeerId;
@@ -40,6 +41,15 @@ fn row(conn: u32, peer: PeerId) -> Row {
     }
 }
 
+/// Whether connections 7 and 8 are listed behind 2 calls, and nothing else.
+fn are_listed(dials: &Dials, closed: &Closed, a: PeerId, b: PeerId) -> bool {
+    let listing = &dials.listing;
+    let rows = [row(7, a), row(8, b)];
+    let are_answered = dials.one == Reply::Conn(7) && dials.other == Reply::Conn(8);
+    let are_rows = listing.front == 22 && listing.conns.as_slice() == rows.as_slice();
+    are_answered && are_rows && closed.listing == *listing && closed.calls == 2
+}
+
 #[test]
 fn both_are_listed(rt: HostRuntime) -> Result<(), Fail> {
     let limits = Limits::new(256, 8, 64, 64, 256, 256, 64).ok_or("in range")?;
@@ -52,11 +62,6 @@ fn both_are_listed(rt: HostRuntime) -> Result<(), Fail> {
     };
     let (a, b) = (peer(0x11), peer(0x22));
     let (dials, closed) = play(&rt, rt.alloc(), config, a, b).ok().ok_or("a swarm")?;
-    assert_eq!(rt; (dials.one, dials.other), (Reply::Conn(7), Reply::Conn(8)));
-    assert_eq!(rt; dials.listing.front, 22);
-    let rows = [row(7, a), row(8, b)];
-    assert_eq!(rt; dials.listing.conns.as_slice(), rows.as_slice());
-    assert!(rt; closed.listing == dials.listing);
-    assert_eq!(rt; closed.calls, 2);
+    holds(&rt, "two dials", are_listed(&dials, &closed, a, b));
     Ok(())
 }

@@ -1,5 +1,6 @@
 //! Worked rows.
 
+use super::asserts::holds;
 use super::{Asked, Script, call, config, make, peer_if, play, proven};
 use plaintext_x::Proven;
 use pool_state::{Call, Config, ConnSide, Phase, Pool, Refusal, Reply, Row};
@@ -202,7 +203,7 @@ fn two_callers_share_one_history(rt: HostRuntime) -> Result<(), Fail> {
     for (number, script) in TWO_CALLERS.iter().enumerate() {
         let held = play(&rt, rt.alloc(), config(1)?, 2, script);
         let all = script.beats.len().saturating_add(2);
-        assert_eq!(rt; held, Ok(all), "script {number}: so many rows hold");
+        holds(&rt, (number, held), held == Ok(all));
     }
     Ok(())
 }
@@ -475,11 +476,7 @@ fn play_steps<R: Wait>(
 fn calls_in_turn(rt: HostRuntime) -> Result<(), Fail> {
     for (number, script) in STEPS.iter().enumerate() {
         let held = play_steps(&rt, rt.alloc(), script)?;
-        assert_eq!(rt;
-            held,
-            script.outcome(),
-            "script {number}: so many rows hold"
-        );
+        holds(&rt, (number, held), held == script.outcome());
     }
     Ok(())
 }
@@ -512,10 +509,8 @@ impl Script for Nothing {
 #[test]
 fn want_of_memory_is_no_want_of_a_place(rt: HostRuntime) -> Result<(), Fail> {
     let made = play(&rt, rt.alloc(), config(1)?, 8, &Nothing);
-    assert!(rt;
-        made == Ok(0) || made == Err(NewRefused::OutOfMemory),
-        "{made:?}"
-    );
+    let is_so = made == Ok(0) || made == Err(NewRefused::OutOfMemory);
+    holds(&rt, made, is_so);
     Ok(())
 }
 
@@ -528,6 +523,6 @@ static REFUSALS: [(NewRefused, usize); 3] = [
 #[test]
 fn numbers_of_refusals(rt: HostRuntime) {
     for (refused, number) in REFUSALS.iter() {
-        assert!(rt; *refused as usize == *number, "{number}");
+        holds(&rt, *number, *refused as usize == *number);
     }
 }

@@ -2,6 +2,7 @@
 
 ghost use Rattle.std.specs.Prelude.{◌≡◌};
 
+use super::asserts::holds;
 use super::crowd::{History, Told, call_often, call_once};
 use super::gate::{ENOUGH, HoldFirst, PATIENT, Watch};
 use super::held::{hold_each_call, wait_for_the_first};
@@ -426,9 +427,9 @@ fn several_threads_call_a_swarm(rt: HostRuntime) -> Result<(), Fail> {
             watch: Watch::new(row.listed, row.patience),
             proven: proven(rt.alloc(), 0x11)?,
         };
-        let holds = play(&rt, rt.alloc(), stage)?;
+        let held = play(&rt, rt.alloc(), stage)?;
         let all = row.holds.saturating_add(1);
-        assert_eq!(rt; holds, all, "row {number}: so much of it holds");
+        holds(&rt, (number, held), held == all);
     }
     Ok(())
 }
