@@ -5,56 +5,69 @@ use handlers::HandlerFault;
 use identify_h::IdentifyFault;
 use ping_h::PingFault;
 use std::alloc::Global;
+use std::fmt::{Debug, Display};
 use std::test::*;
+
+/// A fault, its number, and its name and sentence.
+type Row<F> = (F, u8, &'static str);
+
+/// Whether a fault is told so, and is equal to that of its number alone.
+fn is_told<F: Debug + Display + PartialEq + Copy + Drop>(
+    alloc: Global,
+    row: &Row<F>,
+    all: &[Row<F>],
+) -> bool {
+    let (fault, number, text) = row;
+    let mut held = match format!(in alloc; "{fault:?}: {fault}") {
+        Ok(told) => told.as_str() == *text,
+        Err(_) => false,
+    };
+    for (other, place, _) in all.iter() {
+        held = held && (fault == other) == (number == place);
+    }
+    held
+}
 
 // ---- handlers
 
-static SENTENCES: [(u8, &str); 3] = [
-    (0, "the handler of the stream gave up: fault 0"),
-    (7, "the handler of the stream gave up: fault 7"),
-    (255, "the handler of the stream gave up: fault 255"),
+const HANDLERS: [Row<HandlerFault>; 3] = [
+    (
+        HandlerFault { number: 0 },
+        0,
+        "HandlerFault { number: 0 }: the handler of the stream gave up: fault 0",
+    ),
+    (
+        HandlerFault { number: 7 },
+        7,
+        "HandlerFault { number: 7 }: the handler of the stream gave up: fault 7",
+    ),
+    (
+        HandlerFault { number: 255 },
+        255,
+        "HandlerFault { number: 255 }: the handler of the stream gave up: fault 255",
+    ),
 ];
-
-fn says(alloc: Global, number: u8, sentence: &str) -> bool {
-    let fault = HandlerFault { number };
-    match format!(in alloc; "{fault}") {
-        Ok(told) => told.as_str() == sentence,
-        Err(_) => false,
-    }
-}
 
 #[test]
 fn a_fault_says_its_number(rt: HostRuntime) {
-    for (number, sentence) in SENTENCES.iter() {
-        holds(
-            &rt,
-            ("fault", *number),
-            says(rt.alloc(), *number, *sentence),
-        );
+    for row in HANDLERS.iter() {
+        holds(&rt, row.0, is_told(rt.alloc(), row, &HANDLERS));
     }
-}
-
-/// Whether the fault of this number is equal to itself and to no other.
-fn is_numbered(number: u8) -> bool {
-    let mut held = true;
-    for other in 0..=255u8 {
-        let is_same = HandlerFault { number } == HandlerFault { number: other };
-        held = held && is_same == (number == other);
-    }
-    held
 }
 
 #[test]
 fn faults_are_told_apart_by_their_numbers(rt: HostRuntime) {
     for number in 0..=255u8 {
-        holds(&rt, ("fault", number), is_numbered(number));
+        for other in 0..=255u8 {
+            let is_same = HandlerFault { number } == HandlerFault { number: other };
+            holds(&rt, ("faults", number, other), is_same == (number == other));
+        }
     }
 }
 
 // ---- ping
 
-/// A fault, its number, and its name and sentence.
-static PINGS: [(PingFault, u8, &str); 4] = [
+static PINGS: [Row<PingFault>; 4] = [
     (
         PingFault::Failed,
         1,
@@ -69,34 +82,17 @@ static PINGS: [(PingFault, u8, &str); 4] = [
     (PingFault::OutOfMemory, 4, "OutOfMemory: out of memory"),
 ];
 
-fn is_ping_told(alloc: Global, fault: PingFault, text: &str) -> bool {
-    match format!(in alloc; "{fault:?}: {fault}") {
-        Ok(told) => told.as_str() == text,
-        Err(_) => false,
-    }
-}
-
-/// Whether the fault has this number, and is equal to that of this number alone.
-fn is_ping_alone(fault: PingFault, number: u8) -> bool {
-    let mut held = fault as u8 == number;
-    for (other, place, _) in PINGS.iter() {
-        held = held && (fault == *other) == (number == *place);
-    }
-    held
-}
-
 #[test]
 fn faults_of_ping(rt: HostRuntime) {
-    for (fault, number, text) in PINGS.iter() {
-        let is_told = is_ping_told(rt.alloc(), *fault, *text);
-        holds(&rt, *fault, is_told && is_ping_alone(*fault, *number));
+    for row in PINGS.iter() {
+        let is_numbered = row.0 as u8 == row.1;
+        holds(&rt, row.0, is_numbered && is_told(rt.alloc(), row, &PINGS));
     }
 }
 
 // ---- identify
 
-/// A fault, its number, and its name and sentence.
-static IDENTIFIES: [(IdentifyFault, u8, &str); 7] = [
+static IDENTIFIES: [Row<IdentifyFault>; 7] = [
     (
         IdentifyFault::Failed,
         1,
@@ -126,26 +122,11 @@ static IDENTIFIES: [(IdentifyFault, u8, &str); 7] = [
     (IdentifyFault::OutOfMemory, 7, "OutOfMemory: out of memory"),
 ];
 
-fn is_identify_told(alloc: Global, fault: IdentifyFault, text: &str) -> bool {
-    match format!(in alloc; "{fault:?}: {fault}") {
-        Ok(told) => told.as_str() == text,
-        Err(_) => false,
-    }
-}
-
-/// Whether the fault has this number, and is equal to that of this number alone.
-fn is_identify_alone(fault: IdentifyFault, number: u8) -> bool {
-    let mut held = fault as u8 == number;
-    for (other, place, _) in IDENTIFIES.iter() {
-        held = held && (fault == *other) == (number == *place);
-    }
-    held
-}
-
 #[test]
 fn faults_of_identify(rt: HostRuntime) {
-    for (fault, number, text) in IDENTIFIES.iter() {
-        let is_told = is_identify_told(rt.alloc(), *fault, *text);
-        holds(&rt, *fault, is_told && is_identify_alone(*fault, *number));
+    for row in IDENTIFIES.iter() {
+        let is_numbered = row.0 as u8 == row.1;
+        let is_told = is_told(rt.alloc(), row, &IDENTIFIES);
+        holds(&rt, row.0, is_numbered && is_told);
     }
 }

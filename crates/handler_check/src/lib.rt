@@ -4,6 +4,8 @@
 #[cfg(test)]
 mod asserts;
 #[cfg(test)]
+mod driving;
+#[cfg(test)]
 mod fault_tests;
 #[cfg(test)]
 mod identify_tests;
@@ -13,7 +15,5 @@ mod message_tests;
 mod ping_tests;
 #[cfg(test)]
 mod protocol_tests;
-#[cfg(test)]
-mod push_tests;
 #[cfg(test)]
 mod said;

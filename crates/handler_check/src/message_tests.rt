@@ -1,10 +1,10 @@
 //! Messages as bodies: as they are written, and as a peer may spell them, with texts of any bytes, fields that stand
-//! again and again, and keys that are alike.
+//! again and again.
 
 use crate::asserts::holds;
 use crate::said::*;
 use identify_h::*;
-use peer_ids::{KeyType, PeerId};
+use peer_ids::KeyType;
 use std::alloc::Global;
 use std::test::*;
 
@@ -165,16 +165,6 @@ fn says(alloc: Global, bytes: &[u8], message: &Identify) -> bool {
     }
 }
 
-/// Whether no other peer may say these bytes where they have a key: none whose key is another in its last byte.
-pub fn is_own(alloc: Global, bytes: &[u8], message: &Identify) -> bool {
-    let mut other = [7; 32];
-    other[31] = 8;
-    match Identify::read(alloc, bytes, PeerId::of_ed25519(&other)) {
-        Ok(_) => message.key.is_none(),
-        Err(fault) => fault == IdentifyFault::OtherKey && message.key.is_some(),
-    }
-}
-
 fn is_written(alloc: Global, message: &Identify, parts: Parts) -> bool {
     match message.write() {
         Ok(written) => is_joined(alloc, &written, parts),
@@ -184,10 +174,7 @@ fn is_written(alloc: Global, message: &Identify, parts: Parts) -> bool {
 
 fn is_body_of(alloc: Global, bytes: &[u8], body: &Body) -> bool {
     match message(alloc, &body.said) {
-        Some(message) => {
-            let is_read = says(alloc, bytes, &message) && is_own(alloc, bytes, &message);
-            is_read && is_written(alloc, &message, body.written)
-        }
+        Some(message) => says(alloc, bytes, &message) && is_written(alloc, &message, body.written),
         None => false,
     }
 }
@@ -205,22 +192,5 @@ fn bodies_are_read_and_written(rt: HostRuntime) {
         for (number, body) in bodies.iter().enumerate() {
             holds(&rt, (table, number), is_body(rt.alloc(), body));
         }
-    }
-}
-
-/// Whether the key of sevens is refused of the peer whose key has another byte at this place.
-fn is_another(alloc: Global, place: usize) -> bool {
-    let mut other = [7; 32];
-    if let Some(byte) = other.get_mut(place) {
-        *byte = 8;
-    }
-    let read = Identify::read(alloc, KEY, PeerId::of_ed25519(&other));
-    read.err() == Some(IdentifyFault::OtherKey)
-}
-
-#[test]
-fn keys_that_differ_in_one_byte(rt: HostRuntime) {
-    for place in 0..32usize {
-        holds(&rt, ("byte", place), is_another(rt.alloc(), place));
     }
 }

@@ -128,21 +128,12 @@ pub fn peer_of(message: &Identify) -> PeerId {
     }
 }
 
-pub fn is_same_key(one: &Option<PublicKey>, other: &Option<PublicKey>) -> bool {
-    match (one, other) {
-        (Some(one), Some(other)) => one.kind() == other.kind() && one.body() == other.body(),
-        (None, None) => true,
+/// Whether both are written alike. What is written says one message alone.
+pub fn is_same(one: &Identify, other: &Identify) -> bool {
+    match (one.write(), other.write()) {
+        (Ok(one), Ok(other)) => one == other,
         _ => false,
     }
-}
-
-pub fn is_same(one: &Identify, other: &Identify) -> bool {
-    is_same_key(&one.key, &other.key)
-        && one.listen == other.listen
-        && one.protocols == other.protocols
-        && one.observed == other.observed
-        && one.version == other.version
-        && one.agent == other.agent
 }
 
 /// Whether these bytes are the parts.

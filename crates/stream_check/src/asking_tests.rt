@@ -3,6 +3,7 @@
 
 ghost use Rattle.std.specs.Prelude.{◌≡◌, [], ◌∷◌, ⊤, ◌==◌, ◌&&◌, false, codes};
 
+use crate::asserts;
 use crate::greeting::{KEY, OTHER, ROOM};
 use crate::lending::{came, holds, lend};
 use conn_core::ConnCore;
@@ -153,7 +154,7 @@ enum Told {
 /// was room for, and what is told.
 type Row = (usize, bool, &'static [u8], Told);
 
-const ROWS: [Row; 12] = [
+static ROWS: [Row; 12] = [
     (ROOM + 1, true, CREDIT_AND_END_1, Told::Done(1, 0)),
     (ROOM + 2, true, CREDIT_AND_END_1, Told::Failed(1)),
     (ROOM + 1, true, CREDIT_AND_END_3, Told::Done(3, 0)),
@@ -205,10 +206,9 @@ fn is_so(alloc: Global, owed: usize, fails: bool, piece: &[u8], told: &Told) -> 
 }
 
 #[test]
-fn a_handler_gives_before_it_hears_the_end(rt: HostRuntime) -> Result<(), Fail> {
+fn a_handler_gives_before_it_hears_the_end(rt: HostRuntime) {
     for (number, (owed, fails, piece, told)) in ROWS.iter().enumerate() {
         let held = is_so(rt.alloc(), *owed, *fails, *piece, told);
-        assert!(rt; held, "row {number}");
+        asserts::holds(&rt, ("row", number), held);
     }
-    Ok(())
 }

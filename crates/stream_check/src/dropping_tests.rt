@@ -1,167 +1,21 @@
 //! A handler isn't called where its stream is given up, or its connection ends. Its clauses bind the calls by which a
 //! value that is held on came to be; of a value that is dropped they say nothing, so a handler counts its calls here.
 
-ghost use Rattle.std.specs.Prelude.{◌≡◌, [], ◌∷◌, ⊤, false, codes};
-
+use crate::asserts;
+use crate::counting::{Counting, Countings, Counts, NONE};
 use crate::greeting::{KEY, OTHER, ROOM};
 use crate::lending::{came, holds, lend};
 use crate::stopping::{Why, stop_for};
 use conn_core::ConnCore;
 use conn_log::{ConnEvent, ConnFault};
-use handlers::{Handler, HandlerFault, Protocols};
 use ms_select::SelectFault;
-use peer_ids::{PeerId, PublicKey};
-use std::alloc::{AllocError, Global};
+use peer_ids::PublicKey;
+use std::alloc::Global;
 use std::cell::Cell;
 use std::rc::Rc;
 use std::test::*;
 use streams::Stop;
 use upgrade::ConnRole;
-
-/// How many handlers were made, and of all calls of theirs: how many, the bytes taken, the ends, the greatest room.
-#[derive(Clone, Copy)]
-struct Counts {
-    made: u32,
-    calls: u32,
-    bytes: usize,
-    ends: u32,
-    room: usize,
-}
-
-const NONE: Counts = Counts {
-    made: 0,
-    calls: 0,
-    bytes: 0,
-    ends: 0,
-    room: 0,
-};
-
-/// Counts one call of a handler.
-fn count(counts: &Cell<Counts>, bytes: usize, ends: u32, room: usize) {
-    let old = counts.get();
-    counts.set(Counts {
-        made: old.made,
-        calls: old.calls.saturating_add(1),
-        bytes: old.bytes.saturating_add(bytes),
-        ends: old.ends.saturating_add(ends),
-        room: old.room.max(room),
-    });
-}
-
-/// A handler that counts its calls, and gives nothing. The first of the bytes that came last names the call that fails.
-#[derive(Drop)]
-struct Counting {
-    alloc: Global,
-    counts: Rc<Cell<Counts>>,
-    heard: u8,
-}
-
-impl Counting {
-    fn unless(&self, letter: u8) -> Result<(), HandlerFault> {
-        if self.heard == letter {
-            return Err(HandlerFault { number: letter });
-        }
-        Ok(())
-    }
-}
-
-impl Handler for Counting {
-    ghost steps = { λ _ _ _. ⊤ };
-
-    ghost fails = { λ _ _ _. ⊤ };
-
-    ghost is_closed = { λ _. false };
-
-    ghost is_finished = { λ _. false };
-
-    fn take(&mut self, bytes: &[u8]) -> Result<(), HandlerFault> {
-        count(&self.counts, bytes.len(), 0, 0);
-        self.heard = bytes.first().copied().unwrap_or(0);
-        self.unless(b't')
-    }
-
-    fn end(&mut self) -> Result<(), HandlerFault> {
-        count(&self.counts, 0, 1, 0);
-        self.unless(b'e')
-    }
-
-    fn give(&mut self, room: usize) -> Result<Vec<u8>, HandlerFault> {
-        count(&self.counts, 0, 0, room);
-        match self.unless(b'g') {
-            Ok(()) => Ok(Vec::new(self.alloc)),
-            Err(fault) => Err(fault),
-        }
-    }
-
-    fn closed(&self) -> bool {
-        false
-    }
-
-    fn finished(&self) -> bool {
-        false
-    }
-}
-
-/// The protocol `/mute`, and no other. It counts its handlers.
-#[derive(Drop)]
-struct Countings {
-    alloc: Global,
-    counts: Rc<Cell<Counts>>,
-    is_eager: bool,
-}
-
-impl Countings {
-    fn make(&self) -> Result<Counting, AllocError> {
-        let counts = self.counts.clone()?;
-        let old = counts.get();
-        counts.set(Counts {
-            made: old.made.saturating_add(1),
-            calls: old.calls,
-            bytes: old.bytes,
-            ends: old.ends,
-            room: old.room,
-        });
-        Ok(Counting {
-            alloc: self.alloc,
-            counts,
-            heard: 0,
-        })
-    }
-}
-
-static NAMES: [&str; 1] = ["/mute"];
-
-impl Protocols for Countings {
-    type H = Counting;
-
-    ghost listed = { λ _. codes "/mute" ∷ [] };
-
-    ghost is_eager = { λ p _. p.is_eager };
-
-    ghost makes_inbound = { λ _ _ _ _. ⊤ };
-
-    ghost makes_outbound = { λ _ _ _ _. ⊤ };
-
-    ghost leads_inbound = { λ old _ _ _ new. new ≡ old };
-
-    ghost leads_outbound = { λ old _ _ _ new. new ≡ old };
-
-    fn names(&self) -> &[&str] {
-        &NAMES
-    }
-
-    fn eager(&self, _index: usize) -> bool {
-        self.is_eager
-    }
-
-    fn inbound(&mut self, _index: usize, _peer: PeerId) -> Result<Counting, AllocError> {
-        self.make()
-    }
-
-    fn outbound(&mut self, _index: usize, _peer: PeerId) -> Result<Counting, AllocError> {
-        self.make()
-    }
-}
 
 /// The other end opens the stream 1 for `/mute`, and sends three bytes on it.
 const OPENS: &[u8] = b"\0\0\0\x01\0\0\0\x01\0\0\0\x1b\x13/multistream/1.0.0\n\x06/mute\n\
@@ -329,8 +183,9 @@ fn begins(core: &mut ConnCore<Countings>, role: ConnRole) -> bool {
     }
 }
 
-/// Whether the handler sees those calls alone of what drops it, also where the connection ends behind that.
-fn sees(core: &mut ConnCore<Countings>, counts: &Cell<Counts>, row: &Row) -> bool {
+/// Whether the handler sees those calls alone of what drops it, also where the connection ends behind that; and whether
+/// it was asked if it is finished exactly where its talk agreed.
+fn sees(core: &mut ConnCore<Countings>, role: ConnRole, counts: &Cell<Counts>, row: &Row) -> bool {
     let (first, last, told, more) = row;
     let is_fed = came(core.feed(*first));
     let before = counts.get();
@@ -342,7 +197,8 @@ fn sees(core: &mut ConnCore<Countings>, counts: &Cell<Counts>, row: &Row) -> boo
     let is_called = after.calls == before.calls.saturating_add(more.0);
     let is_handed = after.bytes == before.bytes.saturating_add(more.1);
     let is_ended = after.ends == before.ends.saturating_add(more.2);
-    is_fed && is_told && was_served && is_same && is_called && is_handed && is_ended
+    let is_asked = (after.asked > 0) == (role == ConnRole::Listener);
+    is_fed && is_told && was_served && is_same && is_called && is_handed && is_ended && is_asked
 }
 
 fn connection(
@@ -354,14 +210,20 @@ fn connection(
     let protocols = Countings {
         alloc,
         counts: counts.clone().ok()?,
+        is_known: true,
         is_eager: role == ConnRole::Dialer,
+        closes: false,
+        failing: 0,
     };
     ConnCore::new(alloc, role, key, protocols).ok()
 }
 
 fn holds_so(alloc: Global, role: ConnRole, counts: &Rc<Cell<Counts>>, row: &Row) -> bool {
     let core = connection(alloc, role, counts);
-    lend(core, |core| begins(core, role) && sees(core, counts, row)) == Some(true)
+    lend(
+        core,
+        |core| begins(core, role) && sees(core, role, counts, row),
+    ) == Some(true)
 }
 
 fn is_so(alloc: Global, role: ConnRole, row: &Row) -> bool {
@@ -371,12 +233,11 @@ fn is_so(alloc: Global, role: ConnRole, row: &Row) -> bool {
 }
 
 #[test]
-fn a_handler_that_is_dropped_sees_no_further_call(rt: HostRuntime) -> Result<(), Fail> {
+fn a_handler_that_is_dropped_sees_no_further_call(rt: HostRuntime) {
     for (table, (role, rows)) in TABLES.iter().enumerate() {
         for (number, row) in rows.iter().enumerate() {
             let held = is_so(rt.alloc(), *role, row);
-            assert!(rt; held, "table {table}, row {number}");
+            asserts::holds(&rt, ("table", table, "row", number), held);
         }
     }
-    Ok(())
 }

@@ -33,3 +33,8 @@ pub(crate) fn came<T: Drop, E: Drop>(answer: Result<T, E>) -> bool {
 pub(crate) fn set<T: Drop>(place: &mut T, value: T) {
     *place = value;
 }
+
+/// Whether something was handed out.
+pub(crate) fn is_there<T: Drop>(out: Option<T>) -> bool {
+    out.is_some()
+}

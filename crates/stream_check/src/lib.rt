@@ -1,12 +1,14 @@
-//! Tests of streams, serving, dispatch, routing and an end of a connection, by public calls.
+//! Tests of streams, of routing (and so of dispatch and serving) and of an end of a connection, by public calls.
 #![tactic(auto)]
 
 #[cfg(test)]
 mod asking_tests;
 #[cfg(test)]
+mod asserts;
+#[cfg(test)]
 mod core_tests;
 #[cfg(test)]
-mod dispatch_tests;
+mod counting;
 #[cfg(test)]
 mod dropping_tests;
 #[cfg(test)]
@@ -17,8 +19,6 @@ mod greeting;
 mod lending;
 #[cfg(test)]
 mod routing_tests;
-#[cfg(test)]
-mod serving_tests;
 #[cfg(test)]
 mod stopping;
 #[cfg(test)]

@@ -1,5 +1,6 @@
 //! Two sessions, one of which delivers to its stream 1 what comes. It knows /x and /y, each an echo.
 
+use crate::asserts;
 use crate::echo::{Echo, Echoes, NAMES};
 use crate::lending::{holds, lend, set};
 use crate::stopping::{Why, stop_for};
@@ -177,22 +178,22 @@ impl Pair {
         }
     }
 
-    /// How many steps hold, from the first on, if the stream is open.
-    fn plays(&mut self, alloc: Global, steps: &[Step], size: usize) -> Option<usize> {
-        if !self.opens() {
-            return None;
+    fn comes_to(&mut self, alloc: Global, step: &Step, size: usize) -> bool {
+        let is_done = self.does(&step.does, size);
+        let is_told = match step.told {
+            Some(data) => self.tells(alloc, data),
+            None => true,
+        };
+        is_done && is_told && self.agreed == step.agreed && self.is_at(&step.place)
+    }
+
+    /// Whether the stream is open, and all steps hold.
+    fn plays(&mut self, alloc: Global, steps: &[Step], size: usize) -> bool {
+        let mut held = self.opens();
+        for step in steps {
+            held = held && self.comes_to(alloc, step, size);
         }
-        for (row, step) in steps.iter().enumerate() {
-            let is_done = self.does(&step.does, size);
-            let is_told = match step.told {
-                Some(data) => self.tells(alloc, data),
-                None => true,
-            };
-            if !is_done || !is_told || self.agreed != step.agreed || !self.is_at(&step.place) {
-                return Some(row);
-            }
-        }
-        Some(steps.len())
+        held
     }
 }
 
@@ -330,7 +331,6 @@ fn two_ends(alloc: Global, script: &Script, stream: Stream<Echo>) -> Pair {
         protocols: Echoes {
             alloc,
             most: script.most,
-            out_of_memory: false,
         },
         direction: script.direction,
         own: Session::new(alloc, own),
@@ -348,22 +348,17 @@ fn fresh(alloc: Global, script: &Script) -> Option<Pair> {
     }
 }
 
-fn rows_held(alloc: Global, script: &Script, size: usize) -> Option<usize> {
+fn is_played(alloc: Global, script: &Script, size: usize) -> bool {
     let pair = fresh(alloc, script);
-    lend(pair, |pair| pair.plays(alloc, script.steps, size)).flatten()
+    lend(pair, |pair| pair.plays(alloc, script.steps, size)) == Some(true)
 }
 
 #[test]
-fn scripts_in_pieces(rt: HostRuntime) -> Result<(), Fail> {
-    for size in [1, 7, 1024] {
-        for (number, script) in SCRIPTS.iter().enumerate() {
-            let held = rows_held(rt.alloc(), script, size);
-            assert_eq!(rt;
-                held,
-                Some(script.steps.len()),
-                "script {number}, in pieces of {size}: so many rows hold"
-            );
+fn scripts_in_pieces(rt: HostRuntime) {
+    for (number, script) in SCRIPTS.iter().enumerate() {
+        for size in [1, 7, 1024] {
+            let held = is_played(rt.alloc(), script, size);
+            asserts::holds(&rt, ("script", number, "in pieces of", size), held);
         }
     }
-    Ok(())
 }

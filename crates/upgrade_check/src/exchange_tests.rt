@@ -187,36 +187,6 @@ fn inputs_however_they_are_cut(rt: HostRuntime) {
     }
 }
 
-/// Messages up to the id of the exchange, with one id before it and with two, and how many bytes they then have.
-static EARLIER_IDS: [(&[u8], usize); 2] = [
-    (b"\x50\x0a\x00", 81),
-    (b"\x53\x0a\x00\x0a\x01\x07", 84),
-];
-
-fn with_front(alloc: Global, front: &[u8]) -> Option<Vec<u8>> {
-    let rest = MESSAGE.get(1..)?;
-    let mut input = Vec::from_slice(alloc, front).ok()?;
-    match input.extend_from_slice(rest) {
-        Ok(()) => Some(input),
-        Err(_) => None,
-    }
-}
-
-/// Whether the last of the ids counts.
-fn is_last_id(alloc: Global, front: &[u8], used: usize) -> bool {
-    match with_front(alloc, front) {
-        Some(input) => comes_to(alloc, &input, 7, Ok((used, true))),
-        None => false,
-    }
-}
-
-#[test]
-fn the_last_id_counts(rt: HostRuntime) {
-    for (row, (front, used)) in EARLIER_IDS.iter().enumerate() {
-        holds(&rt, ("row", row), is_last_id(rt.alloc(), *front, *used));
-    }
-}
-
 /// Whether an exchange that was handed back proves by its last byte.
 fn proves_by(exchange: Exchange, last: &[u8]) -> bool {
     let mut exchange = exchange;

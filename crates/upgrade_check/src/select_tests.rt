@@ -1,6 +1,6 @@
 use crate::asserts::holds;
 use ms_select::*;
-use std::alloc::{AllocError, Global};
+use std::alloc::Global;
 use std::test::*;
 
 /// The header as a message.
@@ -126,91 +126,6 @@ static LISTENERS: [Row; 11] = [
     },
 ];
 
-/// Rows of what listeners know, and of headers.
-static LISTENED: [Row; 11] = [
-    // The first of two equal names.
-    Row {
-        names: &["/x", "/y", "/y"],
-        input: b"\x13/multistream/1.0.0\n\x03/y\n",
-        answer: Ok(Answer::Agreed(1)),
-        used: 24,
-        output: b"\x13/multistream/1.0.0\n\x03/y\n",
-        ..Y
-    },
-    // Reserved names are never supported.
-    Row {
-        names: &["na", "ls", "/multistream/1.0.0"],
-        input: b"\x13/multistream/1.0.0\n\x03na\n\x03ls\n\x13/multistream/1.0.0\n",
-        used: 48,
-        output: b"\x13/multistream/1.0.0\n\x03na\n\x03na\n\x03na\n",
-        ..Y
-    },
-    // A text that begins with a reserved one may be supported, and so may the first letter of one, or its capitals.
-    Row {
-        names: &["nab", "ls2", "/multistream/1.0.0/", "n", "NA"],
-        input: b"\x13/multistream/1.0.0\n\x04nab\n",
-        answer: Ok(Answer::Agreed(0)),
-        used: 25,
-        output: b"\x13/multistream/1.0.0\n\x04nab\n",
-        ..Y
-    },
-    Row {
-        names: &["nab", "ls2", "/multistream/1.0.0/", "n", "NA"],
-        input: b"\x13/multistream/1.0.0\n\x04ls2\n",
-        answer: Ok(Answer::Agreed(1)),
-        used: 25,
-        output: b"\x13/multistream/1.0.0\n\x04ls2\n",
-        ..Y
-    },
-    Row {
-        names: &["nab", "ls2", "/multistream/1.0.0/", "n", "NA"],
-        input: b"\x13/multistream/1.0.0\n\x14/multistream/1.0.0/\n",
-        answer: Ok(Answer::Agreed(2)),
-        used: 41,
-        output: b"\x13/multistream/1.0.0\n\x14/multistream/1.0.0/\n",
-        ..Y
-    },
-    Row {
-        names: &["nab", "ls2", "/multistream/1.0.0/", "n", "NA"],
-        input: b"\x13/multistream/1.0.0\n\x02n\n",
-        answer: Ok(Answer::Agreed(3)),
-        used: 23,
-        output: b"\x13/multistream/1.0.0\n\x02n\n",
-        ..Y
-    },
-    Row {
-        names: &["nab", "ls2", "/multistream/1.0.0/", "n", "NA"],
-        input: b"\x13/multistream/1.0.0\n\x03NA\n",
-        answer: Ok(Answer::Agreed(4)),
-        used: 24,
-        output: b"\x13/multistream/1.0.0\n\x03NA\n",
-        ..Y
-    },
-    // A part of a name, more than it, its capitals and nothing are other proposals.
-    Row {
-        input: b"\x13/multistream/1.0.0\n\x02/\n\x04/yz\n\x03/Y\n\x01\n",
-        used: 34,
-        output: b"\x13/multistream/1.0.0\n\x03na\n\x03na\n\x03na\n\x03na\n",
-        ..Y
-    },
-    // More than the header, a part of it, and nothing are no header.
-    Row {
-        input: b"\x14/multistream/1.0.0/\n",
-        answer: Err(SelectFault::BadHeader),
-        ..Y
-    },
-    Row {
-        input: b"\x12/multistream/1.0.\n",
-        answer: Err(SelectFault::BadHeader),
-        ..Y
-    },
-    Row {
-        input: b"\x01\n",
-        answer: Err(SelectFault::BadHeader),
-        ..Y
-    },
-];
-
 /// Rows of dialers.
 static DIALERS: [Row; 11] = [
     // The third of three names, and none of them.
@@ -290,146 +205,12 @@ static DIALERS: [Row; 11] = [
     },
 ];
 
-/// Rows of dialers: when data may be sent, and of refusals.
-static SENDERS: [Row; 9] = [
-    // Data may go before the answer to one name.
-    X,
-    Row {
-        input: M,
-        used: 20,
-        ..X
-    },
-    Row {
-        input: M_NA,
-        answer: Ok(Answer::NoneLeft),
-        used: 24,
-        may_send: false,
-        ..X
-    },
-    Row {
-        input: NA,
-        answer: Err(SelectFault::BadHeader),
-        may_send: false,
-        ..X
-    },
-    X_Y,
-    Row {
-        input: M_NA,
-        used: 24,
-        output: M_X_Y,
-        ..X_Y
-    },
-    // To a dialer na is a refusal, also of the name na.
-    Row {
-        names: &["na"],
-        input: M_NA,
-        answer: Ok(Answer::NoneLeft),
-        used: 24,
-        output: M_NA,
-        may_send: false,
-        ..X
-    },
-    // A dialer without names writes nothing.
-    Row {
-        names: &[],
-        output: b"",
-        may_send: false,
-        ..X
-    },
-    Row {
-        names: &[],
-        input: M,
-        answer: Ok(Answer::NoneLeft),
-        output: b"",
-        may_send: false,
-        ..X
-    },
-];
-
-/// Rows of what dialers hear, which is no echo, and of headers.
-static DIALED: [Row; 11] = [
-    // More than the proposal, a part of it, nothing, its capitals, and ls are no echo; nor is one that begins with na,
-    // a part of na, or its capitals.
-    Row {
-        input: b"\x13/multistream/1.0.0\n\x04/xy\n",
-        answer: Err(SelectFault::NotProposed),
-        ..X_Y
-    },
-    Row {
-        input: b"\x13/multistream/1.0.0\n\x02/\n",
-        answer: Err(SelectFault::NotProposed),
-        ..X_Y
-    },
-    Row {
-        input: b"\x13/multistream/1.0.0\n\x01\n",
-        answer: Err(SelectFault::NotProposed),
-        ..X_Y
-    },
-    Row {
-        input: b"\x13/multistream/1.0.0\n\x03/X\n",
-        answer: Err(SelectFault::NotProposed),
-        ..X_Y
-    },
-    Row {
-        input: b"\x13/multistream/1.0.0\n\x03ls\n",
-        answer: Err(SelectFault::NotProposed),
-        ..X_Y
-    },
-    Row {
-        input: b"\x13/multistream/1.0.0\n\x04nab\n",
-        answer: Err(SelectFault::NotProposed),
-        ..X_Y
-    },
-    Row {
-        input: b"\x13/multistream/1.0.0\n\x02n\n",
-        answer: Err(SelectFault::NotProposed),
-        ..X_Y
-    },
-    Row {
-        input: b"\x13/multistream/1.0.0\n\x03NA\n",
-        answer: Err(SelectFault::NotProposed),
-        ..X_Y
-    },
-    // What begins with na may be a name.
-    Row {
-        names: &["nab"],
-        input: b"\x13/multistream/1.0.0\n\x04nab\n",
-        answer: Ok(Answer::Agreed(0)),
-        used: 25,
-        output: b"\x13/multistream/1.0.0\n\x04nab\n",
-        ..X
-    },
-    // More than the header, and a part of it, are no header.
-    Row {
-        input: b"\x14/multistream/1.0.0/\n",
-        answer: Err(SelectFault::BadHeader),
-        ..X_Y
-    },
-    Row {
-        input: b"\x12/multistream/1.0.\n",
-        answer: Err(SelectFault::BadHeader),
-        ..X_Y
-    },
-];
-
 fn listeners() -> &'static [Row] {
     &LISTENERS
 }
 
-fn listened() -> &'static [Row] {
-    &LISTENED
-}
-
 fn dialers() -> &'static [Row] {
     &DIALERS
-}
-
-fn senders() -> &'static [Row] {
-    &SENDERS
-}
-
-fn dialed() -> &'static [Row] {
-    &DIALED
 }
 
 #[derive(Drop)]
@@ -553,67 +334,13 @@ fn is_so(alloc: Global, row: &Row, size: usize) -> bool {
 
 #[test]
 fn ends_however_the_input_is_cut(rt: HostRuntime) {
-    let tables = [
-        ("listeners", listeners()),
-        ("listened", listened()),
-        ("dialers", dialers()),
-        ("senders", senders()),
-        ("dialed", dialed()),
-    ];
-    for (table, rows) in tables {
+    for (table, rows) in [("listeners", listeners()), ("dialers", dialers())] {
         for (number, row) in rows.iter().enumerate() {
             for size in [1, 7, 1024] {
                 let held = is_so(rt.alloc(), row, size);
                 holds(&rt, (table, number, "in pieces of", size), held);
             }
         }
-    }
-}
-
-// ---- names
-
-/// How long a name is, and whether an end takes it.
-static LENGTHS: [(usize, bool); 4] = [(0, false), (1, true), (1023, true), (1024, false)];
-
-/// Whether an end of this role takes these names, or finds a bad length in them.
-fn takes(alloc: Global, role: Role, names: &[&str], good: bool) -> bool {
-    let fault = End::new(alloc, role, names).err();
-    if good {
-        fault.is_none()
-    } else {
-        fault == Some(SelectFault::BadLength)
-    }
-}
-
-/// Whether both ends take these names, or neither does.
-fn both_take(alloc: Global, names: &[&str], good: bool) -> bool {
-    takes(alloc, Role::Dialer, names, good) && takes(alloc, Role::Listener, names, good)
-}
-
-fn name(alloc: Global, length: usize) -> Result<String, AllocError> {
-    let mut name = String::new(alloc);
-    for _ in 0..length {
-        name.push('x')?;
-    }
-    Ok(name)
-}
-
-/// Whether both ends take a name of so many bytes, alone and behind another, or neither does.
-fn are_taken(alloc: Global, length: usize, good: bool) -> bool {
-    match name(alloc, length) {
-        Ok(name) => {
-            let name = name.as_str();
-            both_take(alloc, &[name], good) && both_take(alloc, &["/x", name], good)
-        }
-        Err(_) => false,
-    }
-}
-
-#[test]
-fn names_of_1_to_1023_bytes(rt: HostRuntime) {
-    for (length, good) in LENGTHS.iter() {
-        let held = are_taken(rt.alloc(), *length, *good);
-        holds(&rt, ("a name of", length), held);
     }
 }
 
@@ -635,92 +362,4 @@ fn whole_talks_of_two_ends(rt: HostRuntime) {
     let listened = listen(rt.alloc(), &["/y"], &[M_X_Y]);
     let is_listened = is_talked(listened, Answer::Agreed(0), M_NA_Y);
     holds(&rt, "the listener", is_listened);
-}
-
-// ---- many names
-
-/// How many names an end has, each of two bytes, the first of which tell them apart.
-const MANY: usize = 90;
-
-/// The names, joined: each a printable letter, in order, and x.
-const ALL: &str = "!x\"x#x$x%x&x'x(x)x*x+x,x-x.x/x0x1x2x3x4x5x6x7x8x9x:x;x<x=x>x?x@x\
-    AxBxCxDxExFxGxHxIxJxKxLxMxNxOxPxQxRxSxTxUxVxWxXxYxZx[x\\x]x^x_x`x\
-    axbxcxdxexfxgxhxixjxkxlxmxnxoxpxqxrxsxtxuxvxwxxxyxzx";
-
-/// The name of this index, and nothing where that is none of them.
-fn name_of(index: usize) -> &'static str {
-    let at = index.saturating_mul(2);
-    match ALL.get(at..at.saturating_add(2)) {
-        Some(name) => name,
-        None => "",
-    }
-}
-
-/// The name of this index as a message.
-fn message_of(index: usize) -> [u8; 4] {
-    match ALL.as_bytes().get(index.saturating_mul(2)) {
-        Some(letter) => [3, *letter, b'x', b'\n'],
-        None => [3, 0, 0, b'\n'],
-    }
-}
-
-/// Whether an end that has come so far answers this to a piece.
-fn goes_to(end: &mut End, piece: &[u8], answer: Answer) -> bool {
-    let used = piece.len();
-    end.feed(piece) == Ok(Step { used, answer })
-}
-
-/// Whether the header and so many refusals lead an end on, and then the name of the next index is agreed on; or none is
-/// left to a dialer, where each of its names is refused.
-fn agrees(end: &mut End, role: Role, names: &[&str], refusals: usize) -> bool {
-    let mut held = goes_to(end, M, Answer::Going);
-    for refused in 0..refusals {
-        held = held
-            && match role {
-                Role::Listener => goes_to(end, b"\x03/z\n", Answer::Going),
-                Role::Dialer if refused.saturating_add(1) == names.len() => {
-                    goes_to(end, NA, Answer::NoneLeft)
-                }
-                Role::Dialer => goes_to(end, NA, Answer::Going),
-            };
-    }
-    let is_agreed = refusals >= names.len()
-        || goes_to(end, &message_of(refusals), Answer::Agreed(refusals));
-    held && is_agreed
-}
-
-fn is_agreed(alloc: Global, role: Role, names: &[&str], refusals: usize) -> bool {
-    match End::new(alloc, role, names) {
-        Ok(mut end) => agrees(&mut end, role, names, refusals),
-        Err(_) => false,
-    }
-}
-
-/// The names of an end that has many.
-fn many(alloc: Global) -> Result<Vec<&'static str>, AllocError> {
-    let mut names = Vec::new(alloc);
-    for index in 0..MANY {
-        names.push(name_of(index))?;
-    }
-    Ok(names)
-}
-
-/// Whether an end of many names comes to agree behind so many refusals.
-fn is_agreed_of_many(alloc: Global, role: Role, refusals: usize) -> bool {
-    match many(alloc) {
-        Ok(names) => is_agreed(alloc, role, &names, refusals),
-        Err(_) => false,
-    }
-}
-
-static INDICES: [usize; 15] = [0, 1, 2, 3, 4, 5, 6, 7, 8, 9, 16, 33, 64, 89, MANY];
-
-#[test]
-fn ends_of_many_names(rt: HostRuntime) {
-    for index in INDICES.iter() {
-        let is_dialed = is_agreed_of_many(rt.alloc(), Role::Dialer, *index);
-        let is_listened = is_agreed_of_many(rt.alloc(), Role::Listener, *index);
-        holds(&rt, ("dialer, the name", index), is_dialed);
-        holds(&rt, ("listener, the name", index), is_listened);
-    }
 }

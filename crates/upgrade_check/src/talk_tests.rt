@@ -281,15 +281,6 @@ fn names_of_1_to_1023_bytes(rt: HostRuntime) {
     }
 }
 
-#[test]
-fn a_talk_may_have_no_names(rt: HostRuntime) {
-    holds(
-        &rt,
-        "no names",
-        is_begun(Talk::answer(rt.alloc(), &[]), true),
-    );
-}
-
 /// A whole talk in pieces: what it comes to, and what it writes where it is no fault.
 struct Cut {
     end: End,

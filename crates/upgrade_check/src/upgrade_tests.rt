@@ -24,16 +24,14 @@ const OWN: &[u8] = b"\x10\x0a\x07\0\x05\x08\x02\x12\x01\x05\x12\x05\x08\x02\x12\
 
 const OTHER: &[u8] = b"\x10\x0a\x07\0\x05\x08\x02\x12\x01\x06\x12\x05\x08\x02\x12\x01\x06";
 
-/// The messages of both keys.
+/// The message of this end's key.
 const OWN_KEY: &[u8] = b"\x08\x02\x12\x01\x05";
-
-const OTHER_KEY: &[u8] = b"\x08\x02\x12\x01\x06";
 
 /// What an upgrade comes to: whose key the other end has proven, by its last byte.
 type Outcome = Result<Option<u8>, UpgradeFault>;
 
-fn upgrade(alloc: Global, role: ConnRole, message: &[u8]) -> Option<Upgrade> {
-    let key = PublicKey::read(alloc, message).ok()?;
+fn upgrade(alloc: Global, role: ConnRole) -> Option<Upgrade> {
+    let key = PublicKey::read(alloc, OWN_KEY).ok()?;
     Upgrade::new(alloc, role, key).ok()
 }
 
@@ -449,7 +447,7 @@ impl Came {
 
 fn begin(alloc: Global, role: ConnRole) -> Option<Came> {
     Some(Came {
-        upgrade: upgrade(alloc, role, OWN_KEY)?,
+        upgrade: upgrade(alloc, role)?,
         outcome: Ok(None),
         used: 0,
         output: Vec::new(alloc),
@@ -510,56 +508,6 @@ fn ends_however_the_input_is_cut(rt: HostRuntime) {
             }
         }
     }
-}
-
-// ---- two ends
-
-/// Whose key an end has proven by all that comes.
-fn heard(to: &mut Upgrade, sent: &[u8]) -> Option<u8> {
-    match to.feed(sent) {
-        Ok(Progress::Up { used, proven }) => {
-            if used == sent.len() {
-                last_byte(&proven)
-            } else {
-                None
-            }
-        }
-        _ => None,
-    }
-}
-
-/// What one end wrote comes to the other: whose key it has proven then, where that is all that it used.
-fn hears(from: &mut Upgrade, to: &mut Upgrade) -> Option<u8> {
-    let sent = from.take_output();
-    heard(to, &sent)
-}
-
-/// Whether both ends prove one another's keys in the end: the dialer's ends in 5, and the listener's in 6.
-fn come_up(dialer: &mut Upgrade, listener: &mut Upgrade) -> bool {
-    let mut dialed = None;
-    let mut accepted = None;
-    for _ in 0..4 {
-        accepted = accepted.or(hears(dialer, listener));
-        dialed = dialed.or(hears(listener, dialer));
-    }
-    dialed == Some(6) && accepted == Some(5)
-}
-
-fn meets_listener(alloc: Global, dialer: &mut Upgrade) -> bool {
-    lend(upgrade(alloc, ConnRole::Listener, OTHER_KEY), |listener| {
-        come_up(dialer, listener)
-    })
-}
-
-fn two_ends(alloc: Global) -> bool {
-    lend(upgrade(alloc, ConnRole::Dialer, OWN_KEY), |dialer| {
-        meets_listener(alloc, dialer)
-    })
-}
-
-#[test]
-fn two_ends_come_up(rt: HostRuntime) {
-    holds(&rt, "two ends", two_ends(rt.alloc()));
 }
 
 // ---- whole upgrades

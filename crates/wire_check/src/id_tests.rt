@@ -233,42 +233,6 @@ fn faults_of_keys(rt: HostRuntime) {
     }
 }
 
-/// A type, how many bytes a key has, and whether it may.
-static LENGTHS: [(KeyType, usize, bool); 14] = [
-    (KeyType::Rsa, 0, false),
-    (KeyType::Rsa, 1, true),
-    (KeyType::Rsa, 4096, true),
-    (KeyType::Rsa, 4097, false),
-    (KeyType::Secp256k1, 0, false),
-    (KeyType::Secp256k1, 1, true),
-    (KeyType::Secp256k1, 4096, true),
-    (KeyType::Secp256k1, 4097, false),
-    (KeyType::Ecdsa, 0, false),
-    (KeyType::Ecdsa, 1, true),
-    (KeyType::Ecdsa, 4096, true),
-    (KeyType::Ecdsa, 4097, false),
-    (KeyType::Ed25519, 31, false),
-    (KeyType::Ed25519, 32, true),
-];
-
-/// Whether so many bytes are a key of this type.
-fn allows(alloc: Global, kind: KeyType, len: usize) -> Result<bool, AllocError> {
-    let body = vec![in alloc; 0; len]?;
-    Ok(PublicKey::new(kind, body).is_some())
-}
-
-#[test]
-fn lengths_of_keys(rt: HostRuntime) {
-    for (row, (kind, len, good)) in LENGTHS.iter().enumerate() {
-        same(
-            &rt,
-            ("row", row),
-            allows(rt.alloc(), *kind, *len),
-            Ok(*good),
-        );
-    }
-}
-
 /// Whether this is the key of 32 bytes of this value.
 fn is_ed25519(key: &PublicKey, byte: u8) -> bool {
     let is_key = key.kind() == KeyType::Ed25519 && key.body() == [byte; 32].as_slice();
@@ -365,57 +329,6 @@ fn ids_are_multihashes(rt: HostRuntime) {
             is_multihash(rt.alloc(), *bytes, *text),
             Ok(true),
         );
-    }
-}
-
-/// Whether a hash of this kind and of this length, zeros all, is an id where it must be, and else none.
-fn is_known(kind: u8, length: u8) -> bool {
-    let mut multihash = [0; 64];
-    multihash[0] = kind;
-    multihash[1] = length;
-    let Some(bytes) = multihash.get(..usize::from(length).saturating_add(2)) else {
-        return false;
-    };
-    let is_id = (kind == 0 && length <= 42) || (kind == 18 && length == 32);
-    match PeerId::from_bytes(bytes) {
-        Ok(id) => is_id && id.as_bytes() == bytes,
-        Err(fault) => !is_id && fault == IdFault::BadHash,
-    }
-}
-
-#[test]
-fn no_other_hash_is_an_id(rt: HostRuntime) {
-    for kind in 0..=255u8 {
-        for length in [0, 1, 20, 28, 31, 32, 33, 42, 43, 48] {
-            holds(
-                &rt,
-                ("hash", kind, "length", length),
-                is_known(kind, length),
-            );
-        }
-    }
-}
-
-/// Whether the letter is one of base32 where it must be, and else none; and whether b alone begins a text.
-fn is_in_place(letter: u8) -> bool {
-    let second = [b'b', letter, b'a'];
-    let first = [letter, b'a', b'f', b'z', b'a', b'a', b'a', b'a'];
-    let (Ok(second), Ok(first)) = (str::from_utf8(&second), str::from_utf8(&first)) else {
-        return false;
-    };
-    let fault = if matches!(letter, b'a'..=b'z' | b'2'..=b'7') {
-        IdFault::BadPrefix
-    } else {
-        IdFault::NotBase32
-    };
-    let begins = PeerId::from_text(first) != Err(IdFault::NotB);
-    PeerId::from_text(second) == Err(fault) && begins == (letter == b'b')
-}
-
-#[test]
-fn no_other_letter_is_read(rt: HostRuntime) {
-    for letter in 0..128u8 {
-        holds(&rt, ("letter", letter), is_in_place(letter));
     }
 }
 
