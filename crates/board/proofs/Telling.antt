@@ -1,19 +1,20 @@
 -- What was routed, where something was told of it.
-use Rattle.std.proofs.Common.{◌≡◌, ◌⊎◌, inl, inr, ℕ, Bool, true, false, not, ◌&&◌, List, [], ◌∷◌, ◌++◌, map, Option, Some, None, Result, Ok, Err, refl, sym, ap, ◌∙◌, subst}
+use Rattle.std.proofs.Common.{◌≡◌, inl, ℕ, Bool, true, false, not, ◌&&◌, List, [], ◌∷◌, ◌++◌, map, Option, Some, None, Result, Ok, Err, refl, sym, ap, ◌∙◌, subst}
 use Rattle.std.specs.Prelude.{OnOk, IfSome, IsSome}
 use Rattle.std.specs.List.{AllByRecursion}
 use Rattle.std.proofs.lemmas.List.{append_assoc, append-nil}
 use Rattle.handlers.specs.Calls.{HandlerCall, Asked}
 use Rattle.yamux_session.specs.declared.event.Role.{Role}
 use Rattle.yamux_session.specs.Events.{Told, events}
-use Rattle.yamux_session.specs.Seen.{Seen}
+use Rattle.yamux_session.specs.Seen.{Seen, IsQuiet}
 use Rattle.yamux_session.specs.State.{State}
 use Rattle.streams.specs.State.{Streaming}
 use Rattle.conn_log.specs.declared.earlier.Earlier.{Earlier}
 use Rattle.conn_log.specs.declared.event.ConnEvent.{ConnEvent}
 use Rattle.conn_log.specs.Entries.{Entry, items, is_over}
 use Rattle.conn_log.specs.Entries.Entry.{Says}
-use Rattle.conn_log.specs.Routes.{IsNoCredit, IsMoving, MayBeServed, Around, Routes, Routed}
+use Rattle.conn_log.specs.Routes.{IsMoving, MayBeServed, Around, Routes, Routed}
+use Rattle.conn_log.proofs.Crediting.{anew_by_credit}
 use Rattle.conn_log.proofs.Settling.{said_append}
 use Rattle.conn_log.proofs.Turning.{same_turns}
 use Rattle.conn_log.proofs.Ending.{ended_view, end_came}
@@ -76,14 +77,12 @@ module _ {P H : Type 0} (step : H → HandlerCall → H → Type 0) (fails : H �
   }
 
   -- by the credit that was told the stream that is named may be served
-  pub may_serve : (view : Seen) (r : Option (Streaming H)) → AllByRecursion IsNoCredit rest
+  pub may_serve : (view : Seen) (r : Option (Streaming H)) → AllByRecursion (IsQuiet n) rest
       → IfSome r (λ it. IsMoving step fails is_closed is_finished inbound_makes outbound_makes eager names peer role log n view (Told.Credit n ∷ rest) it)
       → IfSome r (MayBeServed step fails is_closed is_finished inbound_makes outbound_makes eager names peer role log n view rest)
-  may_serve view None none moving = tt
-  may_serve view (Some it) none moving = record { held = moving.held; over_by_end = moving.over_by_end; last = inl none; anew = λ open_still. by_credit moving.anew; handed = moving.handed } where
-    by_credit : {Q : Type 0} → AllByRecursion IsNoCredit (Told.Credit n ∷ rest) ⊎ Q → Q
-    by_credit (inl none) = absurd none.0
-    by_credit (inr anew) = anew
+  may_serve view None quiet moving = tt
+  may_serve view (Some it) quiet moving =
+      record { held = moving.held; over_by_end = moving.over_by_end; last = inl quiet; anew = λ open_still. anew_by_credit n rest moving.anew; handed = moving.handed }
 
   -- the end of a stream that isn't held
   pub end_dropped : (making : List (Entry H) → List (Entry H) → Type 0) → making log log → (view : Seen) → after ≡ before → streams n ≡ None

@@ -1,15 +1,16 @@
 //! The streams of a connection.
 
-ghost use Rattle.std.specs.Prelude.{◌≡◌, ◌≢◌, ℕ, ◌==◌, if◌then◌else◌, true, false, List, [], ◌∷◌, ◌++◌, map};
+ghost use Rattle.std.specs.Prelude.{◌≡◌, ◌≢◌, ◌⊎◌, ℕ, ◌==◌, if◌then◌else◌, true, false, List, [], ◌∷◌, ◌++◌, map};
 ghost use Rattle.std.specs.Prelude.{Some, None, OnOk, IfOk, IfSome, IsSome, is_some, not, ◌&&◌, ◌||◌};
 ghost use Rattle.std.specs.List.{AllByRecursion};
 ghost use Rattle.std.specs.Ordering.{nat_cmp};
 ghost use Rattle.std.specs.BTreeMap as tree;
 ghost use Rattle.yamux_session.specs.History.{Item, is_own};
 ghost use Rattle.yamux_session.specs.Events.{Told};
-ghost use Rattle.yamux_session.specs.Seen.{Seen, just_opened};
+ghost use Rattle.yamux_session.specs.Seen.{Seen, just_opened, IsQuiet};
 ghost use Rattle.yamux_session.specs.State.{State, Stands as SessionStands};
 ghost use Rattle.conn_log.specs.Entries.{Entry, items, agreement, since, made_of, is_over};
+ghost use Rattle.conn_log.specs.Asking.{is_asked_anew};
 ghost use Rattle.conn_log.specs.Due.{direction_of, IsGivenUp, told_reset};
 ghost use Rattle.conn_log.specs.Routes.{IsNoData, MayBeServed, Around, Routes, Routed, Comes, Resets, set_aside};
 ghost use Rattle.conn_log.specs.Asked.{told_of};
@@ -277,6 +278,7 @@ impl<P: Protocols> Board<P> {
             session.old (tree.get nat_cmp self.old.streams)
             (self.old.past.items ++ set_aside number (tree.get nat_cmp self.old.streams number)) number just_opened rest
             → AllByRecursion IsNoData rest → since self.old.role log number ≡ [] → is_own self.old.role number ≡ false
+            → AllByRecursion (IsQuiet number) rest ⊎ (is_asked_anew self.old.role log number ≡ true)
             → OnOk result (Routed P.H.steps P.H.fails P.H.is_closed P.H.is_finished P.makes_inbound P.makes_outbound
             (P.is_eager self.old.protocols) (P.listed self.old.protocols) self.old.peer self.old.role
             (MakesOnBoard P.leads_inbound P.leads_outbound self.old self.new) log told.old.items told.new.items fed sent

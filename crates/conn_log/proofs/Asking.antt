@@ -17,7 +17,7 @@ use Rattle.yamux_session.specs.Seen.{Seen, seen, just_opened, AgreesOn, windows,
 use Rattle.yamux_session.specs.State.{State, Stands as SessionStands}
 use Rattle.yamux_session.proofs.Live.{own_next}
 use Rattle.streams.specs.Streams.{fresh}
-use Rattle.streams.specs.State.{Streaming, Stands, is_talking}
+use Rattle.streams.specs.State.{Streaming, Stands, StandsAt, is_talking, is_open}
 use Rattle.dispatch.specs.declared.direction.Direction.{Direction}
 use Rattle.dispatch.specs.Dispatch.{made_by, led_by, makes_once}
 use Rattle.streams.specs.declared.stage.Stage.{Stage}
@@ -31,6 +31,7 @@ use Rattle.conn_log.specs.declared.earlier.Earlier.{Earlier}
 use Rattle.conn_log.specs.declared.event.ConnEvent.{ConnEvent}
 use Rattle.conn_log.specs.Entries.{Entry, items, said, since, agreed_in, over_in, done_in, is_over, made_in, calls_in, left_behind, put_aside, asked}
 use Rattle.conn_log.specs.Entries.Entry.{Of, Says, Made, Asks, Calls}
+use Rattle.conn_log.specs.Asking.{is_asked_anew}
 use Rattle.conn_log.specs.Turns.{turn, AreInTurn}
 use Rattle.conn_log.specs.Due.{AllDue, direction_of, was_reset}
 use Rattle.conn_log.specs.Making.{AreMadeInTurn, MakesOn}
@@ -76,6 +77,25 @@ gives_up_only step fails is_closed is_finished role past fed sent n so_far old b
 gives_up_only step fails is_closed is_finished role past fed sent n so_far old before outcomes.Refused session stream talks came = absurd came
 gives_up_only step fails is_closed is_finished role past fed sent n so_far old before (outcomes.Broken cause) session stream talks came = (refl, tt)
 
+-- a stream that begins with no handler holds none
+pub none_open_first : {H : Type 0} (step : H → HandlerCall → H → Type 0) (closed : H → Bool) (side : Side) (x : Streaming H) → Stands step x (fresh side None) → is_talking x.stage ≡ true
+    → is_open closed x.stage ≡ false
+none_open_first step closed side x stands talks = by_stage x.stage stands talks where
+  by_stage : (stage : Stage _) → StandsAt step stage (fresh side None) x.waiting → is_talking stage ≡ true → is_open closed stage ≡ false
+  by_stage (stages.Talking talk None) s talks = refl
+  by_stage (stages.Talking talk (Some handler)) s talks = absurd (let e : None ≡ Some s.early.1.0 = s.early.1.1 in cc e)
+  by_stage (stages.Agreed index) s talks = absurd (cc talks)
+  by_stage (stages.Serving handler) s talks = absurd (cc talks)
+  by_stage stages.Done s talks = absurd (cc talks)
+  by_stage stages.Over s talks = absurd (cc talks)
+
+-- and that with which it begins, of an eager protocol, is asked anew
+pub anew_first : {H : Type 0} (step : H → HandlerCall → H → Type 0) (closed : H → Bool) (role : Role) (log : List (Entry H)) (n index : ℕ) (handler : Option H) (name : List ℕ) (x : Streaming H)
+    → Stands step x (fresh (AsksFor name index) handler) → is_talking x.stage ≡ true → is_open closed x.stage ≡ true → is_asked_anew role (at_first n handler ++ Asks n index ∷ log) n ≡ true
+anew_first step closed role log n index None name x stands talks open_still =
+    absurd (let e : true ≡ false = sym open_still ∙ none_open_first step closed (AsksFor name index) x stands talks in cc e)
+anew_first step closed role log n index (Some handler) name x stands talks open_still = ap (λ b. b || is_asked_anew role log n) (same n)
+
 -- ---- of another stream
 
 pub same_by_asking : {H : Type 0} → ActsDo → ActsMove → (role : Role) (log : List (Entry H)) (n index m : ℕ) → (n == m) ≡ false → Same role log (Asks n index ∷ log) m
@@ -88,6 +108,7 @@ same_by_asking acts_do acts_move role log n index m e = record {
   made_is = ap (λ b. made_in m (cond b [] (since role log m))) e;
   calls_is = ap (λ b. calls_in m (cond b [] (since role log m))) e;
   asked_is = ap (λ b. cond b (Some index) (asked log m)) e;
+  anew_is = refl;
 }
 
 pub same_by_first : {H : Type 0} → ActsDo → ActsMove → (role : Role) (log : List (Entry H)) (n index m : ℕ) (handler : Option H) → (n == m) ≡ false

@@ -10,7 +10,7 @@ use Rattle.yamux_session.specs.Openings.{is_live, closed}
 use Rattle.yamux_session.specs.Windows.{credit}
 use Rattle.yamux_session.specs.Acts.{open_credit}
 use Rattle.yamux_session.specs.Events.{Told, events}
-use Rattle.yamux_session.specs.Seen.{Seen, all_heard, ActsDo, ActsMove}
+use Rattle.yamux_session.specs.Seen.{Seen, all_heard, IsQuiet, ActsDo, ActsMove}
 use Rattle.yamux_session.specs.State.{State, Stands as SessionStands}
 use Rattle.streams.specs.declared.stop.Cause.{Cause}
 use Rattle.streams.specs.declared.stop.Cause.TheVariants as causes
@@ -19,7 +19,7 @@ use Rattle.streams.specs.declared.stage.Stage.TheVariants as stages
 use Rattle.streams.specs.Streams.{Past, with_call}
 use Rattle.streams.specs.declared.stage.Stage.{Stage}
 use Rattle.streams.specs.State.{Streaming, Stands, kind_of, Served, is_talking, is_open, awaits_handler, handler_of, holds, was_handed_out, answering, has_finished}
-use Rattle.serving.specs.Served.{MayBeAsked as StreamMayBeAsked, Serves, GivesUp, IsSettled, with_sent}
+use Rattle.serving.specs.Served.{MayBeAsked as StreamMayBeAsked, IsUnasked, Serves, GivesUp, IsSettled, with_sent}
 use Rattle.serving.proofs.Refusals.{open_with}
 use Rattle.routing.specs.declared.delivered.Outcome.{Outcome}
 use Rattle.routing.specs.declared.delivered.Outcome.TheVariants as outcomes
@@ -31,10 +31,11 @@ use Rattle.conn_log.specs.Entries.{Entry, items, said, agreed, is_last, is_over,
 use Rattle.conn_log.specs.Entries.Entry.{Says, Calls}
 use Rattle.yamux_session.specs.Data.{written}
 use Rattle.std.proofs.lemmas.List.{append_assoc}
-use Rattle.conn_log.specs.Due.{HasCome, is_give, is_asked_anew, MayBeAsked, IsBroken, IsDue}
+use Rattle.conn_log.specs.Asking.{is_give, is_asked_anew}
+use Rattle.conn_log.specs.Due.{HasCome, MayBeAsked, IsBroken, IsDue}
 use Rattle.conn_log.specs.Making.{MakesNone}
-use Rattle.conn_log.specs.Held.{IsSide, IsHeld}
-use Rattle.conn_log.specs.Routes.{KeepsTurn, IsNoCredit, IsMoving, MayBeServed, Around, Routes, Comes}
+use Rattle.conn_log.specs.Held.{IsSide, IsHeld, WasAskedLast}
+use Rattle.conn_log.specs.Routes.{KeepsTurn, IsMoving, MayBeServed, Around, Routes, Comes}
 use Rattle.conn_log.proofs.Same.{same_by_event, same_by_call, IsOf, side_same}
 use Rattle.conn_log.proofs.Settling.{said_append}
 use Rattle.conn_log.proofs.Turning.{same_turns}
@@ -85,18 +86,19 @@ none_serves (stages.Serving handler) middle call is kind serves = absurd (cc is)
 none_serves stages.Done middle call is kind serves = absurd (let e : Rattle.streams.specs.State.HandedOut ≡ Served = sym kind ∙ serves in cc e)
 none_serves stages.Over middle call is kind serves = absurd (let e : Rattle.streams.specs.State.Ended ≡ Served = sym kind ∙ serves in cc e)
 
--- where no handler serves, only that of a talk is asked
-pub only_talking : {H : Type 0} {P : Type 0} (closed : H → Bool) (old middle : Stage H) (call : HandlerCall) → answering old call ≡ None → kind_of middle ≡ kind_of old
-    → is_open closed middle ≡ true → (is_talking middle ≡ true) ⊎ P
-only_talking closed old (stages.Talking talk handler) call is kind open_still = inl refl
-only_talking closed old (stages.Agreed index) call is kind open_still = absurd (cc open_still)
-only_talking closed (stages.Serving it) (stages.Serving handler) call is kind open_still = absurd (cc is)
-only_talking closed (stages.Talking talk it) (stages.Serving handler) call is kind open_still = absurd (cc kind)
-only_talking closed (stages.Agreed index) (stages.Serving handler) call is kind open_still = absurd (cc kind)
-only_talking closed stages.Done (stages.Serving handler) call is kind open_still = absurd (cc kind)
-only_talking closed stages.Over (stages.Serving handler) call is kind open_still = absurd (cc kind)
-only_talking closed old stages.Done call is kind open_still = absurd (cc open_still)
-only_talking closed old stages.Over call is kind open_still = absurd (cc open_still)
+-- behind the talk a handler that is held serves, and answers
+pub none_open : {H : Type 0} (closed : H → Bool) (old middle : Stage H) (call : HandlerCall) → answering old call ≡ None → kind_of middle ≡ kind_of old
+    → is_talking old ≡ false → is_open closed middle ≡ true → ⊥
+none_open closed (stages.Talking talk it) middle call is kind off open_still = absurd (cc off)
+none_open closed old (stages.Talking talk handler) call is kind off open_still =
+    absurd (let e : true ≡ false = same_talking (stages.Talking talk handler) old kind ∙ off in cc e)
+none_open closed old (stages.Agreed index) call is kind off open_still = absurd (cc open_still)
+none_open closed (stages.Serving it) (stages.Serving handler) call is kind off open_still = absurd (cc is)
+none_open closed (stages.Agreed index) (stages.Serving handler) call is kind off open_still = absurd (cc kind)
+none_open closed stages.Done (stages.Serving handler) call is kind off open_still = absurd (cc kind)
+none_open closed stages.Over (stages.Serving handler) call is kind off open_still = absurd (cc kind)
+none_open closed old stages.Done call is kind off open_still = absurd (cc open_still)
+none_open closed old stages.Over call is kind off open_still = absurd (cc open_still)
 
 pub or_on : (b : Bool) → b || true ≡ true
 or_on true = refl
@@ -218,7 +220,7 @@ module _ {P H : Type 0} (step : H → HandlerCall → H → Type 0) (fails : H �
       (past : List (Earlier H)) (n : ℕ) (view : Seen) (rest : List Told) (so_far : Past H) (old new : Streaming H)
       (a : Around step fails is_closed is_finished inbound_makes outbound_makes eager names peer role log fed sent before streams past n view rest)
       (no_more : (all_heard n view rest).came ≡ view.came) (h : IsListed log n view.came view.ended so_far old) (over : view.live ≡ false → view.ended ≡ true)
-      (last : AllByRecursion IsNoCredit rest ⊎ (is_talking old.stage ≡ true))
+      (anew : AllByRecursion (IsQuiet n) rest ⊎ (is_asked_anew role log n ≡ true)) (asked : WasAskedLast is_closed role log n new)
       (handed : kind_of old.stage ≡ Served → has_taken (calls_of role log n) ≡ true)
       (elsewhere : (m : ℕ) → (n == m) ≡ false → now m ≡ streams m) (here : now n ≡ Some new) where
     come : HasCome step fails is_closed is_finished inbound_makes outbound_makes eager names peer role log n so_far
@@ -244,16 +246,11 @@ module _ {P H : Type 0} (step : H → HandlerCall → H → Type 0) (fails : H �
         → AllOn step fails is_closed is_finished inbound_makes outbound_makes eager names peer role acts_do acts_move n s.goes.acts
     on_acts handler s = all_on step fails is_closed is_finished inbound_makes outbound_makes eager names peer role acts_do acts_move (items log) n so_far (kind_of old.stage) s.goes.acts s.goes.due
 
-    -- no credit is routed behind that, unless its talk goes on
-    last_then : (then : List (Entry H)) (x : Streaming H) → kind_of x.stage ≡ kind_of old.stage → AllByRecursion IsNoCredit rest ⊎ (is_talking old.stage ≡ true)
-        → AllByRecursion IsNoCredit rest ⊎ ((is_talking x.stage ≡ true) ⊎ (is_asked_anew role then n ≡ true))
-    last_then then x kind (inl none) = inl none
-    last_then then x kind (inr talks) = inr (inl (same_talking x.stage old.stage kind ∙ talks))
-
-    last_served : (then : List (Entry H)) (x : Streaming H) → kind_of old.stage ≡ Served → AllByRecursion IsNoCredit rest ⊎ (is_talking old.stage ≡ true)
-        → AllByRecursion IsNoCredit rest ⊎ ((is_talking x.stage ≡ true) ⊎ (is_asked_anew role then n ≡ true))
-    last_served then x kind (inl none) = inl none
-    last_served then x kind (inr talks) = absurd (let e : true ≡ false = sym talks ∙ served_talking old.stage kind in cc e)
+    -- what is done lets it be asked no more and no less
+    anew_then : (now_anew : Bool) → now_anew ≡ is_asked_anew role log n → AllByRecursion (IsQuiet n) rest ⊎ (is_asked_anew role log n ≡ true)
+        → AllByRecursion (IsQuiet n) rest ⊎ (now_anew ≡ true)
+    anew_then now_anew is (inl quiet) = inl quiet
+    anew_then now_anew is (inr before) = inr (is ∙ before)
 
     -- it goes on
     pub goes_on : (s : Serves step is_closed is_finished (kind_of old.stage) role (items log) fed sent n so_far None after new) → kind_of new.stage ≡ kind_of old.stage
@@ -284,7 +281,10 @@ module _ {P H : Type 0} (step : H → HandlerCall → H → Type 0) (fails : H �
         let moving : IsMoving step fails is_closed is_finished inbound_makes outbound_makes eager names peer role log_now n seen_now rest new = record {
           held = held;
           unfinished = s.handed_out.1;
-          anew = last_then log_now new kind last;
+          anew = anew_then (is_asked_anew role log_now n) own.anew_is anew;
+          asked = λ quiet live off is. own.anew_is ∙ asked
+              (was_live step fails is_closed is_finished inbound_makes outbound_makes eager names peer role acts_do acts_move log n s.goes.acts on live)
+              (was_open step fails is_closed is_finished inbound_makes outbound_makes eager names peer role acts_do acts_move log n s.goes.acts on off) is;
           handed = λ serves. ap has_taken own.calls_is ∙ handed (sym kind ∙ serves);
           over_by_end = view_over step fails is_closed is_finished inbound_makes outbound_makes eager names peer role acts_do acts_move (items log) n so_far (kind_of old.stage) s.goes.acts view s.goes.due over;
           settled = λ still. subst (λ (t : List Item). is_live role t n ≡ true → IsSettled step is_closed is_finished role t n s.goes.left new) is s.settled;
@@ -350,7 +350,8 @@ module _ {P H : Type 0} (step : H → HandlerCall → H → Type 0) (fails : H �
         let moving : IsMoving step fails is_closed is_finished inbound_makes outbound_makes eager names peer role (Says (event.Done n handler) ∷ log_now) n seen_now rest new = record {
           held = held;
           unfinished = ap (has_finished is_finished) stage_is;
-          anew = last_served (Says (event.Done n handler) ∷ log_now) new kind last;
+          anew = anew_then (is_asked_anew role log_now n) own.anew_is anew;
+          asked = λ quiet live off is. absurd (let e : true ≡ false = sym is ∙ ap (is_open is_closed) stage_is in cc e);
           handed = λ serves. absurd (let e : Rattle.streams.specs.State.HandedOut ≡ Served = sym (ap kind_of stage_is) ∙ serves in cc e);
           over_by_end = view_over step fails is_closed is_finished inbound_makes outbound_makes eager names peer role acts_do acts_move (items log) n so_far (kind_of old.stage) s.goes.acts view s.goes.due over;
           settled = λ still. subst (λ (t : List Item). is_live role t n ≡ true → IsSettled step is_closed is_finished role t n s.goes.left new) is s.settled;
@@ -407,14 +408,12 @@ module _ {P H : Type 0} (step : H → HandlerCall → H → Type 0) (fails : H �
     holding handler stages.Done e = absurd (cc e)
     holding handler stages.Over e = refl
 
-    in_turn_by : {handler : H} {Q T : Type 0} (stage : Stage H) → handler_of stage ≡ Some handler → (kind_of stage ≡ Served → T) → (is_talking stage ≡ true) ⊎ Q
-        → (is_talking stage ≡ true) ⊎ (Q × T)
-    in_turn_by stage held begun (inl talks) = inl talks
-    in_turn_by (stages.Talking talk it) held begun (inr anew) = inl refl
-    in_turn_by (stages.Agreed index) held begun (inr anew) = absurd (cc held)
-    in_turn_by (stages.Serving it) held begun (inr anew) = inr (anew, begun refl)
-    in_turn_by stages.Done held begun (inr anew) = absurd (cc held)
-    in_turn_by stages.Over held begun (inr anew) = absurd (cc held)
+    in_turn_by : {handler : H} {T : Type 0} (stage : Stage H) → handler_of stage ≡ Some handler → (kind_of stage ≡ Served → T) → (is_talking stage ≡ true) ⊎ T
+    in_turn_by (stages.Talking talk it) held begun = inl refl
+    in_turn_by (stages.Agreed index) held begun = absurd (cc held)
+    in_turn_by (stages.Serving it) held begun = inr (begun refl)
+    in_turn_by stages.Done held begun = absurd (cc held)
+    in_turn_by stages.Over held begun = absurd (cc held)
 
     -- its handler may be asked for as much as there is credit behind what waits
     may_give : (handler : H) (room : ℕ) → handler_of old.stage ≡ Some handler → is_closed handler ≡ false → is_open is_closed old.stage ≡ true → is_live role (items log) n ≡ true
@@ -425,11 +424,12 @@ module _ {P H : Type 0} (step : H → HandlerCall → H → Type 0) (fails : H �
       handler = handler;
       held = held;
       asked_for = (a.heard.came ∙ no_more ∙ sym served.held.got_is, room_is);
-      in_turn = (live, open_still, unclosed, in_turn_by old.stage held served.handed (served.anew asked));
+      in_turn = (live, open_still, unclosed, served.anew asked, in_turn_by old.stage held served.handed);
       talking = served.held.talking;
       agreed_on = served.held.agreed_on;
       going = served.held.over ∙ holding handler old.stage held;
       settled = λ e. absurd (cc e);
+      asked = λ e. absurd (cc e);
     }
 
     held_open : (held : Option H) → holds (λ handler. not (is_closed handler)) held ≡ true → (handler : H) × (held ≡ Some handler) × (is_closed handler ≡ false)
@@ -470,22 +470,45 @@ module _ {P H : Type 0} (step : H → HandlerCall → H → Type 0) (fails : H �
             fails_by = failed;
           })
 
+    -- where it isn't asked it goes on to be asked anew where it was
+    anew_unasked : AllByRecursion (IsQuiet n) rest ⊎ ((is_open is_closed old.stage ≡ false) × (is_asked_anew role log n ≡ true))
+        → AllByRecursion (IsQuiet n) rest ⊎ (is_asked_anew role log n ≡ true)
+    anew_unasked (inl quiet) = inl quiet
+    anew_unasked (inr it) = inr it.1
+
+    -- behind a call neither data nor credit is to be routed
+    quiet_behind : {Q : Type 0} (call : HandlerCall) → StreamMayBeAsked step is_closed role (items log) n old call
+        → AllByRecursion (IsQuiet n) rest ⊎ ((is_open is_closed old.stage ≡ false) × (is_asked_anew role log n ≡ true)) → AllByRecursion (IsQuiet n) rest ⊎ Q
+    quiet_behind call may (inl quiet) = inl quiet
+    quiet_behind (Give room bytes) may (inr it) = absurd (let e : true ≡ false = sym may.2 ∙ it.0 in cc e)
+    quiet_behind (Take bytes) may (inr it) = absurd may
+    quiet_behind End may (inr it) = absurd may
+
+    -- and it was asked for bytes
+    asked_now : (call : HandlerCall) → StreamMayBeAsked step is_closed role (items log) n old call → is_asked_anew role (Calls n call ∷ log) n ≡ false
+    asked_now (Give room bytes) may = ap (λ b. cond b false (is_asked_anew role log n)) (same n)
+    asked_now (Take bytes) may = absurd may
+    asked_now End may = absurd may
+
+    not_open : (IsUnasked step is_closed role (items log) n old × IsUnasked step is_closed role (items log) n new) → WasAskedLast is_closed role log n new
+    not_open unasked = λ live off is. absurd (let e : true ≡ false = sym is ∙ unasked.1 live off in cc e)
+
     -- by at most one call
     pub went : (outcome : Outcome H) → Came step fails is_closed is_finished role (items log) fed sent n served.held.so_far old before outcome after new
         → Went log fed sent after now past n rest outcome
-    went outcomes.Going ((None, may, s), kind) =
-        served_on acts_do acts_move log fed sent before after streams now past n view rest served.held.so_far old new a no_more (listed log n view.came view.ended old served.held) served.over_by_end served.last served.handed elsewhere here s kind
-    went outcomes.Going ((Some call, may, s), kind) =
+    went outcomes.Going ((None, may, s, unasked), kind) =
+        served_on acts_do acts_move log fed sent before after streams now past n view rest served.held.so_far old new a no_more (listed log n view.came view.ended old served.held) served.over_by_end (anew_unasked served.last) (not_open unasked) served.handed elsewhere here s kind
+    went outcomes.Going ((Some call, may, s, unasked), kind) =
         went_behind log fed sent after now past n rest outcomes.Going call
         (served_on acts_do acts_move (Calls n call ∷ log) fed sent before after streams now past n view rest (with_call served.held.so_far (Some call)) old new
         (around_call log fed sent before streams past n view rest call (call_due call may) a) no_more (listed_behind log n view.came view.ended served.held.so_far old call (listed log n view.came view.ended old served.held))
-        served.over_by_end served.last (λ serves. handed_still log n call (served.handed serves)) elsewhere here s kind)
-    went (outcomes.Done handler) ((None, may, s), kind) =
-        done_with acts_do acts_move log fed sent before after streams now past n view rest served.held.so_far old new a no_more (listed log n view.came view.ended old served.held) served.over_by_end served.last served.handed elsewhere here handler s kind
-    went (outcomes.Done handler) ((Some call, may, s), kind) =
+        served.over_by_end (quiet_behind call may served.last) (λ live off is. asked_now call may) (λ serves. handed_still log n call (served.handed serves)) elsewhere here s kind)
+    went (outcomes.Done handler) ((None, may, s, unasked), kind) =
+        done_with acts_do acts_move log fed sent before after streams now past n view rest served.held.so_far old new a no_more (listed log n view.came view.ended old served.held) served.over_by_end (anew_unasked served.last) (not_open unasked) served.handed elsewhere here handler s kind
+    went (outcomes.Done handler) ((Some call, may, s, unasked), kind) =
         went_behind log fed sent after now past n rest (outcomes.Done handler) call
         (done_with acts_do acts_move (Calls n call ∷ log) fed sent before after streams now past n view rest (with_call served.held.so_far (Some call)) old new
         (around_call log fed sent before streams past n view rest call (call_due call may) a) no_more (listed_behind log n view.came view.ended served.held.so_far old call (listed log n view.came view.ended old served.held))
-        served.over_by_end served.last (λ serves. handed_still log n call (served.handed serves)) elsewhere here handler s kind)
+        served.over_by_end (quiet_behind call may served.last) (λ live off is. asked_now call may) (λ serves. handed_still log n call (served.handed serves)) elsewhere here handler s kind)
     went outcomes.Refused c = absurd c
     went (outcomes.Broken cause) c = record { newer = []; none_said = refl; untold = refl; same_turn = tt; unmade = tt; seen_now = view; comes = is_broken c.1.0 cause c.0 c.1.1 c.1.2 }

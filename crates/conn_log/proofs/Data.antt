@@ -7,7 +7,7 @@ use Rattle.talks.specs.Talks.{Side, Asks, Answers}
 use Rattle.yamux_session.specs.declared.event.Role.{Role}
 use Rattle.yamux_session.specs.Data.{inbound}
 use Rattle.yamux_session.specs.Events.{Told, events}
-use Rattle.yamux_session.specs.Seen.{Seen, seen, all_heard, AgreesOn, ActsDo, ActsMove}
+use Rattle.yamux_session.specs.Seen.{Seen, seen, all_heard, AgreesOn, IsQuiet, ActsDo, ActsMove}
 use Rattle.yamux_session.specs.State.{State}
 use Rattle.streams.specs.declared.stop.Cause.TheVariants as causes
 use Rattle.streams.specs.Streams.{Past, with_call}
@@ -26,7 +26,8 @@ use Rattle.conn_log.specs.declared.event.ConnEvent.{ConnEvent}
 use Rattle.conn_log.specs.declared.event.ConnEvent.TheVariants as event
 use Rattle.conn_log.specs.Entries.{Entry, items, said, agreed, is_over, was_done, made_of, calls_of, has_taken, agreement}
 use Rattle.conn_log.specs.Entries.Entry.{Says, Made, Calls}
-use Rattle.conn_log.specs.Due.{direction_of, HasJustAgreed, is_asked_anew, MayBeAsked, IsDue, told_reset, was_reset, told_end}
+use Rattle.conn_log.specs.Asking.{is_asked_anew}
+use Rattle.conn_log.specs.Due.{direction_of, HasJustAgreed, MayBeAsked, IsDue, told_reset, was_reset, told_end}
 use Rattle.conn_log.specs.Making.{MakesNone, MakesOn}
 use Rattle.conn_log.specs.Held.{IsSide, IsHeld}
 use Rattle.conn_log.specs.Routes.{KeepsTurn, IsNoOpening, IsNoCredit, EndsLast, Around, Comes}
@@ -37,7 +38,7 @@ use Rattle.conn_log.proofs.Around.{grown, still}
 use Rattle.conn_log.proofs.Views.{same, came_front}
 use Rattle.serving.proofs.StageKinds.{same_talking, same_awaiting, same_handed, served_talking, served_handed, served_awaits, talking_kind, talking_awaits}
 use Rattle.conn_log.proofs.Settling.{said_append}
-use Rattle.conn_log.proofs.Comes.{Went as Served, went, went_behind, around_event, around_call, IsListed, listed, listed_behind, answered_by, answered_anew, only_talking, none_serves, handed_by}
+use Rattle.conn_log.proofs.Comes.{Went as Served, went, went_behind, around_event, around_call, IsListed, listed, listed_behind, answered_by, answered_anew, none_serves, handed_by}
 
 -- what is seen of a stream of which these bytes came
 abbrev pub with_bytes : List ℕ → Seen → Seen
@@ -135,7 +136,7 @@ module _ {P H : Type 0} (step : H → HandlerCall → H → Type 0) (fails : H �
 
   module _ (acts_do : ActsDo) (acts_move : ActsMove) (fed sent : List ℕ) (before after : State) (streams now : ℕ → Option (Streaming H))
       (past : List (Earlier H)) (n : ℕ) (view : Seen) (rest : List Told) (new : Streaming H) (over : view.live ≡ false → view.ended ≡ true)
-      (no_more : (all_heard n view rest).came ≡ view.came) (no_credit : AllByRecursion IsNoCredit rest)
+      (no_more : (all_heard n view rest).came ≡ view.came) (quiet : AllByRecursion (IsQuiet n) rest)
       (elsewhere : (m : ℕ) → (n == m) ≡ false → now m ≡ streams m) (here : now n ≡ Some new) where
     -- a stream that is given up, and why
     stopped : (making : List (Entry H) → List (Entry H) → Type 0) (log : List (Entry H)) → ((newer : List (Entry H)) → MakesNone newer → making log (newer ++ log))
@@ -196,6 +197,7 @@ module _ {P H : Type 0} (step : H → HandlerCall → H → Type 0) (fails : H �
           agreed_on = h.agreed_on;
           going = h.over ∙ ap was_handed_out serves;
           settled = λ e. absurd (cc e);
+          asked = λ e. absurd (cc e);
         }
 
     -- and answers
@@ -213,7 +215,7 @@ module _ {P H : Type 0} (step : H → HandlerCall → H → Type 0) (fails : H �
     took : (log : List (Entry H)) (bytes : List ℕ) (so_far : Past H) (old middle : Streaming H) (got : List ℕ) (outcome : Outcome H)
         → (a : Around step fails is_closed is_finished inbound_makes outbound_makes eager names peer role log fed sent before streams past n view rest)
         → view.came ≡ got ++ bytes → (l : IsListed step fails is_closed is_finished inbound_makes outbound_makes eager names peer role log n got view.ended so_far old)
-        → (is_open is_closed middle.stage ≡ true → (is_talking middle.stage ≡ true) ⊎ (is_asked_anew role log n ≡ true))
+        → (is_open is_closed middle.stage ≡ true → is_asked_anew role log n ≡ true)
         → (kind_of middle.stage ≡ Serves → has_taken (calls_of role log n) ≡ true) → Stands step middle (record so_far { got = so_far.got ++ bytes; left = None }) → kind_of middle.stage ≡ kind_of old.stage
         → Came step fails is_closed is_finished role (items log) fed sent n (record so_far { got = so_far.got ++ bytes; left = None }) middle before outcome after new
         → Served step fails is_closed is_finished inbound_makes outbound_makes eager names peer role log fed sent after now past n rest outcome
@@ -234,19 +236,19 @@ module _ {P H : Type 0} (step : H → HandlerCall → H → Type 0) (fails : H �
           served = same_awaiting middle.stage old.stage kind ∙ l.served;
         } in
         went step fails is_closed is_finished inbound_makes outbound_makes eager names peer role acts_do acts_move log fed sent before after streams now past n view rest middle new a no_more
-        (record { held = held; over_by_end = over; last = inl no_credit; anew = anew; handed = handed }) elsewhere here outcome came_to
+        (record { held = held; over_by_end = over; last = inl quiet; anew = anew; handed = handed }) elsewhere here outcome came_to
 
     -- the handler took data behind the talk
     pub takes : (making : List (Entry H) → List (Entry H) → Type 0) (log : List (Entry H)) → ((newer : List (Entry H)) → MakesNone newer → making log (newer ++ log))
         → (bytes : List ℕ) (old : Streaming H) (got : List ℕ) (outcome : Outcome H)
-        → MayTake log old.stage bytes
+        → MayTake log old.stage bytes → is_asked_anew role log n ≡ true
         → (a : Around step fails is_closed is_finished inbound_makes outbound_makes eager names peer role log fed sent before streams past n view rest)
         → view.came ≡ got ++ bytes → view.ended ≡ false
         → (h : IsHeld step is_closed is_finished names role log n got view.ended old)
         → Takes step fails is_closed is_finished role (items log) fed sent n h.so_far bytes old before outcome after new
         → Went making log [] fed sent after now past n rest outcome
     unfolding may_take
-    takes making log keeps bytes old got outcome turn a came going h (inl served) = told_none (by_answer (answering old.stage (Take bytes)) refl) where
+    takes making log keeps bytes old got outcome turn anew a came going h (inl served) = told_none (by_answer (answering old.stage (Take bytes)) refl) where
       told_none : Served step fails is_closed is_finished inbound_makes outbound_makes eager names peer role log fed sent after now past n rest outcome → Went making log [] fed sent after now past n rest outcome
       told_none it = record {
         newer = it.newer;
@@ -268,7 +270,7 @@ module _ {P H : Type 0} (step : H → HandlerCall → H → Type 0) (fails : H �
 
       by_answer : (answer : Option HandlerCall) → answering old.stage (Take bytes) ≡ answer → Served step fails is_closed is_finished inbound_makes outbound_makes eager names peer role log fed sent after now past n rest outcome
       by_answer None is = took log bytes h.so_far old served.0 got outcome a came (listed step fails is_closed is_finished inbound_makes outbound_makes eager names peer role log n got view.ended old h)
-          (only_talking is_closed old.stage served.0.stage (Take bytes) is served.2)
+          (λ open_still. anew)
           (λ serves. absurd (none_serves old.stage served.0.stage (Take bytes) is served.2 serves)) (stands None is) served.2 (came_to None is)
       by_answer (Some call) is =
           let serves = answered_by old.stage (Take bytes) call is in
@@ -279,10 +281,10 @@ module _ {P H : Type 0} (step : H → HandlerCall → H → Type 0) (fails : H �
           (took (Calls n call ∷ log) bytes (with_call h.so_far (Some call)) old served.0 got outcome
           (around_call step fails is_closed is_finished inbound_makes outbound_makes eager names peer role log fed sent before streams past n view rest call may a) came
           (listed_behind step fails is_closed is_finished inbound_makes outbound_makes eager names peer role log n got view.ended h.so_far old call (listed step fails is_closed is_finished inbound_makes outbound_makes eager names peer role log n got view.ended old h))
-          (λ open_still. inr (answered_anew role n call serves.0 refl log))
+          (λ open_still. answered_anew role n call serves.0 refl log)
           (λ serving. handed_by step fails is_closed is_finished inbound_makes outbound_makes eager names peer role log n call bytes serves.0)
           (stands (Some call) is) served.2 (came_to (Some call) is))
-    takes making log keeps bytes old got outcome turn a came going h (inr f) =
+    takes making log keeps bytes old got outcome turn anew a came going h (inr f) =
         stopped making log keeps outcome (event.Broken n (causes.Handler f.1.1)) f.0 a
         (λ around. subst (λ (o : Outcome H). Comes step fails is_closed is_finished inbound_makes outbound_makes eager names peer role log fed sent after now past n view rest o) (sym f.1.4)
         (around, λ e. absurd (cc e)))
@@ -296,7 +298,7 @@ module _ {P H : Type 0} (step : H → HandlerCall → H → Type 0) (fails : H �
     module _ (inbound_leads outbound_leads : P → ℕ → List ℕ → H → P → Type 0) (protocols behind_them : P) (log : List (Entry H)) (bytes : List ℕ) (old : Streaming H) (got : List ℕ)
         (a : Around step fails is_closed is_finished inbound_makes outbound_makes eager names peer role log fed sent before streams past n view rest)
         (came : view.came ≡ got ++ bytes) (going : view.ended ≡ false) (h : IsHeld step is_closed is_finished names role log n got view.ended old)
-        (unfinished : has_finished is_finished old.stage ≡ false) (some : bytes ≢ []) (begun : kind_of old.stage ≡ Serves → has_taken (calls_of role log n) ≡ true) where
+        (unfinished : has_finished is_finished old.stage ≡ false) (some : bytes ≢ []) (anew : is_asked_anew role log n ≡ true) (begun : kind_of old.stage ≡ Serves → has_taken (calls_of role log n) ≡ true) where
       abbrev pub makes : ℕ → H → Type 0
       makes = makes_once inbound_makes outbound_makes inbound_leads outbound_leads (direction_of role n) peer protocols behind_them
 
@@ -372,7 +374,7 @@ module _ {P H : Type 0} (step : H → HandlerCall → H → Type 0) (fails : H �
             served = talking_awaits middle.stage still_talks;
           } in
           let it = went step fails is_closed is_finished inbound_makes outbound_makes eager names peer role acts_do acts_move log fed sent before after streams now past n view rest middle new a no_more
-          (record { held = held; over_by_end = over; last = inl no_credit; anew = λ open_still. inl still_talks; handed = λ serves. absurd (let e : true ≡ false = sym still_talks ∙ served_talking middle.stage serves in cc e) }) elsewhere here outcome came_to in
+          (record { held = held; over_by_end = over; last = inl quiet; anew = λ open_still. anew; handed = λ serves. absurd (let e : true ≡ false = sym still_talks ∙ served_talking middle.stage serves in cc e) }) elsewhere here outcome came_to in
           record { newer = it.newer; said_is = it.none_said; untold = it.untold; same_turn = it.same_turn; makes = keeps kept it.newer it.unmade; mades_are = none_mades it.newer it.unmade; seen_now = it.seen_now; comes = it.comes }
 
       -- both ends agree by a front of these bytes, and the handler takes the rest
@@ -437,7 +439,7 @@ module _ {P H : Type 0} (step : H → HandlerCall → H → Type 0) (fails : H �
 
         by_making : IsMade makes none_made h.so_far index has.made → Went making log (event.Agreed n index ∷ []) fed sent after now past n rest outcome
         by_making (inl is) =
-            let it = takes making told_so (makes_none inbound_leads outbound_leads peer role protocols behind_them is.1 told_so) more middle (h.so_far.got ++ front) outcome (inr refl) told came_then going
+            let it = takes making told_so (makes_none inbound_leads outbound_leads peer role protocols behind_them is.1 told_so) more middle (h.so_far.got ++ front) outcome (inr refl) anew told came_then going
             (held_at told_so (side_at h.so_far.side h.side_is) agreed_now refl refl (sym is.0 ∙ h.made_is) h.calls_is h.sent_is) took in
             record {
               newer = it.newer ++ Says (event.Agreed n index) ∷ [];
@@ -453,7 +455,7 @@ module _ {P H : Type 0} (step : H → HandlerCall → H → Type 0) (fails : H �
             }
         by_making (inr made) =
             let it = takes (MakesOn inbound_leads outbound_leads peer role behind_them behind_them) (Made n has.made ∷ told_so)
-            (makes_none inbound_leads outbound_leads peer role behind_them behind_them refl (Made n has.made ∷ told_so)) more middle (h.so_far.got ++ front) outcome (inr (refl, refl))
+            (makes_none inbound_leads outbound_leads peer role behind_them behind_them refl (Made n has.made ∷ told_so)) more middle (h.so_far.got ++ front) outcome (inr (refl, refl)) (ap (λ b. b || is_asked_anew role log n) (same n))
             (around_making told_so fed sent before streams past n view rest has.made (refl, sym h.made_is ∙ made.0, (protocols, made.1.0)) told) came_then going
             (held_at (Made n has.made ∷ told_so) (side_made h.so_far.side h.side_is) agreed_now refl refl (sym (ap (λ b. cond b (Some has.made) (made_of role told_so n)) (same n))) h.calls_is h.sent_is) took in
             record {
@@ -483,4 +485,4 @@ module _ {P H : Type 0} (step : H → HandlerCall → H → Type 0) (fails : H �
         by_talk : (b : Bool) → is_talking old.stage ≡ b → Went making log (agreement n delivered.agreed) fed sent after now past n rest delivered.outcome
         by_talk true e = in_talk delivered.agreed delivered.outcome e (d.0 e)
         by_talk false e = subst (λ (k : Option ℕ). Went making log (agreement n k) fed sent after now past n rest delivered.outcome) (sym (d.1 e).0)
-            (takes making log (keeps (d.1 e).1) bytes old got delivered.outcome (inl (unfinished, some, begun)) a came going h (d.1 e).2)
+            (takes making log (keeps (d.1 e).1) bytes old got delivered.outcome (inl (unfinished, some, begun)) anew a came going h (d.1 e).2)

@@ -1,5 +1,5 @@
 -- Where the streams stand once the end of one of them was told.
-use Rattle.std.proofs.Common.{◌≡◌, inl, inr, ℕ, ◌==◌, Bool, true, false, not, ◌&&◌, ◌||◌, cond, List, [], ◌∷◌, Option, Some, None, refl, sym, ap, ◌∙◌, subst, ◌⊎◌}
+use Rattle.std.proofs.Common.{◌≡◌, inl, inr, ℕ, ◌==◌, Bool, true, false, not, ◌&&◌, ◌||◌, cond, List, [], ◌∷◌, Option, Some, None, refl, sym, ap, ◌∙◌, subst}
 use Rattle.std.specs.List.{AllByRecursion}
 use Rattle.std.proofs.lemmas.List.{append-nil}
 use Rattle.handlers.specs.Calls.{HandlerCall, End, Asked, ToEnd}
@@ -25,14 +25,16 @@ use Rattle.conn_log.specs.declared.earlier.Earlier.{Earlier}
 use Rattle.conn_log.specs.declared.event.ConnEvent.TheVariants as event
 use Rattle.conn_log.specs.Entries.{Entry, items, calls_of, has_taken}
 use Rattle.conn_log.specs.Entries.Entry.{Says, Calls}
-use Rattle.conn_log.specs.Due.{HasCome, is_asked_anew, MayBeAsked, IsDue, told_end, end_was_told}
-use Rattle.conn_log.specs.Held.{IsHeld}
+use Rattle.conn_log.specs.Asking.{is_asked_anew}
+use Rattle.conn_log.specs.Due.{HasCome, MayBeAsked, IsDue, told_end, end_was_told}
+use Rattle.conn_log.specs.Held.{IsHeld, WasAskedLast}
 use Rattle.conn_log.specs.Routes.{IsNoCredit, Around, Comes}
+use Rattle.conn_log.proofs.Arriving.{quiet_behind}
 use Rattle.conn_log.proofs.Around.{still}
 use Rattle.conn_log.proofs.Views.{same, none_behind}
 use Rattle.serving.proofs.StageKinds.{same_talking, same_awaiting, same_handed}
 use Rattle.conn_log.proofs.Served.{ended_stays}
-use Rattle.conn_log.proofs.Comes.{Went, went, went_behind, around_event, around_call, IsListed, listed, listed_behind, answered_by, answered_anew, only_talking, handed_still, or_on}
+use Rattle.conn_log.proofs.Comes.{Went, went, went_behind, around_event, around_call, IsListed, listed, listed_behind, answered_by, answered_anew, none_open, handed_still, or_on}
 
 -- what is seen of a stream that has ended
 abbrev pub ended_view : Seen → Seen
@@ -94,7 +96,7 @@ module _ {P H : Type 0} (step : H → HandlerCall → H → Type 0) (fails : H �
       (past : List (Earlier H)) (n : ℕ) (view : Seen) (rest : List Told) (old new : Streaming H)
       (a : Around step fails is_closed is_finished inbound_makes outbound_makes eager names peer role log fed sent before streams past n (ended_view view) rest)
       (h : IsHeld step is_closed is_finished names role log n view.came view.ended old) (going : view.ended ≡ false) (unfinished : has_finished is_finished old.stage ≡ false)
-      (settled : is_live role (items log) n ≡ true → IsSettled step is_closed is_finished role (items log) n h.so_far.left old)
+      (settled : is_live role (items log) n ≡ true → IsSettled step is_closed is_finished role (items log) n h.so_far.left old) (asked : WasAskedLast is_closed role log n old)
       (was_told : end_was_told role (items log) n ≡ true) (no_credit : AllByRecursion IsNoCredit rest)
       (handed : kind_of old.stage ≡ Served → has_taken (calls_of role log n) ≡ true)
       (elsewhere : (m : ℕ) → (n == m) ≡ false → now m ≡ streams m) (here : now n ≡ Some new) where
@@ -133,6 +135,7 @@ module _ {P H : Type 0} (step : H → HandlerCall → H → Type 0) (fails : H �
       agreed_on = h.agreed_on;
       going = h.over ∙ ap was_handed_out serves;
       settled = λ _. settled;
+      asked = λ _. asked;
     }
 
     -- and answers
@@ -147,7 +150,7 @@ module _ {P H : Type 0} (step : H → HandlerCall → H → Type 0) (fails : H �
     heard : (then : List (Entry H)) (outcome : Outcome H) (so_far : Past H) (middle : Streaming H)
         → (around : Around step fails is_closed is_finished inbound_makes outbound_makes eager names peer role then fed sent before streams past n (ended_view view) rest)
         → (l : IsListed step fails is_closed is_finished inbound_makes outbound_makes eager names peer role then n view.came view.ended so_far old)
-        → (asks_open is_closed middle.stage ≡ true → (is_talking middle.stage ≡ true) ⊎ (is_asked_anew role then n ≡ true))
+        → (asks_open is_closed middle.stage ≡ true → is_asked_anew role then n ≡ true)
         → (kind_of old.stage ≡ Served → has_taken (calls_of role then n) ≡ true) → Stands step middle (record so_far { ended = true; left = None }) → kind_of middle.stage ≡ kind_of old.stage
         → Came step fails is_closed is_finished role (items then) fed sent n (record so_far { ended = true; left = None }) middle before outcome after new
         → Went step fails is_closed is_finished inbound_makes outbound_makes eager names peer role then fed sent after now past n rest outcome
@@ -169,7 +172,7 @@ module _ {P H : Type 0} (step : H → HandlerCall → H → Type 0) (fails : H �
         } in
         went step fails is_closed is_finished inbound_makes outbound_makes eager names peer role acts_do acts_move then fed sent before after streams now past n (ended_view view) rest middle new
         around (none_behind n (ended_view view) rest around.opens_none around.ends_last)
-        (record { held = by_end; over_by_end = λ off. refl; last = inl no_credit; anew = anew; handed = λ serves. handed (sym kind ∙ serves) }) elsewhere here outcome came_to
+        (record { held = by_end; over_by_end = λ off. refl; last = inl (quiet_behind n rest around.opens_none around.ends_last no_credit); anew = anew; handed = λ serves. handed (sym kind ∙ serves) }) elsewhere here outcome came_to
 
     in_talk : (outcome : Outcome H) → is_talking old.stage ≡ true → outcome ≡ outcomes.Broken causes.Ended → after ≡ before → Went step fails is_closed is_finished inbound_makes outbound_makes eager names peer role log fed sent after now past n rest outcome
     in_talk outcome talks is same_session =
@@ -193,6 +196,7 @@ module _ {P H : Type 0} (step : H → HandlerCall → H → Type 0) (fails : H �
               all_came = all_came;
               talks = talks;
               settled = settled;
+              asked = asked;
             },
           ),
         ) in
@@ -235,13 +239,13 @@ module _ {P H : Type 0} (step : H → HandlerCall → H → Type 0) (fails : H �
     pub has_ended : (outcome : Outcome H) → Ends step fails is_closed is_finished role (items log) fed sent n h.so_far old before outcome after new
         → Went step fails is_closed is_finished inbound_makes outbound_makes eager names peer role log fed sent after now past n rest outcome
     has_ended outcome ends = by_talk (is_talking old.stage) refl where
-      by_hands : (answer : Option HandlerCall) → answering old.stage End ≡ answer
+      by_hands : is_talking old.stage ≡ false → (answer : Option HandlerCall) → answering old.stage End ≡ answer
           → Hands step fails is_closed is_finished role (items log) fed sent n End ToEnd (with_call (record h.so_far { ended = true; left = None }) answer) old before outcome after new
           → Went step fails is_closed is_finished inbound_makes outbound_makes eager names peer role log fed sent after now past n rest outcome
-      by_hands None is (inl served) =
+      by_hands off None is (inl served) =
           heard log outcome h.so_far served.0 a (listed step fails is_closed is_finished inbound_makes outbound_makes eager names peer role log n view.came view.ended old h)
-          (only_talking is_closed old.stage served.0.stage End is served.2) handed served.1 served.2 served.4
-      by_hands (Some call) is (inl served) =
+          (λ open_still. absurd (none_open is_closed old.stage served.0.stage End is served.2 off open_still)) handed served.1 served.2 served.4
+      by_hands off (Some call) is (inl served) =
           let serves = answered_by old.stage End call is in
           let may : IsDue step fails is_closed is_finished inbound_makes outbound_makes eager names peer role log (Calls n call) =
           subst (λ (c : HandlerCall). IsDue step fails is_closed is_finished inbound_makes outbound_makes eager names peer role log (Calls n c)) (sym serves.0) (end_due serves.1.0 serves.1.1 served.3) in
@@ -249,10 +253,10 @@ module _ {P H : Type 0} (step : H → HandlerCall → H → Type 0) (fails : H �
           (heard (Calls n call ∷ log) outcome (with_call h.so_far (Some call)) served.0
           (around_call step fails is_closed is_finished inbound_makes outbound_makes eager names peer role log fed sent before streams past n (ended_view view) rest call may a)
           (listed_behind step fails is_closed is_finished inbound_makes outbound_makes eager names peer role log n view.came view.ended h.so_far old call
-          (listed step fails is_closed is_finished inbound_makes outbound_makes eager names peer role log n view.came view.ended old h)) (λ open_still. inr (answered_anew role n call serves.0 refl log))
+          (listed step fails is_closed is_finished inbound_makes outbound_makes eager names peer role log n view.came view.ended old h)) (λ open_still. answered_anew role n call serves.0 refl log)
           (λ serving. handed_still step fails is_closed is_finished inbound_makes outbound_makes eager names peer role log n call (handed serving)) served.1 served.2 served.4)
-      by_hands answer is (inr f) = failed outcome f.1.0 f.1.1 f.1.2 f.1.3 f.1.4 f.0
+      by_hands off answer is (inr f) = failed outcome f.1.0 f.1.1 f.1.2 f.1.3 f.1.4 f.0
 
       by_talk : (b : Bool) → is_talking old.stage ≡ b → Went step fails is_closed is_finished inbound_makes outbound_makes eager names peer role log fed sent after now past n rest outcome
       by_talk true e = in_talk outcome e (ends.0 e).0 (ends.0 e).1
-      by_talk false e = by_hands (answering old.stage End) refl (ends.1 e)
+      by_talk false e = by_hands e (answering old.stage End) refl (ends.1 e)

@@ -14,17 +14,18 @@ use Rattle.yamux_session.specs.Openings.{is_live, finished}
 use Rattle.yamux_session.specs.Arrives.{tellings, HasData}
 use Rattle.yamux_session.specs.Naming.{IsAbout, IsNoOpening as OpensNone, NamesOne}
 use Rattle.yamux_session.specs.Events.{Told, events}
-use Rattle.yamux_session.specs.Seen.{Seen, seen, hears, all_heard, just_opened, AgreesOn, TellsFrom, EventsTell, Windows, windows, CreditIsTold}
+use Rattle.yamux_session.specs.Seen.{Seen, seen, hears, all_heard, just_opened, AgreesOn, TellsFrom, EventsTell, Windows, windows, IsQuiet, CreditIsTold}
 use Rattle.yamux_session.specs.Endings.{opened_in, told_opened, OpeningsAreTold, OpenedByTheOther, OpenedAnew, EndsAreLast}
 use Rattle.yamux_session.specs.State.{State, Stands as SessionStands, IsOneFrame}
 use Rattle.streams.specs.State.{Streaming}
 use Rattle.conn_log.specs.declared.earlier.Earlier.{Earlier}
 use Rattle.conn_log.specs.Entries.{Entry, items, since, agreed_in, over_in, done_in, made_in, calls_in, is_over, made_of, is_kept, left_behind, put_aside, has_taken}
 use Rattle.conn_log.specs.Turns.{turn}
-use Rattle.conn_log.specs.Due.{told_credit, is_asked_anew, AllDue, told_reset, was_reset, told_end, end_was_told}
+use Rattle.conn_log.specs.Asking.{told_more, is_asked_anew}
+use Rattle.conn_log.specs.Due.{AllDue, told_reset, was_reset, told_end, end_was_told}
 use Rattle.conn_log.specs.Held.{IsAtRest, AreLeft, earlier_of}
 use Rattle.conn_log.specs.Rests.{AreAtRest}
-use Rattle.conn_log.specs.Routes.{IsNoCredit, EndsLast, IsFor, IsNoOpening, IsMoving, Around, Awaits, set_aside}
+use Rattle.conn_log.specs.Routes.{EndsLast, IsFor, IsNoOpening, IsMoving, Around, Awaits, set_aside}
 use Rattle.conn_log.proofs.Same.{Same, side_same, settled_same, at_rest_same, left_same}
 use Rattle.conn_log.proofs.Around.{if_some}
 use Rattle.conn_log.proofs.Views.{same}
@@ -32,7 +33,7 @@ use Rattle.conn_log.proofs.Opening.{sent_stays}
 use Rattle.conn_log.proofs.Leaving.{earlier_other, are_left, numbers_are}
 use Rattle.conn_log.proofs.Rested.{end_agrees}
 use Rattle.conn_log.proofs.Arriving.{arrived, items_arrived, asked_arrived, since_arrived, left_arrived, IsNamed, named, opens_none, not_heard, not_opened, quiet, unopened, all_closed_stays, was_live_before}
-use Rattle.conn_log.proofs.Crediting.{credit_arrived, none_told}
+use Rattle.conn_log.proofs.Crediting.{more_arrived, none_arrived, quiet_tells_none, untold_is_quiet}
 use Rattle.std.proofs.Math.Bool.{or_comm}
 use Rattle.conn_log.proofs.Ends.{ends_unopened, ends_opened, live_ends}
 use Rattle.conn_log.proofs.Heads.{stream_of, credit_first, all_named, all_about, turn_arrived, in_turn_arrived, aside_arrived}
@@ -97,6 +98,10 @@ module _ {P H : Type 0} (step : H → HandlerCall → H → Type 0) (fails : H �
   since_same : (m : ℕ) → told_opened m (tellings told) ≡ false → since role then m ≡ since role log m
   since_same m off = since_arrived role came log m ∙ ap (λ b. cond b [] (since role log m)) (laws.openings_are_told role (items log) came (tellings told) m tells ∙ off)
 
+  -- where neither data nor credit of a stream was told it is asked anew where it was before
+  still_asked : (m : ℕ) → AllByRecursion (IsQuiet m) (tellings told) → is_asked_anew role then m ≡ is_asked_anew role log m
+  still_asked m brings_none = none_arrived role came log m (ap (told_more m) (told_is_by role (items log) came (tellings told) tells) ∙ quiet_tells_none m (tellings told) brings_none)
+
   -- ---- of another stream
 
   other_agrees : (m : ℕ) → (n == m) ≡ false → AgreesOn (seen role (items then) m) (seen role (items log) m)
@@ -123,6 +128,7 @@ module _ {P H : Type 0} (step : H → HandlerCall → H → Type 0) (fails : H �
         made_is = ap (made_in m) (since_same m off);
         calls_is = ap (calls_in m) (since_same m off);
         asked_is = asked_arrived came log m;
+        anew_is = still_asked m (quiet n m apart (tellings told) about);
       }
 
   others : (m : ℕ) → (n == m) ≡ false → IfSome (streams m) (λ it. IsAtRest step is_closed is_finished names role then m it)
@@ -191,10 +197,11 @@ module _ {P H : Type 0} (step : H → HandlerCall → H → Type 0) (fails : H �
 
   -- ---- of the one that is named
 
-  -- credit of it was told, or none is
-  anew_by : {Q : Type 0} (b : Bool) → told_credit n (tellings told) ≡ b → AllByRecursion IsNoCredit (tellings told) ⊎ (Q ⊎ (is_asked_anew role then n ≡ true))
-  anew_by true is = inr (inr (credit_arrived role came log n (ap (told_credit n) (told_is_by role (items log) came (tellings told) tells) ∙ is)))
-  anew_by false is = inl (none_told n (tellings told) about is)
+  -- credit or data of it was told, or neither is
+  anew_by : (rest : List Told) → AllByRecursion (IsNoOpening n) rest → told_more n (tellings told) ≡ told_more n rest → (b : Bool) → told_more n rest ≡ b
+      → AllByRecursion (IsQuiet n) rest ⊎ (is_asked_anew role then n ≡ true)
+  anew_by rest none tells_so true is = inr (more_arrived role came log n (ap (told_more n) (told_is_by role (items log) came (tellings told) tells) ∙ tells_so ∙ is))
+  anew_by rest none tells_so false is = inl (untold_is_quiet n rest none is)
 
   -- it was opened before
   moving : (it : Streaming H) → AllByRecursion (IsNoOpening n) (tellings told) → IsAtRest step is_closed is_finished names role log n it
@@ -220,7 +227,11 @@ module _ {P H : Type 0} (step : H → HandlerCall → H → Type 0) (fails : H �
         };
         unfinished = r.unfinished;
         over_by_end = r.over_by_end;
-        anew = anew_by (told_credit n (tellings told)) refl;
+        anew = anew_by (tellings told) none refl (told_more n (tellings told)) refl;
+        asked = λ brings_none live off is.
+            let view = seen role (items log) n in
+            still_asked n brings_none ∙ r.asked (was_live_before n view (tellings told) none (sym a.live ∙ live))
+            (sym (a.closed ∙ all_closed_stays n view (tellings told) none) ∙ off) is;
         handed = λ serves. ap has_taken (ap (calls_in n) (since_same n off)) ∙ r.handed serves;
         settled = λ brings_none live.
             let view = seen role (items log) n in
@@ -326,6 +337,7 @@ module _ {P H : Type 0} (step : H → HandlerCall → H → Type 0) (fails : H �
                 (numbers_by opened tells_it) turn_is;
             fresh = since_arrived role came log n ∙ ap (λ b. cond b [] (since role log n)) opened;
             theirs = laws.opened_by_the_other role (items log) came n opened;
+            anew = anew_by (tellings rest) none (ap (told_more n) told_is) (told_more n (tellings rest)) refl;
           },
         );
       } where

@@ -190,11 +190,12 @@ may_ask_for_all = record {
   handler = 51;
   held = refl;
   asked_for = (refl, refl);
-  in_turn = (refl, refl, refl, inr (refl, refl));
+  in_turn = (refl, refl, refl, refl, inr refl);
   talking = λ e. absurd (off_is_on e);
   agreed_on = λ e none. some_is_none 1 none;
   going = refl;
   settled = λ e. absurd (cc e);
+  asked = λ e. absurd (cc e);
 }
 
 -- and is handed it at once
@@ -222,6 +223,7 @@ may_be_handed = record {
   agreed_on = λ e none. some_is_none 1 none;
   going = refl;
   settled = λ e. absurd (cc e);
+  asked = λ e. absurd (cc e);
 }
 
 handed_at_once : is_due rows.served (Calls 2 (Take []))
@@ -238,7 +240,7 @@ call_place_rows = record {
   handed_at_once = handed_at_once;
   asked = asked_for_all;
   unanswered = λ h. h.answers;
-  asked_too_early = λ h. by_talk h.asked.in_turn.3 (λ talks. some_is_none 1 (h.asked.talking talks)) (λ anew. off_is_on anew.1);
+  asked_too_early = λ h. by_talk h.asked.in_turn.4 (λ talks. some_is_none 1 (h.asked.talking talks)) off_is_on;
   end_too_early = λ h. off_is_on h.asked.in_turn.3;
   handed_too_late = λ h. by_start h.asked.in_turn.2;
   when_over = λ call h. on_is_off h.asked.going;
@@ -250,8 +252,10 @@ call_place_rows = record {
   end_with_a_reset = λ h. off_is_on h.asked.asked_for.1;
   asked_behind_a_reset = λ room h. off_is_on h.asked.in_turn.0;
   asked_when_closed = λ room h. on_is_off h.asked.in_turn.1;
-  asked_twice = λ room h. by_talk h.asked.in_turn.3 (λ talks. some_is_none 1 (h.asked.talking talks)) (λ anew. off_is_on anew.0);
-  asked_by_a_frame = λ room h. by_talk h.asked.in_turn.3 (λ talks. some_is_none 1 (h.asked.talking talks)) (λ anew. off_is_on anew.0);
+  asked_twice = λ room h. off_is_on h.asked.in_turn.3;
+  asked_by_a_frame = λ room h. off_is_on h.asked.in_turn.3;
+  asked_twice_early = λ room h. off_is_on h.asked.in_turn.3;
+  asked_by_its_end = λ room h. off_is_on h.asked.in_turn.3;
 } where
   by_turn : {A B : Type 0} → (A × (no_bytes ≢ []) × B) ⊎ ⊥ → ⊥
   by_turn (inl handed) = handed.1 refl
@@ -262,13 +266,15 @@ call_place_rows = record {
   by_start (inr agreed) = agreed
 
   by_talk : {A B : Type 0} → A ⊎ B → (A → ⊥) → (B → ⊥) → ⊥
-  by_talk (inl talks) not_talking not_anew = not_talking talks
-  by_talk (inr anew) not_talking not_anew = not_anew anew
+  by_talk (inl talks) not_talking not_begun = not_talking talks
+  by_talk (inr begun) not_talking not_begun = not_begun begun
 
 pub anew_rows : AnewRows
 anew_rows = record {
   at_first = refl;
   by_credit = refl;
+  by_data = refl;
+  by_data_of_another = refl;
   by_credit_of_another = refl;
   behind_data = refl;
   behind_its_end = refl;

@@ -17,7 +17,7 @@ use Rattle.conn_log.specs.Entries.{Entry, items, said, is_over, made_of}
 use Rattle.conn_log.specs.Due.{told_reset, was_reset, told_end}
 use Rattle.conn_log.specs.Held.{IsAtRest}
 use Rattle.conn_log.specs.Rests.{AreAtRest, Grows}
-use Rattle.conn_log.specs.Routes.{IsNoCredit, IsStill, EndsLast, IsMoving, Routes, Routed, Awaits, IsUnderWay}
+use Rattle.conn_log.specs.Routes.{IsStill, EndsLast, IsMoving, Routes, Routed, Awaits, IsUnderWay}
 use Rattle.conn_log.proofs.Turning.{turn_unasked, rested_on}
 use Rattle.conn_log.proofs.Settling.{routed_behind}
 
@@ -110,14 +110,14 @@ module _ {P H : Type 0} (step : H → HandlerCall → H → Type 0) (fails : H �
     own_kept = r.own_kept;
     own_to_reset = subst (λ b. b ≡ true → is_over role log n ≡ false → IsSome (streams n)) (still_reset n t rest is) r.own_to_reset;
   } where
-    behind : {Q : Type 0} → AllByRecursion IsNoCredit (t ∷ rest) ⊎ Q → AllByRecursion IsNoCredit rest ⊎ Q
+    behind : {Q : Type 0} → AllByRecursion (IsQuiet n) (t ∷ rest) ⊎ Q → AllByRecursion (IsQuiet n) rest ⊎ Q
     behind (inl none) = inl none.1
     behind (inr other) = inr other
 
     goes_on : (s : Option (Streaming H)) → IfSome s (λ it. IsMoving step fails is_closed is_finished inbound_makes outbound_makes eager names peer role log n view (t ∷ rest) it)
         → IfSome s (λ it. IsMoving step fails is_closed is_finished inbound_makes outbound_makes eager names peer role log n view rest it)
     goes_on None own = tt
-    goes_on (Some it) own = record { held = own.held; unfinished = own.unfinished; over_by_end = own.over_by_end; anew = behind own.anew; handed = own.handed; settled = λ quiet live. own.settled (still_quiet n t is, quiet) live }
+    goes_on (Some it) own = record { held = own.held; unfinished = own.unfinished; over_by_end = own.over_by_end; anew = behind own.anew; handed = own.handed; settled = λ quiet live. own.settled (still_quiet n t is, quiet) live; asked = λ quiet. own.asked (still_quiet n t is, quiet) }
 
   -- ---- event by event
 
@@ -162,6 +162,7 @@ module _ {P H : Type 0} (step : H → HandlerCall → H → Type 0) (fails : H �
             served = m.held.served;
           };
           settled = λ live. m.settled tt live;
+          asked = m.asked tt;
           unfinished = m.unfinished;
           handed = m.handed;
           over_by_end = λ off. ended ∙ m.over_by_end (sym a.live ∙ off);

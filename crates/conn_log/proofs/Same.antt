@@ -19,6 +19,7 @@ use Rattle.conn_log.specs.declared.event.ConnEvent.{ConnEvent}
 use Rattle.conn_log.specs.declared.event.ConnEvent.TheVariants as event
 use Rattle.conn_log.specs.Entries.{Entry, items, agreed, is_over, was_done, made_of, calls_of, has_taken, asked, is_kept, left_behind}
 use Rattle.conn_log.specs.Entries.Entry.{Of, Says, Made, Calls}
+use Rattle.conn_log.specs.Asking.{is_give, is_asked_anew}
 use Rattle.conn_log.specs.Held.{IsSide, IsHeld, IsAtRest, IsPast, AreLeft}
 
 -- these are of the stream what they were
@@ -31,9 +32,10 @@ pub record Same {H : Type 0} (role : Role) (log now : List (Entry H)) (m : ℕ) 
   pub made_is : made_of role now m ≡ made_of role log m
   pub calls_is : calls_of role now m ≡ calls_of role log m
   pub asked_is : asked now m ≡ asked log m
+  pub anew_is : is_asked_anew role now m ≡ is_asked_anew role log m
 
 pub same_refl : {H : Type 0} (role : Role) (log : List (Entry H)) (m : ℕ) → Same role log log m
-same_refl role log m = record { seen_is = refl; windows_is = refl; agreed_is = refl; over_is = refl; done_is = refl; made_is = refl; calls_is = refl; asked_is = refl }
+same_refl role log m = record { seen_is = refl; windows_is = refl; agreed_is = refl; over_is = refl; done_is = refl; made_is = refl; calls_is = refl; asked_is = refl; anew_is = refl }
 
 pub same_trans : {H : Type 0} (role : Role) (log mid now : List (Entry H)) (m : ℕ) → Same role log mid m → Same role mid now m → Same role log now m
 same_trans role log mid now m a b = record {
@@ -45,6 +47,7 @@ same_trans role log mid now m a b = record {
   made_is = b.made_is ∙ a.made_is;
   calls_is = b.calls_is ∙ a.calls_is;
   asked_is = b.asked_is ∙ a.asked_is;
+  anew_is = b.anew_is ∙ a.anew_is;
 }
 
 -- an act on the one stream
@@ -75,6 +78,7 @@ module _ {H : Type 0} (acts_do : ActsDo) (acts_move : ActsMove) where
         made_is = refl;
         calls_is = refl;
         asked_is = refl;
+        anew_is = refl;
       }
   same_by_act role log n m (Taken k count) on e =
       let had = windows role (items log) m in
@@ -88,6 +92,7 @@ module _ {H : Type 0} (acts_do : ActsDo) (acts_move : ActsMove) where
         made_is = refl;
         calls_is = refl;
         asked_is = refl;
+        anew_is = refl;
       }
   same_by_act role log n m (Close k) on e =
       let before = seen role (items log) m in
@@ -101,6 +106,7 @@ module _ {H : Type 0} (acts_do : ActsDo) (acts_move : ActsMove) where
         made_is = refl;
         calls_is = refl;
         asked_is = refl;
+        anew_is = refl;
       }
   same_by_act role log n m (Reset k) on e =
       let before = seen role (items log) m in
@@ -114,6 +120,7 @@ module _ {H : Type 0} (acts_do : ActsDo) (acts_move : ActsMove) where
         made_is = refl;
         calls_is = refl;
         asked_is = refl;
+        anew_is = refl;
       }
   same_by_act role log n m (Start k) on e = absurd on
   same_by_act role log n m (Act.GoAway code) on e = absurd on
@@ -139,6 +146,7 @@ same_by_event role log n m (event.Agreed k index) of e = record {
   made_is = refl;
   calls_is = refl;
   asked_is = refl;
+  anew_is = refl;
 }
 same_by_event role log n m (event.Refused k) of e = record {
   seen_is = refl;
@@ -149,6 +157,7 @@ same_by_event role log n m (event.Refused k) of e = record {
   made_is = refl;
   calls_is = refl;
   asked_is = refl;
+  anew_is = refl;
 }
 same_by_event role log n m (event.Done k handler) of e = record {
   seen_is = refl;
@@ -159,6 +168,7 @@ same_by_event role log n m (event.Done k handler) of e = record {
   made_is = refl;
   calls_is = refl;
   asked_is = refl;
+  anew_is = refl;
 }
 same_by_event role log n m (event.Broken k cause) of e = record {
   seen_is = refl;
@@ -169,6 +179,7 @@ same_by_event role log n m (event.Broken k cause) of e = record {
   made_is = refl;
   calls_is = refl;
   asked_is = refl;
+  anew_is = refl;
 }
 same_by_event role log n m (event.Upgraded key) of e = absurd of
 same_by_event role log n m (event.Fault fault) of e = absurd of
@@ -184,6 +195,7 @@ same_by_making role log n m handler e = record {
   made_is = ap (λ b. cond b (Some handler) (made_of role log m)) e;
   calls_is = refl;
   asked_is = refl;
+  anew_is = ap (λ b. b || is_asked_anew role log m) e;
 }
 
 pub same_by_call : {H : Type 0} (role : Role) (log : List (Entry H)) (n m : ℕ) (call : HandlerCall) → (n == m) ≡ false → Same role log (Calls n call ∷ log) m
@@ -196,6 +208,7 @@ same_by_call role log n m call e = record {
   made_is = refl;
   calls_is = ap (λ b. cond b (calls_of role log m ++ call ∷ []) (calls_of role log m)) e;
   asked_is = refl;
+  anew_is = ap (λ b. cond b (not (is_give call)) (is_asked_anew role log m)) e;
 }
 
 -- ---- what holds of the other stream goes on holding
@@ -262,6 +275,7 @@ module _ {H : Type 0} (step : H → HandlerCall → H → Type 0) (is_closed is_
         };
         settled = λ on. settled_same step is_closed is_finished role (items log) (items now) m r.held.so_far.left stream (ap (λ (x : Seen). x.closed) s.seen_is)
             (ap (λ (w : Windows). w.credit) s.windows_is) (ap (λ (w : Windows). w.untaken) s.windows_is) (r.settled (sym live ∙ on));
+        asked = λ on off is. s.anew_is ∙ r.asked (sym live ∙ on) (sym (ap (λ (x : Seen). x.closed) s.seen_is) ∙ off) is;
         unfinished = r.unfinished;
         handed = λ serves. ap has_taken s.calls_is ∙ r.handed serves;
         over_by_end = λ off. sym ended ∙ r.over_by_end (sym live ∙ off);

@@ -20,6 +20,7 @@ use Rattle.serving.specs.Served.{IsDue as ActIsDue, AreDue, GaveAll as StreamGav
 use Rattle.serving.proofs.StageKinds.{same_awaiting, same_handed}
 use Rattle.conn_log.specs.declared.earlier.Earlier.{Earlier}
 use Rattle.conn_log.specs.Entries.{Entry, items, said, agreed, is_over, was_done, made_of, calls_of, has_taken, asked, left_behind}
+use Rattle.conn_log.specs.Asking.{is_asked_anew}
 use Rattle.conn_log.specs.Entries.Entry.{Of}
 use Rattle.conn_log.specs.Due.{HasCome, StandsByAll, GaveAll, HasGiven, IsDue, AllDue, was_reset, end_was_told}
 use Rattle.conn_log.specs.Held.{IsSide}
@@ -66,6 +67,7 @@ pub record Own {H : Type 0} (role : Role) (log now : List (Entry H)) (n : ℕ) :
   pub made_is : made_of role now n ≡ made_of role log n
   pub calls_is : calls_of role now n ≡ calls_of role log n
   pub asked_is : asked now n ≡ asked log n
+  pub anew_is : is_asked_anew role now n ≡ is_asked_anew role log n
 
 own_trans : {H : Type 0} (role : Role) (log mid now : List (Entry H)) (n : ℕ) → Own role log mid n → Own role mid now n → Own role log now n
 own_trans role log mid now n a b = record {
@@ -77,22 +79,23 @@ own_trans role log mid now n a b = record {
   made_is = b.made_is ∙ a.made_is;
   calls_is = b.calls_is ∙ a.calls_is;
   asked_is = b.asked_is ∙ a.asked_is;
+  anew_is = b.anew_is ∙ a.anew_is;
 }
 
 module _ {H : Type 0} (acts_do : ActsDo) where
   own_by : (role : Role) (log : List (Entry H)) (n : ℕ) (act : Act) → IsOn n act → Own role log (Of (Did act) ∷ log) n
   own_by role log n (Write k pieces) on =
       let is = acts_do role (items log) (Write k pieces) n ∙ does_is n (seen role (items log) n) (Write k pieces) on in
-      record { came_is = ap (λ (x : Seen). x.came) is; ended_is = ap (λ (x : Seen). x.ended) is; agreed_is = refl; over_is = refl; done_is = refl; made_is = refl; calls_is = refl; asked_is = refl }
+      record { came_is = ap (λ (x : Seen). x.came) is; ended_is = ap (λ (x : Seen). x.ended) is; agreed_is = refl; over_is = refl; done_is = refl; made_is = refl; calls_is = refl; asked_is = refl; anew_is = refl }
   own_by role log n (Taken k count) on =
       let is = acts_do role (items log) (Taken k count) n in
-      record { came_is = ap (λ (x : Seen). x.came) is; ended_is = ap (λ (x : Seen). x.ended) is; agreed_is = refl; over_is = refl; done_is = refl; made_is = refl; calls_is = refl; asked_is = refl }
+      record { came_is = ap (λ (x : Seen). x.came) is; ended_is = ap (λ (x : Seen). x.ended) is; agreed_is = refl; over_is = refl; done_is = refl; made_is = refl; calls_is = refl; asked_is = refl; anew_is = refl }
   own_by role log n (Close k) on =
       let is = acts_do role (items log) (Close k) n ∙ does_is n (seen role (items log) n) (Close k) on in
-      record { came_is = ap (λ (x : Seen). x.came) is; ended_is = ap (λ (x : Seen). x.ended) is; agreed_is = refl; over_is = refl; done_is = refl; made_is = refl; calls_is = refl; asked_is = refl }
+      record { came_is = ap (λ (x : Seen). x.came) is; ended_is = ap (λ (x : Seen). x.ended) is; agreed_is = refl; over_is = refl; done_is = refl; made_is = refl; calls_is = refl; asked_is = refl; anew_is = refl }
   own_by role log n (Reset k) on =
       let is = acts_do role (items log) (Reset k) n ∙ does_is n (seen role (items log) n) (Reset k) on in
-      record { came_is = ap (λ (x : Seen). x.came) is; ended_is = ap (λ (x : Seen). x.ended) is; agreed_is = refl; over_is = refl; done_is = refl; made_is = refl; calls_is = refl; asked_is = refl }
+      record { came_is = ap (λ (x : Seen). x.came) is; ended_is = ap (λ (x : Seen). x.ended) is; agreed_is = refl; over_is = refl; done_is = refl; made_is = refl; calls_is = refl; asked_is = refl; anew_is = refl }
   own_by role log n (Start k) on = absurd on
   own_by role log n (Act.GoAway code) on = absurd on
 
@@ -117,7 +120,7 @@ module _ {P H : Type 0} (step : H → HandlerCall → H → Type 0) (fails : H �
   all_on past n so_far kind (act ∷ acts) due = (on_of _ n so_far kind act due.0, all_on past n so_far kind acts due.1)
 
   pub did_own : (log : List (Entry H)) (n : ℕ) (acts : List Act) → AllOn n acts → Own role log (did acts ++ log) n
-  did_own log n [] on = record { came_is = refl; ended_is = refl; agreed_is = refl; over_is = refl; done_is = refl; made_is = refl; calls_is = refl; asked_is = refl }
+  did_own log n [] on = record { came_is = refl; ended_is = refl; agreed_is = refl; over_is = refl; done_is = refl; made_is = refl; calls_is = refl; asked_is = refl; anew_is = refl }
   did_own log n (act ∷ acts) on = own_trans role log (did acts ++ log) _ n (did_own log n acts on.1) (own_by acts_do role (did acts ++ log) n act on.0)
 
   -- a stream that is open behind them, and live, was so before

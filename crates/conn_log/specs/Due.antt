@@ -1,7 +1,7 @@
 -- Why each entry of a connection's list stands where it does: what came to a stream, and what was told and done then.
 -- Source: multistream-select 1.0, "Protocol Negotiation"; libp2p connections, "Opening new streams over a connection";
 -- hashicorp yamux, "Flow Control" and "Flag Field"; what a connection tells is this project's profile.
-use Rattle.std.specs.Prelude.{◌≡◌, ◌≢◌, ◌⊎◌, ℕ, ◌<◌, ◌-◌, ◌==◌, ◌||◌, Bool, true, false, not, if◌then◌else◌, None}
+use Rattle.std.specs.Prelude.{◌≡◌, ◌≢◌, ◌⊎◌, ℕ, ◌<◌, ◌-◌, ◌==◌, ◌||◌, Bool, true, false, if◌then◌else◌, None}
 use Rattle.std.specs.Prelude.{Some, List, [], ◌∷◌, ◌++◌, length}
 use Rattle.handlers.specs.Calls.{HandlerCall, Take, Give, End, Asked, ToTake, ToGive, ToEnd}
 use Rattle.ms_select.specs.declared.fault.SelectFault.TheVariants as select_faults
@@ -28,7 +28,8 @@ use Rattle.dispatch.specs.Dispatch.{made_by}
 use Rattle.conn_log.specs.declared.event.ConnEvent.TheVariants as event
 use Rattle.conn_log.specs.Entries.{Entry, items, agreed, is_over, was_done, made_of, calls_of, has_taken}
 use Rattle.conn_log.specs.Entries.Entry.{Of, Says, Made, Asks, Calls}
-use Rattle.conn_log.specs.Held.{IsSide, IsHeld}
+use Rattle.conn_log.specs.Asking.{is_asked_anew}
+use Rattle.conn_log.specs.Held.{IsSide, IsHeld, WasAskedLast}
 
 -- this end opened the streams that have its numbers
 abbrev pub direction_of : Role → ℕ → Direction
@@ -69,28 +70,6 @@ abbrev pub HasJustAgreed : {H : Type 0} → ℕ → List (Entry H) → Type 0
 HasJustAgreed n (Says (event.Agreed m index) ∷ log) = m ≡ n
 HasJustAgreed n (Made k handler ∷ Says (event.Agreed m index) ∷ log) = (k ≡ n) × (m ≡ n)
 HasJustAgreed n log = ⊥
-
--- whether one of these events tells credit of the stream
-abbrev pub told_credit : ℕ → List Told → Bool
-told_credit n [] = false
-told_credit n (Told.Credit m ∷ told) = m == n || told_credit n told
-told_credit n (other ∷ told) = told_credit n told
-
--- the call asks for bytes
-abbrev pub is_give : HandlerCall → Bool
-is_give (Take bytes) = false
-is_give (Give room bytes) = true
-is_give End = false
-
--- Since the handler of the stream was asked for bytes last, credit was told of it, or it answered another call, or was
--- made. So it is asked once behind each of these.
-abbrev pub is_asked_anew : {H : Type 0} → Role → List (Entry H) → ℕ → Bool
-is_asked_anew role [] n = true
-is_asked_anew role (Of x ∷ log) n = told_credit n (events_at role (items log) x) || is_asked_anew role log n
-is_asked_anew role (Says e ∷ log) n = is_asked_anew role log n
-is_asked_anew role (Made m handler ∷ log) n = m == n || is_asked_anew role log n
-is_asked_anew role (Asks m index ∷ log) n = is_asked_anew role log n
-is_asked_anew role (Calls m call ∷ log) n = if m == n then not (is_give call) else is_asked_anew role log n
 
 -- the newest entry gives the stream up, and the other end didn't reset it
 abbrev pub IsGivenUp : {H : Type 0} → ℕ → List (Entry H) → Type 0
@@ -157,8 +136,8 @@ module _ {P H : Type 0} (step : H → HandlerCall → H → Type 0) (fails : H �
   -- It may be asked for that in its turn: what came, and its end, is told to a handler that serves the stream, wasn't
   -- told of the end before, and isn't finished: one that is finished was handed out, unless its talk has just agreed.
   -- It is handed some bytes, unless the talk took all of them. The end is told to one that gave what it has by all that
-  -- came before. While a stream is live, and this direction open, one that isn't closed is asked to give: anew, unless
-  -- its talk goes on. Behind the talk what stood there is handed over first.
+  -- came before. While a stream is live, and this direction open, one that isn't closed is asked to give, where it is
+  -- asked anew. Behind the talk what stood there is handed over first.
   abbrev pub IsInTurn : List (Entry H) → ℕ → Stage H → Past H → H → Asked → Type 0
   IsInTurn log n stage so_far handler (ToTake bytes) = (stage ≡ Serving handler) × (so_far.ended ≡ false)
       × (((is_finished handler ≡ false) × (bytes ≢ []) × HasBegun log n) ⊎ HasJustAgreed n log)
@@ -166,7 +145,7 @@ module _ {P H : Type 0} (step : H → HandlerCall → H → Type 0) (fails : H �
       × (is_finished handler ≡ false) × HasBegun log n
   IsInTurn log n stage so_far handler (ToGive room) = (is_live role (items log) n ≡ true)
       × (closed role (items log) n ≡ false) × (is_closed handler ≡ false)
-      × ((is_talking stage ≡ true) ⊎ ((is_asked_anew role log n ≡ true) × HasBegun log n))
+      × (is_asked_anew role log n ≡ true) × ((is_talking stage ≡ true) ⊎ HasBegun log n)
 
   -- Its handler may be asked for this, while its last event wasn't told. By then Agreed was told of it, where its talk
   -- is over, and only there.
@@ -182,6 +161,8 @@ module _ {P H : Type 0} (step : H → HandlerCall → H → Type 0) (fails : H �
     -- where it is told the end the stream was served by all that came before
     pub settled : request ≡ ToEnd → is_live role (items log) n ≡ true
         → IsSettled step is_closed is_finished role (items log) n there.so_far.left there.stream
+    -- and it was asked behind all that
+    pub asked : request ≡ ToEnd → WasAskedLast is_closed role log n there.stream
 
   -- its handler was asked for something, and failed with this number
   pub record HandlerFails (log : List (Entry H)) (n : ℕ) (number : ℕ) : Type 0 where
@@ -206,14 +187,15 @@ module _ {P H : Type 0} (step : H → HandlerCall → H → Type 0) (fails : H �
     pub handed : kind_of stream.stage ≡ Served → has_taken (calls_of role log n) ≡ true
 
   -- The talk of a stream goes on behind all of its data, and a live one was served by them: what was written waits only
-  -- where no credit is left, an eager handler was asked last, with all the credit, unless it is closed, and what came
-  -- was taken.
+  -- where no credit is left, an eager handler was asked behind them, with all the credit, unless it is closed, and what
+  -- came was taken.
   pub record IsCutOff (log : List (Entry H)) (n : ℕ) : Type 0 where
     pub there : IsThere log n
     pub all_came : inbound role (items log) n ≡ there.so_far.got
     pub talks : is_talking there.stream.stage ≡ true
     pub settled : is_live role (items log) n ≡ true
         → IsSettled step is_closed is_finished role (items log) n there.so_far.left there.stream
+    pub asked : WasAskedLast is_closed role log n there.stream
 
   -- why a stream is given up; one that was reset stood by all that came before, and one that ended within its talk, too
   abbrev pub IsBroken : List (Entry H) → ℕ → Cause → Type 0

@@ -7,14 +7,15 @@ use Rattle.handlers.specs.Calls.{HandlerCall}
 use Rattle.talks.specs.Talks.{Side, Asks, Answers}
 use Rattle.yamux_session.specs.declared.event.Role.{Role}
 use Rattle.yamux_session.specs.History.{is_own}
-use Rattle.yamux_session.specs.Openings.{is_live, finished}
+use Rattle.yamux_session.specs.Openings.{is_live, closed, finished}
 use Rattle.yamux_session.specs.Data.{inbound, written}
 use Rattle.streams.specs.Streams.{Past}
-use Rattle.streams.specs.State.{Streaming, Stands, is_talking, awaits_handler, has_finished, was_handed_out}
+use Rattle.streams.specs.State.{Streaming, Stands, is_talking, awaits_handler, is_open, has_finished, was_handed_out}
 use Rattle.streams.specs.State.{Served, kind_of}
 use Rattle.serving.specs.Served.{IsSettled}
 use Rattle.conn_log.specs.Entries.{Entry, items, agreed, is_over, was_done, made_of, calls_of, asked, is_kept}
 use Rattle.conn_log.specs.Entries.{left_behind, has_taken}
+use Rattle.conn_log.specs.Asking.{is_asked_anew}
 use Rattle.conn_log.specs.declared.earlier.Earlier.{Earlier}
 
 -- who opens a stream asks for the one name that was asked for; the other end answers with all of its names
@@ -22,6 +23,12 @@ abbrev pub IsSide : {H : Type 0} → Role → List (List ℕ) → List (Entry H)
 IsSide role names log n (Asks name index) =
     (is_own role n ≡ true) × (asked log n ≡ Some index) × (slice_get names index ≡ Some name)
 IsSide role names log n (Answers known) = (is_own role n ≡ false) × (known ≡ names)
+
+-- while it is live, and this direction open, a handler that isn't closed was asked behind all that came and all that it
+-- answered
+abbrev pub WasAskedLast : {H : Type 0} → (H → Bool) → Role → List (Entry H) → ℕ → Streaming H → Type 0
+WasAskedLast is_closed role log n stream = is_live role (items log) n ≡ true → closed role (items log) n ≡ false
+    → is_open is_closed stream.stage ≡ true → is_asked_anew role log n ≡ false
 
 -- those of a number, among streams of earlier openings
 abbrev pub earlier_of : {H : Type 0} → ℕ → List (Earlier H) → List (Streaming H)
@@ -52,6 +59,7 @@ module _ {H : Type 0} (step : H → HandlerCall → H → Type 0) (is_closed is_
     pub held : IsHeld log n (inbound role (items log) n) (finished role (items log) n) stream
     pub settled : is_live role (items log) n ≡ true
         → IsSettled step is_closed is_finished role (items log) n held.so_far.left stream
+    pub asked : WasAskedLast is_closed role log n stream
     pub unfinished : has_finished is_finished stream.stage ≡ false
     -- a handler that serves it was handed what stood behind the talk
     pub handed : kind_of stream.stage ≡ Served → has_taken (calls_of role log n) ≡ true

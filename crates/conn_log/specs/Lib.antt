@@ -1,5 +1,6 @@
 -- cited by public clauses and laws
 pub mod Entries
+pub mod Asking
 pub mod Turns
 pub mod Due
 pub mod Making

@@ -22,7 +22,8 @@ use Rattle.conn_log.specs.Entries.Entry.{Of, Says, Asks}
 use Rattle.conn_log.specs.EntryRows.{frame, opened, agrees, refuses, done, breaks, makes, answers}
 use Rattle.conn_log.specs.AskedRows.{is_1}
 use Rattle.conn_log.specs.DueRows.{inbound, outbound}
-use Rattle.conn_log.specs.Due.{asks_for, is_asked_anew, StandsByAll, MayBeAsked, HasHeard, IsDue, AllDue}
+use Rattle.conn_log.specs.Asking.{is_asked_anew}
+use Rattle.conn_log.specs.Due.{asks_for, StandsByAll, MayBeAsked, HasHeard, IsDue, AllDue}
 
 abbrev pub is_due : List (Entry ℕ) → Entry ℕ → Type 0
 is_due = IsDue (λ before call now. now ≡ before) (λ handler request number. ⊥) (λ handler. false) (λ handler. false)
@@ -183,17 +184,22 @@ pub record CallPlaceRows : Type 0 where
   -- nor by a frame that brings no credit
   pub asked_by_a_frame : (room : ℕ)
       → ¬ is_due (frame 0 2 ++ answers 2 (Give 5 []) ∷ begun) (answers 2 (Give room []))
+  -- nor twice while its talk goes on, and not by the end
+  pub asked_twice_early : (room : ℕ) → ¬ is_due (answers 1 (Give 5 []) ∷ early) (answers 1 (Give room []))
+  pub asked_by_its_end : (room : ℕ) → ¬ is_due (frame 4 1 ++ answers 1 (Give 5 []) ∷ early) (answers 1 (Give room []))
 
 -- whether it is asked anew there
 pub record AnewRows : Type 0 where
   pub at_first : is_asked_anew Client (makes 1 101 ∷ Asks 1 1 ∷ []) 1 ≡ true
   pub by_credit : is_asked_anew Client (credit_came ++ answers 2 (Give 5 []) ∷ opened 2) 2 ≡ true
+  pub by_data : is_asked_anew Client (byte_came ++ answers 2 (Give 5 []) ∷ opened 2) 2 ≡ true
+  pub by_data_of_another : is_asked_anew Client (byte_came ++ answers 4 (Give 5 []) ∷ opened 4 ++ opened 2) 4 ≡ false
   pub by_credit_of_another : is_asked_anew Client (credit_came ++ answers 4 (Give 5 []) ∷ opened 4 ++ opened 2) 4
       ≡ false
   pub behind_data : is_asked_anew Client (answers 2 (Take (9 ∷ [])) ∷ answers 2 (Give 5 []) ∷ []) 2 ≡ true
   pub behind_its_end : is_asked_anew Client (answers 2 End ∷ answers 2 (Give 5 []) ∷ []) 2 ≡ true
   pub asked : is_asked_anew Client (answers 2 (Give 5 (9 ∷ [])) ∷ credit_came ++ opened 2) 2 ≡ false
-  -- a frame that brings no credit, what is done, told, asked for and called of another lets it be asked no more
+  -- a frame that brings neither, what is done, told, asked for and called of another lets it be asked no more
   pub passed : is_asked_anew Client (answers 4 End ∷ makes 4 7 ∷ agrees 2 1 ∷ Asks 1 1 ∷ Of (Did (Close 2)) ∷ frame 0 2
       ++ answers 2 (Give 5 []) ∷ opened 2) 2 ≡ false
 

@@ -14,7 +14,7 @@ use Rattle.yamux_session.specs.declared.event.Event.TheVariants as heard
 use Rattle.yamux_session.specs.Events.{Told, events}
 use Rattle.yamux_session.specs.Seen.{Seen, seen, all_heard, just_opened, AgreesOn, IsQuiet}
 use Rattle.yamux_session.specs.State.{State, Stands as SessionStands}
-use Rattle.streams.specs.State.{Streaming, is_talking, is_open, has_finished, was_handed_out, Served, kind_of}
+use Rattle.streams.specs.State.{Streaming, is_open, has_finished, was_handed_out, Served, kind_of}
 use Rattle.serving.specs.Served.{IsSettled}
 use Rattle.conn_log.specs.declared.earlier.Earlier.{Earlier}
 use Rattle.conn_log.specs.declared.event.ConnEvent.{ConnEvent}
@@ -25,8 +25,9 @@ use Rattle.conn_log.specs.declared.event.ConnEvent.TheVariants as event
 use Rattle.conn_log.specs.Entries.{Entry, items, said, since, is_over, made_of, put_aside, calls_of, has_taken}
 use Rattle.conn_log.specs.Entries.Entry.{Of, Says, Made, Asks, Calls}
 use Rattle.conn_log.specs.Turns.{turn, AreInTurn}
-use Rattle.conn_log.specs.Due.{AllDue, is_asked_anew, told_reset, was_reset, told_end, end_was_told}
-use Rattle.conn_log.specs.Held.{IsHeld, IsAtRest, AreLeft, earlier_of}
+use Rattle.conn_log.specs.Asking.{is_asked_anew}
+use Rattle.conn_log.specs.Due.{AllDue, told_reset, was_reset, told_end, end_was_told}
+use Rattle.conn_log.specs.Held.{IsHeld, IsAtRest, WasAskedLast, AreLeft, earlier_of}
 use Rattle.conn_log.specs.Rests.{AreAtRest}
 
 -- it asks nothing of the stream
@@ -100,23 +101,24 @@ module _ {P H : Type 0} (step : H → HandlerCall → H → Type 0) (fails : H �
       pub held : IsHeld step is_closed is_finished names role log n view.came view.ended stream
       pub unfinished : has_finished is_finished stream.stage ≡ false
       pub over_by_end : view.live ≡ false → view.ended ≡ true
-      -- by credit that is still to be routed its handler is asked anew
-      pub anew : AllByRecursion IsNoCredit rest ⊎ ((is_talking stream.stage ≡ true) ⊎ (is_asked_anew role log n ≡ true))
+      -- by credit or data that is still to be routed its handler is asked anew
+      pub anew : AllByRecursion (IsQuiet n) rest ⊎ (is_asked_anew role log n ≡ true)
       -- a handler that serves it was handed what stood behind the talk
       pub handed : kind_of stream.stage ≡ Served → has_taken (calls_of role log n) ≡ true
       -- it was served by all that came but the rest, where that brings neither data nor credit
       pub settled : AllByRecursion (IsQuiet n) rest → is_live role (items log) n ≡ true
           → IsSettled step is_closed is_finished role (items log) n held.so_far.left stream
+      pub asked : AllByRecursion (IsQuiet n) rest → WasAskedLast is_closed role log n stream
 
-  -- The stream that is named may be served: its handler is asked anew, and no credit is to be routed behind that,
-  -- unless its talk goes on.
+  -- The stream that is named may be served: a handler that isn't closed is asked anew, and neither data nor credit is
+  -- to be routed behind that. Where it holds none, by what is still to be routed one is asked anew.
   pub record MayBeServed (log : List (Entry H)) (n : ℕ) (view : Seen) (rest : List Told) (stream : Streaming H) : Type 0
     where
       pub held : IsHeld step is_closed is_finished names role log n view.came view.ended stream
       pub over_by_end : view.live ≡ false → view.ended ≡ true
-      pub last : AllByRecursion IsNoCredit rest ⊎ (is_talking stream.stage ≡ true)
-      pub anew : is_open is_closed stream.stage ≡ true
-          → (is_talking stream.stage ≡ true) ⊎ (is_asked_anew role log n ≡ true)
+      pub last : AllByRecursion (IsQuiet n) rest
+          ⊎ ((is_open is_closed stream.stage ≡ false) × (is_asked_anew role log n ≡ true))
+      pub anew : is_open is_closed stream.stage ≡ true → is_asked_anew role log n ≡ true
       -- a handler that serves it was handed what stood behind the talk
       pub handed : kind_of stream.stage ≡ Served → has_taken (calls_of role log n) ≡ true
 
@@ -191,6 +193,8 @@ module _ {P H : Type 0} (step : H → HandlerCall → H → Type 0) (fails : H �
     pub around : Around log fed sent session streams (past ++ set_aside n (streams n)) n just_opened rest
     pub fresh : since role log n ≡ []
     pub theirs : is_own role n ≡ false
+    -- by credit or data that is to be routed its handler is asked anew
+    pub anew : AllByRecursion (IsQuiet n) rest ⊎ (is_asked_anew role log n ≡ true)
 
   -- This is still to be routed of what a frame told: an opening and what follows it, or what came to a stream, or
   -- nothing, where no frame came.

@@ -42,11 +42,11 @@ module _ {H : Type 0} (step : H → HandlerCall → H → Type 0) (fails : H →
   -- nothing was done, and the stream is over.
   abbrev pub Came : Past H → Streaming H → State → Outcome H → State → Streaming H → Type 0
   Came so_far old before Going session stream =
-      Asking step is_closed role past n old so_far (λ now. Serves step is_closed is_finished (kind_of old.stage)
+      Asking step is_closed role past n old stream so_far (λ now. Serves step is_closed is_finished (kind_of old.stage)
       role past fed sent n now None session stream)
       × (kind_of stream.stage ≡ kind_of old.stage)
   Came so_far old before (Done handler) session stream =
-      Asking step is_closed role past n old so_far (λ now. Serves step is_closed is_finished (kind_of old.stage)
+      Asking step is_closed role past n old stream so_far (λ now. Serves step is_closed is_finished (kind_of old.stage)
       role past fed sent n now (Some handler) session stream)
       × (kind_of old.stage ≡ Served)
   Came so_far old before Refused session stream = ⊥

@@ -75,8 +75,8 @@ any_held step is_closed is_finished names role = record {
       (h.so_far, (h.side_is, h.got_is, h.ended_is, h.sent_is, h.made_is, h.calls_is, h.stands, h.talking, h.agreed_on, h.over, h.done, h.served));
   held_by_name = λ log n got ended stream h.
       (h.side_is, h.got_is, h.ended_is, h.sent_is, h.made_is, h.calls_is, h.stands, h.talking, h.agreed_on, h.over, h.done, h.served);
-  at_rest = λ log n stream held settled unfinished handed over. record { held = held; settled = settled; unfinished = unfinished; handed = handed; over_by_end = over };
-  at_rest_is = λ log n stream r. (r.held, r.settled, r.unfinished, r.handed, r.over_by_end);
+  at_rest = λ log n stream held settled asked unfinished handed over. record { held = held; settled = settled; asked = asked; unfinished = unfinished; handed = handed; over_by_end = over };
+  at_rest_is = λ log n stream r. (r.held, r.settled, r.asked, r.unfinished, r.handed, r.over_by_end);
   past = λ newer older n stream over kept r. record { newer = newer; older = older; log_is = refl; over = over; kept = kept; place_is = refl; at_rest = r };
   past_is = λ log n place stream p. (p.newer, p.older, p.log_is, p.over, p.kept, p.place_is, p.at_rest);
   left_to_none = λ log n place. (λ h. h, λ h. h);
@@ -103,7 +103,7 @@ module _ {P H : Type 0} (step : H → HandlerCall → H → Type 0) (fails : H �
   abbrev asked_by : (log : List (Entry H)) (n : ℕ) (there : is_there step fails is_closed is_finished inbound_makes outbound_makes eager names peer role log n)
       (handler : H) (request : Asked) → AskedSo step fails is_closed is_finished inbound_makes outbound_makes eager names peer role log n there handler request
       → may_be_asked step fails is_closed is_finished inbound_makes outbound_makes eager names peer role log n request
-  asked_by log n there handler request h = record { there = there; handler = handler; held = h.0; asked_for = h.1; in_turn = h.2; talking = h.3; agreed_on = h.4; going = h.5; settled = h.6 }
+  asked_by log n there handler request h = record { there = there; handler = handler; held = h.0; asked_for = h.1; in_turn = h.2; talking = h.3; agreed_on = h.4; going = h.5; settled = h.6; asked = h.7 }
 
   pub any_coming : AnyComingRows step fails is_closed is_finished inbound_makes outbound_makes eager names peer role
   any_coming = record {
@@ -117,14 +117,14 @@ module _ {P H : Type 0} (step : H → HandlerCall → H → Type 0) (fails : H �
     asked_to_end = λ log n so_far waiting. (λ h. h, λ h. h);
     asked_to_give = λ log n room so_far waiting. (λ h. h, λ h. h);
     asked_so = λ log n request. (
-      λ a. (a.there, a.handler, (a.held, a.asked_for, a.in_turn, a.talking, a.agreed_on, a.going, a.settled)),
+      λ a. (a.there, a.handler, (a.held, a.asked_for, a.in_turn, a.talking, a.agreed_on, a.going, a.settled, a.asked)),
       λ h. asked_by log n h.0 h.1 request h.2,
     );
-    asked_by_name = λ log n request a. (a.held, a.asked_for, a.in_turn, a.talking, a.agreed_on, a.going, a.settled);
+    asked_by_name = λ log n request a. (a.held, a.asked_for, a.in_turn, a.talking, a.agreed_on, a.going, a.settled, a.asked);
     fails_by = λ log n number there handler request so by. record { request = request; asked = asked_by log n there handler request so; fails_by = by };
     fails_by_is = λ log n number f.
         let a = f.asked in
-        (a.there, a.handler, f.request, (a.held, a.asked_for, a.in_turn, a.talking, a.agreed_on, a.going, a.settled), f.fails_by);
+        (a.there, a.handler, f.request, (a.held, a.asked_for, a.in_turn, a.talking, a.agreed_on, a.going, a.settled, a.asked), f.fails_by);
     fails_by_name = λ log n number f. (f.asked, f.fails_by);
     takes_in_turn = λ log n stage so_far handler bytes. (λ h. h, λ h. h);
     ends_in_turn = λ log n stage so_far handler. (λ h. h, λ h. h);
@@ -154,8 +154,8 @@ module _ {P H : Type 0} (step : H → HandlerCall → H → Type 0) (fails : H �
         h.3,
       ),
     );
-    cut_off = λ log n there came talks settled. record { there = there; all_came = came; talks = talks; settled = settled };
-    cut_off_is = λ log n c. (c.there, c.all_came, c.talks, c.settled);
+    cut_off = λ log n there came talks settled asked. record { there = there; all_came = came; talks = talks; settled = settled; asked = asked };
+    cut_off_is = λ log n c. (c.there, c.all_came, c.talks, c.settled, c.asked);
     done = λ log n handler so_far waiting come all served finished asked none handed.
         record { so_far = so_far; waiting = waiting; come = come; all_came = all; served = served; finished = finished; asked = asked; none_waits = none; handed = handed };
     done_is = λ log n handler d. (d.so_far, d.waiting, d.come, d.all_came, d.served, d.finished, d.asked, d.none_waits, d.handed);

@@ -68,9 +68,9 @@ module _ {P H : Type 0} (step : H → HandlerCall → H → Type 0) (fails : H �
     (inbound_makes outbound_makes : P → ℕ → List ℕ → H → Type 0) (eager : ℕ → Bool) (names : List (List ℕ)) (peer : List ℕ) (role : Role) where
   pub any_routes : AnyRouteRows step fails is_closed is_finished inbound_makes outbound_makes eager names peer role
   any_routes = record {
-    moves = λ log n view rest stream held unfinished over anew handed settled.
-        record { held = held; unfinished = unfinished; over_by_end = over; anew = anew; handed = handed; settled = settled };
-    moves_is = λ log n view rest stream m. (m.held, m.unfinished, m.over_by_end, m.anew, m.handed, m.settled);
+    moves = λ log n view rest stream held unfinished over anew handed settled asked.
+        record { held = held; unfinished = unfinished; over_by_end = over; anew = anew; handed = handed; settled = settled; asked = asked };
+    moves_is = λ log n view rest stream m. (m.held, m.unfinished, m.over_by_end, m.anew, m.handed, m.settled, m.asked);
     served = λ log n view rest stream. (
       λ s. (s.held, s.over_by_end, s.last, s.anew, s.handed),
       λ h. record { held = h.0; over_by_end = h.1; last = h.2; anew = h.3; handed = h.4 },
@@ -130,8 +130,8 @@ module _ {P H : Type 0} (step : H → HandlerCall → H → Type 0) (fails : H �
       },
     );
     is_opened = λ log fed sent session streams past n rest. (
-      λ o. (o.around, o.fresh, o.theirs),
-      λ h. record { around = h.0; fresh = h.1; theirs = h.2 },
+      λ o. (o.around, o.fresh, o.theirs, o.anew),
+      λ h. record { around = h.0; fresh = h.1; theirs = h.2; anew = h.3 },
     );
     still_routed = λ log fed sent session streams past n told. (λ h. h, λ h. h);
     comes_on = λ log fed sent session streams past n view rest. (λ h. h, λ h. h);

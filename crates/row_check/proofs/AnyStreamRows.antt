@@ -1,5 +1,5 @@
 -- The rows of streams, and of how they are served and routed to.
-use Rattle.std.proofs.Common.{◌≡◌, ◌⊎◌, inl, inr, ◌↔◌, ℕ, ◌+◌, Bool, true, false, List, [], ◌∷◌, ◌++◌, map, length, Option, Some, None, is_some, IfSome, refl, sym, ap, ◌∙◌, subst}
+use Rattle.std.proofs.Common.{◌≡◌, ◌⊎◌, inl, inr, ◌↔◌, ℕ, ◌+◌, Bool, true, false, List, [], ◌∷◌, ◌++◌, map, length, Option, Some, None, is_some, IfSome, IfNone, refl, sym, ap, ◌∙◌, subst}
 use Rattle.handlers.specs.Calls.{HandlerCall, Give, Asked}
 use Rattle.talks.specs.Talks.{Side, Asks, Answers}
 use Rattle.yamux_session.specs.declared.event.Role.{Role}
@@ -8,7 +8,7 @@ use Rattle.yamux_session.specs.History.Item.{Did}
 use Rattle.streams.specs.Handled.{AskedLast}
 use Rattle.streams.specs.State.{Streaming, is_talking, handler_of, holds, Kind, Ended, Served, HandedOut}
 use Rattle.streams.specs.Streams.{Past, IsAsking, with_call}
-use Rattle.serving.specs.Served.{MayBeAsked, Asking}
+use Rattle.serving.specs.Served.{MayBeAsked, IsUnasked, Asking}
 use Rattle.row_check.specs.AnyStreamRows.{AnyStageRows, AnyHearingRows, AnyStandingRows, AnyServingRows, AnyDirectionRows, AnyRoutingRows}
 
 -- either of two
@@ -124,23 +124,27 @@ module _ {H : Type 0} (step : H → HandlerCall → H → Type 0) where
   }
 
 module _ {H : Type 0} (step : H → HandlerCall → H → Type 0) (fails : H → Asked → ℕ → Type 0) (is_closed is_finished : H → Bool) where
-  asked_once : (role : Role) (past : List Item) (n : ℕ) (stream : Streaming H) (so_far : Past H) (came : Past H → Bool) (call : Option HandlerCall)
-      → IfSome call (MayBeAsked step is_closed role past n stream) → came (with_call so_far call) ≡ true
-      → (came so_far ≡ true) ⊎ ((one : HandlerCall) × MayBeAsked step is_closed role past n stream one × (came (record so_far { calls = so_far.calls ++ one ∷ [] }) ≡ true))
-  asked_once role past n stream so_far came None may e = inl e
-  asked_once role past n stream so_far came (Some one) may e = inr (one, may, e)
+  abbrev AskedOnce : Role → List Item → ℕ → Streaming H → Streaming H → Past H → (Past H → Bool) → Type 0
+  AskedOnce role past n old new so_far came = ((came so_far ≡ true) × IsUnasked step is_closed role past n old × IsUnasked step is_closed role past n new)
+      ⊎ ((one : HandlerCall) × MayBeAsked step is_closed role past n old one × (came (record so_far { calls = so_far.calls ++ one ∷ [] }) ≡ true))
 
-  asks_so : (role : Role) (past : List Item) (n : ℕ) (stream : Streaming H) (so_far : Past H) (came : Past H → Bool)
-      → (came so_far ≡ true) ⊎ ((one : HandlerCall) × MayBeAsked step is_closed role past n stream one × (came (record so_far { calls = so_far.calls ++ one ∷ [] }) ≡ true))
-      → Asking step is_closed role past n stream so_far (λ now. came now ≡ true)
-  asks_so role past n stream so_far came (inl e) = (None, tt, e)
-  asks_so role past n stream so_far came (inr h) = (Some h.0, h.1, h.2)
+  asked_once : (role : Role) (past : List Item) (n : ℕ) (old new : Streaming H) (so_far : Past H) (came : Past H → Bool) (call : Option HandlerCall)
+      → IfSome call (MayBeAsked step is_closed role past n old) → came (with_call so_far call) ≡ true
+      → IfNone call (IsUnasked step is_closed role past n old × IsUnasked step is_closed role past n new) → AskedOnce role past n old new so_far came
+  asked_once role past n old new so_far came None may e unasked = inl (e, unasked.0, unasked.1)
+  asked_once role past n old new so_far came (Some one) may e unasked = inr (one, may, e)
+
+  asks_so : (role : Role) (past : List Item) (n : ℕ) (old new : Streaming H) (so_far : Past H) (came : Past H → Bool) → AskedOnce role past n old new so_far came
+      → Asking step is_closed role past n old new so_far (λ now. came now ≡ true)
+  asks_so role past n old new so_far came (inl e) = (None, tt, e.0, (e.1, e.2))
+  asks_so role past n old new so_far came (inr h) = (Some h.0, h.1, h.2, tt)
 
   pub any_serving : (kind : Kind) → AnyServingRows step fails is_closed is_finished kind
   any_serving kind = record {
     asks_to_give = λ role past n room stream bytes. (λ h. h, λ h. h);
     asks_nothing_else = λ role past n stream bytes. (λ h. h, λ h. h);
-    asking = λ role past n stream so_far came. (λ h. asked_once role past n stream so_far came h.0 h.1 h.2, asks_so role past n stream so_far came);
+    asking = λ role past n old new so_far came. (λ h. asked_once role past n old new so_far came h.0 h.1 h.2 h.3, asks_so role past n old new so_far came);
+    unasked = λ role past n stream. (λ h. h, λ h. h);
     sent = λ role past n so_far left. refl;
     writes = λ role past n m so_far pieces. (
       λ h. (h.0, (h.1.stream, h.1.left, h.1.stands, h.1.kind_is)),

@@ -18,7 +18,7 @@ use Rattle.conn_log.specs.Entries.Entry.{Of, Calls}
 use Rattle.conn_log.specs.EntryRows.{frame}
 use Rattle.conn_log.specs.PlaceRows as rows
 use Rattle.conn_log.specs.PlaceRows.{is_due}
-use Rattle.row_check.specs.PlacedRows.{EndPlaceRows, ServedPlaceRows, AtRestRows, closed_both, quiet, rests}
+use Rattle.row_check.specs.PlacedRows.{EndPlaceRows, ServedPlaceRows, AtRestRows, closed_both, credited, credited_last, quiet, rests}
 
 off_is_on : false ≡ true → ⊥
 off_is_on e = cc e
@@ -117,14 +117,18 @@ may_be_told_the_end = record {
     over = λ shut none. absurd (off_is_on shut);
     was_taken = λ some. refl;
   };
+  asked = λ e live opened held. refl;
 }
 
 end_served : is_due (frame 4 2 ++ quiet) (Calls 2 End)
 unfolding may_be_told_the_end
 end_served = record { asked = may_be_told_the_end; after = 51; answers = refl }
 
+end_uncredited : (bytes : List ℕ) → ¬ is_due (credited_last bytes) (Calls 2 End)
+end_uncredited bytes h = on_is_off (h.asked.asked refl refl refl (ap (is_open never) h.asked.in_turn.0))
+
 pub end_place_rows : EndPlaceRows
-end_place_rows = record { end_unserved = end_unserved; end_served = end_served; end_twice = end_twice }
+end_place_rows = record { end_unserved = end_unserved; end_served = end_served; end_uncredited = end_uncredited; end_twice = end_twice }
 
 abbrev asked_log : List (Entry ℕ)
 asked_log = Calls 2 (Give rows.all_room []) ∷ rows.begun
@@ -214,6 +218,17 @@ unserved_at so_far stages.Over waiting room calls talking awaits out left s = ab
 unserved : (stream : Streaming ℕ) → ¬ rests rows.begun stream
 unserved stream r = unserved_at r.held.so_far stream.stage stream.waiting (credit Client (items rows.begun) 2) r.held.calls_is r.held.talking r.held.served r.held.over ((r.settled refl).asked refl) r.held.stands
 
+uncredited_at : (so_far : Past ℕ) (stage : Stage ℕ) (waiting : List ℕ) → (is_talking stage ≡ true → ◌≡◌ {A = Option ℕ} (Some 1) None) → awaits_handler stage ≡ false
+    → false ≡ was_handed_out stage → (is_open never stage ≡ true → true ≡ false) → StandsAt step stage so_far waiting → ⊥
+uncredited_at so_far (stages.Talking talk held) waiting talking awaits out asked s = absurd (some_is_none 1 (talking refl))
+uncredited_at so_far (stages.Agreed index) waiting talking awaits out asked s = absurd (on_is_off awaits)
+uncredited_at so_far (stages.Serving it) waiting talking awaits out asked s = absurd (on_is_off (asked refl))
+uncredited_at so_far stages.Done waiting talking awaits out asked s = absurd (off_is_on out)
+uncredited_at so_far stages.Over waiting talking awaits out asked s = absurd s
+
+uncredited : (bytes : List ℕ) (stream : Streaming ℕ) → ¬ rests (credited bytes) stream
+uncredited bytes stream r = uncredited_at r.held.so_far stream.stage stream.waiting r.held.talking r.held.served r.held.over (r.asked refl refl) r.held.stands
+
 unhanded_at : (so_far : Past ℕ) (stage : Stage ℕ) (waiting : List ℕ) → (is_talking stage ≡ true → ◌≡◌ {A = Option ℕ} (Some 1) None) → awaits_handler stage ≡ false → false ≡ was_handed_out stage
     → (kind_of stage ≡ Served → false ≡ true) → StandsAt step stage so_far waiting → ⊥
 unhanded_at so_far (stages.Talking talk held) waiting talking awaits out handed s = absurd (some_is_none 1 (talking refl))
@@ -229,6 +244,7 @@ pub at_rest_rows : AtRestRows
 at_rest_rows = record {
   unheld = λ fed sent session past h. off_is_on (h.live_held 2 refl);
   unserved = unserved;
+  uncredited = uncredited;
   unhanded = unhanded;
   reset_unended = λ stream r. off_is_on (r.over_by_end refl);
 }

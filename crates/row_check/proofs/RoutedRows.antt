@@ -141,6 +141,7 @@ module _ (fed sent : List ℕ) (before session : State) where
             Some (Give 262144 (9 ∷ [])),
             (refl, refl, refl, refl, λ handler held. (1, (number_of 1 handler held, refl, refl))),
             record { bytes = 9 ∷ []; some = λ e. cc e; credit = 262144; is_open = refl; within = omega (arith); no_room = short; left = Some 262143; stands = gave_there },
+            tt,
           ),
         ),
       ),

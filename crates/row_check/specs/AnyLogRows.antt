@@ -30,7 +30,8 @@ use Rattle.conn_log.specs.Entries.Entry.{Of, Says, Made, Asks, Calls}
 use Rattle.conn_log.specs.Turns.{turn, about, AreInTurn}
 use Rattle.conn_log.specs.Held.{earlier_of}
 use Rattle.conn_log.specs.Due.{direction_of, told_reset, was_reset, told_end, end_was_told, HasJustAgreed, IsGivenUp}
-use Rattle.conn_log.specs.Due.{asks_for, told_credit, is_asked_anew}
+use Rattle.conn_log.specs.Due.{asks_for}
+use Rattle.conn_log.specs.Asking.{told_credit, told_data, told_more, is_give, is_asked_anew}
 use Rattle.conn_log.specs.Making.{Leads, AreMadeInTurn, MakesOn}
 use Rattle.conn_log.specs.Asked.{IsEarly, told_of, AreMadeEarly, IsBrokenOf}
 
@@ -256,6 +257,7 @@ pub record AnyEndingRows (H : Type 0) : Type 0 where
       → (told_reset n (Told.Fault fault ∷ told) ≡ told_reset n told)
       × (told_end n (Told.Fault fault ∷ told) ≡ told_end n told)
       × (told_credit n (Told.Fault fault ∷ told) ≡ told_credit n told)
+      × (told_data n (Told.Fault fault ∷ told) ≡ told_data n told)
   pub at_first : (role : Role) (n : ℕ) → (was_reset role [] n ≡ false) × (end_was_told role [] n ≡ false)
   pub opened : (role : Role) (x : Item) (past : List Item) (n : ℕ) → opens role past x n ≡ true
       → (was_reset role (x ∷ past) n ≡ false) × (end_was_told role (x ∷ past) n ≡ false)
@@ -278,7 +280,7 @@ pub record AnyEndingRows (H : Type 0) : Type 0 where
   -- what a handler was asked for, by its call
   pub asked_for : (room : ℕ) (bytes : List ℕ) → (asks_for (Take bytes) ≡ ToTake bytes)
       × (asks_for (Give room bytes) ≡ ToGive room) × (asks_for End ≡ ToEnd)
-  -- since a handler was asked last: credit was told, it was made, or it answered another call
+  -- since a handler was asked last: credit or data was told, it was made, or it answered another call
   pub told_of_credit : (n : ℕ) → told_credit n [] ≡ false
   pub told_its_credit : (n : ℕ) (told : List Told) → told_credit n (Told.Credit n ∷ told) ≡ true
   pub told_other_credit : (n m : ℕ) (told : List Told) → m ≢ n
@@ -289,9 +291,22 @@ pub record AnyEndingRows (H : Type 0) : Type 0 where
       × (told_credit n (Told.Ended m ∷ told) ≡ told_credit n told)
       × (told_credit n (Told.Reset m ∷ told) ≡ told_credit n told)
       × (told_credit n (Told.GoAway m ∷ told) ≡ told_credit n told)
+  pub told_of_data : (n : ℕ) → told_data n [] ≡ false
+  pub told_its_data : (n b : ℕ) (told : List Told) → told_data n (Told.Payload n b ∷ told) ≡ true
+  pub told_other_data : (n m b : ℕ) (told : List Told) → m ≢ n
+      → told_data n (Told.Payload m b ∷ told) ≡ told_data n told
+  pub told_no_data : (n m : ℕ) (told : List Told) → (told_data n (Told.Opened m ∷ told) ≡ told_data n told)
+      × (told_data n (Told.Accepted m ∷ told) ≡ told_data n told)
+      × (told_data n (Told.Ended m ∷ told) ≡ told_data n told)
+      × (told_data n (Told.Reset m ∷ told) ≡ told_data n told)
+      × (told_data n (Told.Credit m ∷ told) ≡ told_data n told)
+      × (told_data n (Told.GoAway m ∷ told) ≡ told_data n told)
+  pub told_either : (n : ℕ) (told : List Told) → told_more n told ≡ told_credit n told || told_data n told
+  pub gives : (room : ℕ) (bytes : List ℕ) → (is_give (Give room bytes) ≡ true) × (is_give (Take bytes) ≡ false)
+      × (is_give End ≡ false)
   pub anew_at_first : (role : Role) (n : ℕ) → is_asked_anew {H = H} role [] n ≡ true
   pub anew_by_item : (role : Role) (x : Item) (log : List (Entry H)) (n : ℕ)
-      → is_asked_anew role (Of x ∷ log) n ≡ told_credit n (events_at role (items log) x) || is_asked_anew role log n
+      → is_asked_anew role (Of x ∷ log) n ≡ told_more n (events_at role (items log) x) || is_asked_anew role log n
   pub anew_passed : (role : Role) (e : ConnEvent H) (m index n : ℕ) (log : List (Entry H))
       → (is_asked_anew role (Says e ∷ log) n ≡ is_asked_anew role log n)
       × (is_asked_anew role (Asks m index ∷ log) n ≡ is_asked_anew role log n)

@@ -41,7 +41,8 @@ use Rattle.conn_log.specs.Entries.Entry.{Of, Says, Made, Asks, Calls}
 use Rattle.conn_log.specs.Turns.{AreInTurn}
 use Rattle.conn_log.specs.Held.{IsSide, IsHeld, IsAtRest, IsPast, AreLeft, earlier_of}
 use Rattle.conn_log.specs.Due.{was_reset, end_was_told, HasJustAgreed, MayBeMade, HasCome, IsThere, IsAskedFor}
-use Rattle.conn_log.specs.Due.{is_asked_anew, MayBeAsked, HasHeard, IsCutOff}
+use Rattle.conn_log.specs.Asking.{is_asked_anew}
+use Rattle.conn_log.specs.Due.{MayBeAsked, HasHeard, IsCutOff}
 use Rattle.conn_log.specs.Due.{IsInTurn, HandlerFails, IsBroken, IsDone, StandsByAll, GaveAll, HasGiven, IsDue, AllDue}
 use Rattle.conn_log.specs.Rests.{AreAtRest, IsRested, AreRested, Grows}
 use Rattle.conn_log.specs.Asked.{IsBrokenOf, Asked as AskedOf}
@@ -85,6 +86,8 @@ module _ {H : Type 0} (step : H → HandlerCall → H → Type 0) (is_closed is_
         (held : held_by log n (inbound role (items log) n) (finished role (items log) n) stream)
         → (is_live role (items log) n ≡ true
         → IsSettled step is_closed is_finished role (items log) n held.so_far.left stream)
+        → (is_live role (items log) n ≡ true → closed role (items log) n ≡ false
+        → is_open is_closed stream.stage ≡ true → is_asked_anew role log n ≡ false)
         → has_finished is_finished stream.stage ≡ false
         → (kind_of stream.stage ≡ Served → has_taken (calls_of role log n) ≡ true)
         → (is_live role (items log) n ≡ false → finished role (items log) n ≡ true) → rests log n stream
@@ -92,6 +95,8 @@ module _ {H : Type 0} (step : H → HandlerCall → H → Type 0) (is_closed is_
         → (held : held_by log n (inbound role (items log) n) (finished role (items log) n) stream)
         × (is_live role (items log) n ≡ true
         → IsSettled step is_closed is_finished role (items log) n held.so_far.left stream)
+        × (is_live role (items log) n ≡ true → closed role (items log) n ≡ false
+        → is_open is_closed stream.stage ≡ true → is_asked_anew role log n ≡ false)
         × (has_finished is_finished stream.stage ≡ false)
         × (kind_of stream.stage ≡ Served → has_taken (calls_of role log n) ≡ true)
         × (is_live role (items log) n ≡ false → finished role (items log) n ≡ true)
@@ -140,6 +145,8 @@ module _ {P H : Type 0} (step : H → HandlerCall → H → Type 0) (fails : H �
       × (is_talking there.stream.stage ≡ false → agreed role log n ≢ None) × (is_over role log n ≡ false)
       × (request ≡ ToEnd → is_live role (items log) n ≡ true
       → IsSettled step is_closed is_finished role (items log) n there.so_far.left there.stream)
+      × (request ≡ ToEnd → is_live role (items log) n ≡ true → closed role (items log) n ≡ false
+      → is_open is_closed there.stream.stage ≡ true → is_asked_anew role log n ≡ false)
 
   abbrev pub has_heard : List (Entry H) → ℕ → Type 0
   has_heard = HasHeard step fails is_closed is_finished inbound_makes outbound_makes eager names peer role
@@ -223,9 +230,8 @@ module _ {P H : Type 0} (step : H → HandlerCall → H → Type 0) (fails : H �
         × (is_finished handler ≡ false) × (has_taken (calls_of role log n) ≡ true))
     pub gives_in_turn : (log : List (Entry H)) (n : ℕ) (stage : Stage H) (so_far : Past H) (handler : H) (room : ℕ)
         → in_turn log n stage so_far handler (ToGive room) ↔ ((is_live role (items log) n ≡ true)
-        × (closed role (items log) n ≡ false) × (is_closed handler ≡ false)
-        × ((is_talking stage ≡ true)
-        ⊎ ((is_asked_anew role log n ≡ true) × (has_taken (calls_of role log n) ≡ true))))
+        × (closed role (items log) n ≡ false) × (is_closed handler ≡ false) × (is_asked_anew role log n ≡ true)
+        × ((is_talking stage ≡ true) ⊎ (has_taken (calls_of role log n) ≡ true)))
     pub heard : (log : List (Entry H)) (n : ℕ) (stream : Streaming H)
         → held_by step is_closed is_finished names role log n (inbound role (items log) n)
         (end_was_told role (items log) n) stream → has_finished is_finished stream.stage ≡ false
@@ -250,11 +256,15 @@ module _ {P H : Type 0} (step : H → HandlerCall → H → Type 0) (fails : H �
     pub cut_off : (log : List (Entry H)) (n : ℕ) (there : is_there log n)
         → inbound role (items log) n ≡ there.so_far.got → is_talking there.stream.stage ≡ true
         → (is_live role (items log) n ≡ true
-        → IsSettled step is_closed is_finished role (items log) n there.so_far.left there.stream) → is_cut_off log n
+        → IsSettled step is_closed is_finished role (items log) n there.so_far.left there.stream)
+        → (is_live role (items log) n ≡ true → closed role (items log) n ≡ false
+        → is_open is_closed there.stream.stage ≡ true → is_asked_anew role log n ≡ false) → is_cut_off log n
     pub cut_off_is : (log : List (Entry H)) (n : ℕ) → is_cut_off log n → (there : is_there log n)
         × (inbound role (items log) n ≡ there.so_far.got) × (is_talking there.stream.stage ≡ true)
         × (is_live role (items log) n ≡ true
         → IsSettled step is_closed is_finished role (items log) n there.so_far.left there.stream)
+        × (is_live role (items log) n ≡ true → closed role (items log) n ≡ false
+        → is_open is_closed there.stream.stage ≡ true → is_asked_anew role log n ≡ false)
     pub done : (log : List (Entry H)) (n : ℕ) (handler : H) (so_far : Past H) (waiting : List ℕ)
         → has_come log n so_far → inbound role (items log) n ≡ so_far.got → IsServed step so_far handler waiting
         → is_finished handler ≡ true

@@ -11,7 +11,7 @@ use Rattle.yamux_session.specs.declared.event.Fault.{Fault}
 use Rattle.yamux_session.specs.History.{Item, Act, is_own, arrivals}
 use Rattle.yamux_session.specs.History.Item.{Came, Did}
 use Rattle.yamux_session.specs.History.Act.{Reset}
-use Rattle.yamux_session.specs.Openings.{is_live}
+use Rattle.yamux_session.specs.Openings.{is_live, closed}
 use Rattle.yamux_session.specs.Events.{Told, events}
 use Rattle.yamux_session.specs.Seen.{Seen, seen, all_heard, just_opened, AgreesOn, IsQuiet}
 use Rattle.yamux_session.specs.Output.{output}
@@ -19,7 +19,7 @@ use Rattle.yamux_session.specs.State.{State, Stands as SessionStands, FirstFault
 use Rattle.yamux_frames.specs.Frames.{Arrival}
 use Rattle.streams.specs.declared.stop.Cause.{Cause}
 use Rattle.streams.specs.declared.stop.Cause.TheVariants as causes
-use Rattle.streams.specs.State.{Streaming, is_talking, is_open, has_finished, was_handed_out, Served, kind_of}
+use Rattle.streams.specs.State.{Streaming, is_open, has_finished, was_handed_out, Served, kind_of}
 use Rattle.serving.specs.Served.{IsSettled}
 use Rattle.conn_log.specs.declared.earlier.Earlier.{Earlier}
 use Rattle.conn_log.specs.declared.event.ConnEvent.{ConnEvent}
@@ -28,7 +28,8 @@ use Rattle.routing.specs.declared.delivered.Outcome.TheVariants as outcomes
 use Rattle.conn_log.specs.Entries.{Entry, items, said, asks, since, is_over, made_of, put_aside, calls_of, has_taken}
 use Rattle.conn_log.specs.Entries.Entry.{Of, Says, Made, Asks, Calls}
 use Rattle.conn_log.specs.Turns.{turn, AreInTurn}
-use Rattle.conn_log.specs.Due.{AllDue, is_asked_anew, told_reset, was_reset, told_end, end_was_told}
+use Rattle.conn_log.specs.Asking.{is_asked_anew}
+use Rattle.conn_log.specs.Due.{AllDue, told_reset, was_reset, told_end, end_was_told}
 use Rattle.conn_log.specs.Held.{IsHeld, IsAtRest, AreLeft, earlier_of}
 use Rattle.conn_log.specs.Rests.{AreAtRest, AreRested}
 use Rattle.conn_log.specs.Routes.{IsStill, IsNoOpening, IsNoData, IsNoCredit, EndsLast, set_aside, KeepsTurn, Resets}
@@ -154,26 +155,30 @@ module _ {P H : Type 0} (step : H → HandlerCall → H → Type 0) (fails : H �
     pub moves : (log : List (Entry H)) (n : ℕ) (view : Seen) (rest : List Told) (stream : Streaming H)
         (held : IsHeld step is_closed is_finished names role log n view.came view.ended stream)
         → has_finished is_finished stream.stage ≡ false → (view.live ≡ false → view.ended ≡ true)
-        → AllByRecursion IsNoCredit rest ⊎ ((is_talking stream.stage ≡ true) ⊎ (is_asked_anew role log n ≡ true))
+        → AllByRecursion (IsQuiet n) rest ⊎ (is_asked_anew role log n ≡ true)
         → (kind_of stream.stage ≡ Served → has_taken (calls_of role log n) ≡ true)
         → (AllByRecursion (IsQuiet n) rest → is_live role (items log) n ≡ true
         → IsSettled step is_closed is_finished role (items log) n held.so_far.left stream)
+        → (AllByRecursion (IsQuiet n) rest → is_live role (items log) n ≡ true → closed role (items log) n ≡ false
+        → is_open is_closed stream.stage ≡ true → is_asked_anew role log n ≡ false)
         → is_moving log n view rest stream
     pub moves_is : (log : List (Entry H)) (n : ℕ) (view : Seen) (rest : List Told) (stream : Streaming H)
         → is_moving log n view rest stream
         → (held : IsHeld step is_closed is_finished names role log n view.came view.ended stream)
         × (has_finished is_finished stream.stage ≡ false) × (view.live ≡ false → view.ended ≡ true)
-        × (AllByRecursion IsNoCredit rest ⊎ ((is_talking stream.stage ≡ true) ⊎ (is_asked_anew role log n ≡ true)))
+        × (AllByRecursion (IsQuiet n) rest ⊎ (is_asked_anew role log n ≡ true))
         × (kind_of stream.stage ≡ Served → has_taken (calls_of role log n) ≡ true)
         × (AllByRecursion (IsQuiet n) rest → is_live role (items log) n ≡ true
         → IsSettled step is_closed is_finished role (items log) n held.so_far.left stream)
+        × (AllByRecursion (IsQuiet n) rest → is_live role (items log) n ≡ true → closed role (items log) n ≡ false
+        → is_open is_closed stream.stage ≡ true → is_asked_anew role log n ≡ false)
     pub served : (log : List (Entry H)) (n : ℕ) (view : Seen) (rest : List Told) (stream : Streaming H)
         → may_be_served log n view rest stream
         ↔ (IsHeld step is_closed is_finished names role log n view.came view.ended stream
         × (view.live ≡ false → view.ended ≡ true)
-        × (AllByRecursion IsNoCredit rest ⊎ (is_talking stream.stage ≡ true))
-        × (is_open is_closed stream.stage ≡ true
-        → (is_talking stream.stage ≡ true) ⊎ (is_asked_anew role log n ≡ true))
+        × (AllByRecursion (IsQuiet n) rest
+        ⊎ ((is_open is_closed stream.stage ≡ false) × (is_asked_anew role log n ≡ true)))
+        × (is_open is_closed stream.stage ≡ true → is_asked_anew role log n ≡ true)
         × (kind_of stream.stage ≡ Served → has_taken (calls_of role log n) ≡ true))
     pub others : (log : List (Entry H)) (fed sent : List ℕ) (session : State) (streams : ℕ → Option (Streaming H))
         (past : List (Earlier H)) (n : ℕ) (view : Seen) (rest : List Told)
@@ -203,7 +208,8 @@ module _ {P H : Type 0} (step : H → HandlerCall → H → Type 0) (fails : H �
     pub is_opened : (log : List (Entry H)) (fed sent : List ℕ) (session : State) (streams : ℕ → Option (Streaming H))
         (past : List (Earlier H)) (n : ℕ) (rest : List Told) → opening log fed sent session streams past n rest
         ↔ (around log fed sent session streams (past ++ set_aside n (streams n)) n just_opened rest
-        × (since role log n ≡ []) × (is_own role n ≡ false))
+        × (since role log n ≡ []) × (is_own role n ≡ false)
+        × (AllByRecursion (IsQuiet n) rest ⊎ (is_asked_anew role log n ≡ true)))
     pub still_routed : (log : List (Entry H)) (fed sent : List ℕ) (session : State)
         (streams : ℕ → Option (Streaming H)) (past : List (Earlier H)) (n : ℕ) (told : List Told)
         → awaits log fed sent session streams past n told

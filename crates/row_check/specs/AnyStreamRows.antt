@@ -2,7 +2,7 @@
 -- Source: multistream-select 1.0, "Protocol Negotiation"; libp2p connections, "Opening new streams over a connection";
 -- hashicorp yamux, "Flow Control" and "Flag Field"; that a stream is told its data in pieces is this project's profile.
 use Rattle.std.specs.Prelude.{◌≡◌, ◌≢◌, ◌⊎◌, ◌↔◌, ℕ, ◌+◌, ◌-◌, ◌<◌, ◌≤◌, Bool, true, false, not, List, [], ◌∷◌, ◌++◌}
-use Rattle.std.specs.Prelude.{map}
+use Rattle.std.specs.Prelude.{map, IfNone}
 use Rattle.std.specs.Prelude.{length, take, drop, slice_get, Option, Some, None, IfSome, is_some, Result, Ok, Err}
 use Rattle.handlers.specs.Calls.{HandlerCall, Take, Give, End, Asked, ToTake, ToGive, ToEnd, WasHanded, given}
 use Rattle.handlers.specs.declared.handler.HandlerFault.{HandlerFault}
@@ -39,7 +39,7 @@ use Rattle.streams.specs.State.{HandedOut}
 use Rattle.streams.specs.Hearing.{used_of, Hears, HasHeard, Moves, HasNoRoom, HasRunOut, RunsOut}
 use Rattle.streams.specs.Laws.{OneSplit, counted_from}
 use Rattle.serving.specs.Served.{with_sent, IsDue, AreDue, Goes, IsSettled, HandsOut, Serves, GivesUp}
-use Rattle.serving.specs.Served.{MayBeAsked, Asking, MayGrow, WasAnswered}
+use Rattle.serving.specs.Served.{MayBeAsked, IsUnasked, Asking, MayGrow, WasAnswered}
 use Rattle.serving.specs.Wanting.{SendsFrame, IsKept, IsUnwritten, IsUndone, AskingRunsOut, RunsOut as HasNoRoomLeft}
 use Rattle.dispatch.specs.declared.direction.Direction.TheVariants.{Inbound, Outbound}
 use Rattle.dispatch.specs.Dispatch.{IsKnown, made_by, led_by, makes_once, AgreesBy, IsMade, Negotiates, MakingRunsOut}
@@ -253,11 +253,16 @@ module _ {H : Type 0} (step : H → HandlerCall → H → Type 0) (fails : H →
     pub asks_nothing_else : (role : Role) (past : List Item) (n : ℕ) (stream : Streaming H) (bytes : List ℕ)
         → ¬ MayBeAsked step is_closed role past n stream (Take bytes)
         × ¬ MayBeAsked step is_closed role past n stream End
-    -- at most once, and that call stands in its list then
-    pub asking : (role : Role) (past : List Item) (n : ℕ) (stream : Streaming H) (so_far : Past H)
-        (came : Past H → Bool) → Asking step is_closed role past n stream so_far (λ now. came now ≡ true)
-        ↔ ((came so_far ≡ true) ⊎ ((call : HandlerCall) × MayBeAsked step is_closed role past n stream call
+    -- once, and that call stands in its list then; or it isn't asked
+    pub asking : (role : Role) (past : List Item) (n : ℕ) (old new : Streaming H) (so_far : Past H)
+        (came : Past H → Bool) → Asking step is_closed role past n old new so_far (λ now. came now ≡ true)
+        ↔ (((came so_far ≡ true) × IsUnasked step is_closed role past n old × IsUnasked step is_closed role past n new)
+        ⊎ ((call : HandlerCall) × MayBeAsked step is_closed role past n old call
         × (came (record so_far { calls = so_far.calls ++ call ∷ [] }) ≡ true)))
+    -- where it isn't live, or this direction is closed, or it holds no handler that isn't closed
+    pub unasked : (role : Role) (past : List Item) (n : ℕ) (stream : Streaming H)
+        → IsUnasked step is_closed role past n stream
+        ↔ (is_live role past n ≡ true → closed role past n ≡ false → is_open is_closed stream.stage ≡ false)
     pub sent : (role : Role) (past : List Item) (n : ℕ) (so_far : Past H) (left : Option ℕ)
         → with_sent role past n so_far left ≡ record {
           side = so_far.side;
@@ -375,10 +380,11 @@ module _ {H : Type 0} (step : H → HandlerCall → H → Type 0) (fails : H →
   abbrev pub negotiates : Past H → List ℕ → Result Heard Stop → Streaming H → Type 0
   negotiates = Negotiates step makes none_made
 
-  -- its handler was called at most once, and so far this came then
-  abbrev pub asked_so : Streaming H → Past H → (Past H → Type 0) → Type 0
-  asked_so stream so_far fact = (call : Option HandlerCall)
-      × IfSome call (MayBeAsked step is_closed role past n stream) × fact (with_call so_far call)
+  -- its handler was called once, unless it isn't asked, and so far this came then
+  abbrev pub asked_so : Streaming H → Streaming H → Past H → (Past H → Type 0) → Type 0
+  asked_so old new so_far fact = (call : Option HandlerCall)
+      × IfSome call (MayBeAsked step is_closed role past n old) × fact (with_call so_far call)
+      × IfNone call (IsUnasked step is_closed role past n old × IsUnasked step is_closed role past n new)
 
   abbrev pub came_to : Past H → Streaming H → State → Outcome H → State → Streaming H → Type 0
   came_to = Came step fails is_closed is_finished role past fed sent n
@@ -438,11 +444,11 @@ module _ {H : Type 0} (step : H → HandlerCall → H → Type 0) (fails : H →
     -- what serving comes to
     pub came_on : (so_far : Past H) (old stream : Streaming H) (before session : State)
         → came_to so_far old before outcomes.Going session stream
-        ↔ (asked_so old so_far (λ now. Serves step is_closed is_finished (kind_of old.stage) role past fed sent n
+        ↔ (asked_so old stream so_far (λ now. Serves step is_closed is_finished (kind_of old.stage) role past fed sent n
         now None session stream) × (kind_of stream.stage ≡ kind_of old.stage))
     pub came_done : (so_far : Past H) (old stream : Streaming H) (before session : State) (handler : H)
         → came_to so_far old before (outcomes.Done handler) session stream
-        ↔ (asked_so old so_far (λ now. Serves step is_closed is_finished (kind_of old.stage) role past fed sent n
+        ↔ (asked_so old stream so_far (λ now. Serves step is_closed is_finished (kind_of old.stage) role past fed sent n
         now (Some handler) session stream) × (kind_of old.stage ≡ Served))
     pub came_refused : (so_far : Past H) (old stream : Streaming H) (before session : State)
         → ¬ came_to so_far old before outcomes.Refused session stream
@@ -572,11 +578,11 @@ module _ {H : Type 0} (step : H → HandlerCall → H → Type 0) (fails : H →
         × (((stream ≡ record old { stage = stages.Over }) × (old.waiting ≢ [])
         × ((amount : ℕ) × (open_credit role past n ≡ Some amount) × (0 < amount)))
         ⊎ ((kind_of stream.stage ≡ kind_of old.stage)
-        × asked_so old so_far (λ now. IsUnwritten step role past n now before.room stream))))
+        × asked_so old stream so_far (λ now. IsUnwritten step role past n now before.room stream))))
     pub no_room : (kind : Kind) (so_far : Past H) (before session : State) (old stream : Streaming H)
         → HasNoRoomLeft step is_closed is_finished kind role past fed sent n so_far old before session stream
         ↔ (AskingRunsOut step role past n is_closed so_far old before session stream
-        ⊎ (IsKept old stream × asked_so old so_far (λ now.
+        ⊎ (IsKept old stream × asked_so old stream so_far (λ now.
         IsUndone step is_closed is_finished kind role past fed sent n now session stream)))
     pub runs_out_serving : (so_far : Past H) (before session : State) (old stream : Streaming H)
         → RunsOutServing step is_closed is_finished role past fed sent n before so_far old session stream

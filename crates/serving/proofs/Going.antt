@@ -54,7 +54,7 @@ module _ {H : Type 0} (step : H → HandlerCall → H → Type 0) (is_closed is_
   -- this direction isn't open: the stream isn't asked
   pub not_asked : (role : Role) (past : List Item) (fed sent : List ℕ) (n : ℕ) (so_far : Past H) (session : State) (x : Streaming H)
       → SessionStands role past fed sent session → Stands step x so_far → so_far.sent ≡ written role past n → open_credit role past n ≡ None
-      → Asking step is_closed role past n x so_far (λ now. WasAsked step is_closed is_finished kind role past fed sent n now session x)
+      → Asking step is_closed role past n x x so_far (λ now. WasAsked step is_closed is_finished kind role past fed sent n now session x)
   unfolding begins
   not_asked role past fed sent n so_far session x at stands e none = (
     None,
@@ -67,6 +67,7 @@ module _ {H : Type 0} (step : H → HandlerCall → H → Type 0) (is_closed is_
       none_waits = λ live unclosed some. absurd (not_both (not_open role past n none live) unclosed);
       untaken_is = refl;
     },
+    (λ live unclosed. absurd (not_both (not_open role past n none live) unclosed), λ live unclosed. absurd (not_both (not_open role past n none live) unclosed)),
   )
 
   module _ (acts_do : ActsDo) (acts_move : ActsMove) where
@@ -120,11 +121,11 @@ module _ {H : Type 0} (step : H → HandlerCall → H → Type 0) (is_closed is_
 
     -- what the stream gave was written, where it gave anything
     pub was_asked : (role : Role) (past : List Item) (fed sent : List ℕ) (n amount : ℕ) (so_far : Past H) (session : State) (old x : Streaming H)
-        → Asking step is_closed role past n old so_far (λ now. Sends step is_closed role past fed sent n amount now session x) → so_far.sent ≡ written role past n
+        → Asking step is_closed role past n old x so_far (λ now. Sends step is_closed role past fed sent n amount now session x) → so_far.sent ≡ written role past n
         → open_credit role past n ≡ Some amount → kind_of x.stage ≡ kind
-        → Asking step is_closed role past n old so_far (λ now. WasAsked step is_closed is_finished kind role past fed sent n now session x)
-    was_asked role past fed sent n amount so_far session old x (gave, may, s) e is_open same_kind =
-        (gave, may, asked_by role past fed sent n amount (with_call so_far gave) session x s e is_open s.acts_are same_kind)
+        → Asking step is_closed role past n old x so_far (λ now. WasAsked step is_closed is_finished kind role past fed sent n now session x)
+    was_asked role past fed sent n amount so_far session old x (gave, may, s, unasked) e is_open same_kind =
+        (gave, may, asked_by role past fed sent n amount (with_call so_far gave) session x s e is_open s.acts_are same_kind, unasked)
 
     -- a handler that is finished is handed out
     pub record HasFinished (role : Role) (past : List Item) (fed sent : List ℕ) (n : ℕ) (so_far : Past H)

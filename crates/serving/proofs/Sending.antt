@@ -84,7 +84,7 @@ module _ {H : Type 0} (step : H → HandlerCall → H → Type 0) (closed : H �
       → Given so_far amount old new bytes → open_credit role past n ≡ Some amount
       → ((call : HandlerCall) → Stands step new (with_call (record so_far { sent = so_far.sent ++ bytes; left = Some (amount - length bytes) }) (Some call)) → Came (with_call so_far (Some call)))
       → (is_open closed new.stage ≡ false → Stands step new (record so_far { sent = so_far.sent ++ bytes }) → Came so_far)
-      → (b : Bool) → is_open closed old.stage ≡ b → Asking step closed role past n old so_far Came
+      → (b : Bool) → is_open closed old.stage ≡ b → Asking step closed role past n old new so_far Came
   asking role past n amount so_far old new bytes Came g some asked not_asked true e =
       let it = open_with role past n amount some in
       let more = (g.asked e).0 in
@@ -92,13 +92,14 @@ module _ {H : Type 0} (step : H → HandlerCall → H → Type 0) (closed : H �
         Some call,
         (it.is_live, it.unclosed, e, ap (λ k. k - length old.waiting) (sym it.credit_is), g.answers e more (g.asked e).1),
         asked call (g.asked e).2,
+        tt,
       )
   asking role past n amount so_far old new bytes Came g some asked not_asked false e =
-      (None, tt, not_asked (ap (is_open closed) (g.same e) ∙ e) (g.not_asked e))
+      let shut : is_open closed new.stage ≡ false = ap (is_open closed) (g.same e) ∙ e in (None, tt, not_asked shut (g.not_asked e), (λ live unclosed. e, λ live unclosed. shut))
 
   gave_by : (role : Role) (past : List Item) (fed sent : List ℕ) (n amount : ℕ) (so_far : Past H) (session : State) (old new : Streaming H) (pieces : List (List ℕ)) (acts : List Act)
       → (acts ≡ Write n pieces ∷ []) ⊎ ((acts ≡ []) × (pieces ≡ [])) → SessionStands role (map Did acts ++ past) fed sent session → Given so_far amount old new (concat pieces)
-      → open_credit role past n ≡ Some amount → Asking step closed role past n old so_far (λ now. Sends step closed role past fed sent n amount now session new)
+      → open_credit role past n ≡ Some amount → Asking step closed role past n old new so_far (λ now. Sends step closed role past fed sent n amount now session new)
   gave_by role past fed sent n amount so_far session old new pieces acts are at g some =
       asking role past n amount so_far old new (concat pieces) (λ now. Sends step closed role past fed sent n amount now session new) g some
       (λ call stands. record {
@@ -125,21 +126,21 @@ module _ {H : Type 0} (step : H → HandlerCall → H → Type 0) (closed : H �
 
   pub gave : (role : Role) (past : List Item) (fed sent : List ℕ) (n amount : ℕ) (so_far : Past H) (session : State) (old new : Streaming H) (bytes : List ℕ) (pieces : List (List ℕ))
       → concat pieces ≡ bytes → SessionStands role (Did (Write n pieces) ∷ past) fed sent session → Given so_far amount old new bytes
-      → open_credit role past n ≡ Some amount → Asking step closed role past n old so_far (λ now. Sends step closed role past fed sent n amount now session new)
+      → open_credit role past n ≡ Some amount → Asking step closed role past n old new so_far (λ now. Sends step closed role past fed sent n amount now session new)
   gave role past fed sent n amount so_far session old new bytes pieces e at g some =
       gave_by role past fed sent n amount so_far session old new pieces (Write n pieces ∷ []) (inl refl) at (subst (λ t. Given so_far amount old new t) (sym e) g) some
 
   -- one that gave nothing
   pub gave_none : (role : Role) (past : List Item) (fed sent : List ℕ) (n amount : ℕ) (so_far : Past H) (session : State) (old new : Streaming H) (bytes : List ℕ)
       → bytes ≡ [] → SessionStands role past fed sent session → Given so_far amount old new bytes
-      → open_credit role past n ≡ Some amount → Asking step closed role past n old so_far (λ now. Sends step closed role past fed sent n amount now session new)
+      → open_credit role past n ≡ Some amount → Asking step closed role past n old new so_far (λ now. Sends step closed role past fed sent n amount now session new)
   gave_none role past fed sent n amount so_far session old new bytes e at g some =
       gave_by role past fed sent n amount so_far session old new [] [] (inr (refl, refl)) at (subst (λ t. Given so_far amount old new t) e g) some
 
   -- what it gave isn't written
   pub unwritten : (role : Role) (past : List Item) (n amount room : ℕ) (so_far : Past H) (old new : Streaming H) (bytes : List ℕ)
       → bytes ≢ [] → length bytes ≤ amount → room < frames_length (length bytes) → Given so_far amount old new bytes
-      → open_credit role past n ≡ Some amount → Asking step closed role past n old so_far (λ now. IsUnwritten step role past n now room new)
+      → open_credit role past n ≡ Some amount → Asking step closed role past n old new so_far (λ now. IsUnwritten step role past n now room new)
   unwritten role past n amount room so_far old new bytes filled within no_room g some =
       asking role past n amount so_far old new bytes (λ now. IsUnwritten step role past n now room new) g some
       (λ call stands. record {

@@ -37,10 +37,18 @@ module _ {H : Type 0} (step : H → HandlerCall → H → Type 0) where
   MayBeAsked is_closed role past n stream (Take bytes) = ⊥
   MayBeAsked is_closed role past n stream End = ⊥
 
-  -- The stream's handler was called at most once, for what it may be asked for, and so far this came then.
-  abbrev pub Asking : (H → Bool) → Role → List Item → ℕ → Streaming H → Past H → (Past H → Type 0) → Type 0
-  Asking is_closed role past n stream so_far Came = (gave : Option HandlerCall)
-      × IfSome gave (MayBeAsked is_closed role past n stream) × Came (with_call so_far gave)
+  -- It isn't asked: the stream isn't live, or this direction is closed, or it holds no handler that isn't closed.
+  abbrev pub IsUnasked : (H → Bool) → Role → List Item → ℕ → Streaming H → Type 0
+  IsUnasked is_closed role past n stream =
+      is_live role past n ≡ true → closed role past n ≡ false → is_open is_closed stream.stage ≡ false
+
+  -- The stream's handler was called once, for what it may be asked for, unless it isn't asked, and so far this came
+  -- then. Where it isn't asked, no handler that isn't closed is held behind that either.
+  abbrev pub Asking : (H → Bool) → Role → List Item → ℕ → Streaming H → Streaming H → Past H → (Past H → Type 0)
+      → Type 0
+  Asking is_closed role past n old new so_far Came = (gave : Option HandlerCall)
+      × IfSome gave (MayBeAsked is_closed role past n old) × Came (with_call so_far gave)
+      × IfNone gave (IsUnasked is_closed role past n old × IsUnasked is_closed role past n new)
 
 -- ---- what is done then
 

@@ -48,7 +48,7 @@ module _ {H : Type 0} (step : H → HandlerCall → H → Type 0) (role : Role) 
       × (((stream ≡ record old { stage = Over }) × (old.waiting ≢ [])
       × ((credit : ℕ) × (open_credit role past n ≡ Some credit) × (0 < credit)))
       ⊎ ((kind_of stream.stage ≡ kind_of old.stage)
-      × Asking step is_closed role past n old so_far (λ now. IsUnwritten now before.room stream)))
+      × Asking step is_closed role past n old stream so_far (λ now. IsUnwritten now before.room stream)))
 
 module _ {H : Type 0} (step : H → HandlerCall → H → Type 0) (is_closed is_finished : H → Bool) (kind : Kind)
     (role : Role) (past : List Item) (fed sent : List ℕ) (n : ℕ) where
@@ -63,4 +63,4 @@ module _ {H : Type 0} (step : H → HandlerCall → H → Type 0) (is_closed is_
   -- Memory is wanting when the stream is asked, or for what is due then.
   abbrev pub RunsOut : Past H → Streaming H → State → State → Streaming H → Type 0
   RunsOut so_far old before session stream = AskingRunsOut step role past n is_closed so_far old before session stream
-      ⊎ (IsKept old stream × Asking step is_closed role past n old so_far (λ now. IsUndone now session stream))
+      ⊎ (IsKept old stream × Asking step is_closed role past n old stream so_far (λ now. IsUndone now session stream))

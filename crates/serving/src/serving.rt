@@ -29,7 +29,7 @@ fn send<H: Handler>(
     ensures sends { (role : Role) (past : List Item) (fed sent : List ℕ) (so_far : Past H)
         → SessionStands role past fed sent session.old → open_credit role past number ≡ Some credit
         → Stands H.steps stream.old so_far → OnOk result
-        (Asking H.steps H.is_closed role past number stream.old so_far (λ now.
+        (Asking H.steps H.is_closed role past number stream.old stream.new so_far (λ now.
         Sends H.steps H.is_closed role past fed sent number credit now session.new stream.new)) }
     ensures silent { IfOk result (λ wrote. wrote ≡ false → session.new ≡ session.old) }
     ensures fault { IfErr result (λ stop. stop ≢ Stop.OutOfMemory → (session.new ≡ session.old)
@@ -60,7 +60,7 @@ fn ask<H: Handler>(session: &mut Session, number: u32, stream: &mut Stream<H>) -
     ensures asks { (role : Role) (past : List Item) (fed sent : List ℕ) (so_far : Past H)
         → SessionStands role past fed sent session.old → Stands H.steps stream.old so_far
         → so_far.sent ≡ written role past number → OnOk result
-        (Asking H.steps H.is_closed role past number stream.old so_far (λ now.
+        (Asking H.steps H.is_closed role past number stream.old stream.new so_far (λ now.
         WasAsked H.steps H.is_closed H.is_finished (kind_of stream.old.stage) role past fed sent number now
         session.new stream.new)) }
     ensures left { IfOk result (λ is_left. is_left ≡ true
@@ -173,7 +173,7 @@ pub fn serve<H: Handler>(
     ensures serves { (role : Role) (past : List Item) (fed sent : List ℕ) (so_far : Past H)
         → SessionStands role past fed sent session.old → Stands H.steps stream.old so_far
         → so_far.sent ≡ written role past number → IfOk result (λ handler.
-        Asking H.steps H.is_closed role past number stream.old so_far (λ now.
+        Asking H.steps H.is_closed role past number stream.old stream.new so_far (λ now.
         Serves H.steps H.is_closed H.is_finished (kind_of stream.old.stage) role past fed sent number now
         handler session.new stream.new)) }
     // A stream is done only with its handler handed out, which served it.

@@ -1,11 +1,15 @@
-use Rattle.std.proofs.Common.{◌≡◌, ◌≢◌, inl, inr, Bool, true, Option, Some, None, sym, ap, ◌∙◌, subst}
+use Rattle.std.proofs.Common.{◌≡◌, ◌≢◌, ℕ, List, inl, inr, Bool, true, false, Option, Some, None, sym, ap, ◌∙◌, subst}
 use Rattle.std.specs.Prelude.{IfSome, IfNone}
 use Rattle.std.proofs.lemmas.Result.{err_from_is_err_and}
+use Rattle.handlers.specs.Calls.{HandlerCall}
+use Rattle.yamux_session.specs.declared.event.Role.{Role}
+use Rattle.yamux_session.specs.History.{Item}
 use Rattle.yamux_session.specs.Acts.{open_credit}
 use Rattle.yamux_session.specs.State.{State, Stands as SessionStands}
 use Rattle.streams.specs.Streams.{with_call}
-use Rattle.streams.specs.State.{Streaming, kind_of}
+use Rattle.streams.specs.State.{Streaming, is_open, kind_of}
 use Rattle.streams.specs.declared.stage.Stage.TheVariants as stages
+use Rattle.serving.specs.Served.{IsUnasked}
 use Rattle.serving.specs.Wanting.{IsKept}
 use Rattle.serving.specs.Steps.{Closes, CloseRunsOut}
 use Rattle.serving.proofs.Going.{WasOf, has_finished_on, was_closed, left_on, was_settled, unclosed_then, untaken_then}
@@ -38,6 +42,19 @@ was_of : {H : Type 0} (Finished : H → Type 0) (P : Type 0) (handler : Option H
 was_of Finished P None old mid new kind some none = ap (λ (x : Streaming _). kind_of x.stage) none.1 ∙ kind
 was_of Finished P (Some it) old mid new kind some none = sym kind ∙ ap kind_of some.0
 
+-- and where it held no handler that isn't closed it holds none
+still_shut : {H : Type 0} (closed : H → Bool) (Finished : H → Type 0) (P : Type 0) (handler : Option H) (mid new : Streaming H)
+    → IfSome handler (λ it. (mid.stage ≡ stages.Serving it) × Finished it × (new ≡ record mid { stage = stages.Done }))
+    → IfNone handler (P × (new ≡ mid)) → is_open closed mid.stage ≡ false → is_open closed new.stage ≡ false
+still_shut closed Finished P None mid new some none shut = ap (λ (x : Streaming _). is_open closed x.stage) none.1 ∙ shut
+still_shut closed Finished P (Some it) mid new some none shut = ap (λ (x : Streaming _). is_open closed x.stage) some.2
+
+unasked_then : {H : Type 0} (step : H → HandlerCall → H → Type 0) (closed : H → Bool) (role : Role) (past : List Item) (n : ℕ) (gave : Option HandlerCall) (old mid new : Streaming H)
+    → (is_open closed mid.stage ≡ false → is_open closed new.stage ≡ false) → IfNone gave (IsUnasked step closed role past n old × IsUnasked step closed role past n mid)
+    → IfNone gave (IsUnasked step closed role past n old × IsUnasked step closed role past n new)
+unasked_then step closed role past n None old mid new shut unasked = (unasked.0, λ live off. shut (unasked.1 live off))
+unasked_then step closed role past n (Some call) old mid new shut unasked = tt
+
 pub returns-clause-serves : goal.returns-clause-serves
 returns-clause-serves g c = λ role past fed sent so_far at stands e.
     let n = c.args.number in
@@ -60,6 +77,9 @@ returns-clause-serves g c = λ role past fed sent so_far at stands e.
       asked.1,
       was_settled g.H.Handler.steps g.H.Handler.is_closed g.H.Handler.is_finished kind seen windows role past fed sent n came c.finish-handler.result
           c.close.new.session c.count_taken.new.session c.finish-handler.new.self w was (c.in_ok-count_taken.ensures.counts role w.goes.now fed sent w.goes.session_stands left),
+      unasked_then g.H.Handler.steps g.H.Handler.is_closed role past n asked.0 c.args.stream.now c.ask.new.stream c.finish-handler.new.self
+          (still_shut g.H.Handler.is_closed (λ it. g.H.Handler.is_finished it ≡ true) _ c.finish-handler.result c.ask.new.stream c.finish-handler.new.self c.finish-handler.ensures.handed_out c.finish-handler.ensures.none)
+          asked.3,
     )
 
 -- behind a handler that is handed out the stream isn't given up
@@ -96,6 +116,9 @@ returns-in_err-close-clause-runs_out g c = λ role past fed sent so_far at stand
         asked.1,
         unclosed_then g.H.Handler.steps g.H.Handler.is_closed g.H.Handler.is_finished kind seen windows role past fed sent n came c.finish-handler.result
             c.ask.new.session c.close.new.session c.finish-handler.new.self h.was_asked h.handed_out was h.asked_last short,
+        unasked_then g.H.Handler.steps g.H.Handler.is_closed role past n asked.0 c.args.stream.now c.ask.new.stream c.finish-handler.new.self
+            (still_shut g.H.Handler.is_closed (λ it. g.H.Handler.is_finished it ≡ true) _ c.finish-handler.result c.ask.new.stream c.finish-handler.new.self c.finish-handler.ensures.handed_out c.finish-handler.ensures.none)
+            asked.3,
       ),
     )
 
@@ -125,6 +148,9 @@ returns-in_err-count_taken-clause-runs_out g c = λ role past fed sent so_far at
         asked.1,
         untaken_then g.H.Handler.steps g.H.Handler.is_closed g.H.Handler.is_finished kind seen windows role past fed sent n came c.finish-handler.result
             c.close.new.session c.count_taken.new.session c.finish-handler.new.self w was (c.in_err-count_taken.ensures.runs_out role w.goes.now fed sent w.goes.session_stands left),
+        unasked_then g.H.Handler.steps g.H.Handler.is_closed role past n asked.0 c.args.stream.now c.ask.new.stream c.finish-handler.new.self
+            (still_shut g.H.Handler.is_closed (λ it. g.H.Handler.is_finished it ≡ true) _ c.finish-handler.result c.ask.new.stream c.finish-handler.new.self c.finish-handler.ensures.handed_out c.finish-handler.ensures.none)
+            asked.3,
       ),
     )
 

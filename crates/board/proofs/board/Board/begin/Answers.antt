@@ -16,7 +16,7 @@ use Rattle.conn_log.specs.Entries.Entry.{Asks}
 use Rattle.conn_log.specs.Routes.{Comes, Routed}
 use Rattle.conn_log.proofs.Comes.{went}
 use Rattle.conn_log.proofs.Settling.{routed_on}
-use Rattle.conn_log.proofs.Asking.{at_first, around_asked, held_asked, was_asked, gives_up_only}
+use Rattle.conn_log.proofs.Asking.{anew_first, at_first, around_asked, held_asked, was_asked, gives_up_only}
 use Rattle.serving.proofs.StageKinds.{served_talking}
 use Rattle.board.proofs.Tables.{elsewhere, here}
 use Rattle.board.specs.Boards.{MakesInOrder, MakesOnBoard}
@@ -60,7 +60,7 @@ returns-clause-begins g c = λ log fed sent before r there.
     let came = c.in_ok-outcome.ensures.came board.role (items log_now) fed sent held.so_far around.session_stands held.stands held.sent_is in
     let now = went H.steps H.fails H.is_closed H.is_finished makes.makes_inbound makes.makes_outbound (makes.is_eager board.protocols) (makes.listed board.protocols) board.peer board.role
     c.acts_tell.ensures.seen c.acts_tell.ensures.windows log_now fed sent c.args.session.now c.deliver_credit.new.session old table board.past.items n just_opened [] stream c.deliver_credit.new.stream
-    around refl (record { held = held; over_by_end = λ off. absurd (cc off); last = inl tt; anew = λ open_still. inl asks.2; handed = λ serves. absurd (let e : true ≡ false = sym asks.2 ∙ served_talking _ serves in cc e) }) (elsewhere old table n (Some c.deliver_credit.new.stream) updates) (here old table n (Some c.deliver_credit.new.stream) updates) outcome came in
+    around refl (record { held = held; over_by_end = λ off. absurd (cc off); last = inl tt; anew = anew_first H.steps H.is_closed board.role log n c.args.index handler asks.0 stream asks.3 asks.2; handed = λ serves. absurd (let e : true ≡ false = sym asks.2 ∙ served_talking _ serves in cc e) }) (elsewhere old table n (Some c.deliver_credit.new.stream) updates) (here old table n (Some c.deliver_credit.new.stream) updates) outcome came in
     let making = MakesInOrder makes.leads_inbound makes.leads_outbound board.peer board.role c.early.new.protocols c.settle.new.self.protocols c.make.new.order c.settle.new.self.order in
     let leads = subst
     (λ (e : ℕ → Bool). LeadsOn H.steps H.fails H.is_closed H.is_finished makes.makes_inbound makes.makes_outbound e (makes.listed board.protocols) board.peer board.role (now.newer ++ log_now)

@@ -11,6 +11,7 @@ use Rattle.conn_log.specs.Entries.{items, agreement, is_over, made_of}
 use Rattle.conn_log.specs.Routes.{IsMoving, Routed, Comes}
 use Rattle.conn_log.proofs.Views.{no_data_behind}
 use Rattle.conn_log.proofs.Data.{with_bytes, data_came, before_the_end, no_credit_behind, is_known, delivered_to}
+use Rattle.conn_log.proofs.Crediting.{quiet_rest, anew_by_data}
 use Rattle.conn_log.proofs.Settling.{routed_behind}
 use Rattle.board.proofs.Tables.{elsewhere, here}
 use Rattle.board.proofs.Telling.{on_ok, data_dropped}
@@ -58,8 +59,8 @@ returns-clause-routes g c = λ log fed sent view rest r some_data no_data.
     let now = delivered_to H.steps H.fails H.is_closed H.is_finished makes.makes_inbound makes.makes_outbound (makes.is_eager board.protocols) (makes.listed board.protocols) board.peer board.role
     c.acts_tell.ensures.seen c.acts_tell.ensures.windows fed sent c.args.session.now c.deliver.new.session old _ board.past.items n (with_bytes c.args.bytes.now view) rest c.deliver.new.stream
     moving.over_by_end (no_data_behind n (with_bytes c.args.bytes.now view) rest around.opens_none no_data)
-    (no_credit_behind view.ended n c.args.bytes.now rest some_data r.around.ends_last) (elsewhere old _ n (Some c.deliver.new.stream) updates.0) (here old _ n (Some c.deliver.new.stream) updates.0)
-    makes.leads_inbound makes.leads_outbound board.protocols c.deliver.new.protocols log c.args.bytes.now c.in-Some.stream.now view.came around refl going moving.held moving.unfinished some_data moving.handed c.in_ok-delivered.delivered delivers in
+    (quiet_rest n rest around.opens_none no_data (no_credit_behind view.ended n c.args.bytes.now rest some_data r.around.ends_last)) (elsewhere old _ n (Some c.deliver.new.stream) updates.0) (here old _ n (Some c.deliver.new.stream) updates.0)
+    makes.leads_inbound makes.leads_outbound board.protocols c.deliver.new.protocols log c.args.bytes.now c.in-Some.stream.now view.came around refl going moving.held moving.unfinished some_data (anew_by_data n c.args.bytes.now rest some_data moving.anew) moving.handed c.in_ok-delivered.delivered delivers in
     let held_so = holds_since H.steps H.is_closed H.is_finished (makes.listed board.protocols) board.role log n _ _ c.in-Some.stream.now c.holds_handler-was_held.result c.holds_handler-was_held.ensures moving.held in
     let held_now = held_by H.steps H.fails H.is_closed H.is_finished makes.makes_inbound makes.makes_outbound (makes.is_eager board.protocols) (makes.listed board.protocols) board.peer board.role log n
     now.newer fed sent c.deliver.new.session _ board.past.items now.seen_now rest c.in_ok-delivered.delivered.outcome c.in_ok-delivered.delivered.agreed now.comes now.same_turn now.mades_are c.holds_handler-was_held.result held_so in

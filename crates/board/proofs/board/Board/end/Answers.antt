@@ -2,7 +2,9 @@ use Rattle.std.proofs.Common.{◌≡◌, ℕ, ◌∷◌, ◌++◌, Option, Some,
 use Rattle.std.specs.Prelude.{IfSome}
 use Rattle.std.specs.Ordering.{nat_cmp}
 use Rattle.std.specs.BTreeMap as tree
+use Rattle.std.specs.List.{AllByRecursion}
 use Rattle.yamux_session.specs.Events.{Told}
+use Rattle.yamux_session.specs.Seen.{IsQuiet}
 use Rattle.streams.specs.State.{Streaming}
 use Rattle.conn_log.specs.Entries.{items}
 use Rattle.conn_log.specs.Routes.{IsMoving, Routed}
@@ -43,10 +45,11 @@ returns-clause-routes g c = λ log fed sent view rest r.
     let around = end_came H.steps H.fails H.is_closed H.is_finished makes.makes_inbound makes.makes_outbound (makes.is_eager board.protocols) (makes.listed board.protocols) board.peer board.role log
     fed sent c.args.session.now old board.past.items n view rest r.around in
     let going = r.around.ends_last.0 in
+    let quiet : AllByRecursion (IsQuiet n) (Told.Ended n ∷ rest) = (tt, quiet_behind n rest around.opens_none around.ends_last r.around.ends_last.2) in
     let ends = c.in_ok-outcome.ensures.ends board.role (items log) fed sent moving.held.so_far around.session_stands moving.held.stands (moving.held.ended_is ∙ going) moving.held.served moving.held.sent_is in
     let now = has_ended H.steps H.fails H.is_closed H.is_finished makes.makes_inbound makes.makes_outbound (makes.is_eager board.protocols) (makes.listed board.protocols) board.peer board.role
     c.acts_tell.ensures.seen c.acts_tell.ensures.windows log fed sent c.args.session.now c.deliver_end.new.session old _ board.past.items n view rest c.in-Some.stream.now c.deliver_end.new.stream
-    around moving.held going moving.unfinished (moving.settled (tt, quiet_behind n rest around.opens_none around.ends_last r.around.ends_last.2))
+    around moving.held going moving.unfinished (moving.settled quiet) (moving.asked quiet)
     (end_is_told H.steps H.fails H.is_closed H.is_finished makes.makes_inbound makes.makes_outbound (makes.is_eager board.protocols) (makes.listed board.protocols) board.peer board.role log
     fed sent c.args.session.now old board.past.items n view rest r.around) r.around.ends_last.2 moving.handed (elsewhere old _ n (Some c.deliver_end.new.stream) updates.0) (here old _ n (Some c.deliver_end.new.stream) updates.0)
     c.in_ok-outcome.outcome ends in
