@@ -30,7 +30,6 @@ any_answer_rows = record {
   counts_none = λ count failures. refl;
   counts_one = λ why failures. refl;
   counts_still = λ failures. refl;
-  within = λ some all. (λ h. h, λ h. h);
 }
 
 pub any_log_rows : AnyLogRows

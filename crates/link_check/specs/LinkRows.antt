@@ -9,7 +9,7 @@ use Rattle.futures.specs.declared.task.context.Context.{Context}
 use Rattle.conn_link.specs.declared.link.LinkFault.{LinkFault}
 use Rattle.conn_link.specs.declared.step.PipeStep.{PipeStep}
 use Rattle.conn_link.specs.declared.step.PipeStep.TheVariants as steps
-use Rattle.conn_link.specs.Moving.{count_moved, bytes_moved, found_end, counted, Within}
+use Rattle.conn_link.specs.Moving.{count_moved, bytes_moved, found_end, counted}
 use Rattle.conn_link.specs.Moving.{MovesNothing, MovesOn, StaysEnded, StaysShut}
 use Rattle.conn_link.specs.MovingRows.{gives_one}
 use Rattle.conn_link.specs.Calling.{Kind, Call, CallsNone, CallsOn, IsAble, IsOnce, HasNone, asks_some, is_pending}
@@ -50,8 +50,6 @@ pub record AnyAnswerRows : Type 0 where
   pub counts_one : (why : LinkFault) (failures : ℕ)
       → counted {A = ℕ} failures (Ready (Err why)) ≡ min (failures + 1) (2 ^ 64 - 1)
   pub counts_still : (failures : ℕ) → counted {A = ℕ} failures Pending ≡ failures
-  pub within : (some all : ℕ → Bool) → Within (λ source. some source ≡ true) (λ source. all source ≡ true)
-      ↔ ((source : ℕ) → some source ≡ true → all source ≡ true)
 
 -- Of any call, and of any that follow it
 pub record AnyLogRows : Type 0 where

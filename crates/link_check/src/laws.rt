@@ -6,6 +6,7 @@ ghost use Rattle.handlers.specs.Calls.{HandlerCall};
 ghost use Rattle.peer_ids.specs.Key.{Key};
 ghost use Rattle.upgrade.specs.declared.role.ConnRole.{ConnRole};
 ghost use Rattle.conn_link.specs.Calling.{Call};
+ghost use Rattle.conn_link.specs.Moving.{Within};
 ghost use Rattle.conn_future.specs.declared.conn.Conn.{Conn as ConnOver};
 ghost use Rattle.conn_future.specs.Stages.{WaitsAt};
 ghost use Rattle.socket_link.specs.Steps.{Step};
@@ -28,6 +29,8 @@ use socket_link::Socket;
 pub fn link_rows<L: Link>()
     ensures any { AnyLinkRows L.moves L.calls L.has_ended L.is_shut }
     ensures answers { AnyAnswerRows }
+    ensures within { (link other : L) → Within (L.writes_at link) (L.writes_at other)
+        ↔ ((source : ℕ) → L.writes_at link source → L.writes_at other source) }
     ensures logs { AnyLogRows }
     ensures steps { AnyStepRows }
     ensures links { LinkRows }

@@ -7,6 +7,9 @@ returns-clause-any g c = any_link_rows g.L.Link.moves g.L.Link.calls g.L.Link.ha
 pub returns-clause-answers : goal.returns-clause-answers
 returns-clause-answers g c = any_answer_rows
 
+pub returns-clause-within : goal.returns-clause-within
+returns-clause-within g c = λ link other. (λ h. h, λ h. h)
+
 pub returns-clause-logs : goal.returns-clause-logs
 returns-clause-logs g c = any_log_rows
 
