@@ -221,30 +221,31 @@ module _ {P H : Type 0} (step : H → HandlerCall → H → Type 0) (fails : H �
       (a : Around step fails is_closed is_finished inbound_makes outbound_makes eager names peer role log fed sent before streams past n view rest)
       (no_more : (all_heard n view rest).came ≡ view.came) (h : IsListed log n view.came view.ended so_far old) (over : view.live ≡ false → view.ended ≡ true)
       (anew : AllByRecursion (IsQuiet n) rest ⊎ (is_asked_anew role log n ≡ true)) (asked : WasAskedLast is_closed role log n new)
+      (asked_then : WasAskedLast is_closed role log n old)
       (handed : kind_of old.stage ≡ Served → has_taken (calls_of role log n) ≡ true)
       (elsewhere : (m : ℕ) → (n == m) ≡ false → now m ≡ streams m) (here : now n ≡ Some new) where
     come : HasCome step fails is_closed is_finished inbound_makes outbound_makes eager names peer role log n so_far
     come = come_of step fails is_closed is_finished inbound_makes outbound_makes eager names peer role acts_do acts_move log n view rest so_far h.side_is h.got_is h.ended_is h.sent_is h.made_is
         h.calls_is a.opens_none a.ends_last a.heard
 
-    around_served : (handler : Option H) → (s : Serves step is_closed is_finished (kind_of old.stage) role (items log) fed sent n so_far handler after new)
+    around_served : (handler : Option H) → (s : Serves step is_closed is_finished old.stage role (items log) fed sent n so_far handler after new)
         → Around step fails is_closed is_finished inbound_makes outbound_makes eager names peer role (did s.goes.acts ++ log) fed sent after now past n (view_by s.goes.acts view) rest
     around_served handler s =
         around_acts step fails is_closed is_finished inbound_makes outbound_makes eager names peer role acts_do acts_move log fed sent before after streams now past n view rest so_far old.stage s.goes.acts a come
-        (a.heard.came ∙ no_more ∙ sym h.got_is) (record { made = h.served; handed = handed; told = λ out. h.done ∙ out; same_over = h.over ∙ sym h.done }) s.goes.due (subst (λ (t : List Item). SessionStands role t fed sent after) s.goes.now_is s.goes.session_stands) elsewhere
+        (a.heard.came ∙ no_more ∙ sym h.got_is) (record { made = h.served; handed = handed; told = λ out. h.done ∙ out; same_over = h.over ∙ sym h.done; asked = asked_then }) s.goes.due (subst (λ (t : List Item). SessionStands role t fed sent after) s.goes.now_is s.goes.session_stands) elsewhere
 
-    list_is : (handler : Option H) → (s : Serves step is_closed is_finished (kind_of old.stage) role (items log) fed sent n so_far handler after new)
+    list_is : (handler : Option H) → (s : Serves step is_closed is_finished old.stage role (items log) fed sent n so_far handler after new)
         → s.goes.now ≡ items (did s.goes.acts ++ log)
     list_is handler s = s.goes.now_is ∙ sym (items_did s.goes.acts log)
 
-    own_of : (handler : Option H) → (s : Serves step is_closed is_finished (kind_of old.stage) role (items log) fed sent n so_far handler after new) → Own role log (did s.goes.acts ++ log) n
+    own_of : (handler : Option H) → (s : Serves step is_closed is_finished old.stage role (items log) fed sent n so_far handler after new) → Own role log (did s.goes.acts ++ log) n
     own_of handler s =
         did_own step fails is_closed is_finished inbound_makes outbound_makes eager names peer role acts_do acts_move log n s.goes.acts
-        (all_on step fails is_closed is_finished inbound_makes outbound_makes eager names peer role acts_do acts_move (items log) n so_far (kind_of old.stage) s.goes.acts s.goes.due)
+        (all_on step fails is_closed is_finished inbound_makes outbound_makes eager names peer role acts_do acts_move (items log) n so_far old.stage s.goes.acts s.goes.due)
 
-    on_acts : (handler : Option H) → (s : Serves step is_closed is_finished (kind_of old.stage) role (items log) fed sent n so_far handler after new)
+    on_acts : (handler : Option H) → (s : Serves step is_closed is_finished old.stage role (items log) fed sent n so_far handler after new)
         → AllOn step fails is_closed is_finished inbound_makes outbound_makes eager names peer role acts_do acts_move n s.goes.acts
-    on_acts handler s = all_on step fails is_closed is_finished inbound_makes outbound_makes eager names peer role acts_do acts_move (items log) n so_far (kind_of old.stage) s.goes.acts s.goes.due
+    on_acts handler s = all_on step fails is_closed is_finished inbound_makes outbound_makes eager names peer role acts_do acts_move (items log) n so_far old.stage s.goes.acts s.goes.due
 
     -- what is done lets it be asked no more and no less
     anew_then : (now_anew : Bool) → now_anew ≡ is_asked_anew role log n → AllByRecursion (IsQuiet n) rest ⊎ (is_asked_anew role log n ≡ true)
@@ -253,7 +254,7 @@ module _ {P H : Type 0} (step : H → HandlerCall → H → Type 0) (fails : H �
     anew_then now_anew is (inr before) = inr (is ∙ before)
 
     -- it goes on
-    pub goes_on : (s : Serves step is_closed is_finished (kind_of old.stage) role (items log) fed sent n so_far None after new) → kind_of new.stage ≡ kind_of old.stage
+    pub goes_on : (s : Serves step is_closed is_finished old.stage role (items log) fed sent n so_far None after new) → kind_of new.stage ≡ kind_of old.stage
         → Routes step fails is_closed is_finished inbound_makes outbound_makes eager names peer role (did s.goes.acts ++ log) fed sent after now past n (view_by s.goes.acts view) rest
     goes_on s kind =
         let log_now = did s.goes.acts ++ log in
@@ -286,7 +287,7 @@ module _ {P H : Type 0} (step : H → HandlerCall → H → Type 0) (fails : H �
               (was_live step fails is_closed is_finished inbound_makes outbound_makes eager names peer role acts_do acts_move log n s.goes.acts on live)
               (was_open step fails is_closed is_finished inbound_makes outbound_makes eager names peer role acts_do acts_move log n s.goes.acts on off) is;
           handed = λ serves. ap has_taken own.calls_is ∙ handed (sym kind ∙ serves);
-          over_by_end = view_over step fails is_closed is_finished inbound_makes outbound_makes eager names peer role acts_do acts_move (items log) n so_far (kind_of old.stage) s.goes.acts view s.goes.due over;
+          over_by_end = view_over step fails is_closed is_finished inbound_makes outbound_makes eager names peer role acts_do acts_move (items log) n so_far old.stage s.goes.acts view s.goes.due over;
           settled = λ still. subst (λ (t : List Item). is_live role t n ≡ true → IsSettled step is_closed is_finished role t n s.goes.left new) is s.settled;
         } in
         record {
@@ -298,7 +299,7 @@ module _ {P H : Type 0} (step : H → HandlerCall → H → Type 0) (fails : H �
         }
 
     -- its handler is handed out
-    pub is_done : (handler : H) → (s : Serves step is_closed is_finished (kind_of old.stage) role (items log) fed sent n so_far (Some handler) after new) → kind_of old.stage ≡ Served
+    pub is_done : (handler : H) → (s : Serves step is_closed is_finished old.stage role (items log) fed sent n so_far (Some handler) after new) → kind_of old.stage ≡ Served
         → Routes step fails is_closed is_finished inbound_makes outbound_makes eager names peer role (Says (event.Done n handler) ∷ did s.goes.acts ++ log) fed sent after now past n
         (view_by s.goes.acts view) rest
     is_done handler s kind =
@@ -326,7 +327,10 @@ module _ {P H : Type 0} (step : H → HandlerCall → H → Type 0) (fails : H �
             all_came = own.came_is ∙ a.heard.came ∙ no_more ∙ sym h.got_is;
             served = subst (λ (t : List Item). Rattle.streams.specs.Streams.IsServed step (with_sent role t n so_far s.goes.left) handler new.waiting) is s.handed_out.0.0;
             finished = s.handed_out.0.1;
-            asked = subst (λ (t : List Item). is_live role t n ≡ true → closed role t n ≡ false → is_closed handler ≡ false → s.goes.left ≡ Some (credit role t n)) is (λ live unclosed. s.asked_last (was_alive live) (was_unclosed unclosed));
+            asked = subst (λ (t : List Item). is_live role t n ≡ true → closed role t n ≡ false → is_closed handler ≡ false
+                → (s.goes.left ≡ Some (credit role t n)) × (is_asked_anew role log_now n ≡ false)) is
+                (λ live unclosed shut. let last = s.asked_last (was_alive live) (was_unclosed unclosed) shut in
+                (last.0, own.anew_is ∙ asked_then (was_alive live) (was_unclosed unclosed) last.1));
             none_waits = subst (λ (t : List Item). is_live role t n ≡ true → closed role t n ≡ false → 0 < credit role t n → new.waiting ≡ []) is
                 (λ live unclosed some. (s.settled live).none_waits unclosed some);
             handed = ap has_taken own.calls_is ∙ handed kind;
@@ -353,7 +357,7 @@ module _ {P H : Type 0} (step : H → HandlerCall → H → Type 0) (fails : H �
           anew = anew_then (is_asked_anew role log_now n) own.anew_is anew;
           asked = λ quiet live off is. absurd (let e : true ≡ false = sym is ∙ ap (is_open is_closed) stage_is in cc e);
           handed = λ serves. absurd (let e : Rattle.streams.specs.State.HandedOut ≡ Served = sym (ap kind_of stage_is) ∙ serves in cc e);
-          over_by_end = view_over step fails is_closed is_finished inbound_makes outbound_makes eager names peer role acts_do acts_move (items log) n so_far (kind_of old.stage) s.goes.acts view s.goes.due over;
+          over_by_end = view_over step fails is_closed is_finished inbound_makes outbound_makes eager names peer role acts_do acts_move (items log) n so_far old.stage s.goes.acts view s.goes.due over;
           settled = λ still. subst (λ (t : List Item). is_live role t n ≡ true → IsSettled step is_closed is_finished role t n s.goes.left new) is s.settled;
         } in
         record {
@@ -365,7 +369,7 @@ module _ {P H : Type 0} (step : H → HandlerCall → H → Type 0) (fails : H �
           own_to_reset = λ reset going. subst (λ (t : Option (Streaming H)). IsSome t) (sym here) refl;
         }
 
-    served_on : (s : Serves step is_closed is_finished (kind_of old.stage) role (items log) fed sent n so_far None after new) → kind_of new.stage ≡ kind_of old.stage
+    served_on : (s : Serves step is_closed is_finished old.stage role (items log) fed sent n so_far None after new) → kind_of new.stage ≡ kind_of old.stage
         → Went log fed sent after now past n rest outcomes.Going
     served_on s kind = record {
       newer = did s.goes.acts;
@@ -377,7 +381,7 @@ module _ {P H : Type 0} (step : H → HandlerCall → H → Type 0) (fails : H �
       comes = goes_on s kind;
     }
 
-    done_with : (handler : H) → (s : Serves step is_closed is_finished (kind_of old.stage) role (items log) fed sent n so_far (Some handler) after new) → kind_of old.stage ≡ Served
+    done_with : (handler : H) → (s : Serves step is_closed is_finished old.stage role (items log) fed sent n so_far (Some handler) after new) → kind_of old.stage ≡ Served
         → Went log fed sent after now past n rest (outcomes.Done handler)
     done_with handler s kind = record {
       newer = did s.goes.acts;
@@ -490,6 +494,9 @@ module _ {P H : Type 0} (step : H → HandlerCall → H → Type 0) (fails : H �
     asked_now (Take bytes) may = absurd may
     asked_now End may = absurd may
 
+    shut_before : IsUnasked step is_closed role (items log) n old → WasAskedLast is_closed role log n old
+    shut_before unasked = λ live off is. absurd (let e : true ≡ false = sym is ∙ unasked live off in cc e)
+
     not_open : (IsUnasked step is_closed role (items log) n old × IsUnasked step is_closed role (items log) n new) → WasAskedLast is_closed role log n new
     not_open unasked = λ live off is. absurd (let e : true ≡ false = sym is ∙ unasked.1 live off in cc e)
 
@@ -497,18 +504,18 @@ module _ {P H : Type 0} (step : H → HandlerCall → H → Type 0) (fails : H �
     pub went : (outcome : Outcome H) → Came step fails is_closed is_finished role (items log) fed sent n served.held.so_far old before outcome after new
         → Went log fed sent after now past n rest outcome
     went outcomes.Going ((None, may, s, unasked), kind) =
-        served_on acts_do acts_move log fed sent before after streams now past n view rest served.held.so_far old new a no_more (listed log n view.came view.ended old served.held) served.over_by_end (anew_unasked served.last) (not_open unasked) served.handed elsewhere here s kind
+        served_on acts_do acts_move log fed sent before after streams now past n view rest served.held.so_far old new a no_more (listed log n view.came view.ended old served.held) served.over_by_end (anew_unasked served.last) (not_open unasked) (shut_before unasked.0) served.handed elsewhere here s kind
     went outcomes.Going ((Some call, may, s, unasked), kind) =
         went_behind log fed sent after now past n rest outcomes.Going call
         (served_on acts_do acts_move (Calls n call ∷ log) fed sent before after streams now past n view rest (with_call served.held.so_far (Some call)) old new
         (around_call log fed sent before streams past n view rest call (call_due call may) a) no_more (listed_behind log n view.came view.ended served.held.so_far old call (listed log n view.came view.ended old served.held))
-        served.over_by_end (quiet_behind call may served.last) (λ live off is. asked_now call may) (λ serves. handed_still log n call (served.handed serves)) elsewhere here s kind)
+        served.over_by_end (quiet_behind call may served.last) (λ live off is. asked_now call may) (λ live off is. asked_now call may) (λ serves. handed_still log n call (served.handed serves)) elsewhere here s kind)
     went (outcomes.Done handler) ((None, may, s, unasked), kind) =
-        done_with acts_do acts_move log fed sent before after streams now past n view rest served.held.so_far old new a no_more (listed log n view.came view.ended old served.held) served.over_by_end (anew_unasked served.last) (not_open unasked) served.handed elsewhere here handler s kind
+        done_with acts_do acts_move log fed sent before after streams now past n view rest served.held.so_far old new a no_more (listed log n view.came view.ended old served.held) served.over_by_end (anew_unasked served.last) (not_open unasked) (shut_before unasked.0) served.handed elsewhere here handler s kind
     went (outcomes.Done handler) ((Some call, may, s, unasked), kind) =
         went_behind log fed sent after now past n rest (outcomes.Done handler) call
         (done_with acts_do acts_move (Calls n call ∷ log) fed sent before after streams now past n view rest (with_call served.held.so_far (Some call)) old new
         (around_call log fed sent before streams past n view rest call (call_due call may) a) no_more (listed_behind log n view.came view.ended served.held.so_far old call (listed log n view.came view.ended old served.held))
-        served.over_by_end (quiet_behind call may served.last) (λ live off is. asked_now call may) (λ serves. handed_still log n call (served.handed serves)) elsewhere here handler s kind)
+        served.over_by_end (quiet_behind call may served.last) (λ live off is. asked_now call may) (λ live off is. asked_now call may) (λ serves. handed_still log n call (served.handed serves)) elsewhere here handler s kind)
     went outcomes.Refused c = absurd c
     went (outcomes.Broken cause) c = record { newer = []; none_said = refl; untold = refl; same_turn = tt; unmade = tt; seen_now = view; comes = is_broken c.1.0 cause c.0 c.1.1 c.1.2 }

@@ -20,7 +20,7 @@ use Rattle.yamux_session.proofs.Hearing.{or_none}
 use Rattle.streams.specs.declared.stage.Stage.TheVariants as stages
 use Rattle.streams.specs.declared.stage.Stage.{Stage}
 use Rattle.streams.specs.Streams.{Past}
-use Rattle.streams.specs.State.{StandsAt, is_talking}
+use Rattle.streams.specs.State.{StandsAt, Served, kind_of, is_talking, is_open, awaits_handler, was_handed_out}
 use Rattle.streams.proofs.Hearing.{open_before}
 use Rattle.serving.proofs.StageKinds.{same_awaiting, same_handed}
 use Rattle.conn_log.specs.Entries.{items, since, agreed, over_in}
@@ -142,6 +142,22 @@ takes_by_all : rows.is_due (Of (Did (Close 2)) ∷ rows.has_come) (Of (Did (Take
 takes_by_all (count, inl (shut, all)) = all
 takes_by_all (count, inr (some, gave)) = gave.by_all
 
+-- a handler that was made, is open and wasn't asked since is held by no stream that gave what it has
+unasked_early : (so_far : Past ℕ) (stage : Stage ℕ) (waiting : List ℕ) → so_far.made ≡ Some 101 → awaits_handler stage ≡ false → (kind_of stage ≡ Served → false ≡ true)
+    → (was_handed_out stage ≡ true → false ≡ true) → (is_open (λ handler. false) stage ≡ true → true ≡ false) → StandsAt (λ before call now. now ≡ before) stage so_far waiting → ⊥
+unasked_early so_far (stages.Talking talk None) waiting made awaits handed told asked s = some_is_none 101 (sym made ∙ s.early.0)
+unasked_early so_far (stages.Talking talk (Some handler)) waiting made awaits handed told asked s = on_is_off (asked refl)
+unasked_early so_far (stages.Agreed index) waiting made awaits handed told asked s = on_is_off awaits
+unasked_early so_far (stages.Serving handler) waiting made awaits handed told asked s = off_is_on (handed refl)
+unasked_early so_far stages.Done waiting made awaits handed told asked s = off_is_on (told refl)
+unasked_early so_far stages.Over waiting made awaits handed told asked s = absurd s
+
+takes_unasked_early : ¬ is_due rows.talked_on (Of (Did (Taken 1 1)))
+takes_unasked_early (count, inl (shut, all)) = off_is_on shut
+takes_unasked_early (count, inr (some, gave)) =
+    let all = gave.by_all in
+    unasked_early all.there.so_far all.there.stream.stage all.there.stream.waiting all.there.come.made_is all.was_made all.handed all.was_told (gave.asked_last refl refl) all.there.stands
+
 pub act_place_rows : ActPlaceRows
 act_place_rows = record {
   starts = λ h. h;
@@ -155,6 +171,7 @@ act_place_rows = record {
   );
   takes_more = λ h. let e : ◌≡◌ {A = ℕ} 2 1 = h.0 in absurd (cc e);
   takes_none = λ h. let e : ◌≡◌ {A = ℕ} 0 1 = h.0 in absurd (cc e);
+  takes_unasked_early = takes_unasked_early;
   takes_given_up = λ h. unless_open h.1 (λ gave. on_is_off gave.not_given_up);
   closes_given_up = λ h. on_is_off h.all.not_given_up;
   resets = refl;

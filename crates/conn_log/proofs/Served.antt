@@ -15,7 +15,7 @@ use Rattle.yamux_session.specs.Seen.{Seen, seen, all_heard, hears, just_opened, 
 use Rattle.yamux_session.specs.State.{State, Stands as SessionStands}
 use Rattle.streams.specs.Streams.{Past}
 use Rattle.streams.specs.declared.stage.Stage.{Stage}
-use Rattle.streams.specs.State.{Streaming, Stands, Kind, Served, kind_of, awaits_handler, was_handed_out}
+use Rattle.streams.specs.State.{Streaming, Stands, Served, kind_of, is_open, awaits_handler, was_handed_out}
 use Rattle.serving.specs.Served.{IsDue as ActIsDue, AreDue, GaveAll as StreamGaveAll, HasSent as StreamHasSent, with_sent}
 use Rattle.serving.proofs.StageKinds.{same_awaiting, same_handed}
 use Rattle.conn_log.specs.declared.earlier.Earlier.{Earlier}
@@ -102,22 +102,22 @@ module _ {H : Type 0} (acts_do : ActsDo) where
 module _ {P H : Type 0} (step : H → HandlerCall → H → Type 0) (fails : H → Asked → ℕ → Type 0)
     (is_closed is_finished : H → Bool) (inbound_makes outbound_makes : P → ℕ → List ℕ → H → Type 0)
     (eager : ℕ → Bool) (names : List (List ℕ)) (peer : List ℕ) (role : Role) (acts_do : ActsDo) (acts_move : ActsMove) where
-  on_of : (past : List Item) (n : ℕ) (so_far : Past H) (kind : Kind) (act : Act) → ActIsDue step is_closed is_finished kind role past n so_far act → IsOn n act
-  on_of past n so_far kind (Write m pieces) due = due.0
-  on_of past n so_far kind (Taken m count) due = due.0
-  on_of past n so_far kind (Close m) due = due.0
-  on_of past n so_far kind (Start m) due = absurd due
-  on_of past n so_far kind (Reset m) due = absurd due
-  on_of past n so_far kind (Act.GoAway code) due = absurd due
+  on_of : (past : List Item) (n : ℕ) (so_far : Past H) (old : Stage H) (act : Act) → ActIsDue step is_closed is_finished old role past n so_far act → IsOn n act
+  on_of past n so_far old (Write m pieces) due = due.0
+  on_of past n so_far old (Taken m count) due = due.0
+  on_of past n so_far old (Close m) due = due.0
+  on_of past n so_far old (Start m) due = absurd due
+  on_of past n so_far old (Reset m) due = absurd due
+  on_of past n so_far old (Act.GoAway code) due = absurd due
 
   -- each act is on the stream
   abbrev pub AllOn : ℕ → List Act → Type 0
   AllOn n [] = Unit {0}
   AllOn n (act ∷ acts) = IsOn n act × AllOn n acts
 
-  pub all_on : (past : List Item) (n : ℕ) (so_far : Past H) (kind : Kind) (acts : List Act) → AreDue step is_closed is_finished kind role past n so_far acts → AllOn n acts
-  all_on past n so_far kind [] due = tt
-  all_on past n so_far kind (act ∷ acts) due = (on_of _ n so_far kind act due.0, all_on past n so_far kind acts due.1)
+  pub all_on : (past : List Item) (n : ℕ) (so_far : Past H) (old : Stage H) (acts : List Act) → AreDue step is_closed is_finished old role past n so_far acts → AllOn n acts
+  all_on past n so_far old [] due = tt
+  all_on past n so_far old (act ∷ acts) due = (on_of _ n so_far old act due.0, all_on past n so_far old acts due.1)
 
   pub did_own : (log : List (Entry H)) (n : ℕ) (acts : List Act) → AllOn n acts → Own role log (did acts ++ log) n
   did_own log n [] on = record { came_is = refl; ended_is = refl; agreed_is = refl; over_is = refl; done_is = refl; made_is = refl; calls_is = refl; asked_is = refl; anew_is = refl }
@@ -231,12 +231,13 @@ module _ {P H : Type 0} (step : H → HandlerCall → H → Type 0) (fails : H �
   -- ---- why each act is due
 
   -- What is known of a stream that is served: its handler was made; one that serves it was handed what stood behind the
-  -- talk; where it was handed out, that was told; and it isn't given up.
+  -- talk; where it was handed out, that was told; it isn't given up; and one that isn't closed was asked last.
   pub record WasServed (log : List (Entry H)) (n : ℕ) (old : Stage H) : Type 0 where
     pub made : awaits_handler old ≡ false
     pub handed : kind_of old ≡ Served → has_taken (calls_of role log n) ≡ true
     pub told : was_handed_out old ≡ true → was_done role log n ≡ true
     pub same_over : is_over role log n ≡ was_done role log n
+    pub asked : is_live role (items log) n ≡ true → closed role (items log) n ≡ false → is_open is_closed old ≡ true → is_asked_anew role log n ≡ false
 
   -- by all that came; of a stream that was served while it was there
   stands_by : (log : List (Entry H)) (n : ℕ) (so_far : Past H) (old : Stage H) → HasCome step fails is_closed is_finished inbound_makes outbound_makes eager names peer role log n so_far
@@ -254,19 +255,20 @@ module _ {P H : Type 0} (step : H → HandlerCall → H → Type 0) (fails : H �
   -- the stream gave what it has
   all_given : (log : List (Entry H)) (n : ℕ) (so_far : Past H) (old : Stage H) (acts : List Act) → AllOn n acts
       → HasCome step fails is_closed is_finished inbound_makes outbound_makes eager names peer role log n so_far → inbound role (items log) n ≡ so_far.got
-      → WasServed log n old → StreamGaveAll step is_closed is_finished (kind_of old) role (items (did acts ++ log)) n so_far
+      → WasServed log n old → StreamGaveAll step is_closed is_finished old role (items (did acts ++ log)) n so_far
       → GaveAll step fails is_closed is_finished inbound_makes outbound_makes eager names peer role (did acts ++ log) n
   unfolding stands_by
   all_given log n so_far old acts all c came was gave = record {
     by_all = stands_by log n so_far old c came was (did acts ++ log) (did_own log n acts all) gave.left gave.stream gave.stands gave.kind_is;
     none_waits = gave.none_waits;
-    asked = gave.asked;
+    asked = λ is. (gave.asked is).0;
+    asked_last = λ live unclosed is. (did_own log n acts all).anew_is ∙ was.asked (was_live log n acts all live) (was_open log n acts all unclosed) (gave.asked is).1;
     not_given_up = (did_own log n acts all).over_is ∙ was.same_over ∙ sym (did_own log n acts all).done_is;
   }
 
   entry_due : (log : List (Entry H)) (n : ℕ) (so_far : Past H) (old : Stage H) (acts : List Act) (act : Act) → AllOn n acts → IsOn n act
       → HasCome step fails is_closed is_finished inbound_makes outbound_makes eager names peer role log n so_far → inbound role (items log) n ≡ so_far.got
-      → WasServed log n old → ActIsDue step is_closed is_finished (kind_of old) role (items (did acts ++ log)) n so_far act
+      → WasServed log n old → ActIsDue step is_closed is_finished old role (items (did acts ++ log)) n so_far act
       → IsDue step fails is_closed is_finished inbound_makes outbound_makes eager names peer role (did acts ++ log) (Of (Did act))
   unfolding all_given
   entry_due log n so_far old acts (Write k pieces) all on c came was due =
@@ -280,8 +282,8 @@ module _ {P H : Type 0} (step : H → HandlerCall → H → Type 0) (fails : H �
       × StandsByAll step fails is_closed is_finished inbound_makes outbound_makes eager names peer role (did acts ++ log) m)
       ⊎ ((0 < credit role (items (did acts ++ log)) m)
       × GaveAll step fails is_closed is_finished inbound_makes outbound_makes eager names peer role (did acts ++ log) m))) (sym on) (due.1, by_gave due.2) where
-        by_gave : ((closed role (items (did acts ++ log)) n ≡ true) × StreamHasSent step is_closed is_finished (kind_of old) role (items (did acts ++ log)) n so_far)
-            ⊎ ((0 < credit role (items (did acts ++ log)) n) × StreamGaveAll step is_closed is_finished (kind_of old) role (items (did acts ++ log)) n so_far)
+        by_gave : ((closed role (items (did acts ++ log)) n ≡ true) × StreamHasSent step is_closed is_finished old role (items (did acts ++ log)) n so_far)
+            ⊎ ((0 < credit role (items (did acts ++ log)) n) × StreamGaveAll step is_closed is_finished old role (items (did acts ++ log)) n so_far)
             → ((closed role (items (did acts ++ log)) n ≡ true)
             × StandsByAll step fails is_closed is_finished inbound_makes outbound_makes eager names peer role (did acts ++ log) n)
             ⊎ ((0 < credit role (items (did acts ++ log)) n)
@@ -300,13 +302,13 @@ module _ {P H : Type 0} (step : H → HandlerCall → H → Type 0) (fails : H �
 
   pub did_due : (log : List (Entry H)) (n : ℕ) (so_far : Past H) (old : Stage H) (acts : List Act)
       → HasCome step fails is_closed is_finished inbound_makes outbound_makes eager names peer role log n so_far → inbound role (items log) n ≡ so_far.got
-      → WasServed log n old → AreDue step is_closed is_finished (kind_of old) role (items log) n so_far acts
+      → WasServed log n old → AreDue step is_closed is_finished old role (items log) n so_far acts
       → AllDue step fails is_closed is_finished inbound_makes outbound_makes eager names peer role log
       → AllDue step fails is_closed is_finished inbound_makes outbound_makes eager names peer role (did acts ++ log)
   did_due log n so_far old [] c came was due all = all
   did_due log n so_far old (act ∷ acts) c came was due all = (
-    entry_due log n so_far old acts act (all_on (items log) n so_far (kind_of old) acts due.1) (on_of _ n so_far (kind_of old) act due.0) c came was
-        (subst (λ (t : List Item). ActIsDue step is_closed is_finished (kind_of old) role t n so_far act) (sym (items_did acts log)) due.0),
+    entry_due log n so_far old acts act (all_on (items log) n so_far old acts due.1) (on_of _ n so_far old act due.0) c came was
+        (subst (λ (t : List Item). ActIsDue step is_closed is_finished old role t n so_far act) (sym (items_did acts log)) due.0),
     did_due log n so_far old acts c came was due.1 all,
   )
 
@@ -335,16 +337,16 @@ module _ {P H : Type 0} (step : H → HandlerCall → H → Type 0) (fails : H �
     kept (Act.GoAway code) s on = absurd on
 
   -- acts that serve a stream end it only where the other end has ended it
-  pub view_over : (past : List Item) (n : ℕ) (so_far : Past H) (kind : Kind) (acts : List Act) (view : Seen) → AreDue step is_closed is_finished kind role past n so_far acts
+  pub view_over : (past : List Item) (n : ℕ) (so_far : Past H) (old : Stage H) (acts : List Act) (view : Seen) → AreDue step is_closed is_finished old role past n so_far acts
       → (view.live ≡ false → view.ended ≡ true) → (view_by acts view).live ≡ false → (view_by acts view).ended ≡ true
-  view_over past n so_far kind [] view due over = over
-  view_over past n so_far kind (act ∷ acts) view due over = kept act (view_by acts view) due.0 (view_over past n so_far kind acts view due.1 over) where
+  view_over past n so_far old [] view due over = over
+  view_over past n so_far old (act ∷ acts) view due over = kept act (view_by acts view) due.0 (view_over past n so_far old acts view due.1 over) where
     shut_over : (live ended : Bool) → (live ≡ false → ended ≡ true) → live && not ended ≡ false → ended ≡ true
     shut_over live true over off = refl
     shut_over true false over off = absurd (cc off)
     shut_over false false over off = over refl
 
-    kept : (act : Act) (s : Seen) → ActIsDue step is_closed is_finished kind role (map Did acts ++ past) n so_far act → (s.live ≡ false → s.ended ≡ true) → (done_by act s).live ≡ false → (done_by act s).ended ≡ true
+    kept : (act : Act) (s : Seen) → ActIsDue step is_closed is_finished old role (map Did acts ++ past) n so_far act → (s.live ≡ false → s.ended ≡ true) → (done_by act s).live ≡ false → (done_by act s).ended ≡ true
     kept (Write m pieces) s due over = over
     kept (Taken m count) s due over = over
     kept (Close m) s due over = shut_over s.live s.ended over
@@ -407,12 +409,12 @@ module _ {P H : Type 0} (step : H → HandlerCall → H → Type 0) (fails : H �
       (rest : List Told) (so_far : Past H) (old : Stage H) (acts : List Act)
       → Around step fails is_closed is_finished inbound_makes outbound_makes eager names peer role log fed sent before streams past n view rest
       → HasCome step fails is_closed is_finished inbound_makes outbound_makes eager names peer role log n so_far → inbound role (items log) n ≡ so_far.got
-      → WasServed log n old → AreDue step is_closed is_finished (kind_of old) role (items log) n so_far acts
+      → WasServed log n old → AreDue step is_closed is_finished old role (items log) n so_far acts
       → SessionStands role (map Did acts ++ items log) fed sent after
       → ((m : ℕ) → (n == m) ≡ false → now m ≡ streams m)
       → Around step fails is_closed is_finished inbound_makes outbound_makes eager names peer role (did acts ++ log) fed sent after now past n (view_by acts view) rest
   around_acts log fed sent before after streams now past n view rest so_far old acts a c came was due there elsewhere =
-      let on = all_on (items log) n so_far (kind_of old) acts due in
+      let on = all_on (items log) n so_far old acts due in
       grown step fails is_closed is_finished inbound_makes outbound_makes eager names peer role log (did acts) fed sent before after streams now past n view (view_by acts view) rest a
       (did_due log n so_far old acts c came was due a.due) (λ m apart. did_same log n m acts apart on)
       (subst (λ (t : List Item). SessionStands role t fed sent after) (sym (items_did acts log)) there) elsewhere

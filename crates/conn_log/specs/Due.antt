@@ -124,10 +124,12 @@ module _ {P H : Type 0} (step : H → HandlerCall → H → Type 0) (fails : H �
   IsAskedFor log n so_far waiting (ToGive room) =
       (inbound role (items log) n ≡ so_far.got) × (room ≡ credit role (items log) n - length waiting)
 
-  -- While this direction of a live stream is open its handler was asked last, with all the credit, unless it is closed.
+  -- While this direction of a live stream is open its handler was asked last, with all the credit and behind all that
+  -- came, unless it is closed.
   abbrev pub WasAsked : List (Entry H) → ℕ → Past H → H → Type 0
   WasAsked log n so_far handler = is_live role (items log) n ≡ true → closed role (items log) n ≡ false
-      → is_closed handler ≡ false → so_far.left ≡ Some (credit role (items log) n)
+      → is_closed handler ≡ false → (so_far.left ≡ Some (credit role (items log) n))
+      × (is_asked_anew role log n ≡ false)
 
   -- its handler was handed what stood behind the talk
   abbrev pub HasBegun : List (Entry H) → ℕ → Type 0
@@ -233,13 +235,14 @@ module _ {P H : Type 0} (step : H → HandlerCall → H → Type 0) (fails : H �
     pub handed : kind_of there.stream.stage ≡ Served → has_taken (calls_of role log n) ≡ true
     pub was_told : was_handed_out there.stream.stage ≡ true → was_done role log n ≡ true
 
-  -- The stream gave what it has by all data that came: nothing waits, and its handler was asked last with all the
-  -- credit, unless it is closed, or was handed out and that was told.
+  -- The stream gave what it has by all data that came: nothing waits, and its handler was asked last, with all the
+  -- credit and behind all that came, unless it is closed, or was handed out and that was told.
   pub record GaveAll (log : List (Entry H)) (n : ℕ) : Type 0 where
     pub by_all : StandsByAll log n
     pub none_waits : by_all.there.stream.waiting ≡ []
     pub asked : is_open is_closed by_all.there.stream.stage ≡ true
         → by_all.there.so_far.left ≡ Some (credit role (items log) n)
+    pub asked_last : WasAskedLast is_closed role log n by_all.there.stream
     -- neither Refused nor Broken was told of it
     pub not_given_up : is_over role log n ≡ was_done role log n
 

@@ -11,7 +11,7 @@ use Rattle.yamux_frames.specs.Frames.Arrival.{Byte, Tail}
 use Rattle.yamux_session.specs.declared.event.Role.TheVariants.{Client}
 use Rattle.yamux_session.specs.History.{Act}
 use Rattle.yamux_session.specs.History.Item.{Came, Did}
-use Rattle.yamux_session.specs.History.Act.{Start, Taken, Close, Reset}
+use Rattle.yamux_session.specs.History.Act.{Start, Write, Taken, Close, Reset}
 use Rattle.yamux_session.specs.Rows.{header}
 use Rattle.streams.specs.declared.stop.Cause.TheVariants as causes
 use Rattle.streams.specs.State.{Awaiting, Served, HandedOut, kind_of}
@@ -84,6 +84,11 @@ give_all = answers 2 (Give all_room (9 ∷ []))
 abbrev pub early : List (Entry ℕ)
 early = makes 1 101 ∷ Asks 1 1 ∷ []
 
+-- its handler was asked with all the credit, and gave nothing; what its talk wrote was sent, and then a byte came to it
+abbrev pub talked_on : List (Entry ℕ)
+talked_on = Of (Came Tail) ∷ Of (Came (Byte 19)) ∷ Of (Came (header Payload 0 1 1))
+    ∷ Of (Did (Write 1 ((header_bytes ++ y_bytes) ∷ []))) ∷ answers 1 (Give all_room []) ∷ early
+
 -- five bytes of credit
 abbrev pub credit_came : List (Entry ℕ)
 credit_came = Of (Came Tail) ∷ Of (Came (header Window 0 2 5)) ∷ []
@@ -137,6 +142,8 @@ pub record ActPlaceRows : Type 0 where
       × (kind_of all.there.stream.stage ≢ Served) × (kind_of all.there.stream.stage ≢ HandedOut)
   pub takes_more : ¬ is_due (Of (Did (Close 2)) ∷ has_come) (Of (Did (Taken 2 2)))
   pub takes_none : ¬ is_due (Of (Did (Close 2)) ∷ has_come) (Of (Did (Taken 2 0)))
+  -- nor before an early handler was asked behind it
+  pub takes_unasked_early : ¬ is_due talked_on (Of (Did (Taken 1 1)))
   pub takes_given_up : ¬ is_due (refuses 2 ∷ has_come) (Of (Did (Taken 2 1)))
   pub closes_given_up : ¬ is_due (refuses 2 ∷ has_come) (Of (Did (Close 2)))
   pub resets : is_due (refuses 2 ∷ opened 2) (Of (Did (Reset 2)))

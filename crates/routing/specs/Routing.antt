@@ -42,11 +42,11 @@ module _ {H : Type 0} (step : H → HandlerCall → H → Type 0) (fails : H →
   -- nothing was done, and the stream is over.
   abbrev pub Came : Past H → Streaming H → State → Outcome H → State → Streaming H → Type 0
   Came so_far old before Going session stream =
-      Asking step is_closed role past n old stream so_far (λ now. Serves step is_closed is_finished (kind_of old.stage)
+      Asking step is_closed role past n old stream so_far (λ now. Serves step is_closed is_finished old.stage
       role past fed sent n now None session stream)
       × (kind_of stream.stage ≡ kind_of old.stage)
   Came so_far old before (Done handler) session stream =
-      Asking step is_closed role past n old stream so_far (λ now. Serves step is_closed is_finished (kind_of old.stage)
+      Asking step is_closed role past n old stream so_far (λ now. Serves step is_closed is_finished old.stage
       role past fed sent n now (Some handler) session stream)
       × (kind_of old.stage ≡ Served)
   Came so_far old before Refused session stream = ⊥
@@ -129,8 +129,7 @@ module _ {H : Type 0} (step : H → HandlerCall → H → Type 0) (is_closed is_
   -- Memory is wanting when a stream is served, whose handler answered when it was asked.
   abbrev pub RunsOutServing : Past H → Streaming H → State → Streaming H → Type 0
   RunsOutServing so_far old session stream = WasAnswered step is_closed role past n old
-      × RunsOut step is_closed is_finished (kind_of old.stage) role past fed sent n so_far old before session
-      stream
+      × RunsOut step is_closed is_finished old.stage role past fed sent n so_far old before session stream
 
   -- Memory is wanting behind a call: the handler answered it, or it was dropped, and then the stream was served.
   abbrev pub RunsOutBehind : HandlerCall → Past H → Streaming H → State → Streaming H → Type 0

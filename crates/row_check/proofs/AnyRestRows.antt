@@ -161,8 +161,8 @@ module _ {P H : Type 0} (step : H → HandlerCall → H → Type 0) (fails : H �
     done_is = λ log n handler d. (d.so_far, d.waiting, d.come, d.all_came, d.served, d.finished, d.asked, d.none_waits, d.handed);
     by_all = λ log n there came made handed told. record { there = there; all_came = came; was_made = made; handed = handed; was_told = told };
     by_all_is = λ log n s. (s.all_came, s.was_made, s.handed, s.was_told);
-    gave = λ log n all none asked same. record { by_all = all; none_waits = none; asked = asked; not_given_up = same };
-    gave_is = λ log n g. (g.none_waits, g.asked, g.not_given_up);
+    gave = λ log n all none asked last same. record { by_all = all; none_waits = none; asked = asked; asked_last = last; not_given_up = same };
+    gave_is = λ log n g. (g.none_waits, g.asked, g.asked_last, g.not_given_up);
     given = λ log n all over. record { all = all; over = over };
     given_is = λ log n g. (g.all, g.over);
     not_gave = λ log n over undone. (

@@ -1,7 +1,7 @@
 -- The rows of the steps by which a stream is served.
 use Rattle.std.proofs.Common.{◌≡◌, ◌⊎◌, ℕ, inl, inr, Bool, true, false, List, [], length, refl, sym, ap, ◌∙◌, arith}
 use Rattle.handlers.specs.Calls.{HandlerCall, Give}
-use Rattle.streams.specs.State.{Kind}
+use Rattle.streams.specs.declared.stage.Stage.{Stage}
 use Rattle.row_check.specs.AnyStepRows.{AnyTalkStepRows, AnyStepRows}
 
 pub any_talk_steps : {H : Type 0} → AnyTalkStepRows H
@@ -25,8 +25,8 @@ module _ {H : Type 0} (step : H → HandlerCall → H → Type 0) (is_closed is_
   gives_nothing old new room bytes e (inl h) = (h.1, h.2)
   gives_nothing old new room bytes e (inr h) = absurd (let never : true ≡ false = sym e ∙ h.0 in cc never)
 
-  pub any_steps : (kind : Kind) → AnyStepRows step is_closed is_finished kind
-  any_steps kind = record {
+  pub any_steps : (was : Stage H) → AnyStepRows step is_closed is_finished was
+  any_steps was = record {
     gives = λ old new room bytes e. (λ h. (h.0, asks_it old new room bytes e h.1), λ h. (h.0, inr (e, h.1)));
     gives_nothing = λ old new room bytes e. (
       λ h. gives_nothing old new room bytes e h.1,

@@ -5,8 +5,9 @@ use Rattle.talks.specs.Talks.{Side, Asks, Answers}
 use Rattle.yamux_session.specs.declared.event.Role.{Role}
 use Rattle.yamux_session.specs.History.{Item}
 use Rattle.yamux_session.specs.History.Item.{Did}
+use Rattle.streams.specs.declared.stage.Stage.{Stage}
 use Rattle.streams.specs.Handled.{AskedLast}
-use Rattle.streams.specs.State.{Streaming, is_talking, handler_of, holds, Kind, Ended, Served, HandedOut}
+use Rattle.streams.specs.State.{Streaming, is_talking, handler_of, holds, Ended, Served, HandedOut}
 use Rattle.streams.specs.Streams.{Past, IsAsking, with_call}
 use Rattle.serving.specs.Served.{MayBeAsked, IsUnasked, Asking}
 use Rattle.row_check.specs.AnyStreamRows.{AnyStageRows, AnyHearingRows, AnyStandingRows, AnyServingRows, AnyDirectionRows, AnyRoutingRows}
@@ -139,8 +140,8 @@ module _ {H : Type 0} (step : H → HandlerCall → H → Type 0) (fails : H →
   asks_so role past n old new so_far came (inl e) = (None, tt, e.0, (e.1, e.2))
   asks_so role past n old new so_far came (inr h) = (Some h.0, h.1, h.2, tt)
 
-  pub any_serving : (kind : Kind) → AnyServingRows step fails is_closed is_finished kind
-  any_serving kind = record {
+  pub any_serving : (was : Stage H) → AnyServingRows step fails is_closed is_finished was
+  any_serving was = record {
     asks_to_give = λ role past n room stream bytes. (λ h. h, λ h. h);
     asks_nothing_else = λ role past n stream bytes. (λ h. h, λ h. h);
     asking = λ role past n old new so_far came. (λ h. asked_once role past n old new so_far came h.0 h.1 h.2 h.3, asks_so role past n old new so_far came);
@@ -258,10 +259,10 @@ module _ {H : Type 0} (step : H → HandlerCall → H → Type 0) (fails : H →
     unwritten = λ so_far room amount stream bytes left some is_open within no_room stands.
         record { bytes = bytes; some = some; credit = amount; is_open = is_open; within = within; no_room = no_room; left = left; stands = stands };
     unwritten_is = λ so_far room stream u. (u.bytes, u.credit, u.left, u.some, u.is_open, u.within, u.no_room, u.stands);
-    undone = λ kind so_far session stream act goes due sends no_room. record { goes = goes; act = act; due = due; sends = sends; no_room = no_room };
-    undone_is = λ kind so_far session stream u. (u.act, (u.goes, u.due, u.sends), u.no_room);
+    undone = λ was so_far session stream act goes due sends no_room. record { goes = goes; act = act; due = due; sends = sends; no_room = no_room };
+    undone_is = λ was so_far session stream u. (u.act, (u.goes, u.due, u.sends), u.no_room);
     asking_runs_out = λ so_far before session old stream. (λ h. h, λ h. h);
-    no_room = λ kind so_far before session old stream. (λ h. h, λ h. h);
+    no_room = λ was so_far before session old stream. (λ h. h, λ h. h);
     runs_out_serving = λ so_far before session old stream. (λ h. h, λ h. h);
     runs_out_behind = λ call so_far before session old stream. (λ h. h, λ h. h);
     runs_out_taking = λ bytes so_far before session old stream. (λ h. h, λ h. h);

@@ -269,7 +269,7 @@ module _ {P H : Type 0} (step : H → HandlerCall → H → Type 0) (fails : H �
         → has_come log n so_far → inbound role (items log) n ≡ so_far.got → IsServed step so_far handler waiting
         → is_finished handler ≡ true
         → (is_live role (items log) n ≡ true → closed role (items log) n ≡ false → is_closed handler ≡ false
-        → so_far.left ≡ Some (credit role (items log) n))
+        → (so_far.left ≡ Some (credit role (items log) n)) × (is_asked_anew role log n ≡ false))
         → (is_live role (items log) n ≡ true → closed role (items log) n ≡ false → 0 < credit role (items log) n
         → waiting ≡ []) → has_taken (calls_of role log n) ≡ true → is_done log n handler
     pub done_is : (log : List (Entry H)) (n : ℕ) (handler : H) → is_done log n handler → (so_far : Past H)
@@ -277,7 +277,7 @@ module _ {P H : Type 0} (step : H → HandlerCall → H → Type 0) (fails : H �
         × IsServed step so_far handler waiting
         × (is_finished handler ≡ true)
         × (is_live role (items log) n ≡ true → closed role (items log) n ≡ false → is_closed handler ≡ false
-        → so_far.left ≡ Some (credit role (items log) n))
+        → (so_far.left ≡ Some (credit role (items log) n)) × (is_asked_anew role log n ≡ false))
         × (is_live role (items log) n ≡ true → closed role (items log) n ≡ false → 0 < credit role (items log) n
         → waiting ≡ []) × (has_taken (calls_of role log n) ≡ true)
     pub by_all : (log : List (Entry H)) (n : ℕ) (there : is_there log n) → inbound role (items log) n ≡ there.so_far.got
@@ -292,10 +292,14 @@ module _ {P H : Type 0} (step : H → HandlerCall → H → Type 0) (fails : H �
     pub gave : (log : List (Entry H)) (n : ℕ) (all : stands_by_all log n) → all.there.stream.waiting ≡ []
         → (is_open is_closed all.there.stream.stage ≡ true
         → all.there.so_far.left ≡ Some (credit role (items log) n))
+        → (is_live role (items log) n ≡ true → closed role (items log) n ≡ false
+        → is_open is_closed all.there.stream.stage ≡ true → is_asked_anew role log n ≡ false)
         → is_over role log n ≡ was_done role log n → gave_all log n
     pub gave_is : (log : List (Entry H)) (n : ℕ) (g : gave_all log n) → (g.by_all.there.stream.waiting ≡ [])
         × (is_open is_closed g.by_all.there.stream.stage ≡ true
         → g.by_all.there.so_far.left ≡ Some (credit role (items log) n))
+        × (is_live role (items log) n ≡ true → closed role (items log) n ≡ false
+        → is_open is_closed g.by_all.there.stream.stage ≡ true → is_asked_anew role log n ≡ false)
         × (is_over role log n ≡ was_done role log n)
     pub given : (log : List (Entry H)) (n : ℕ) (all : gave_all log n)
         → (has_closed is_closed all.by_all.there.stream.stage ≡ true)

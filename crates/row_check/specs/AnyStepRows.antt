@@ -27,7 +27,7 @@ use Rattle.streams.specs.Giving.{Gives, StageGives}
 use Rattle.streams.specs.Hearing.{Hears, HasNoRoom}
 use Rattle.streams.specs.InTalk.{heard_by, TalkHears, stage_by}
 use Rattle.streams.specs.Streams.{Past, IsGoing}
-use Rattle.streams.specs.State.{Streaming, Stands, Kind, is_open, has_closed}
+use Rattle.streams.specs.State.{Streaming, Stands, is_open, has_closed}
 use Rattle.serving.specs.Served.{Goes, HandsOut, with_sent}
 use Rattle.serving.specs.Steps.{Sends, Closes, CloseRunsOut, Counts, CountRunsOut, WasAsked, WasClosed}
 
@@ -49,7 +49,7 @@ pub record AnyTalkStepRows (H : Type 0) : Type 0 where
       → TalkRunsOut side (output ++ more) got piece ⊎ (HasNoRoom side got piece waiting × (more ≡ []))))
 
 module _ {H : Type 0} (step : H → HandlerCall → H → Type 0) (is_closed is_finished : H → Bool) where
-  pub record AnyStepRows (kind : Kind) : Type 0 where
+  pub record AnyStepRows (was : Stage H) : Type 0 where
     -- a handler that isn't closed is asked, and one that is closed gives nothing
     pub gives : (old new : H) (room : ℕ) (bytes : List ℕ) → is_closed old ≡ false
         → Gives step is_closed old room new bytes ↔ ((length bytes ≤ room) × step old (Give room bytes) new)
@@ -92,28 +92,32 @@ module _ {H : Type 0} (step : H → HandlerCall → H → Type 0) (is_closed is_
         × (is_live role past n ≡ true) × (0 < given_back role n past (Did (Taken n (untaken role past n))))
         × (old.room < 12))
     pub was_asked : (role : Role) (past : List Item) (fed sent : List ℕ) (n : ℕ) (so_far : Past H) (session : State)
-        (stream : Streaming H) → WasAsked step is_closed is_finished kind role past fed sent n so_far session stream
-        ↔ ((goes : Goes step is_closed is_finished kind role past fed sent n so_far session stream)
+        (stream : Streaming H) → WasAsked step is_closed is_finished was role past fed sent n so_far session stream
+        ↔ ((goes : Goes step is_closed is_finished was role past fed sent n so_far session stream)
         × (is_live role goes.now n ≡ is_live role past n) × (closed role goes.now n ≡ closed role past n)
         × (is_live role goes.now n ≡ true → closed role goes.now n ≡ false
-        → is_open is_closed stream.stage ≡ true → goes.left ≡ Some (credit role goes.now n))
+        → is_open is_closed stream.stage ≡ true
+        → (goes.left ≡ Some (credit role goes.now n)) × (is_open is_closed was ≡ true))
         × (is_live role goes.now n ≡ true → closed role goes.now n ≡ false → 0 < credit role goes.now n
         → stream.waiting ≡ []) × (untaken role goes.now n ≡ untaken role past n))
     pub was_closed : (role : Role) (past : List Item) (fed sent : List ℕ) (n : ℕ) (so_far : Past H) (handler : Option H)
         (session : State) (stream : Streaming H)
-        → WasClosed step is_closed is_finished kind role past fed sent n so_far handler session stream
-        ↔ ((goes : Goes step is_closed is_finished kind role past fed sent n so_far session stream)
+        → WasClosed step is_closed is_finished was role past fed sent n so_far handler session stream
+        ↔ ((goes : Goes step is_closed is_finished was role past fed sent n so_far session stream)
         × (is_live role goes.now n ≡ true → closed role goes.now n ≡ false
-        → is_open is_closed stream.stage ≡ true → goes.left ≡ Some (credit role goes.now n))
+        → is_open is_closed stream.stage ≡ true
+        → (goes.left ≡ Some (credit role goes.now n)) × (is_open is_closed was ≡ true))
         × (is_live role goes.now n ≡ true → closed role goes.now n ≡ false → 0 < credit role goes.now n
         → stream.waiting ≡ [])
         × HandsOut step is_closed is_finished (with_sent role goes.now n so_far goes.left) handler stream
         × (is_live role goes.now n ≡ true → has_closed is_closed stream.stage ≡ true → stream.waiting ≡ []
         → closed role goes.now n ≡ true)
         × (is_live role goes.now n ≡ true → closed role goes.now n ≡ false
-        → IfSome handler (λ it. is_closed it ≡ false → goes.left ≡ Some (credit role goes.now n)))
+        → IfSome handler (λ it. is_closed it ≡ false → (goes.left ≡ Some (credit role goes.now n))
+        × (is_open is_closed was ≡ true)))
         × (is_live role past n ≡ true → closed role past n ≡ false
-        → IfSome handler (λ it. is_closed it ≡ false → goes.left ≡ Some (credit role goes.now n)))
+        → IfSome handler (λ it. is_closed it ≡ false → (goes.left ≡ Some (credit role goes.now n))
+        × (is_open is_closed was ≡ true)))
         × (closed role past n ≡ false → closed role goes.now n ≡ true
         → (stream.waiting ≡ []) × (has_closed is_closed stream.stage ≡ true))
         × (untaken role goes.now n ≡ untaken role past n))

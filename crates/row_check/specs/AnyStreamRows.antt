@@ -34,7 +34,7 @@ use Rattle.streams.specs.Handled.{AskedLast, Handled}
 use Rattle.streams.specs.Streams.{Past, fresh, and_call, with_call, IsGoing, HasAgreed, IsEarly, IsServed}
 use Rattle.streams.specs.State.{Streaming, Stands, is_talking, awaits_handler, handler_of, holds_handler, is_open}
 use Rattle.streams.specs.State.{Answered, is_over, has_closed}
-use Rattle.streams.specs.State.{has_finished, was_handed_out, answering, Kind, kind_of, InTalk, Awaiting, Served}
+use Rattle.streams.specs.State.{has_finished, was_handed_out, answering, kind_of, InTalk, Awaiting, Served}
 use Rattle.streams.specs.State.{HandedOut}
 use Rattle.streams.specs.Hearing.{used_of, Hears, HasHeard, Moves, HasNoRoom, HasRunOut, RunsOut}
 use Rattle.streams.specs.Laws.{OneSplit, counted_from}
@@ -236,14 +236,15 @@ module _ {H : Type 0} (step : H → HandlerCall → H → Type 0) where
 module _ {H : Type 0} (step : H → HandlerCall → H → Type 0) (fails : H → Asked → ℕ → Type 0)
     (is_closed is_finished : H → Bool) where
   -- A stream gave what it has, and this holds of it.
-  abbrev pub Gave : (kind : Kind) → Role → List Item → ℕ → Past H → (Streaming H → Type 0) → Type 0
-  Gave kind role past n so_far fact = (stream : Streaming H) × (left : Option ℕ)
+  abbrev pub Gave : (was : Stage H) → Role → List Item → ℕ → Past H → (Streaming H → Type 0) → Type 0
+  Gave was role past n so_far fact = (stream : Streaming H) × (left : Option ℕ)
       × Stands step stream (with_sent role past n so_far left) × (stream.waiting ≡ [])
-      × (is_open is_closed stream.stage ≡ true → left ≡ Some (credit role past n))
-      × (kind_of stream.stage ≡ kind) × fact stream
+      × (is_open is_closed stream.stage ≡ true
+      → (left ≡ Some (credit role past n)) × (is_open is_closed was ≡ true))
+      × (kind_of stream.stage ≡ kind_of was) × fact stream
 
-  -- Serving a stream: these facts, and no others
-  pub record AnyServingRows (kind : Kind) : Type 0 where
+  -- Serving a stream that was at this stage: these facts, and no others
+  pub record AnyServingRows (was : Stage H) : Type 0 where
     -- its handler may be asked to give, where it answers so, and for nothing else
     pub asks_to_give : (role : Role) (past : List Item) (n room : ℕ) (stream : Streaming H) (bytes : List ℕ)
         → MayBeAsked step is_closed role past n stream (Give room bytes)
@@ -274,39 +275,39 @@ module _ {H : Type 0} (step : H → HandlerCall → H → Type 0) (fails : H →
           left = left;
         }
     pub writes : (role : Role) (past : List Item) (n m : ℕ) (so_far : Past H) (pieces : List (List ℕ))
-        → IsDue step is_closed is_finished kind role past n so_far (Write m pieces)
+        → IsDue step is_closed is_finished was role past n so_far (Write m pieces)
         ↔ ((m ≡ n) × ((stream : Streaming H) × (left : Option ℕ)
         × Stands step stream (with_sent role (Did (Write m pieces) ∷ past) n so_far left)
-        × (kind_of stream.stage ≡ kind)))
+        × (kind_of stream.stage ≡ kind_of was)))
     pub takes : (role : Role) (past : List Item) (n m count : ℕ) (so_far : Past H)
-        → IsDue step is_closed is_finished kind role past n so_far (Taken m count) ↔ ((m ≡ n)
+        → IsDue step is_closed is_finished was role past n so_far (Taken m count) ↔ ((m ≡ n)
         × (count ≡ untaken role past n) × (((closed role past n ≡ true) × ((stream : Streaming H) × (left : Option ℕ)
-        × Stands step stream (with_sent role past n so_far left) × (kind_of stream.stage ≡ kind)))
-        ⊎ ((0 < credit role past n) × Gave kind role past n so_far (λ stream. Unit {0}))))
+        × Stands step stream (with_sent role past n so_far left) × (kind_of stream.stage ≡ kind_of was)))
+        ⊎ ((0 < credit role past n) × Gave was role past n so_far (λ stream. Unit {0}))))
     pub closes : (role : Role) (past : List Item) (n m : ℕ) (so_far : Past H)
-        → IsDue step is_closed is_finished kind role past n so_far (Close m) ↔ ((m ≡ n)
-        × Gave kind role past n so_far (λ stream.
+        → IsDue step is_closed is_finished was role past n so_far (Close m) ↔ ((m ≡ n)
+        × Gave was role past n so_far (λ stream.
         (has_closed is_closed stream.stage ≡ true) ⊎ (has_finished is_finished stream.stage ≡ true)))
     pub does_nothing_else : (role : Role) (past : List Item) (n m code : ℕ) (so_far : Past H)
-        → ¬ IsDue step is_closed is_finished kind role past n so_far (Start m)
-        × ¬ IsDue step is_closed is_finished kind role past n so_far (Reset m)
-        × ¬ IsDue step is_closed is_finished kind role past n so_far (Act.GoAway code)
+        → ¬ IsDue step is_closed is_finished was role past n so_far (Start m)
+        × ¬ IsDue step is_closed is_finished was role past n so_far (Reset m)
+        × ¬ IsDue step is_closed is_finished was role past n so_far (Act.GoAway code)
     pub no_act : (role : Role) (past : List Item) (n : ℕ) (so_far : Past H)
-        → AreDue step is_closed is_finished kind role past n so_far []
+        → AreDue step is_closed is_finished was role past n so_far []
     pub acts : (role : Role) (past : List Item) (n : ℕ) (so_far : Past H) (act : Act) (acts : List Act)
-        → AreDue step is_closed is_finished kind role past n so_far (act ∷ acts)
-        ↔ (IsDue step is_closed is_finished kind role (map Did acts ++ past) n so_far act
-        × AreDue step is_closed is_finished kind role past n so_far acts)
+        → AreDue step is_closed is_finished was role past n so_far (act ∷ acts)
+        ↔ (IsDue step is_closed is_finished was role (map Did acts ++ past) n so_far act
+        × AreDue step is_closed is_finished was role past n so_far acts)
     pub goes : (role : Role) (past : List Item) (fed sent : List ℕ) (n : ℕ) (so_far : Past H) (session : State)
         (stream : Streaming H) (acts : List Act) (left : Option ℕ)
-        → AreDue step is_closed is_finished kind role past n so_far acts
+        → AreDue step is_closed is_finished was role past n so_far acts
         → SessionStands role (map Did acts ++ past) fed sent session
         → Stands step stream (with_sent role (map Did acts ++ past) n so_far left)
-        → Goes step is_closed is_finished kind role past fed sent n so_far session stream
+        → Goes step is_closed is_finished was role past fed sent n so_far session stream
     pub goes_is : (role : Role) (past : List Item) (fed sent : List ℕ) (n : ℕ) (so_far : Past H) (session : State)
         (stream : Streaming H)
-        → (g : Goes step is_closed is_finished kind role past fed sent n so_far session stream)
-        → (g.now ≡ map Did g.acts ++ past) × AreDue step is_closed is_finished kind role past n so_far g.acts
+        → (g : Goes step is_closed is_finished was role past fed sent n so_far session stream)
+        → (g.now ≡ map Did g.acts ++ past) × AreDue step is_closed is_finished was role past n so_far g.acts
         × SessionStands role g.now fed sent session × Stands step stream (with_sent role g.now n so_far g.left)
     pub settled : (role : Role) (past : List Item) (n : ℕ) (left : Option ℕ) (stream : Streaming H)
         → IsSettled step is_closed is_finished role past n left stream
@@ -321,23 +322,25 @@ module _ {H : Type 0} (step : H → HandlerCall → H → Type 0) (fails : H →
         → HandsOut step is_closed is_finished so_far None stream ↔ (has_finished is_finished stream.stage ≡ false)
     pub serves : (role : Role) (past : List Item) (fed sent : List ℕ) (n : ℕ) (so_far : Past H) (handler : Option H)
         (session : State) (stream : Streaming H)
-        (g : Goes step is_closed is_finished kind role past fed sent n so_far session stream)
+        (g : Goes step is_closed is_finished was role past fed sent n so_far session stream)
         → HandsOut step is_closed is_finished (with_sent role g.now n so_far g.left) handler stream
         → (is_live role g.now n ≡ true → IsSettled step is_closed is_finished role g.now n g.left stream)
         → (is_live role past n ≡ true → closed role past n ≡ false
-        → IfSome handler (λ it. is_closed it ≡ false → g.left ≡ Some (credit role g.now n)))
+        → IfSome handler (λ it. is_closed it ≡ false → (g.left ≡ Some (credit role g.now n))
+        × (is_open is_closed was ≡ true)))
         → (closed role past n ≡ false → closed role g.now n ≡ true
         → (stream.waiting ≡ []) × (has_closed is_closed stream.stage ≡ true))
         → (closed role g.now n ≡ false → untaken role g.now n ≢ untaken role past n → 0 < credit role g.now n)
-        → Serves step is_closed is_finished kind role past fed sent n so_far handler session stream
+        → Serves step is_closed is_finished was role past fed sent n so_far handler session stream
     pub serves_is : (role : Role) (past : List Item) (fed sent : List ℕ) (n : ℕ) (so_far : Past H) (handler : Option H)
         (session : State) (stream : Streaming H)
-        → Serves step is_closed is_finished kind role past fed sent n so_far handler session stream
-        → (g : Goes step is_closed is_finished kind role past fed sent n so_far session stream)
+        → Serves step is_closed is_finished was role past fed sent n so_far handler session stream
+        → (g : Goes step is_closed is_finished was role past fed sent n so_far session stream)
         × HandsOut step is_closed is_finished (with_sent role g.now n so_far g.left) handler stream
         × (is_live role g.now n ≡ true → IsSettled step is_closed is_finished role g.now n g.left stream)
         × (is_live role past n ≡ true → closed role past n ≡ false
-        → IfSome handler (λ it. is_closed it ≡ false → g.left ≡ Some (credit role g.now n)))
+        → IfSome handler (λ it. is_closed it ≡ false → (g.left ≡ Some (credit role g.now n))
+        × (is_open is_closed was ≡ true)))
         × (closed role past n ≡ false → closed role g.now n ≡ true
         → (stream.waiting ≡ []) × (has_closed is_closed stream.stage ≡ true))
         × (closed role g.now n ≡ false → untaken role g.now n ≢ untaken role past n → 0 < credit role g.now n)
@@ -444,11 +447,11 @@ module _ {H : Type 0} (step : H → HandlerCall → H → Type 0) (fails : H →
     -- what serving comes to
     pub came_on : (so_far : Past H) (old stream : Streaming H) (before session : State)
         → came_to so_far old before outcomes.Going session stream
-        ↔ (asked_so old stream so_far (λ now. Serves step is_closed is_finished (kind_of old.stage) role past fed sent n
+        ↔ (asked_so old stream so_far (λ now. Serves step is_closed is_finished old.stage role past fed sent n
         now None session stream) × (kind_of stream.stage ≡ kind_of old.stage))
     pub came_done : (so_far : Past H) (old stream : Streaming H) (before session : State) (handler : H)
         → came_to so_far old before (outcomes.Done handler) session stream
-        ↔ (asked_so old stream so_far (λ now. Serves step is_closed is_finished (kind_of old.stage) role past fed sent n
+        ↔ (asked_so old stream so_far (λ now. Serves step is_closed is_finished old.stage role past fed sent n
         now (Some handler) session stream) × (kind_of old.stage ≡ Served))
     pub came_refused : (so_far : Past H) (old stream : Streaming H) (before session : State)
         → ¬ came_to so_far old before outcomes.Refused session stream
@@ -564,14 +567,14 @@ module _ {H : Type 0} (step : H → HandlerCall → H → Type 0) (fails : H →
         × (length bytes ≤ amount) × (room < frames_length (length bytes))
         × Stands step stream (record so_far { sent = so_far.sent ++ bytes; left = left })
     -- the act that is due next finds none
-    pub undone : (kind : Kind) (so_far : Past H) (session : State) (stream : Streaming H) (act : Act)
-        → (goes : Goes step is_closed is_finished kind role past fed sent n so_far session stream)
-        → IsDue step is_closed is_finished kind role goes.now n so_far act → SendsFrame role goes.now act
-        → session.room < 12 → IsUndone step is_closed is_finished kind role past fed sent n so_far session stream
-    pub undone_is : (kind : Kind) (so_far : Past H) (session : State) (stream : Streaming H)
-        → IsUndone step is_closed is_finished kind role past fed sent n so_far session stream
-        → (act : Act) × ((goes : Goes step is_closed is_finished kind role past fed sent n so_far session stream)
-        × IsDue step is_closed is_finished kind role goes.now n so_far act × SendsFrame role goes.now act)
+    pub undone : (was : Stage H) (so_far : Past H) (session : State) (stream : Streaming H) (act : Act)
+        → (goes : Goes step is_closed is_finished was role past fed sent n so_far session stream)
+        → IsDue step is_closed is_finished was role goes.now n so_far act → SendsFrame role goes.now act
+        → session.room < 12 → IsUndone step is_closed is_finished was role past fed sent n so_far session stream
+    pub undone_is : (was : Stage H) (so_far : Past H) (session : State) (stream : Streaming H)
+        → IsUndone step is_closed is_finished was role past fed sent n so_far session stream
+        → (act : Act) × ((goes : Goes step is_closed is_finished was role past fed sent n so_far session stream)
+        × IsDue step is_closed is_finished was role goes.now n so_far act × SendsFrame role goes.now act)
         × (session.room < 12)
     pub asking_runs_out : (so_far : Past H) (before session : State) (old stream : Streaming H)
         → AskingRunsOut step role past n is_closed so_far old before session stream ↔ ((session ≡ before)
@@ -579,16 +582,15 @@ module _ {H : Type 0} (step : H → HandlerCall → H → Type 0) (fails : H →
         × ((amount : ℕ) × (open_credit role past n ≡ Some amount) × (0 < amount)))
         ⊎ ((kind_of stream.stage ≡ kind_of old.stage)
         × asked_so old stream so_far (λ now. IsUnwritten step role past n now before.room stream))))
-    pub no_room : (kind : Kind) (so_far : Past H) (before session : State) (old stream : Streaming H)
-        → HasNoRoomLeft step is_closed is_finished kind role past fed sent n so_far old before session stream
+    pub no_room : (was : Stage H) (so_far : Past H) (before session : State) (old stream : Streaming H)
+        → HasNoRoomLeft step is_closed is_finished was role past fed sent n so_far old before session stream
         ↔ (AskingRunsOut step role past n is_closed so_far old before session stream
         ⊎ (IsKept old stream × asked_so old stream so_far (λ now.
-        IsUndone step is_closed is_finished kind role past fed sent n now session stream)))
+        IsUndone step is_closed is_finished was role past fed sent n now session stream)))
     pub runs_out_serving : (so_far : Past H) (before session : State) (old stream : Streaming H)
         → RunsOutServing step is_closed is_finished role past fed sent n before so_far old session stream
         ↔ (WasAnswered step is_closed role past n old
-        × HasNoRoomLeft step is_closed is_finished (kind_of old.stage) role past fed sent n so_far old before
-        session stream)
+        × HasNoRoomLeft step is_closed is_finished old.stage role past fed sent n so_far old before session stream)
     pub runs_out_behind : (call : HandlerCall) (so_far : Past H) (before session : State) (old stream : Streaming H)
         → RunsOutBehind step is_closed is_finished role past fed sent n before call so_far old session stream
         ↔ ((middle : Streaming H) × Stands step middle so_far × (middle.waiting ≡ old.waiting)

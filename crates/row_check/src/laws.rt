@@ -59,7 +59,7 @@ ghost use Rattle.row_check.specs.AnyStepRows.{AnyTalkStepRows, AnyStepRows};
 ghost use Rattle.row_check.specs.PlacedRows.{EndPlaceRows, ServedPlaceRows, AtRestRows};
 ghost use Rattle.row_check.specs.RoutedRows.{WantingRows, RoutedRows, StoppedRows, SpentRows};
 ghost use Rattle.yamux_session.specs.History.{Item};
-ghost use Rattle.streams.specs.State.{Kind};
+ghost use Rattle.streams.specs.declared.stage.Stage.{Stage};
 ghost use Rattle.std.specs.Prelude.{◌≡◌, ℕ, Bool, List};
 ghost use Rattle.peer_ids.specs.Key.{Key};
 ghost use Rattle.upgrade.specs.declared.role.ConnRole.{ConnRole};
@@ -327,7 +327,7 @@ pub fn any_stream_rows<P: Protocols>()
     ensures stages { AnyStageRows P.H }
     ensures hearing { AnyHearingRows }
     ensures standing { AnyStandingRows P.H.steps }
-    ensures serving { (kind : Kind) → AnyServingRows P.H.steps P.H.fails P.H.is_closed P.H.is_finished kind }
+    ensures serving { (was : Stage P.H) → AnyServingRows P.H.steps P.H.fails P.H.is_closed P.H.is_finished was }
     ensures directions { AnyDirectionRows P.makes_inbound P.makes_outbound P.leads_inbound P.leads_outbound }
     ensures routing { (role : Role) (past : List Item) (fed sent peer : List ℕ) (n : ℕ) (protocols other : P)
         → AnyRoutingRows P.H.steps P.H.fails P.H.is_closed P.H.is_finished role past fed sent n
@@ -355,7 +355,7 @@ pub fn any_route_rows<P: Protocols>()
 /// The definitions of the steps by which a stream is served say what they are to say, whatever is in it.
 pub fn any_step_rows<H: Handler>()
     ensures talks { AnyTalkStepRows H }
-    ensures steps { (kind : Kind) → AnyStepRows H.steps H.is_closed H.is_finished kind }
+    ensures steps { (was : Stage H) → AnyStepRows H.steps H.is_closed H.is_finished was }
 {}
 
 /// The definitions of which entries may stand where, and of where a stream is at rest, say of worked lists what they

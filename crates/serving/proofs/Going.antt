@@ -4,7 +4,7 @@ use Rattle.std.specs.Prelude.{IfSome, IfNone}
 use Rattle.std.specs.List.{concat}
 use Rattle.std.proofs.lemmas.Bool.Decides.{nat_tests}
 use Rattle.std.proofs.lemmas.List.{append-nil}
-use Rattle.handlers.specs.Calls.{HandlerCall}
+use Rattle.handlers.specs.Calls.{HandlerCall, Take, Give, End}
 use Rattle.yamux_session.specs.declared.event.Role.{Role}
 use Rattle.yamux_session.specs.History.{Item, Act}
 use Rattle.yamux_session.specs.History.Item.{Did}
@@ -18,8 +18,8 @@ use Rattle.yamux_session.specs.State.{State, Stands as SessionStands}
 use Rattle.streams.specs.declared.stage.Stage.{Stage}
 use Rattle.streams.specs.declared.stage.Stage.TheVariants as stages
 use Rattle.streams.specs.Streams.{Past, IsServed, with_call}
-use Rattle.streams.specs.State.{Streaming, Stands, StandsAt, Kind, Served, kind_of, is_open, has_closed, has_finished}
-use Rattle.serving.specs.Served.{Asking, Goes, GaveAll, HasGiven, HasSent, HandsOut, Serves, with_sent}
+use Rattle.streams.specs.State.{Streaming, Stands, StandsAt, Served, kind_of, is_open, has_closed, has_finished}
+use Rattle.serving.specs.Served.{MayBeAsked, IsUnasked, Asking, Goes, GaveAll, HasGiven, HasSent, HandsOut, Serves, with_sent}
 use Rattle.serving.specs.Wanting.{IsUndone}
 use Rattle.serving.specs.Steps.{Sends, WasAsked, WasClosed, Closes, Counts, CloseRunsOut, CountRunsOut}
 use Rattle.serving.proofs.Acts.{taken_keeps, none_left, has_written, is_closed_then, closing_writes_nothing, closing_keeps_credit, closing_takes_nothing}
@@ -32,15 +32,15 @@ empty_or (x ∷ xs) h = absurd (h (λ e. cc e))
 not_both : {b : Bool} → b ≡ true → b ≡ false → ⊥
 not_both on off = let e : true ≡ false = sym on ∙ off in cc e
 
--- a stream of this kind is one still, or its handler, which served it, is handed out
-abbrev pub WasOf : {H : Type 0} → Kind → Option H → Streaming H → Type 0
-WasOf kind None x = kind_of x.stage ≡ kind
-WasOf kind (Some it) x = kind ≡ Served
+-- a stream that was at this stage is of that kind still, or its handler, which served it, is handed out
+abbrev pub WasOf : {H : Type 0} → Stage H → Option H → Streaming H → Type 0
+WasOf was_at None x = kind_of x.stage ≡ kind_of was_at
+WasOf was_at (Some it) x = kind_of was_at ≡ Served
 
-module _ {H : Type 0} (step : H → HandlerCall → H → Type 0) (is_closed is_finished : H → Bool) (kind : Kind) where
+module _ {H : Type 0} (step : H → HandlerCall → H → Type 0) (is_closed is_finished : H → Bool) (was_at : Stage H) where
   begins : (role : Role) (past : List Item) (fed sent : List ℕ) (n : ℕ) (so_far : Past H) (session : State) (x : Streaming H)
       → SessionStands role past fed sent session → Stands step x so_far → so_far.sent ≡ written role past n
-      → Goes step is_closed is_finished kind role past fed sent n so_far session x
+      → Goes step is_closed is_finished was_at role past fed sent n so_far session x
   begins role past fed sent n so_far session x at stands e = record {
     acts = [];
     now = past;
@@ -54,7 +54,7 @@ module _ {H : Type 0} (step : H → HandlerCall → H → Type 0) (is_closed is_
   -- this direction isn't open: the stream isn't asked
   pub not_asked : (role : Role) (past : List Item) (fed sent : List ℕ) (n : ℕ) (so_far : Past H) (session : State) (x : Streaming H)
       → SessionStands role past fed sent session → Stands step x so_far → so_far.sent ≡ written role past n → open_credit role past n ≡ None
-      → Asking step is_closed role past n x x so_far (λ now. WasAsked step is_closed is_finished kind role past fed sent n now session x)
+      → Asking step is_closed role past n x x so_far (λ now. WasAsked step is_closed is_finished was_at role past fed sent n now session x)
   unfolding begins
   not_asked role past fed sent n so_far session x at stands e none = (
     None,
@@ -73,8 +73,10 @@ module _ {H : Type 0} (step : H → HandlerCall → H → Type 0) (is_closed is_
   module _ (acts_do : ActsDo) (acts_move : ActsMove) where
     asked_by : (role : Role) (past : List Item) (fed sent : List ℕ) (n amount : ℕ) (so_far : Past H) (session : State) (x : Streaming H)
         → (s : Sends step is_closed role past fed sent n amount so_far session x) → so_far.sent ≡ written role past n → open_credit role past n ≡ Some amount
-        → (s.acts ≡ Write n s.pieces ∷ []) ⊎ ((s.acts ≡ []) × (s.pieces ≡ [])) → kind_of x.stage ≡ kind → WasAsked step is_closed is_finished kind role past fed sent n so_far session x
-    asked_by role past fed sent n amount so_far session x s e is_open (inl are) same_kind =
+        → (s.acts ≡ Write n s.pieces ∷ []) ⊎ ((s.acts ≡ []) × (s.pieces ≡ [])) → kind_of x.stage ≡ kind_of was_at
+        → (is_live role past n ≡ true → closed role past n ≡ false → is_open is_closed x.stage ≡ true → is_open is_closed was_at ≡ true)
+        → WasAsked step is_closed is_finished was_at role past fed sent n so_far session x
+    asked_by role past fed sent n amount so_far session x s e is_open (inl are) same_kind was_open =
         let w = has_written acts_do acts_move role past n s.pieces in
         let before = (open_with role past n amount is_open).credit_is in
         let there : Stands step x (with_sent role (Did (Write n s.pieces) ∷ past) n so_far s.left) =
@@ -92,11 +94,11 @@ module _ {H : Type 0} (step : H → HandlerCall → H → Type 0) (is_closed is_
           };
           live_is = w.live_is;
           closed_is = w.closed_is;
-          asked = λ live unclosed is. s.asked is ∙ ap Some (sym left);
+          asked = λ live unclosed is. (s.asked is ∙ ap Some (sym left), was_open (sym w.live_is ∙ live) (sym w.closed_is ∙ unclosed) is);
           none_waits = λ live unclosed some. empty_or x.waiting (λ waits. let all = s.full waits in omega (arith, all, left));
           untaken_is = w.untaken_is;
         }
-    asked_by role past fed sent n amount so_far session x s e is_open (inr (none, nothing)) same_kind =
+    asked_by role past fed sent n amount so_far session x s e is_open (inr (none, nothing)) same_kind was_open =
         let before = (open_with role past n amount is_open).credit_is in
         let no_bytes : concat s.pieces ≡ [] = ap concat nothing in
         let same : so_far.sent ++ concat s.pieces ≡ written role past n = ap (λ t. so_far.sent ++ t) no_bytes ∙ append-nil so_far.sent ∙ e in
@@ -114,31 +116,45 @@ module _ {H : Type 0} (step : H → HandlerCall → H → Type 0) (is_closed is_
           };
           live_is = refl;
           closed_is = refl;
-          asked = λ live unclosed is. s.asked is ∙ ap Some (sym left);
+          asked = λ live unclosed is. (s.asked is ∙ ap Some (sym left), was_open live unclosed is);
           none_waits = λ live unclosed some. empty_or x.waiting (λ waits. let all = s.full waits in omega (arith, all, left));
           untaken_is = refl;
         }
 
+    -- one that isn't closed behind that wasn't before
+    opened_before : (role : Role) (past : List Item) (n : ℕ) (gave : Option HandlerCall) (old x : Streaming H) → IfSome gave (MayBeAsked step is_closed role past n old)
+        → IfNone gave (IsUnasked step is_closed role past n old × IsUnasked step is_closed role past n x)
+        → is_live role past n ≡ true → closed role past n ≡ false → is_open is_closed x.stage ≡ true → is_open is_closed old.stage ≡ true
+    opened_before role past n None old x may unasked live unclosed is = absurd (not_both is (unasked.1 live unclosed))
+    opened_before role past n (Some (Give room bytes)) old x may unasked live unclosed is = may.2
+    opened_before role past n (Some (Take bytes)) old x may unasked live unclosed is = absurd may
+    opened_before role past n (Some End) old x may unasked live unclosed is = absurd may
+
     -- what the stream gave was written, where it gave anything
     pub was_asked : (role : Role) (past : List Item) (fed sent : List ℕ) (n amount : ℕ) (so_far : Past H) (session : State) (old x : Streaming H)
         → Asking step is_closed role past n old x so_far (λ now. Sends step is_closed role past fed sent n amount now session x) → so_far.sent ≡ written role past n
-        → open_credit role past n ≡ Some amount → kind_of x.stage ≡ kind
-        → Asking step is_closed role past n old x so_far (λ now. WasAsked step is_closed is_finished kind role past fed sent n now session x)
-    was_asked role past fed sent n amount so_far session old x (gave, may, s, unasked) e is_open same_kind =
-        (gave, may, asked_by role past fed sent n amount (with_call so_far gave) session x s e is_open s.acts_are same_kind, unasked)
+        → open_credit role past n ≡ Some amount → kind_of x.stage ≡ kind_of was_at → old.stage ≡ was_at
+        → Asking step is_closed role past n old x so_far (λ now. WasAsked step is_closed is_finished was_at role past fed sent n now session x)
+    was_asked role past fed sent n amount so_far session old x (gave, may, s, unasked) e there same_kind same_stage = (
+      gave,
+      may,
+      asked_by role past fed sent n amount (with_call so_far gave) session x s e there s.acts_are same_kind
+          (λ live unclosed is. ap (is_open is_closed) (sym same_stage) ∙ opened_before role past n gave old x may unasked live unclosed is),
+      unasked,
+    )
 
     -- a handler that is finished is handed out
     pub record HasFinished (role : Role) (past : List Item) (fed sent : List ℕ) (n : ℕ) (so_far : Past H)
         (handler : Option H) (session : State) (x : Streaming H) : Type 0 where
-      pub was_asked : WasAsked step is_closed is_finished kind role past fed sent n so_far session x
+      pub was_asked : WasAsked step is_closed is_finished was_at role past fed sent n so_far session x
       pub handed_out : HandsOut step is_closed is_finished (with_sent role was_asked.goes.now n so_far was_asked.goes.left) handler x
       pub asked_last : is_live role was_asked.goes.now n ≡ true → closed role was_asked.goes.now n ≡ false
-          → IfSome handler (λ it. is_closed it ≡ false → was_asked.goes.left ≡ Some (credit role was_asked.goes.now n))
+          → IfSome handler (λ it. is_closed it ≡ false → (was_asked.goes.left ≡ Some (credit role was_asked.goes.now n)) × (is_open is_closed was_at ≡ true))
 
     handed_on : (role : Role) (past : List Item) (fed sent : List ℕ) (n : ℕ) (so_far : Past H) (session : State) (old new : Streaming H)
-        → (a : WasAsked step is_closed is_finished kind role past fed sent n so_far session old) → new ≡ record old { stage = stages.Done }
+        → (a : WasAsked step is_closed is_finished was_at role past fed sent n so_far session old) → new ≡ record old { stage = stages.Done }
         → Stands step new (with_sent role a.goes.now n so_far a.goes.left)
-        → WasAsked step is_closed is_finished kind role past fed sent n so_far session new
+        → WasAsked step is_closed is_finished was_at role past fed sent n so_far session new
     handed_on role past fed sent n so_far session old new a is stands =
         let shut : is_open is_closed new.stage ≡ false = ap (λ (x : Streaming H). is_open is_closed x.stage) is in
         record {
@@ -159,7 +175,7 @@ module _ {H : Type 0} (step : H → HandlerCall → H → Type 0) (is_closed is_
         }
 
     pub has_finished_on : (role : Role) (past : List Item) (fed sent : List ℕ) (n : ℕ) (so_far : Past H) (session : State) (handler : Option H) (old new : Streaming H)
-        → WasAsked step is_closed is_finished kind role past fed sent n so_far session old
+        → WasAsked step is_closed is_finished was_at role past fed sent n so_far session old
         → IfSome handler (λ it. (old.stage ≡ stages.Serving it) × (is_finished it ≡ true) × (new ≡ record old { stage = stages.Done }))
         → IfNone handler ((has_finished is_finished old.stage ≡ false) × (new ≡ old))
         → ((past : Past H) → Stands step old past → Stands step new past)
@@ -168,7 +184,7 @@ module _ {H : Type 0} (step : H → HandlerCall → H → Type 0) (is_closed is_
     has_finished_on role past fed sent n so_far session None old new a some none stands =
         let same : new ≡ old = none.1 in
         record {
-          was_asked = subst (λ (x : Streaming H). WasAsked step is_closed is_finished kind role past fed sent n so_far session x) (sym same) a;
+          was_asked = subst (λ (x : Streaming H). WasAsked step is_closed is_finished was_at role past fed sent n so_far session x) (sym same) a;
           handed_out = (tt, ap (λ (x : Streaming H). has_finished is_finished x.stage) same ∙ none.0);
           asked_last = λ live unclosed. tt;
         }
@@ -206,19 +222,19 @@ module _ {H : Type 0} (step : H → HandlerCall → H → Type 0) (is_closed is_
 
     -- a handler that is handed out was held before
     has_sent : (role : Role) (now : List Item) (n : ℕ) (so_far : Past H) (left : Option ℕ) (handler : Option H) (x : Streaming H)
-        → HandsOut step is_closed is_finished (with_sent role now n so_far left) handler x → WasOf kind handler x
-        → Stands step x (with_sent role now n so_far left) → HasSent step is_closed is_finished kind role now n so_far
+        → HandsOut step is_closed is_finished (with_sent role now n so_far left) handler x → WasOf was_at handler x
+        → Stands step x (with_sent role now n so_far left) → HasSent step is_closed is_finished was_at role now n so_far
     has_sent role now n so_far left None x out was stands = record { stream = x; left = left; stands = stands; kind_is = was }
     has_sent role now n so_far left (Some it) x out was stands =
         record { stream = record { waiting = x.waiting; stage = stages.Serving it }; left = left; stands = out.0.0; kind_is = sym was }
 
     gave_all : (role : Role) (now : List Item) (n : ℕ) (so_far : Past H) (left : Option ℕ) (handler : Option H) (x : Streaming H)
         → HandsOut step is_closed is_finished (with_sent role now n so_far left) handler x
-        → WasOf kind handler x
-        → IfSome handler (λ it. is_closed it ≡ false → left ≡ Some (credit role now n))
+        → WasOf was_at handler x
+        → IfSome handler (λ it. is_closed it ≡ false → (left ≡ Some (credit role now n)) × (is_open is_closed was_at ≡ true))
         → Stands step x (with_sent role now n so_far left) → x.waiting ≡ []
-        → (is_open is_closed x.stage ≡ true → left ≡ Some (credit role now n))
-        → GaveAll step is_closed is_finished kind role now n so_far
+        → (is_open is_closed x.stage ≡ true → (left ≡ Some (credit role now n)) × (is_open is_closed was_at ≡ true))
+        → GaveAll step is_closed is_finished was_at role now n so_far
     gave_all role now n so_far left None x out was asked_last stands none asked =
         record { stream = x; left = left; stands = stands; none_waits = none; asked = asked; kind_is = was }
     gave_all role now n so_far left (Some it) x out was asked_last stands none asked = record {
@@ -233,11 +249,11 @@ module _ {H : Type 0} (step : H → HandlerCall → H → Type 0) (is_closed is_
     -- and finished
     has_given : (role : Role) (now : List Item) (n : ℕ) (so_far : Past H) (left : Option ℕ) (handler : Option H) (x : Streaming H)
         → HandsOut step is_closed is_finished (with_sent role now n so_far left) handler x
-        → WasOf kind handler x
-        → IfSome handler (λ it. is_closed it ≡ false → left ≡ Some (credit role now n))
+        → WasOf was_at handler x
+        → IfSome handler (λ it. is_closed it ≡ false → (left ≡ Some (credit role now n)) × (is_open is_closed was_at ≡ true))
         → Stands step x (with_sent role now n so_far left) → x.waiting ≡ []
-        → (is_open is_closed x.stage ≡ true → left ≡ Some (credit role now n)) → has_closed is_closed x.stage ≡ true
-        → HasGiven step is_closed is_finished kind role now n so_far
+        → (is_open is_closed x.stage ≡ true → (left ≡ Some (credit role now n)) × (is_open is_closed was_at ≡ true)) → has_closed is_closed x.stage ≡ true
+        → HasGiven step is_closed is_finished was_at role now n so_far
     unfolding gave_all
     has_given role now n so_far left None x out was asked_last stands none asked over =
         record { all = gave_all role now n so_far left None x out was asked_last stands none asked; over = inl over }
@@ -246,36 +262,36 @@ module _ {H : Type 0} (step : H → HandlerCall → H → Type 0) (is_closed is_
 
     -- what came may be taken
     may_take : (role : Role) (now : List Item) (n : ℕ) (so_far : Past H) → (0 < credit role now n) ⊎ (closed role now n ≡ true)
-        → HasSent step is_closed is_finished kind role now n so_far
-        → (closed role now n ≡ false → 0 < credit role now n → GaveAll step is_closed is_finished kind role now n so_far)
-        → ((closed role now n ≡ true) × HasSent step is_closed is_finished kind role now n so_far) ⊎ ((0 < credit role now n) × GaveAll step is_closed is_finished kind role now n so_far)
+        → HasSent step is_closed is_finished was_at role now n so_far
+        → (closed role now n ≡ false → 0 < credit role now n → GaveAll step is_closed is_finished was_at role now n so_far)
+        → ((closed role now n ≡ true) × HasSent step is_closed is_finished was_at role now n so_far) ⊎ ((0 < credit role now n) × GaveAll step is_closed is_finished was_at role now n so_far)
     may_take role now n so_far (inr shut) sent gave = inl (shut, sent)
     may_take role now n so_far (inl some) sent gave = by_closed (closed role now n) refl where
       by_closed : (b : Bool) → closed role now n ≡ b
-          → ((closed role now n ≡ true) × HasSent step is_closed is_finished kind role now n so_far) ⊎ ((0 < credit role now n) × GaveAll step is_closed is_finished kind role now n so_far)
+          → ((closed role now n ≡ true) × HasSent step is_closed is_finished was_at role now n so_far) ⊎ ((0 < credit role now n) × GaveAll step is_closed is_finished was_at role now n so_far)
       by_closed true is = inl (is, sent)
       by_closed false is = inr (some, gave is some)
 
     -- closing is due, where the stream gives no more
     closing_is_due : (role : Role) (past : List Item) (fed sent : List ℕ) (n : ℕ) (so_far : Past H) (handler : Option H) (before : State) (x : Streaming H)
-        → (a : WasAsked step is_closed is_finished kind role past fed sent n so_far before x)
+        → (a : WasAsked step is_closed is_finished was_at role past fed sent n so_far before x)
         → HandsOut step is_closed is_finished (with_sent role a.goes.now n so_far a.goes.left) handler x
-        → WasOf kind handler x
-        → IfSome handler (λ it. is_closed it ≡ false → a.goes.left ≡ Some (credit role a.goes.now n))
+        → WasOf was_at handler x
+        → IfSome handler (λ it. is_closed it ≡ false → (a.goes.left ≡ Some (credit role a.goes.now n)) × (is_open is_closed was_at ≡ true))
         → (length x.waiting == 0) && has_closed is_closed x.stage ≡ true → is_live role a.goes.now n ≡ true → closed role a.goes.now n ≡ false
-        → HasGiven step is_closed is_finished kind role a.goes.now n so_far
+        → HasGiven step is_closed is_finished was_at role a.goes.now n so_far
     closing_is_due role past fed sent n so_far handler before x a out was asked_last is_over live unclosed =
         let given = both x.waiting (has_closed is_closed x.stage) is_over in
         has_given role a.goes.now n so_far a.goes.left handler x out was asked_last a.goes.stream_stands given.0 (a.asked live unclosed) given.1
 
     pub was_closed : (role : Role) (past : List Item) (fed sent : List ℕ) (n : ℕ) (so_far : Past H) (handler : Option H) (before session : State) (x : Streaming H)
-        → (a : WasAsked step is_closed is_finished kind role past fed sent n so_far before x)
+        → (a : WasAsked step is_closed is_finished was_at role past fed sent n so_far before x)
         → HandsOut step is_closed is_finished (with_sent role a.goes.now n so_far a.goes.left) handler x
-        → WasOf kind handler x
+        → WasOf was_at handler x
         → (is_live role a.goes.now n ≡ true → closed role a.goes.now n ≡ false
-        → IfSome handler (λ it. is_closed it ≡ false → a.goes.left ≡ Some (credit role a.goes.now n)))
+        → IfSome handler (λ it. is_closed it ≡ false → (a.goes.left ≡ Some (credit role a.goes.now n)) × (is_open is_closed was_at ≡ true)))
         → Closes role a.goes.now fed sent n ((length x.waiting == 0) && has_closed is_closed x.stage) before session
-        → WasClosed step is_closed is_finished kind role past fed sent n so_far handler session x
+        → WasClosed step is_closed is_finished was_at role past fed sent n so_far handler session x
     was_closed role past fed sent n so_far handler before session x a out was asked_last (inl (same, why)) = record {
       goes = record {
         acts = a.goes.acts;
@@ -311,7 +327,7 @@ module _ {H : Type 0} (step : H → HandlerCall → H → Type 0) (is_closed is_
             due = (
               (
                 refl,
-                subst (λ (t : List Item). HasGiven step is_closed is_finished kind role t n so_far) a.goes.now_is
+                subst (λ (t : List Item). HasGiven step is_closed is_finished was_at role t n so_far) a.goes.now_is
                     (closing_is_due role past fed sent n so_far handler before x a out was (asked_last live unclosed) is_over live unclosed),
               ),
               a.goes.due,
@@ -325,7 +341,7 @@ module _ {H : Type 0} (step : H → HandlerCall → H → Type 0) (is_closed is_
           handed_out = subst (λ t. HandsOut step is_closed is_finished (record so_far { sent = t; left = a.goes.left }) handler x) (sym (closing_writes_nothing acts_do acts_move role a.goes.now n)) out;
           over = λ live on none. shut;
           asked_still = λ live unclosed. absurd (not_both shut unclosed);
-          asked_last = λ was_live was_unclosed. subst (λ (c : ℕ). IfSome handler (λ it. is_closed it ≡ false → a.goes.left ≡ Some c))
+          asked_last = λ was_live was_unclosed. subst (λ (c : ℕ). IfSome handler (λ it. is_closed it ≡ false → (a.goes.left ≡ Some c) × (is_open is_closed was_at ≡ true)))
               (sym (closing_keeps_credit acts_do acts_move role a.goes.now n)) (asked_last live unclosed);
           closed_by = λ was_unclosed is. given;
           untaken_is = closing_takes_nothing acts_do acts_move role a.goes.now n ∙ a.untaken_is;
@@ -335,7 +351,7 @@ module _ {H : Type 0} (step : H → HandlerCall → H → Type 0) (is_closed is_
     pub left_on : (role : Role) (past : List Item) (fed sent : List ℕ) (n : ℕ) (so_far : Past H) (handler : Option H) (before session : State) (now : List Item) (x : Streaming H)
         → Closes role now fed sent n ((length x.waiting == 0) && has_closed is_closed x.stage) before session
         → ((role : Role) (past : List Item) (fed sent : List ℕ) → SessionStands role past fed sent before → open_credit role past n ≢ Some 0)
-        → (w : WasClosed step is_closed is_finished kind role past fed sent n so_far handler session x) → open_credit role w.goes.now n ≢ Some 0
+        → (w : WasClosed step is_closed is_finished was_at role past fed sent n so_far handler session x) → open_credit role w.goes.now n ≢ Some 0
     left_on role past fed sent n so_far handler before session now x (inl (same, why)) still w =
         still role w.goes.now fed sent (subst (λ (s : State). SessionStands role w.goes.now fed sent s) same w.goes.session_stands)
     left_on role past fed sent n so_far handler before session now x (inr (over, live, unclosed, stands)) still w =
@@ -348,21 +364,21 @@ module _ {H : Type 0} (step : H → HandlerCall → H → Type 0) (is_closed is_
 
     -- what came is due to be taken
     taking_is_due : (role : Role) (past : List Item) (fed sent : List ℕ) (n : ℕ) (so_far : Past H) (handler : Option H) (before : State) (x : Streaming H)
-        → (a : WasClosed step is_closed is_finished kind role past fed sent n so_far handler before x)
-        → WasOf kind handler x
+        → (a : WasClosed step is_closed is_finished was_at role past fed sent n so_far handler before x)
+        → WasOf was_at handler x
         → open_credit role a.goes.now n ≢ Some 0 → is_live role a.goes.now n ≡ true
-        → ((closed role a.goes.now n ≡ true) × HasSent step is_closed is_finished kind role a.goes.now n so_far)
-        ⊎ ((0 < credit role a.goes.now n) × GaveAll step is_closed is_finished kind role a.goes.now n so_far)
+        → ((closed role a.goes.now n ≡ true) × HasSent step is_closed is_finished was_at role a.goes.now n so_far)
+        ⊎ ((0 < credit role a.goes.now n) × GaveAll step is_closed is_finished was_at role a.goes.now n so_far)
     taking_is_due role past fed sent n so_far handler before x a was not_none live =
         may_take role a.goes.now n so_far (some_left role a.goes.now n not_none live) (has_sent role a.goes.now n so_far a.goes.left handler x a.handed_out was a.goes.stream_stands) (λ unclosed some.
         gave_all role a.goes.now n so_far a.goes.left handler x a.handed_out was (a.asked_still live unclosed) a.goes.stream_stands (a.none_waits live unclosed some) (a.asked live unclosed))
 
     -- and what came was counted as taken
     pub was_settled : (role : Role) (past : List Item) (fed sent : List ℕ) (n : ℕ) (so_far : Past H) (handler : Option H) (before session : State) (x : Streaming H)
-        → (a : WasClosed step is_closed is_finished kind role past fed sent n so_far handler before x)
-        → WasOf kind handler x
+        → (a : WasClosed step is_closed is_finished was_at role past fed sent n so_far handler before x)
+        → WasOf was_at handler x
         → Counts role a.goes.now fed sent n before session
-        → Serves step is_closed is_finished kind role past fed sent n so_far handler session x
+        → Serves step is_closed is_finished was_at role past fed sent n so_far handler session x
     was_settled role past fed sent n so_far handler before session x a was (inl (same, why)) = record {
       goes = record {
         acts = a.goes.acts;
@@ -375,7 +391,7 @@ module _ {H : Type 0} (step : H → HandlerCall → H → Type 0) (is_closed is_
       };
       handed_out = a.handed_out;
       settled = λ live. record {
-        asked = λ unclosed. a.asked live unclosed;
+        asked = λ unclosed is. (a.asked live unclosed is).0;
         none_waits = λ unclosed. a.none_waits live unclosed;
         over = a.over live;
         was_taken = by_why why live;
@@ -401,7 +417,7 @@ module _ {H : Type 0} (step : H → HandlerCall → H → Type 0) (is_closed is_
               (
                 refl,
                 ap (λ (t : List Item). untaken role t n) a.goes.now_is,
-                subst (λ (t : List Item). ((closed role t n ≡ true) × HasSent step is_closed is_finished kind role t n so_far) ⊎ ((0 < credit role t n) × GaveAll step is_closed is_finished kind role t n so_far)) a.goes.now_is
+                subst (λ (t : List Item). ((closed role t n ≡ true) × HasSent step is_closed is_finished was_at role t n so_far) ⊎ ((0 < credit role t n) × GaveAll step is_closed is_finished was_at role t n so_far)) a.goes.now_is
                     (taking_is_due role past fed sent n so_far handler before x a was not_none live),
               ),
               a.goes.due,
@@ -412,12 +428,12 @@ module _ {H : Type 0} (step : H → HandlerCall → H → Type 0) (is_closed is_
           };
           handed_out = subst (λ t. HandsOut step is_closed is_finished (record so_far { sent = t; left = a.goes.left }) handler x) (sym k.written_is) a.handed_out;
           settled = λ still. record {
-            asked = λ unclosed is. a.asked live (sym k.closed_is ∙ unclosed) is ∙ ap Some (sym k.credit_is);
+            asked = λ unclosed is. (a.asked live (sym k.closed_is ∙ unclosed) is).0 ∙ ap Some (sym k.credit_is);
             none_waits = λ unclosed some. a.none_waits live (sym k.closed_is ∙ unclosed) (omega (arith, some, k.credit_is));
             over = λ on none. k.closed_is ∙ a.over live on none;
             was_taken = λ some. none_left acts_do acts_move role a.goes.now n;
           };
-          asked_last = λ was_live unclosed. subst (λ (c : ℕ). IfSome handler (λ it. is_closed it ≡ false → a.goes.left ≡ Some c)) (sym k.credit_is)
+          asked_last = λ was_live unclosed. subst (λ (c : ℕ). IfSome handler (λ it. is_closed it ≡ false → (a.goes.left ≡ Some c) × (is_open is_closed was_at ≡ true))) (sym k.credit_is)
               (a.asked_last was_live unclosed);
           closed_by = λ unclosed is. a.closed_by unclosed (sym k.closed_is ∙ is);
           taken_by = λ unclosed differs. subst (λ (c : ℕ). 0 < c) (sym k.credit_is) (credit_left (closed role a.goes.now n) _ (some_left role a.goes.now n not_none live) (sym k.closed_is ∙ unclosed));
@@ -425,8 +441,8 @@ module _ {H : Type 0} (step : H → HandlerCall → H → Type 0) (is_closed is_
 
     -- acts were done, and session and stream stand there
     goes_still : (role : Role) (past : List Item) (fed sent : List ℕ) (n : ℕ) (so_far : Past H) (before session : State) (x : Streaming H)
-        → session ≡ before → Goes step is_closed is_finished kind role past fed sent n so_far before x
-        → Goes step is_closed is_finished kind role past fed sent n so_far session x
+        → session ≡ before → Goes step is_closed is_finished was_at role past fed sent n so_far before x
+        → Goes step is_closed is_finished was_at role past fed sent n so_far session x
     goes_still role past fed sent n so_far before session x same g = record {
       acts = g.acts;
       now = g.now;
@@ -439,13 +455,13 @@ module _ {H : Type 0} (step : H → HandlerCall → H → Type 0) (is_closed is_
 
     -- this direction isn't closed, for which memory is wanting
     pub unclosed_then : (role : Role) (past : List Item) (fed sent : List ℕ) (n : ℕ) (so_far : Past H) (handler : Option H) (before session : State) (x : Streaming H)
-        → (a : WasAsked step is_closed is_finished kind role past fed sent n so_far before x)
+        → (a : WasAsked step is_closed is_finished was_at role past fed sent n so_far before x)
         → HandsOut step is_closed is_finished (with_sent role a.goes.now n so_far a.goes.left) handler x
-        → WasOf kind handler x
+        → WasOf was_at handler x
         → (is_live role a.goes.now n ≡ true → closed role a.goes.now n ≡ false
-        → IfSome handler (λ it. is_closed it ≡ false → a.goes.left ≡ Some (credit role a.goes.now n)))
+        → IfSome handler (λ it. is_closed it ≡ false → (a.goes.left ≡ Some (credit role a.goes.now n)) × (is_open is_closed was_at ≡ true)))
         → CloseRunsOut role a.goes.now n ((length x.waiting == 0) && has_closed is_closed x.stage) before session
-        → IsUndone step is_closed is_finished kind role past fed sent n so_far session x
+        → IsUndone step is_closed is_finished was_at role past fed sent n so_far session x
     unfolding goes_still
     unclosed_then role past fed sent n so_far handler before session x a out was asked_last (same, is_over, live, unclosed, no_room) = record {
       goes = goes_still role past fed sent n so_far before session x same a.goes;
@@ -457,10 +473,10 @@ module _ {H : Type 0} (step : H → HandlerCall → H → Type 0) (is_closed is_
 
     -- what came isn't taken, for which memory is wanting
     pub untaken_then : (role : Role) (past : List Item) (fed sent : List ℕ) (n : ℕ) (so_far : Past H) (handler : Option H) (before session : State) (x : Streaming H)
-        → (a : WasClosed step is_closed is_finished kind role past fed sent n so_far handler before x)
-        → WasOf kind handler x
+        → (a : WasClosed step is_closed is_finished was_at role past fed sent n so_far handler before x)
+        → WasOf was_at handler x
         → CountRunsOut role a.goes.now n before session
-        → IsUndone step is_closed is_finished kind role past fed sent n so_far session x
+        → IsUndone step is_closed is_finished was_at role past fed sent n so_far session x
     unfolding goes_still
     untaken_then role past fed sent n so_far handler before session x a was (same, not_none, live, sends, no_room) = record {
       goes = goes_still role past fed sent n so_far before session x same a.goes;

@@ -13,7 +13,7 @@ use Rattle.streams.specs.declared.stage.Stage.{Stage}
 use Rattle.streams.specs.declared.stage.Stage.TheVariants as stages
 use Rattle.streams.specs.Handled.{AskedLast}
 use Rattle.streams.specs.Streams.{Past, HasAgreed}
-use Rattle.streams.specs.State.{StandsAt, Served, HandedOut, kind_of, is_open, has_closed, has_finished}
+use Rattle.streams.specs.State.{StandsAt, Served, kind_of, is_open, has_closed, has_finished}
 use Rattle.talks.proofs.Rows.{answer_rows}
 use Rattle.streams.proofs.Rows.{something_waits, sends_its_talk}
 use Rattle.serving.specs.Served.{MayGrow, GaveAll, with_sent}
@@ -197,9 +197,9 @@ serves_on stages.Done waiting left s over out = absurd (cc out)
 serves_on stages.Over waiting left s over out = s
 
 -- nor did one give what it has that is open, and was never asked
-may_give : (closed : Bool → Bool) (made : Bool) → closed made ≡ false → (stage : Stage Bool) (waiting : List ℕ) (left : Option ℕ)
+may_give : {T : Type 0} (closed : Bool → Bool) (made : Bool) → closed made ≡ false → (stage : Stage Bool) (waiting : List ℕ) (left : Option ℕ)
     → StandsAt Stays stage (with_sent Server talk_sent 1 (unsent_with made) left) waiting
-    → (is_open closed stage ≡ true → left ≡ Some (credit Server talk_sent 1)) → kind_of stage ≡ Served → ⊥
+    → (is_open closed stage ≡ true → (left ≡ Some (credit Server talk_sent 1)) × T) → kind_of stage ≡ Served → ⊥
 may_give closed made unclosed (stages.Talking talk None) waiting left s asked out = absurd (let e = s.early.0 in cc e)
 may_give closed made unclosed (stages.Talking talk (Some handler)) waiting left s asked out = s.early.0
 may_give closed made unclosed (stages.Agreed index) waiting left s asked out = absurd (let e = s.none_made in cc e)
@@ -207,12 +207,25 @@ may_give closed made unclosed (stages.Serving handler) waiting left s asked out 
     let same : handler ≡ made = stays_on s.made handler s.handled.was_handed.calls s.handled.was_handed.arises ∙ sym (made_of s.made_is) in
     let open_still : not (closed handler) ≡ true = ap (λ b. not (closed b)) same ∙ ap not unclosed in
     asked_never s.handled.was_handed.calls (credit Server talk_sent 1) s.handled.calls_are
-    (subst (λ (l : Option ℕ). IfSome l (AskedLast s.handled.was_handed.calls)) (asked open_still) s.handled.asked)
+    (subst (λ (l : Option ℕ). IfSome l (AskedLast s.handled.was_handed.calls)) (asked open_still).0 s.handled.asked)
 may_give closed made unclosed stages.Done waiting left s asked out = absurd (cc out)
 may_give closed made unclosed stages.Over waiting left s asked out = s
 
+-- nor one that is open now, and was closed before
+opens_anew : {T : Type 0} (stage : Stage Bool) (waiting : List ℕ) (left : Option ℕ)
+    → StandsAt Stays stage (with_sent Server talk_sent 1 (record (unsent_with false) { calls = then_asked }) left) waiting
+    → (is_open itself stage ≡ true → T × (false ≡ true)) → kind_of stage ≡ Served → ⊥
+opens_anew (stages.Talking talk None) waiting left s asked out = absurd (let e = s.early.0 in cc e)
+opens_anew (stages.Talking talk (Some handler)) waiting left s asked out = s.early.0
+opens_anew (stages.Agreed index) waiting left s asked out = absurd (let e = s.none_made in cc e)
+opens_anew (stages.Serving handler) waiting left s asked out =
+    let unclosed : handler ≡ false = stays_on s.made handler s.handled.was_handed.calls s.handled.was_handed.arises ∙ sym (made_of s.made_is) in
+    absurd (let e = (asked (ap not unclosed)).1 in cc e)
+opens_anew stages.Done waiting left s asked out = absurd (cc out)
+opens_anew stages.Over waiting left s asked out = s
+
 -- those that gave what they have
-closed_gave : GaveAll Stays itself never Served Server talk_sent 1 (unsent_with true)
+closed_gave : GaveAll Stays itself never (stages.Serving true) Server talk_sent 1 (unsent_with true)
 closed_gave = record {
   stream = record { waiting = []; stage = stages.Serving true };
   left = None;
@@ -222,18 +235,18 @@ closed_gave = record {
   kind_is = refl;
 }
 
-asked_gave : (closed finished : Bool → Bool) (handler : Bool) → GaveAll Stays closed finished Served Server talk_sent 1 (record (unsent_with handler) { calls = then_asked })
+asked_gave : (closed finished : Bool → Bool) (handler : Bool) → GaveAll Stays closed finished (stages.Serving handler) Server talk_sent 1 (record (unsent_with handler) { calls = then_asked })
 unfolding left_then asked_past
 asked_gave closed finished handler = record {
   stream = record { waiting = []; stage = stages.Serving handler };
   left = Some left_then;
   stands = asked_with handler;
   none_waits = refl;
-  asked = λ open_still. refl;
+  asked = λ open_still. (refl, open_still);
   kind_is = refl;
 }
 
-out_gave : (closed : Bool → Bool) → GaveAll Stays closed never HandedOut Server talk_sent 1 (unsent_with false)
+out_gave : (closed : Bool → Bool) → GaveAll Stays closed never stages.Done Server talk_sent 1 (unsent_with false)
 out_gave closed = record {
   stream = record { waiting = []; stage = stages.Done };
   left = None;
@@ -261,9 +274,10 @@ take_rows = record {
   closed = (refl, refl, inr (omega arith, closed_gave));
   asked = (refl, refl, inr (omega arith, asked_gave itself never false));
   unasked = λ d. by_gave (λ all. may_give itself false refl all.stream.stage all.stream.waiting all.left all.stands all.asked all.kind_is) d.2;
+  closed_before = λ d. by_gave (λ all. opens_anew all.stream.stage all.stream.waiting all.left all.stands all.asked all.kind_is) d.2;
   handed_out = (refl, refl, inr (omega arith, out_gave itself));
 } where
-  gives_nothing : GaveAll any_step itself itself Served Server two_bytes 1 unsent → ⊥
+  gives_nothing : GaveAll any_step itself itself (stages.Serving true) Server two_bytes 1 unsent → ⊥
   gives_nothing all = gives_more all.stream.stage all.stream.waiting all.left all.stands all.none_waits
 
   by_gave : {A B C : Type 0} → (C → ⊥) → ((false ≡ true) × A) ⊎ (B × C) → ⊥

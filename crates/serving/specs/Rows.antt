@@ -9,12 +9,13 @@ use Rattle.yamux_session.specs.History.{Item, Act}
 use Rattle.yamux_session.specs.History.Item.{Did}
 use Rattle.yamux_session.specs.History.Act.{Start, Write, Taken, Close, Reset}
 use Rattle.yamux_session.specs.Rows.{two_bytes, all_written}
+use Rattle.streams.specs.declared.stage.Stage.{Stage}
 use Rattle.streams.specs.declared.stage.Stage.TheVariants.{Serving, Done}
 use Rattle.streams.specs.declared.stop.Cause.TheVariants.{Handler}
 use Rattle.streams.specs.declared.stop.Stop.{Stop}
 use Rattle.streams.specs.declared.stop.Stop.TheVariants.{Broken, OutOfMemory}
 use Rattle.streams.specs.Streams.{Past}
-use Rattle.streams.specs.State.{Streaming, Kind, Served, HandedOut as WasHandedOut}
+use Rattle.streams.specs.State.{Streaming}
 use Rattle.streams.specs.Rows.{came, served_past}
 use Rattle.yamux_session.specs.Windows.{credit}
 use Rattle.serving.specs.Served.{MayBeAsked, IsDue, HasSent, IsSettled, HandsOut, GivesUp, MayGrow}
@@ -26,7 +27,7 @@ abbrev pub any_step : Bool → HandlerCall → Bool → Type 0
 any_step old call new = Unit {0}
 
 abbrev pub Due : Past Bool → Role → List Item → Act → Type 0
-Due so_far role past act = IsDue any_step itself itself Served role past 1 so_far act
+Due so_far role past act = IsDue any_step itself itself (Serving true) role past 1 so_far act
 
 -- which acts serve the stream, whatever came of it
 pub record DueRows (so_far : Past Bool) : Type 0 where
@@ -36,7 +37,7 @@ pub record DueRows (so_far : Past Bool) : Type 0 where
   pub without_credit : ¬ Due so_far Client all_written (Taken 1 0)
   -- where this direction is closed no credit is needed, but the stream stands by what came
   pub closed_without_credit : Due so_far Client (Did (Close 1) ∷ all_written) (Taken 1 0)
-      ↔ HasSent any_step itself itself Served Client (Did (Close 1) ∷ all_written) 1 so_far
+      ↔ HasSent any_step itself itself (Serving true) Client (Did (Close 1) ∷ all_written) 1 so_far
   pub closed_another : ¬ Due so_far Server two_bytes (Close 3)
   pub opened : ¬ Due so_far Server two_bytes (Start 1)
   pub reset : ¬ Due so_far Server two_bytes (Reset 1)
@@ -86,34 +87,36 @@ never_asked = Take came_behind ∷ []
 abbrev pub then_asked : List HandlerCall
 then_asked = Take came_behind ∷ Give (credit Server talk_sent 1) [] ∷ []
 
--- whether this direction may be closed behind these calls
-abbrev pub MayClose : List HandlerCall → (closed finished : Bool → Bool) → Kind → Bool → Type 0
-MayClose calls closed finished kind handler =
-    IsDue Stays closed finished kind Server talk_sent 1 (record (unsent_with handler) { calls = calls }) (Close 1)
+-- whether this direction may be closed behind these calls, where the stream was at this stage before
+abbrev pub MayClose : List HandlerCall → (closed finished : Bool → Bool) → Stage Bool → Bool → Type 0
+MayClose calls closed finished old handler =
+    IsDue Stays closed finished old Server talk_sent 1 (record (unsent_with handler) { calls = calls }) (Close 1)
 
 -- This direction isn't closed while what the talk wrote waits, though the handler is closed; and then only where the
 -- handler is closed, or finished and was asked, or was handed out before.
 pub record CloseRows : Type 0 where
   pub waiting : ¬ Due unsent Server two_bytes (Close 1)
-  pub closed : MayClose never_asked itself never Served true
-  pub finished : MayClose then_asked never itself Served true
-  pub finished_unasked : ¬ MayClose never_asked never itself Served true
-  pub handed_out : MayClose never_asked never never WasHandedOut false
-  pub serving : ¬ MayClose then_asked itself itself Served false
+  pub closed : MayClose never_asked itself never (Serving true) true
+  pub finished : MayClose then_asked never itself (Serving true) true
+  pub finished_unasked : ¬ MayClose never_asked never itself (Serving true) true
+  pub handed_out : MayClose never_asked never never Done false
+  pub serving : ¬ MayClose then_asked itself itself (Serving false) false
 
 -- whether what came may count as taken then
-abbrev pub MayTake : List HandlerCall → (closed : Bool → Bool) → Kind → Bool → Type 0
-MayTake calls closed kind handler =
-    IsDue Stays closed never kind Server talk_sent 1 (record (unsent_with handler) { calls = calls }) (Taken 1 2)
+abbrev pub MayTake : List HandlerCall → (closed : Bool → Bool) → Stage Bool → Bool → Type 0
+MayTake calls closed old handler =
+    IsDue Stays closed never old Server talk_sent 1 (record (unsent_with handler) { calls = calls }) (Taken 1 2)
 
 -- What came is taken where the stream gave what it has: nothing waits, and its handler is closed, or was asked, or was
 -- handed out before.
 pub record TakeRows : Type 0 where
   pub waiting : ¬ Due unsent Server two_bytes (Taken 1 2)
-  pub closed : MayTake never_asked itself Served true
-  pub asked : MayTake then_asked itself Served false
-  pub unasked : ¬ MayTake never_asked itself Served false
-  pub handed_out : MayTake never_asked itself WasHandedOut false
+  pub closed : MayTake never_asked itself (Serving true) true
+  pub asked : MayTake then_asked itself (Serving false) false
+  pub unasked : ¬ MayTake never_asked itself (Serving false) false
+  -- one that was closed before wasn't asked then
+  pub closed_before : ¬ MayTake then_asked itself (Serving true) false
+  pub handed_out : MayTake never_asked itself Done false
 
 abbrev pub serving_of : List ℕ → Bool → Streaming Bool
 serving_of waiting handler = record { waiting = waiting; stage = Serving handler }

@@ -11,8 +11,9 @@ use Rattle.yamux_session.specs.Openings.{is_live, closed}
 use Rattle.yamux_session.specs.Windows.{credit, untaken, given_back}
 use Rattle.yamux_session.specs.Acts.{open_credit}
 use Rattle.yamux_session.specs.State.{State, Stands as SessionStands}
+use Rattle.streams.specs.declared.stage.Stage.{Stage}
 use Rattle.streams.specs.Streams.{Past}
-use Rattle.streams.specs.State.{Streaming, Stands, Kind, is_open, has_closed}
+use Rattle.streams.specs.State.{Streaming, Stands, is_open, has_closed}
 use Rattle.serving.specs.Served.{Goes, HandsOut, with_sent}
 
 -- the stream was asked with this much credit, and what it gave was written, where it gave anything
@@ -53,15 +54,16 @@ CountRunsOut role past n old session = (session ≡ old) × (open_credit role pa
     × (is_live role past n ≡ true) × (0 < given_back role n past (Did (Taken n (untaken role past n))))
     × (old.room < 12)
 
-module _ {H : Type 0} (step : H → HandlerCall → H → Type 0) (is_closed is_finished : H → Bool) (kind : Kind) where
+module _ {H : Type 0} (step : H → HandlerCall → H → Type 0) (is_closed is_finished : H → Bool) (old : Stage H) where
   -- The stream was asked with all the credit, where this direction is open.
   pub record WasAsked (role : Role) (past : List Item) (fed sent : List ℕ) (n : ℕ) (so_far : Past H) (session : State)
       (stream : Streaming H) : Type 0 where
-    pub goes : Goes step is_closed is_finished kind role past fed sent n so_far session stream
+    pub goes : Goes step is_closed is_finished old role past fed sent n so_far session stream
     pub live_is : is_live role goes.now n ≡ is_live role past n
     pub closed_is : closed role goes.now n ≡ closed role past n
     pub asked : is_live role goes.now n ≡ true → closed role goes.now n ≡ false
-        → is_open is_closed stream.stage ≡ true → goes.left ≡ Some (credit role goes.now n)
+        → is_open is_closed stream.stage ≡ true
+        → (goes.left ≡ Some (credit role goes.now n)) × (is_open is_closed old ≡ true)
     pub none_waits : is_live role goes.now n ≡ true → closed role goes.now n ≡ false → 0 < credit role goes.now n
         → stream.waiting ≡ []
     pub untaken_is : untaken role goes.now n ≡ untaken role past n
@@ -69,18 +71,21 @@ module _ {H : Type 0} (step : H → HandlerCall → H → Type 0) (is_closed is_
   -- A handler that is finished was handed out, and this direction is closed where the stream gives no more.
   pub record WasClosed (role : Role) (past : List Item) (fed sent : List ℕ) (n : ℕ) (so_far : Past H)
       (handler : Option H) (session : State) (stream : Streaming H) : Type 0 where
-    pub goes : Goes step is_closed is_finished kind role past fed sent n so_far session stream
+    pub goes : Goes step is_closed is_finished old role past fed sent n so_far session stream
     pub asked : is_live role goes.now n ≡ true → closed role goes.now n ≡ false
-        → is_open is_closed stream.stage ≡ true → goes.left ≡ Some (credit role goes.now n)
+        → is_open is_closed stream.stage ≡ true
+        → (goes.left ≡ Some (credit role goes.now n)) × (is_open is_closed old ≡ true)
     pub none_waits : is_live role goes.now n ≡ true → closed role goes.now n ≡ false → 0 < credit role goes.now n
         → stream.waiting ≡ []
     pub handed_out : HandsOut step is_closed is_finished (with_sent role goes.now n so_far goes.left) handler stream
     pub over : is_live role goes.now n ≡ true → has_closed is_closed stream.stage ≡ true → stream.waiting ≡ []
         → closed role goes.now n ≡ true
     pub asked_still : is_live role goes.now n ≡ true → closed role goes.now n ≡ false
-        → IfSome handler (λ it. is_closed it ≡ false → goes.left ≡ Some (credit role goes.now n))
+        → IfSome handler (λ it. is_closed it ≡ false → (goes.left ≡ Some (credit role goes.now n))
+        × (is_open is_closed old ≡ true))
     pub asked_last : is_live role past n ≡ true → closed role past n ≡ false
-        → IfSome handler (λ it. is_closed it ≡ false → goes.left ≡ Some (credit role goes.now n))
+        → IfSome handler (λ it. is_closed it ≡ false → (goes.left ≡ Some (credit role goes.now n))
+        × (is_open is_closed old ≡ true))
     pub closed_by : closed role past n ≡ false → closed role goes.now n ≡ true
         → (stream.waiting ≡ []) × (has_closed is_closed stream.stage ≡ true)
     pub untaken_is : untaken role goes.now n ≡ untaken role past n

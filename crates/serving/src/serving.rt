@@ -61,7 +61,7 @@ fn ask<H: Handler>(session: &mut Session, number: u32, stream: &mut Stream<H>) -
         → SessionStands role past fed sent session.old → Stands H.steps stream.old so_far
         → so_far.sent ≡ written role past number → OnOk result
         (Asking H.steps H.is_closed role past number stream.old stream.new so_far (λ now.
-        WasAsked H.steps H.is_closed H.is_finished (kind_of stream.old.stage) role past fed sent number now
+        WasAsked H.steps H.is_closed H.is_finished stream.old.stage role past fed sent number now
         session.new stream.new)) }
     ensures left { IfOk result (λ is_left. is_left ≡ true
         → Whenever session.new (λ role past. open_credit role past number ≢ Some 0)) }
@@ -174,7 +174,7 @@ pub fn serve<H: Handler>(
         → SessionStands role past fed sent session.old → Stands H.steps stream.old so_far
         → so_far.sent ≡ written role past number → IfOk result (λ handler.
         Asking H.steps H.is_closed role past number stream.old stream.new so_far (λ now.
-        Serves H.steps H.is_closed H.is_finished (kind_of stream.old.stage) role past fed sent number now
+        Serves H.steps H.is_closed H.is_finished stream.old.stage role past fed sent number now
         handler session.new stream.new)) }
     // A stream is done only with its handler handed out, which served it.
     ensures kind { result ≡ Ok None → kind_of stream.new.stage ≡ kind_of stream.old.stage }
@@ -191,7 +191,7 @@ pub fn serve<H: Handler>(
     ensures runs_out { (role : Role) (past : List Item) (fed sent : List ℕ) (so_far : Past H)
         → SessionStands role past fed sent session.old → Stands H.steps stream.old so_far
         → so_far.sent ≡ written role past number → result ≡ Err Stop.OutOfMemory
-        → RunsOut H.steps H.is_closed H.is_finished (kind_of stream.old.stage) role past fed sent number
+        → RunsOut H.steps H.is_closed H.is_finished stream.old.stage role past fed sent number
         so_far stream.old session.old session.new stream.new }
     ensures idle { session.old.failed || is_over stream.old.stage ≡ true
         → (result ≡ Ok None) × (session.new ≡ session.old) × (stream.new ≡ stream.old) }

@@ -26,7 +26,7 @@ returns-in-Ok-None-clause-came g c = λ role past fed sent so_far at stands e.
     let H = g.H.Handler in
     let none = c.in-Ok-None.field-0-is in (
       subst (λ (h : Option _). Asking H.steps H.is_closed role past c.args.number c.args.stream.now c.serve.new.stream so_far (λ now.
-          Serves H.steps H.is_closed H.is_finished (kind_of c.args.stream.now.stage) role past fed sent c.args.number now h c.serve.new.session c.serve.new.stream)) none
+          Serves H.steps H.is_closed H.is_finished c.args.stream.now.stage role past fed sent c.args.number now h c.serve.new.session c.serve.new.stream)) none
           (c.in-Ok-None.ensures.serves role past fed sent so_far at stands e),
       c.in-Ok-None.ensures.kind (ap Ok none),
     )
@@ -36,7 +36,7 @@ returns-in-Ok-Some-clause-came g c = λ role past fed sent so_far at stands e.
     let H = g.H.Handler in
     let some = c.in-Ok-Some.field-0-is in (
       subst (λ (h : Option _). Asking H.steps H.is_closed role past c.args.number c.args.stream.now c.serve.new.stream so_far (λ now.
-          Serves H.steps H.is_closed H.is_finished (kind_of c.args.stream.now.stage) role past fed sent c.args.number now h c.serve.new.session c.serve.new.stream)) some
+          Serves H.steps H.is_closed H.is_finished c.args.stream.now.stage role past fed sent c.args.number now h c.serve.new.session c.serve.new.stream)) some
           (c.in-Ok-Some.ensures.serves role past fed sent so_far at stands e),
       subst (λ (h : Option _). IfSome h (λ it. kind_of c.args.stream.now.stage ≡ Served)) some c.in-Ok-Some.ensures.served,
     )

@@ -1,15 +1,15 @@
-use Rattle.std.proofs.Common.{◌≡◌, ℕ, ◌-◌, length, Bool, Option, Some, sym, ◌∙◌, subst}
+use Rattle.std.proofs.Common.{◌≡◌, ℕ, ◌-◌, length, Bool, Option, Some, refl, sym, ◌∙◌, subst}
 use Rattle.handlers.specs.Calls.{HandlerCall}
 use Rattle.yamux_session.specs.State.{State, Stands as SessionStands}
 use Rattle.streams.specs.declared.stage.Stage.{Stage}
-use Rattle.streams.specs.State.{Answered, kind_of}
+use Rattle.streams.specs.State.{Answered}
 use Rattle.serving.proofs.Going.{not_asked, was_asked}
 use Rattle.serving.proofs.Refusals.{no_more, not_both_credits}
 use Rattle.serving.proofs.serving.ask.Goals as goal
 
 pub returns-in_default-clause-asks : goal.returns-in_default-clause-asks
 returns-in_default-clause-asks g c = λ role past fed sent so_far at stands e.
-    not_asked g.H.Handler.steps g.H.Handler.is_closed g.H.Handler.is_finished (kind_of c.args.stream.now.stage) role past fed sent c.args.number so_far c.args.session.now c.args.stream.now at stands e
+    not_asked g.H.Handler.steps g.H.Handler.is_closed g.H.Handler.is_finished c.args.stream.now.stage role past fed sent c.args.number so_far c.args.session.now c.args.stream.now at stands e
     (sym (c.in_default.ensures.live role past fed sent at))
 
 pub returns-in_default-clause-left : goal.returns-in_default-clause-left
@@ -19,8 +19,8 @@ returns-in_default-clause-left g c = λ yes role past fed sent at none.
 pub returns-in-Ok-true-clause-asks : goal.returns-in-Ok-true-clause-asks
 returns-in-Ok-true-clause-asks g c = λ role past fed sent so_far at stands e.
     let is_open = sym (c.in-Some.ensures.live role past fed sent at) in
-    was_asked g.H.Handler.steps g.H.Handler.is_closed g.H.Handler.is_finished (kind_of c.args.stream.now.stage) c.acts_tell.ensures.seen c.acts_tell.ensures.windows role past fed sent c.args.number c.in-Some.credit
-    so_far c.send.new.session c.args.stream.now c.send.new.stream (c.in-Ok-true.ensures.sends role past fed sent so_far at is_open stands) e is_open c.in-Ok-true.ensures.kind
+    was_asked g.H.Handler.steps g.H.Handler.is_closed g.H.Handler.is_finished c.args.stream.now.stage c.acts_tell.ensures.seen c.acts_tell.ensures.windows role past fed sent c.args.number c.in-Some.credit
+    so_far c.send.new.session c.args.stream.now c.send.new.stream (c.in-Ok-true.ensures.sends role past fed sent so_far at is_open stands) e is_open c.in-Ok-true.ensures.kind refl
 
 pub returns-in-Ok-true-clause-kept : goal.returns-in-Ok-true-clause-kept
 returns-in-Ok-true-clause-kept g c = λ role past fed sent at none. absurd (not_both_credits (c.in-Some.ensures.live role past fed sent at) none)
@@ -28,8 +28,8 @@ returns-in-Ok-true-clause-kept g c = λ role past fed sent at none. absurd (not_
 pub returns-in-Ok-false-clause-asks : goal.returns-in-Ok-false-clause-asks
 returns-in-Ok-false-clause-asks g c = λ role past fed sent so_far at stands e.
     let is_open = sym (c.in-Some.ensures.live role past fed sent at) in
-    was_asked g.H.Handler.steps g.H.Handler.is_closed g.H.Handler.is_finished (kind_of c.args.stream.now.stage) c.acts_tell.ensures.seen c.acts_tell.ensures.windows role past fed sent c.args.number c.in-Some.credit
-    so_far c.send.new.session c.args.stream.now c.send.new.stream (c.in-Ok-false.ensures.sends role past fed sent so_far at is_open stands) e is_open c.in-Ok-false.ensures.kind
+    was_asked g.H.Handler.steps g.H.Handler.is_closed g.H.Handler.is_finished c.args.stream.now.stage c.acts_tell.ensures.seen c.acts_tell.ensures.windows role past fed sent c.args.number c.in-Some.credit
+    so_far c.send.new.session c.args.stream.now c.send.new.stream (c.in-Ok-false.ensures.sends role past fed sent so_far at is_open stands) e is_open c.in-Ok-false.ensures.kind refl
 
 pub returns-in-Ok-false-clause-left : goal.returns-in-Ok-false-clause-left
 returns-in-Ok-false-clause-left g c = λ some role past fed sent at none.

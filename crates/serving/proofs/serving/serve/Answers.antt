@@ -38,7 +38,7 @@ returns-in_err-count_taken-clause-memory g c = λ e role past fed sent at.
 -- with no handler handed out the stream is where it was
 was_of : {H : Type 0} (Finished : H → Type 0) (P : Type 0) (handler : Option H) (old mid new : Streaming H) → kind_of mid.stage ≡ kind_of old.stage
     → IfSome handler (λ it. (mid.stage ≡ stages.Serving it) × Finished it × (new ≡ record mid { stage = stages.Done }))
-    → IfNone handler (P × (new ≡ mid)) → WasOf (kind_of old.stage) handler new
+    → IfNone handler (P × (new ≡ mid)) → WasOf old.stage handler new
 was_of Finished P None old mid new kind some none = ap (λ (x : Streaming _). kind_of x.stage) none.1 ∙ kind
 was_of Finished P (Some it) old mid new kind some none = sym kind ∙ ap kind_of some.0
 
@@ -58,24 +58,24 @@ unasked_then step closed role past n (Some call) old mid new shut unasked = tt
 pub returns-clause-serves : goal.returns-clause-serves
 returns-clause-serves g c = λ role past fed sent so_far at stands e.
     let n = c.args.number in
-    let kind = kind_of c.args.stream.now.stage in
+    let was_at = c.args.stream.now.stage in
     let seen = c.acts_tell.ensures.seen in
     let windows = c.acts_tell.ensures.windows in
     let asked = c.in_ok-is_left.ensures.asks role past fed sent so_far at stands e in
     let came = with_call so_far asked.0 in
-    let h = has_finished_on g.H.Handler.steps g.H.Handler.is_closed g.H.Handler.is_finished kind seen windows role past fed sent n came c.ask.new.session c.finish-handler.result
+    let h = has_finished_on g.H.Handler.steps g.H.Handler.is_closed g.H.Handler.is_finished was_at seen windows role past fed sent n came c.ask.new.session c.finish-handler.result
     c.ask.new.stream c.finish-handler.new.self asked.2 c.finish-handler.ensures.handed_out c.finish-handler.ensures.none c.finish-handler.ensures.stands in
     let now = h.was_asked.goes.now in
     let was = was_of (λ it. g.H.Handler.is_finished it ≡ true) _ c.finish-handler.result c.args.stream.now c.ask.new.stream c.finish-handler.new.self c.in_ok-is_left.ensures.kind c.finish-handler.ensures.handed_out c.finish-handler.ensures.none in
     let closes = subst (λ (over : Bool). Closes role now fed sent n over c.ask.new.session c.close.new.session) c.closed.ensures
     (c.in_ok-close.ensures.closes role now fed sent h.was_asked.goes.session_stands) in
-    let w = was_closed g.H.Handler.steps g.H.Handler.is_closed g.H.Handler.is_finished kind seen windows role past fed sent n came c.finish-handler.result
+    let w = was_closed g.H.Handler.steps g.H.Handler.is_closed g.H.Handler.is_finished was_at seen windows role past fed sent n came c.finish-handler.result
     c.ask.new.session c.close.new.session c.finish-handler.new.self h.was_asked h.handed_out was h.asked_last closes in
-    let left : c.in_ok-is_left.is_left ≡ true → open_credit role w.goes.now n ≢ Some 0 = λ is_left. left_on g.H.Handler.steps g.H.Handler.is_closed g.H.Handler.is_finished kind seen windows role past fed sent n came c.finish-handler.result
+    let left : c.in_ok-is_left.is_left ≡ true → open_credit role w.goes.now n ≢ Some 0 = λ is_left. left_on g.H.Handler.steps g.H.Handler.is_closed g.H.Handler.is_finished was_at seen windows role past fed sent n came c.finish-handler.result
     c.ask.new.session c.close.new.session now c.finish-handler.new.self closes (c.in_ok-is_left.ensures.left is_left) w in (
       asked.0,
       asked.1,
-      was_settled g.H.Handler.steps g.H.Handler.is_closed g.H.Handler.is_finished kind seen windows role past fed sent n came c.finish-handler.result
+      was_settled g.H.Handler.steps g.H.Handler.is_closed g.H.Handler.is_finished was_at seen windows role past fed sent n came c.finish-handler.result
           c.close.new.session c.count_taken.new.session c.finish-handler.new.self w was (c.in_ok-count_taken.ensures.counts role w.goes.now fed sent w.goes.session_stands left),
       unasked_then g.H.Handler.steps g.H.Handler.is_closed role past n asked.0 c.args.stream.now c.ask.new.stream c.finish-handler.new.self
           (still_shut g.H.Handler.is_closed (λ it. g.H.Handler.is_finished it ≡ true) _ c.finish-handler.result c.ask.new.stream c.finish-handler.new.self c.finish-handler.ensures.handed_out c.finish-handler.ensures.none)
@@ -98,12 +98,12 @@ returns-in_err-is_left-clause-runs_out g c = λ role past fed sent so_far at sta
 pub returns-in_err-close-clause-runs_out : goal.returns-in_err-close-clause-runs_out
 returns-in_err-close-clause-runs_out g c = λ role past fed sent so_far at stands e wanting.
     let n = c.args.number in
-    let kind = kind_of c.args.stream.now.stage in
+    let was_at = c.args.stream.now.stage in
     let seen = c.acts_tell.ensures.seen in
     let windows = c.acts_tell.ensures.windows in
     let asked = c.in_ok-is_left.ensures.asks role past fed sent so_far at stands e in
     let came = with_call so_far asked.0 in
-    let h = has_finished_on g.H.Handler.steps g.H.Handler.is_closed g.H.Handler.is_finished kind seen windows role past fed sent n came c.ask.new.session c.finish-handler.result
+    let h = has_finished_on g.H.Handler.steps g.H.Handler.is_closed g.H.Handler.is_finished was_at seen windows role past fed sent n came c.ask.new.session c.finish-handler.result
     c.ask.new.stream c.finish-handler.new.self asked.2 c.finish-handler.ensures.handed_out c.finish-handler.ensures.none c.finish-handler.ensures.stands in
     let now = h.was_asked.goes.now in
     let was = was_of (λ it. g.H.Handler.is_finished it ≡ true) _ c.finish-handler.result c.args.stream.now c.ask.new.stream c.finish-handler.new.self c.in_ok-is_left.ensures.kind c.finish-handler.ensures.handed_out c.finish-handler.ensures.none in
@@ -114,7 +114,7 @@ returns-in_err-close-clause-runs_out g c = λ role past fed sent so_far at stand
       (
         asked.0,
         asked.1,
-        unclosed_then g.H.Handler.steps g.H.Handler.is_closed g.H.Handler.is_finished kind seen windows role past fed sent n came c.finish-handler.result
+        unclosed_then g.H.Handler.steps g.H.Handler.is_closed g.H.Handler.is_finished was_at seen windows role past fed sent n came c.finish-handler.result
             c.ask.new.session c.close.new.session c.finish-handler.new.self h.was_asked h.handed_out was h.asked_last short,
         unasked_then g.H.Handler.steps g.H.Handler.is_closed role past n asked.0 c.args.stream.now c.ask.new.stream c.finish-handler.new.self
             (still_shut g.H.Handler.is_closed (λ it. g.H.Handler.is_finished it ≡ true) _ c.finish-handler.result c.ask.new.stream c.finish-handler.new.self c.finish-handler.ensures.handed_out c.finish-handler.ensures.none)
@@ -126,27 +126,27 @@ returns-in_err-close-clause-runs_out g c = λ role past fed sent so_far at stand
 pub returns-in_err-count_taken-clause-runs_out : goal.returns-in_err-count_taken-clause-runs_out
 returns-in_err-count_taken-clause-runs_out g c = λ role past fed sent so_far at stands e wanting.
     let n = c.args.number in
-    let kind = kind_of c.args.stream.now.stage in
+    let was_at = c.args.stream.now.stage in
     let seen = c.acts_tell.ensures.seen in
     let windows = c.acts_tell.ensures.windows in
     let asked = c.in_ok-is_left.ensures.asks role past fed sent so_far at stands e in
     let came = with_call so_far asked.0 in
-    let h = has_finished_on g.H.Handler.steps g.H.Handler.is_closed g.H.Handler.is_finished kind seen windows role past fed sent n came c.ask.new.session c.finish-handler.result
+    let h = has_finished_on g.H.Handler.steps g.H.Handler.is_closed g.H.Handler.is_finished was_at seen windows role past fed sent n came c.ask.new.session c.finish-handler.result
     c.ask.new.stream c.finish-handler.new.self asked.2 c.finish-handler.ensures.handed_out c.finish-handler.ensures.none c.finish-handler.ensures.stands in
     let now = h.was_asked.goes.now in
     let was = was_of (λ it. g.H.Handler.is_finished it ≡ true) _ c.finish-handler.result c.args.stream.now c.ask.new.stream c.finish-handler.new.self c.in_ok-is_left.ensures.kind c.finish-handler.ensures.handed_out c.finish-handler.ensures.none in
     let closes = subst (λ (over : Bool). Closes role now fed sent n over c.ask.new.session c.close.new.session) c.closed.ensures
     (c.in_ok-close.ensures.closes role now fed sent h.was_asked.goes.session_stands) in
-    let w = was_closed g.H.Handler.steps g.H.Handler.is_closed g.H.Handler.is_finished kind seen windows role past fed sent n came c.finish-handler.result
+    let w = was_closed g.H.Handler.steps g.H.Handler.is_closed g.H.Handler.is_finished was_at seen windows role past fed sent n came c.finish-handler.result
     c.ask.new.session c.close.new.session c.finish-handler.new.self h.was_asked h.handed_out was h.asked_last closes in
-    let left : c.in_ok-is_left.is_left ≡ true → open_credit role w.goes.now n ≢ Some 0 = λ is_left. left_on g.H.Handler.steps g.H.Handler.is_closed g.H.Handler.is_finished kind seen windows role past fed sent n came c.finish-handler.result
+    let left : c.in_ok-is_left.is_left ≡ true → open_credit role w.goes.now n ≢ Some 0 = λ is_left. left_on g.H.Handler.steps g.H.Handler.is_closed g.H.Handler.is_finished was_at seen windows role past fed sent n came c.finish-handler.result
     c.ask.new.session c.close.new.session now c.finish-handler.new.self closes (c.in_ok-is_left.ensures.left is_left) w in
     inr (
       kept_by (λ it. g.H.Handler.is_finished it ≡ true) _ c.finish-handler.result c.args.stream.now c.ask.new.stream c.finish-handler.new.self c.in_ok-is_left.ensures.kind c.finish-handler.ensures.handed_out c.finish-handler.ensures.none,
       (
         asked.0,
         asked.1,
-        untaken_then g.H.Handler.steps g.H.Handler.is_closed g.H.Handler.is_finished kind seen windows role past fed sent n came c.finish-handler.result
+        untaken_then g.H.Handler.steps g.H.Handler.is_closed g.H.Handler.is_finished was_at seen windows role past fed sent n came c.finish-handler.result
             c.close.new.session c.count_taken.new.session c.finish-handler.new.self w was (c.in_err-count_taken.ensures.runs_out role w.goes.now fed sent w.goes.session_stands left),
         unasked_then g.H.Handler.steps g.H.Handler.is_closed role past n asked.0 c.args.stream.now c.ask.new.stream c.finish-handler.new.self
             (still_shut g.H.Handler.is_closed (λ it. g.H.Handler.is_finished it ≡ true) _ c.finish-handler.result c.ask.new.stream c.finish-handler.new.self c.finish-handler.ensures.handed_out c.finish-handler.ensures.none)
