@@ -20,6 +20,7 @@ const ROUNDS: u32 = 9;
 
 /// A body that makes pool calls.
 pub trait Body {
+    /// Makes the call.
     fn make(&mut self, call: &Call) -> Reply;
 }
 

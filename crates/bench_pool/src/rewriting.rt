@@ -13,6 +13,7 @@ pub struct Rewriting {
 }
 
 impl Rewriting {
+    /// A body over this pool.
     pub fn of(pool: Pool) -> Rewriting {
         let listing = pool.listing();
         Rewriting { pool, listing }

@@ -312,7 +312,7 @@ fn measure_messages(rt: &(impl CpuClock + Eprint), alloc: Global, batch: u32) ->
     for streams in [1, 16, 256] {
         let time = timed_exchange(rt, alloc, (streams, batch))?;
         let each = time / u128::from(MESSAGES);
-        eprintln!(rt; "short messages, {batch} at once: {each} ns each")?;
+        eprintln!(rt; "short messages, {batch} at once, {streams} streams: {each} ns each")?;
         show(
             rt,
             "short messages against those on one stream",

@@ -23,6 +23,7 @@ const SEVERAL: u128 = 100;
 
 const ROUNDS: u32 = 5;
 
+/// An error of no kind of its own.
 pub fn other() -> io::Error {
     io::Error::from(io::ErrorKind::Other)
 }

@@ -106,6 +106,7 @@ pub struct Pace {
 }
 
 impl Pace {
+    /// One that has not begun.
     pub fn new() -> Pace {
         Pace {
             begun: AtomicBool::new(false),
@@ -113,14 +114,17 @@ impl Pace {
         }
     }
 
+    /// Whether the others are to stop.
     pub fn is_stopped(&self) -> bool {
         self.stopped.load(Ordering::SeqCst)
     }
 
+    /// Tells the others to stop.
     pub fn stop(&self) {
         self.stopped.store(true, Ordering::SeqCst);
     }
 
+    /// Tells the others to begin.
     pub fn begin(&self) {
         self.begun.store(true, Ordering::SeqCst);
     }

@@ -66,6 +66,7 @@ fn readable(
     }
 }
 
+/// Plays the rows of addresses.
 pub fn play(alloc: Global, tally: &mut Tally) {
     for (text, bytes, print) in READABLE {
         readable(alloc, tally, text, bytes, print);

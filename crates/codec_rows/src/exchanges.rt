@@ -63,6 +63,7 @@ fn proven(alloc: Global, tally: &mut Tally) -> Option<()> {
     Some(())
 }
 
+/// Plays the rows of exchanges.
 pub fn play(alloc: Global, tally: &mut Tally) {
     let _ = proven(alloc, tally);
     let rows: [(&'static str, &[u8], ExchangeFault); 5] = [

@@ -178,6 +178,7 @@ fn identifies(alloc: Global, tally: &mut Tally) -> Option<()> {
     Some(())
 }
 
+/// Plays the rows of handlers.
 pub fn play(alloc: Global, tally: &mut Tally) {
     // Where memory was refused, what follows in a row isn't played.
     let _ = echo(alloc, tally);

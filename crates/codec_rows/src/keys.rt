@@ -63,6 +63,7 @@ fn text(alloc: Global, tally: &mut Tally, row: &'static str, id: PeerId, text: &
     tally.expect(row, PeerId::from_text(text) == Ok(id));
 }
 
+/// Plays the rows of keys and ids.
 pub fn play(alloc: Global, tally: &mut Tally) {
     if let Some(key) = read(alloc, tally, "the key of zeros", &message(0)) {
         text(

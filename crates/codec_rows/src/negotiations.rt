@@ -105,6 +105,7 @@ fn listener(alloc: Global, tally: &mut Tally, row: &'static str, names: &[&str],
     }
 }
 
+/// Plays the rows of negotiations.
 pub fn play(alloc: Global, tally: &mut Tally) {
     let plaintext: &[u8] = b"\x11/plaintext/2.0.0\n";
     let (all, last): (&[u8], &[u8]) = (b"\x11/plaintext/2.0.0", b"\nN");

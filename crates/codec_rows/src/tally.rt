@@ -10,6 +10,7 @@ pub struct Tally {
 }
 
 impl Tally {
+    /// One that has counted nothing.
     pub fn new() -> Tally {
         Tally {
             rows: 0,

@@ -22,7 +22,8 @@ use Rattle.conn_log.specs.Entries.Entry.{Of, Says, Asks}
 use Rattle.conn_log.specs.declared.event.ConnRefused.TheVariants as refusals
 use Rattle.mux.specs.declared.mux.Mux.{Mux}
 use Rattle.conn_core.specs.declared.connection.Phase.TheVariants as phases
-use Rattle.conn_core.specs.Connects.{session_role, told_of, IsGrown, IsOpened, Ends, is_over, is_spent, MayOpen, IsRefused}
+use Rattle.conn_core.specs.Connects.{session_role, told_of, IsGrown, IsOpened, Ends, is_over, is_spent, MayOpen}
+use Rattle.conn_core.specs.Connects.{IsRefused}
 use Rattle.conn_core.specs.Connects.{OwesOf, waiting_in, held_in}
 use Rattle.conn_core.specs.Runs.{is_end}
 

@@ -31,7 +31,8 @@ use Rattle.conn_core.specs.declared.calls.ConnAnswer.{ConnAnswer}
 use Rattle.conn_core.specs.declared.calls.ConnAnswer.TheVariants.{Events, Stream, Refused}
 use Rattle.held_order.specs.Orders.{newest_held, arranged}
 use Rattle.conn_core.specs.Wanting.{Wrote}
-use Rattle.conn_core.specs.Connects.{IsUp, Ends, Stands, IsGrown, IsOpened, session_role, is_spent, waiting_in, TellsFirst}
+use Rattle.conn_core.specs.Connects.{IsUp, Ends, Stands, IsGrown, IsOpened, session_role, is_spent, waiting_in}
+use Rattle.conn_core.specs.Connects.{TellsFirst}
 
 -- Where an end is. At: this came, whether the input has ended, by this list of what came, was asked for, done and told,
 -- these events were told, and these are owed: they are told by the next call. Spent: memory was refused, and this was

@@ -345,7 +345,7 @@ impl<P: Protocols> ConnCore<P> {
     /// Takes the bytes that came, and tells what they led to. Each Payload that is handed on is a slice of the piece.
     ///
     /// A Fault is told last, and the connection is over. Where memory was refused, it is over too, and what was written
-    /// before can still be taken.
+    /// before can still be taken. Each call behind that answers [`ConnRefused::Failed`].
     pub fn feed_shared(&mut self, piece: Bytes) -> Result<Vec<ConnEvent<P::H>>, ConnRefused>
         ensures fed { (role : ConnRole) (own : Key) (start : P) (input taken : List ℕ) (log : List (Entry P.H))
             (told : List (ConnEvent P.H)) → Stands P.H.steps P.H.fails P.H.is_closed P.H.is_finished P.makes_inbound
@@ -395,7 +395,7 @@ impl<P: Protocols> ConnCore<P> {
         }
     }
 
-    /// The same, of bytes that are copied once.
+    /// The same, of bytes that are copied once. It is refused as `feed_shared` is.
     pub fn feed(&mut self, bytes: &[u8]) -> Result<Vec<ConnEvent<P::H>>, ConnRefused>
         ensures fed { (role : ConnRole) (own : Key) (start : P) (input taken : List ℕ) (log : List (Entry P.H))
             (told : List (ConnEvent P.H)) → Stands P.H.steps P.H.fails P.H.is_closed P.H.is_finished P.makes_inbound
@@ -442,8 +442,8 @@ impl<P: Protocols> ConnCore<P> {
     /// Opens a stream for the protocol of this index, and tells its number. Where the protocol is eager, its handler is
     /// made and asked for bytes at once. What is told of the stream then is told first by the next `feed` or `ended`.
     ///
-    /// Where several refusals hold, the lowest is answered, and nothing changes. Where memory was refused, the
-    /// connection is over, and what was written before can still be taken.
+    /// Where several refusals hold, the lowest of [`ConnRefused`] is answered, and nothing changes. Where memory was
+    /// refused, the connection is over, and what was written before can still be taken.
     pub fn ask(&mut self, index: usize) -> Result<u32, ConnRefused>
         ensures asked { (role : ConnRole) (own : Key) (start : P) (input taken : List ℕ) (log : List (Entry P.H))
             (told : List (ConnEvent P.H)) → Stands P.H.steps P.H.fails P.H.is_closed P.H.is_finished P.makes_inbound
@@ -476,7 +476,7 @@ impl<P: Protocols> ConnCore<P> {
     }
 
     /// The input of the link has ended: it tells what is owed, and last Shut, or Fault(EarlyEnd) within the upgrade or
-    /// within a frame. Its streams and their handlers are let go of.
+    /// within a frame. Its streams and their handlers are let go of. It is refused as `feed_shared` is.
     pub fn ended(&mut self) -> Result<Vec<ConnEvent<P::H>>, ConnRefused>
         ensures ends { (role : ConnRole) (own : Key) (start : P) (input taken : List ℕ) (log : List (Entry P.H))
             (told : List (ConnEvent P.H)) → Stands P.H.steps P.H.fails P.H.is_closed P.H.is_finished P.makes_inbound
@@ -528,6 +528,7 @@ impl<P: Protocols> ConnCore<P> {
     }
 
     /// The handlers that are held still, each with the number of its stream, in the order in which they were made.
+    /// AllocError where memory was refused to their list.
     pub fn into_handlers(self) -> Result<Vec<(u32, P::H)>, AllocError>
         ensures held { IfOk result (λ held. held.items ≡ held_in self.phase) }
         ensures ordered { IsOrderedIn self.phase }

@@ -30,8 +30,8 @@ is_give (Give room bytes) = true
 is_give End = false
 
 -- Since the handler of the stream was asked for bytes last, credit or data was told of it, or it answered another call,
--- or was made. So it is asked once behind each of these: while its talk goes on behind each piece, too. Where its
--- number is opened anew nothing begins afresh: the handler that is made then is asked anew, as each is that was made.
+-- or was made. So it is asked once behind each of these. While its talk goes on these are pieces of data and credit. A
+-- new opening of its number resets nothing: a handler is made for it, and each that was made is asked anew.
 abbrev pub is_asked_anew : {H : Type 0} → Role → List (Entry H) → ℕ → Bool
 is_asked_anew role [] n = true
 is_asked_anew role (Of x ∷ log) n = told_more n (events_at role (items log) x) || is_asked_anew role log n

@@ -236,7 +236,8 @@ module _ {P H : Type 0} (step : H → HandlerCall → H → Type 0) (fails : H �
     pub was_told : was_handed_out there.stream.stage ≡ true → was_done role log n ≡ true
 
   -- The stream gave what it has by all data that came: nothing waits, and its handler was asked last, with all the
-  -- credit and behind all that came, unless it is closed, or was handed out and that was told.
+  -- credit, unless it is closed, or was handed out and that was told. On a live stream, whose direction is open, it was
+  -- asked behind all that came: else it can't be asked.
   pub record GaveAll (log : List (Entry H)) (n : ℕ) : Type 0 where
     pub by_all : StandsByAll log n
     pub none_waits : by_all.there.stream.waiting ≡ []

@@ -84,7 +84,7 @@ give_all = answers 2 (Give all_room (9 ∷ []))
 abbrev pub early : List (Entry ℕ)
 early = makes 1 101 ∷ Asks 1 1 ∷ []
 
--- its handler was asked with all the credit, and gave nothing; what its talk wrote was sent, and then a byte came to it
+-- its handler was asked with all the credit, and gave nothing; what its talk wrote was sent, and then a byte came on it
 abbrev pub talked_on : List (Entry ℕ)
 talked_on = Of (Came Tail) ∷ Of (Came (Byte 19)) ∷ Of (Came (header Payload 0 1 1))
     ∷ Of (Did (Write 1 ((header_bytes ++ y_bytes) ∷ []))) ∷ answers 1 (Give all_room []) ∷ early
@@ -142,7 +142,7 @@ pub record ActPlaceRows : Type 0 where
       × (kind_of all.there.stream.stage ≢ Served) × (kind_of all.there.stream.stage ≢ HandedOut)
   pub takes_more : ¬ is_due (Of (Did (Close 2)) ∷ has_come) (Of (Did (Taken 2 2)))
   pub takes_none : ¬ is_due (Of (Did (Close 2)) ∷ has_come) (Of (Did (Taken 2 0)))
-  -- nor before an early handler was asked behind it
+  -- nor before an early handler was asked behind what came
   pub takes_unasked_early : ¬ is_due talked_on (Of (Did (Taken 1 1)))
   pub takes_given_up : ¬ is_due (refuses 2 ∷ has_come) (Of (Did (Taken 2 1)))
   pub closes_given_up : ¬ is_due (refuses 2 ∷ has_come) (Of (Did (Close 2)))

@@ -22,6 +22,7 @@ pub enum Row {
     EndsInTalk,
 }
 
+/// All rows.
 pub const ROWS: [Row; 6] = [
     Row::ServesAPing,
     Row::IsRefused,

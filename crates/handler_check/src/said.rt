@@ -18,6 +18,7 @@ pub struct Said<'a> {
     pub agent: Option<Parts<'a>>,
 }
 
+/// Nothing is said.
 pub const NOTHING: Said<'static> = Said {
     key: None,
     listen: &[],
@@ -27,6 +28,7 @@ pub const NOTHING: Said<'static> = Said {
     agent: None,
 };
 
+/// Version abc and agent x, and nothing else.
 pub const ABC_X: Said<'static> = Said {
     version: Some(&[(1, b"abc")]),
     agent: Some(&[(1, b"x")]),
@@ -42,6 +44,7 @@ pub const MOST: Said<'static> = Said {
     ..NOTHING
 };
 
+/// The parts, each as often as it is to stand, in one.
 pub fn joined(alloc: Global, parts: Parts) -> Result<Vec<u8>, AllocError> {
     let mut all = Vec::new(alloc);
     for (times, bytes) in parts {
@@ -52,6 +55,7 @@ pub fn joined(alloc: Global, parts: Parts) -> Result<Vec<u8>, AllocError> {
     Ok(all)
 }
 
+/// The same, each an entry of its own.
 pub fn entries(alloc: Global, parts: Parts) -> Result<Vec<Vec<u8>>, AllocError> {
     let mut all = Vec::new(alloc);
     for (times, bytes) in parts {
@@ -62,6 +66,7 @@ pub fn entries(alloc: Global, parts: Parts) -> Result<Vec<Vec<u8>>, AllocError> 
     Ok(all)
 }
 
+/// The parts in one, where there are any.
 pub fn text(alloc: Global, parts: Option<Parts>) -> Result<Option<Vec<u8>>, AllocError> {
     match parts {
         Some(parts) => Ok(Some(joined(alloc, parts)?)),
@@ -69,6 +74,7 @@ pub fn text(alloc: Global, parts: Option<Parts>) -> Result<Option<Vec<u8>>, Allo
     }
 }
 
+/// A key of this type and length, all bytes 7.
 pub fn key(alloc: Global, kind: KeyType, len: usize) -> Option<PublicKey> {
     PublicKey::new(kind, vec![in alloc; 7u8; len].ok()?)
 }
@@ -94,6 +100,7 @@ fn say_key(alloc: Global, message: &mut Identify, said: &Said) -> bool {
     }
 }
 
+/// Puts what is said into the message, and answers whether memory was there.
 pub fn say(alloc: Global, message: &mut Identify, said: &Said) -> bool {
     let are_listed = put(&mut message.listen, entries(alloc, said.listen).ok())
         && put(&mut message.protocols, entries(alloc, said.protocols).ok());

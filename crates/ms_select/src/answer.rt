@@ -16,5 +16,6 @@ pub enum Answer {
 pub struct Step {
     /// How many bytes of the piece belong to the negotiation. What follows them belongs to the protocol.
     pub used: usize,
+    /// What was decided, or that it goes on.
     pub answer: Answer,
 }

@@ -55,6 +55,9 @@ impl Model for Dialer {
 impl Dialer {
     /// A dialer of these names, the first of which it likes best. It has written the header and that name. Without
     /// names it is at `NoneLeft` and writes nothing.
+    ///
+    /// [`SelectFault::BadLength`] where a name isn't of 1 to 1023 bytes, else [`SelectFault::OutOfMemory`] where a
+    /// growth was refused.
     pub fn new(alloc: Global, names: &[&str]) -> Result<Dialer, SelectFault>
         ensures names { IfOk result (λ dial. dial.names ≡ map (λ name. name.now) names.now) }
         ensures answer { IfOk result (λ dial.
@@ -84,7 +87,7 @@ impl Dialer {
     }
 
     /// Takes the next piece of the input. Only the bytes up to the deciding message are used, and nothing behind it is
-    /// read.
+    /// read. The first fault of the input is answered, or want of memory, and from then on [`SelectFault::Failed`].
     pub fn feed(&mut self, piece: &[u8]) -> Result<Step, SelectFault>
         ensures names { self.new.names ≡ self.old.names }
         // What is decided stands, and nothing more is used.

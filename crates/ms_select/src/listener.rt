@@ -49,6 +49,9 @@ fn header_output(alloc: Global) -> Result<Output, SelectFault>
 
 impl Listener {
     /// A listener that knows these names. It has written the header.
+    ///
+    /// [`SelectFault::BadLength`] where a name isn't of 1 to 1023 bytes, else [`SelectFault::OutOfMemory`] where a
+    /// growth was refused.
     pub fn new(alloc: Global, names: &[&str]) -> Result<Listener, SelectFault>
         ensures names { IfOk result (λ talk. talk.names ≡ map (λ name. name.now) names.now) }
         ensures fresh { IfOk result (λ talk.
@@ -65,7 +68,7 @@ impl Listener {
     }
 
     /// Takes the next piece of the input. Only the bytes up to the deciding message are used, and nothing behind it is
-    /// read.
+    /// read. The first fault of the input is answered, or want of memory, and from then on [`SelectFault::Failed`].
     pub fn feed(&mut self, piece: &[u8]) -> Result<Step, SelectFault>
         ensures names { self.new.names ≡ self.old.names }
         // What is decided stands, and nothing more is used.

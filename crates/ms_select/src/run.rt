@@ -16,6 +16,7 @@ use std::alloc::Global;
 /// What a side of a negotiation came to.
 #[derive(Debug, Drop)]
 pub struct Talk {
+    /// What was decided, or that it goes on.
     pub answer: Answer,
     /// All that it wrote.
     pub output: Vec<u8>,
@@ -44,7 +45,8 @@ fn whole_talk(side: Side, start: Answer, pieces: &[&[u8]]) -> Result<Talk, Selec
     })
 }
 
-/// What a listener of these names comes to by all that the other end sends, in any pieces.
+/// What a listener of these names comes to by all that the other end sends, in any pieces. It fails as
+/// [`Listener::new`] and [`Listener::feed`] do.
 pub fn listen(alloc: Global, names: &[&str], pieces: &[&[u8]]) -> Result<Talk, SelectFault>
     ensures outcome { IfOk result (λ talk. (used : ℕ)
         × Listens (map (λ name. name.now) names.now) (flat_map (λ piece. piece.now) pieces.now) (Ok talk.answer) used
@@ -58,7 +60,8 @@ pub fn listen(alloc: Global, names: &[&str], pieces: &[&[u8]]) -> Result<Talk, S
     whole_talk(listener.side, Answer::Going, pieces)
 }
 
-/// What a dialer of these names comes to by all that the other end sends, in any pieces.
+/// What a dialer of these names comes to by all that the other end sends, in any pieces. It fails as [`Dialer::new`]
+/// and [`Dialer::feed`] do.
 pub fn dial(alloc: Global, names: &[&str], pieces: &[&[u8]]) -> Result<Talk, SelectFault>
     ensures outcome { IfOk result (λ talk. (used : ℕ)
         × Dials (map (λ name. name.now) names.now) (flat_map (λ piece. piece.now) pieces.now) (Ok talk.answer) used

@@ -13,7 +13,9 @@ use peer_ids::PeerId;
 /// The IP address of a host, as its octets in network order.
 #[derive(Clone, Copy, Debug, PartialEq, Eq, Hash)]
 pub enum Ip {
+    /// An IPv4 address.
     V4([u8; 4]),
+    /// An IPv6 address.
     V6([u8; 16]),
 }
 

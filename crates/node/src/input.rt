@@ -28,6 +28,7 @@ fn look() -> Option<i16> {
 }
 
 impl Input {
+    /// An input of which nothing was read.
     pub fn new(stdin: Stdin) -> Input {
         let is_open = look().is_none_or(|bits| bits & POLLNVAL == 0);
         Input { stdin, is_open }

@@ -88,7 +88,7 @@ impl PublicKey {
         Some(PublicKey { kind, body })
     }
 
-    /// The Ed25519 key of these 32 bytes.
+    /// The Ed25519 key of these 32 bytes, unless memory was refused.
     pub fn ed25519(alloc: Global, bytes: &[u8; 32]) -> Result<PublicKey, AllocError>
         ensures { IfOk result (λ key. (key.kind ≡ KeyType.Ed25519) × (key.body ≡ bytes.now)) }
     {
@@ -99,7 +99,7 @@ impl PublicKey {
         })
     }
 
-    /// Reads a key message.
+    /// Reads a key message. Where several faults hold, the lowest is answered.
     pub fn read(alloc: Global, bytes: &[u8]) -> Result<PublicKey, KeyFault>
         ensures found { IfOk result (SpellsKey bytes.now) }
         ensures fault { IfErr result (RefusesKey bytes.now) }
@@ -127,7 +127,7 @@ impl PublicKey {
         &self.body
     }
 
-    /// The canonical key message of this key.
+    /// The canonical key message of this key, unless memory was refused.
     pub fn canonical(&self) -> Result<Vec<u8>, AllocError>
         ensures { IfOk result (λ bytes. bytes.items ≡ canonical_of self.now) }
     {

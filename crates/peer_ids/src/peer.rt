@@ -145,7 +145,7 @@ impl PeerId {
         }
     }
 
-    /// The id of this multihash, where a peer id may be that.
+    /// The id of this multihash, or [`IdFault::BadHash`] where no peer id is that. It takes no memory.
     pub fn from_bytes(bytes: &[u8]) -> Result<PeerId, IdFault>
         ensures found { IfOk result (λ id. id ≡ bytes.now) }
         ensures exact { IsOk result ↔ IsMultihash bytes.now }
@@ -164,7 +164,7 @@ impl PeerId {
         Ok(PeerId { multihash })
     }
 
-    /// The id whose text this is.
+    /// The id whose text this is. Where several faults hold, the lowest is answered. It takes no memory.
     pub fn from_text(text: &str) -> Result<PeerId, IdFault>
         ensures reads { ReadsId text.now result }
         ensures only { (other : Result (List ℕ) IdFault) → ReadsId text.now other → result ≡ other }
@@ -199,7 +199,7 @@ impl PeerId {
         text
     }
 
-    /// The text of the id, on the heap.
+    /// The text of the id, on the heap, unless memory was refused.
     pub fn to_text(&self, alloc: Global) -> Result<String, AllocError>
         ensures { IfOk result (λ text. IsIdText (string_bytes text) self.now) }
     {

@@ -12,6 +12,7 @@ pub struct Draws {
 }
 
 impl Draws {
+    /// The draws that follow from a seed.
     pub fn new(seed: u64) -> Draws {
         Draws { state: seed }
     }

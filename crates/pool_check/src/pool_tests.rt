@@ -439,6 +439,7 @@ struct Pools {
     copy: Listing,
 }
 
+/// The limits of these seven numbers, in the order of `Limits::new`.
 pub fn limits(of: [usize; 7]) -> Option<Limits> {
     Limits::new(of[0], of[1], of[2], of[3], of[4], of[5], of[6])
 }

@@ -52,7 +52,8 @@ use Rattle.conn_core.specs.declared.calls.ConnAct.TheVariants.{Feed, Ask, Ended}
 use Rattle.conn_core.specs.declared.calls.ConnAnswer.{ConnAnswer}
 use Rattle.conn_core.specs.declared.calls.ConnAnswer.TheVariants.{Events, Stream, Refused}
 use Rattle.conn_core.specs.Connects.{session_role, told_of, IsComing, IsUp, IsFaulty, Ends, IsUpWith, Connects, Stands}
-use Rattle.conn_core.specs.Connects.{is_spent, IsGrown, IsOpened, MayOpen, IsRefused, OwesOf, waiting_in, held_in, IsOrderedIn}
+use Rattle.conn_core.specs.Connects.{is_spent, IsGrown, IsOpened, MayOpen, IsRefused, OwesOf, waiting_in, held_in}
+use Rattle.conn_core.specs.Connects.{IsOrderedIn}
 use Rattle.conn_core.specs.Wanting.{WroteOn, Wrote}
 use Rattle.conn_core.specs.Runs.{Point, is_end, has_ended, events_or, stream_or, IsTurnedAway, StaysBehind, AreHeld}
 use Rattle.conn_core.specs.Runs.{Explains, IsExplained, MayBeAsked, IsNotOpened, AnswersAt, Answers, AnswersAll, Holds}

@@ -89,8 +89,8 @@ then_asked = Take came_behind ∷ Give (credit Server talk_sent 1) [] ∷ []
 
 -- whether this direction may be closed behind these calls, where the stream was at this stage before
 abbrev pub MayClose : List HandlerCall → (closed finished : Bool → Bool) → Stage Bool → Bool → Type 0
-MayClose calls closed finished old handler =
-    IsDue Stays closed finished old Server talk_sent 1 (record (unsent_with handler) { calls = calls }) (Close 1)
+MayClose calls closed finished was handler =
+    IsDue Stays closed finished was Server talk_sent 1 (record (unsent_with handler) { calls = calls }) (Close 1)
 
 -- This direction isn't closed while what the talk wrote waits, though the handler is closed; and then only where the
 -- handler is closed, or finished and was asked, or was handed out before.
@@ -104,8 +104,8 @@ pub record CloseRows : Type 0 where
 
 -- whether what came may count as taken then
 abbrev pub MayTake : List HandlerCall → (closed : Bool → Bool) → Stage Bool → Bool → Type 0
-MayTake calls closed old handler =
-    IsDue Stays closed never old Server talk_sent 1 (record (unsent_with handler) { calls = calls }) (Taken 1 2)
+MayTake calls closed was handler =
+    IsDue Stays closed never was Server talk_sent 1 (record (unsent_with handler) { calls = calls }) (Taken 1 2)
 
 -- What came is taken where the stream gave what it has: nothing waits, and its handler is closed, or was asked, or was
 -- handed out before.
@@ -114,7 +114,7 @@ pub record TakeRows : Type 0 where
   pub closed : MayTake never_asked itself (Serving true) true
   pub asked : MayTake then_asked itself (Serving false) false
   pub unasked : ¬ MayTake never_asked itself (Serving false) false
-  -- one that was closed before wasn't asked then
+  -- a handler that was closed before the stream was served wasn't asked while it was
   pub closed_before : ¬ MayTake then_asked itself (Serving true) false
   pub handed_out : MayTake never_asked itself Done false
 

@@ -17,8 +17,7 @@ use Rattle.streams.specs.declared.stage.Stage.{Stage}
 use Rattle.streams.specs.declared.stage.Stage.TheVariants.{Done}
 use Rattle.streams.specs.declared.stop.Stop.{Stop}
 use Rattle.streams.specs.Streams.{Past, IsServed, with_call}
-use Rattle.streams.specs.State.{Streaming, Stands, Answered, handler_of, is_open, has_closed, has_finished}
-use Rattle.streams.specs.State.{kind_of}
+use Rattle.streams.specs.State.{Streaming, Stands, Answered, handler_of, kind_of, is_open, has_closed, has_finished}
 use Rattle.streams.specs.Stops.{FailsBy}
 
 -- ---- the call by which a stream is served
@@ -44,7 +43,7 @@ module _ {H : Type 0} (step : H → HandlerCall → H → Type 0) where
 
   -- The stream's handler was called once, for what it may be asked for, unless it isn't asked, and so far this came
   -- then. Where it isn't asked, a live stream whose direction is open holds no handler that isn't closed, neither
-  -- before nor behind that.
+  -- before it was served nor afterwards.
   abbrev pub Asking : (H → Bool) → Role → List Item → ℕ → Streaming H → Streaming H → Past H → (Past H → Type 0)
       → Type 0
   Asking is_closed role past n old new so_far Came = (gave : Option HandlerCall)
@@ -73,18 +72,20 @@ module _ {H : Type 0} (step : H → HandlerCall → H → Type 0) (is_closed is_
       IfSome handler (λ it. IsServed step so_far it stream.waiting × (is_finished it ≡ true) × (stream.stage ≡ Done))
       × IfNone handler (has_finished is_finished stream.stage ≡ false)
 
--- Of a stream that was at this stage before it was served: each act is due by the stream while it was of that kind.
-module _ {H : Type 0} (step : H → HandlerCall → H → Type 0) (is_closed is_finished : H → Bool) (old : Stage H) where
+-- Of a stream that was at this stage before it was served. Each act is due by the stream while it is in its talk, or
+-- serves, or was handed out, as it was then.
+module _ {H : Type 0} (step : H → HandlerCall → H → Type 0) (is_closed is_finished : H → Bool) (was : Stage H) where
   -- The stream gave what it has: nothing waits, and its handler was asked last with all the credit, unless it is closed
-  -- or was handed out before. One that isn't closed wasn't when the stream was to be served: so it was asked then.
+  -- or was handed out before. One that isn't closed wasn't closed before either: so on a live stream, whose direction
+  -- is open, it was asked now, and what it was asked earlier doesn't count.
   pub record GaveAll (role : Role) (past : List Item) (n : ℕ) (so_far : Past H) : Type 0 where
     pub stream : Streaming H
     pub left : Option ℕ
     pub stands : Stands step stream (with_sent role past n so_far left)
     pub none_waits : stream.waiting ≡ []
     pub asked : is_open is_closed stream.stage ≡ true
-        → (left ≡ Some (credit role past n)) × (is_open is_closed old ≡ true)
-    pub kind_is : kind_of stream.stage ≡ kind_of old
+        → (left ≡ Some (credit role past n)) × (is_open is_closed was ≡ true)
+    pub kind_is : kind_of stream.stage ≡ kind_of was
 
   -- It gives no more: its handler is closed, or finished, or was handed out before.
   pub record HasGiven (role : Role) (past : List Item) (n : ℕ) (so_far : Past H) : Type 0 where
@@ -96,7 +97,7 @@ module _ {H : Type 0} (step : H → HandlerCall → H → Type 0) (is_closed is_
     pub stream : Streaming H
     pub left : Option ℕ
     pub stands : Stands step stream (with_sent role past n so_far left)
-    pub kind_is : kind_of stream.stage ≡ kind_of old
+    pub kind_is : kind_of stream.stage ≡ kind_of was
 
   -- Why an act is due that serves the stream: all that came is taken, once the stream stands by it, where this
   -- direction is closed, or credit is left by a stream that gave what it has; this direction is closed where the stream
@@ -135,11 +136,11 @@ module _ {H : Type 0} (step : H → HandlerCall → H → Type 0) (is_closed is_
     pub handed_out : HandsOut step is_closed is_finished (with_sent role goes.now n so_far goes.left) handler stream
     pub settled : is_live role goes.now n ≡ true
         → IsSettled step is_closed is_finished role goes.now n goes.left stream
-    -- a handler that is handed out was asked last, with all the credit, unless it is closed, or this direction was
-    -- before
+    -- Where this direction was open before, a handler that is handed out and isn't closed was asked last, with all the
+    -- credit. It wasn't closed before either: so it was asked now.
     pub asked_last : is_live role past n ≡ true → closed role past n ≡ false
         → IfSome handler (λ it. is_closed it ≡ false → (goes.left ≡ Some (credit role goes.now n))
-        × (is_open is_closed old ≡ true))
+        × (is_open is_closed was ≡ true))
     -- this direction was closed only where it is this stream that gives no more
     pub closed_by : closed role past n ≡ false → closed role goes.now n ≡ true
         → (stream.waiting ≡ []) × (has_closed is_closed stream.stage ≡ true)

@@ -54,27 +54,29 @@ CountRunsOut role past n old session = (session ≡ old) × (open_credit role pa
     × (is_live role past n ≡ true) × (0 < given_back role n past (Did (Taken n (untaken role past n))))
     × (old.room < 12)
 
-module _ {H : Type 0} (step : H → HandlerCall → H → Type 0) (is_closed is_finished : H → Bool) (old : Stage H) where
-  -- The stream was asked with all the credit, where this direction is open.
+module _ {H : Type 0} (step : H → HandlerCall → H → Type 0) (is_closed is_finished : H → Bool) (was : Stage H) where
+  -- The stream was asked with all the credit, where this direction is open. A handler that isn't closed wasn't closed
+  -- before.
   pub record WasAsked (role : Role) (past : List Item) (fed sent : List ℕ) (n : ℕ) (so_far : Past H) (session : State)
       (stream : Streaming H) : Type 0 where
-    pub goes : Goes step is_closed is_finished old role past fed sent n so_far session stream
+    pub goes : Goes step is_closed is_finished was role past fed sent n so_far session stream
     pub live_is : is_live role goes.now n ≡ is_live role past n
     pub closed_is : closed role goes.now n ≡ closed role past n
     pub asked : is_live role goes.now n ≡ true → closed role goes.now n ≡ false
         → is_open is_closed stream.stage ≡ true
-        → (goes.left ≡ Some (credit role goes.now n)) × (is_open is_closed old ≡ true)
+        → (goes.left ≡ Some (credit role goes.now n)) × (is_open is_closed was ≡ true)
     pub none_waits : is_live role goes.now n ≡ true → closed role goes.now n ≡ false → 0 < credit role goes.now n
         → stream.waiting ≡ []
     pub untaken_is : untaken role goes.now n ≡ untaken role past n
 
-  -- A handler that is finished was handed out, and this direction is closed where the stream gives no more.
+  -- A handler that is finished was handed out, and this direction is closed where the stream gives no more. One that
+  -- was handed out and isn't closed wasn't closed before.
   pub record WasClosed (role : Role) (past : List Item) (fed sent : List ℕ) (n : ℕ) (so_far : Past H)
       (handler : Option H) (session : State) (stream : Streaming H) : Type 0 where
-    pub goes : Goes step is_closed is_finished old role past fed sent n so_far session stream
+    pub goes : Goes step is_closed is_finished was role past fed sent n so_far session stream
     pub asked : is_live role goes.now n ≡ true → closed role goes.now n ≡ false
         → is_open is_closed stream.stage ≡ true
-        → (goes.left ≡ Some (credit role goes.now n)) × (is_open is_closed old ≡ true)
+        → (goes.left ≡ Some (credit role goes.now n)) × (is_open is_closed was ≡ true)
     pub none_waits : is_live role goes.now n ≡ true → closed role goes.now n ≡ false → 0 < credit role goes.now n
         → stream.waiting ≡ []
     pub handed_out : HandsOut step is_closed is_finished (with_sent role goes.now n so_far goes.left) handler stream
@@ -82,10 +84,10 @@ module _ {H : Type 0} (step : H → HandlerCall → H → Type 0) (is_closed is_
         → closed role goes.now n ≡ true
     pub asked_still : is_live role goes.now n ≡ true → closed role goes.now n ≡ false
         → IfSome handler (λ it. is_closed it ≡ false → (goes.left ≡ Some (credit role goes.now n))
-        × (is_open is_closed old ≡ true))
+        × (is_open is_closed was ≡ true))
     pub asked_last : is_live role past n ≡ true → closed role past n ≡ false
         → IfSome handler (λ it. is_closed it ≡ false → (goes.left ≡ Some (credit role goes.now n))
-        × (is_open is_closed old ≡ true))
+        × (is_open is_closed was ≡ true))
     pub closed_by : closed role past n ≡ false → closed role goes.now n ≡ true
         → (stream.waiting ≡ []) × (has_closed is_closed stream.stage ≡ true)
     pub untaken_is : untaken role goes.now n ≡ untaken role past n

@@ -51,17 +51,17 @@ module _ {H : Type 0} (step : H → HandlerCall → H → Type 0) (role : Role) 
       ⊎ ((kind_of stream.stage ≡ kind_of old.stage)
       × Asking step is_closed role past n old stream so_far (λ now. IsUnwritten now before.room stream)))
 
-module _ {H : Type 0} (step : H → HandlerCall → H → Type 0) (is_closed is_finished : H → Bool) (old : Stage H)
+module _ {H : Type 0} (step : H → HandlerCall → H → Type 0) (is_closed is_finished : H → Bool) (was : Stage H)
     (role : Role) (past : List Item) (fed sent : List ℕ) (n : ℕ) where
   -- Acts were done that serve the stream, and for the next that is due the session has no room.
   pub record IsUndone (so_far : Past H) (session : State) (stream : Streaming H) : Type 0 where
-    pub goes : Goes step is_closed is_finished old role past fed sent n so_far session stream
+    pub goes : Goes step is_closed is_finished was role past fed sent n so_far session stream
     pub act : Act
-    pub due : IsDue step is_closed is_finished old role goes.now n so_far act
+    pub due : IsDue step is_closed is_finished was role goes.now n so_far act
     pub sends : SendsFrame role goes.now act
     pub no_room : session.room < 12
 
   -- Memory is wanting when the stream is asked, or for what is due then.
   abbrev pub RunsOut : Past H → Streaming H → State → State → Streaming H → Type 0
-  RunsOut so_far was before session stream = AskingRunsOut step role past n is_closed so_far was before session stream
-      ⊎ (IsKept was stream × Asking step is_closed role past n was stream so_far (λ now. IsUndone now session stream))
+  RunsOut so_far old before session stream = AskingRunsOut step role past n is_closed so_far old before session stream
+      ⊎ (IsKept old stream × Asking step is_closed role past n old stream so_far (λ now. IsUndone now session stream))

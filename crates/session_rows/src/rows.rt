@@ -81,10 +81,13 @@ const RST_1: &[u8] = &[0, 1, 0, 8, 0, 0, 0, 1, 0, 0, 0, 0];
 
 const HALF_BACK_1: &[u8] = &[0, 1, 0, 0, 0, 0, 0, 1, 0, 2, 0, 0];
 
+/// GoAway with code 0.
 pub const LEAVING: &[u8] = &[0, 3, 0, 0, 0, 0, 0, 0, 0, 0, 0, 0];
 
+/// A Ping with value 7.
 pub const PING: &[u8] = &[0, 2, 0, 1, 0, 0, 0, 0, 0, 0, 0, 7];
 
+/// Its answer.
 pub const PING_ANSWERED: &[u8] = &[0, 2, 0, 2, 0, 0, 0, 0, 0, 0, 0, 7];
 
 const PROTOCOL_ERROR: &[u8] = &[0, 3, 0, 0, 0, 0, 0, 0, 0, 0, 0, 1];

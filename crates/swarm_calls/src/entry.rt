@@ -23,6 +23,7 @@ impl Model for Entry {
 }
 
 impl Entry {
+    /// The call of a caller, with its reply.
     pub fn new(caller: usize, call: Call, reply: Reply) -> Entry
         ensures { result ≡ entry caller call reply }
     {
@@ -42,18 +43,21 @@ impl Entry {
         }
     }
 
+    /// The number of the caller, from 1 on.
     pub fn caller(&self) -> usize
         ensures { result ≡ self.now.caller }
     {
         self.caller
     }
 
+    /// The call.
     pub fn call(&self) -> Call
         ensures { result ≡ self.now.call }
     {
         self.call
     }
 
+    /// Its reply.
     pub fn reply(&self) -> Reply
         ensures { result ≡ self.now.reply }
     {

@@ -53,6 +53,7 @@ pub struct Closed {
 /// Where a pool call may be held. Each pool call that publishes calls it with its pass's number, under the lock, before
 /// it asks for memory and before its publishing step: a call that was held may yet be answered OutOfMemory.
 pub trait Gate: Drop {
+    /// Holds the call of the caller of this number, from 1 to 8, as long as it likes.
     fn hold<R: Wait>(&self, rt: &R, caller: usize);
 }
 
@@ -67,6 +68,9 @@ impl Gate for NoGate {
 /// A pool that up to eight callers share, by a pass each. Contracts see the number of its callers. A pass fits the
 /// swarm that made it, and no other: an identity has one history, which one swarm takes, and nothing whose type names
 /// an identity leaves the function that is generic in it.
+///
+/// Each pool call answers what a pool does: a reply, or why it was refused (`pool_state::Refusal`). Spent and
+/// OutOfMemory add nothing to the history.
 pub struct Swarm<G: Gate, J: Identity, L: Ledgers> {
     gate: G,
     callers: usize,
@@ -100,7 +104,8 @@ impl<G: Gate, J: Identity, L: Ledgers> Model for Swarm<G, J, L> {
 
 impl<G: Gate, J: Identity, L: Ledgers> Swarm<G, J, L> {
     /// A swarm with an empty history, and the passes of callers 1 to `callers`, which have seen nothing. The history
-    /// and the ledgers are those that the types name.
+    /// and the ledgers are those that the types name. [`NewRefused::BadCallers`] exactly where `callers` is none of 1
+    /// to 8; else it may want memory.
     pub fn new<R: Wait>(
         rt: &R,
         alloc: Global,

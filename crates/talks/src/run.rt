@@ -13,6 +13,7 @@ use std::alloc::Global;
 /// What a talk came to.
 #[derive(Debug, Drop)]
 pub struct Talked {
+    /// What was decided, or that it goes on.
     pub answer: Answer,
     /// All that the end wrote in it.
     pub output: Vec<u8>,

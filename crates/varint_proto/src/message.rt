@@ -11,16 +11,22 @@ use std::marker::Model;
 /// What a field holds, by its wire type.
 #[derive(Clone, Copy, Debug, PartialEq, Eq)]
 pub enum Value<'a> {
+    /// Wire type 0.
     Varint(u64),
+    /// Wire type 1: eight bytes as they stand.
     Fixed64([u8; 8]),
+    /// Wire type 2: as many bytes as the length before them says.
     Bytes(&'a [u8]),
+    /// Wire type 5: four bytes as they stand.
     Fixed32([u8; 4]),
 }
 
 /// A field of a message.
 #[derive(Clone, Copy, Debug, PartialEq, Eq)]
 pub struct Field<'a> {
+    /// The number of the field, from its tag.
     pub number: u32,
+    /// What it holds.
     pub value: Value<'a>,
 }
 

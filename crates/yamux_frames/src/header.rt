@@ -32,6 +32,7 @@ pub enum FrameFault {
 /// The header of a frame: twelve bytes, which begin with version 0, every number big-endian.
 #[derive(Clone, Copy, Debug, PartialEq, Eq)]
 pub struct Header {
+    /// The type.
     pub kind: FrameKind,
     /// `SYN`, `ACK`, `FIN` and `RST` of this type, added up. Other bits are kept as they are.
     pub flags: u16,

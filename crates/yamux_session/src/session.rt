@@ -151,6 +151,9 @@ impl Session {
     /// WindowUpdate with SYN.
     ///
     /// An [`Event::Accepted`] of it may never come: a peer need not send ACK for a stream that it ends at once.
+    ///
+    /// It is refused by the first that holds of [`ActRefused::Failed`], [`ActRefused::GoneAway`],
+    /// [`ActRefused::StreamsExhausted`] and [`ActRefused::StreamsFull`], or for want of memory, and opens nothing then.
     pub fn open_stream(&mut self) -> Result<u32, ActRefused>
         ensures ok { IfOk result (λ number. Adds self.old self.new (λ role past. Start number)) }
         ensures going { OnOk result (self.new.failed ≡ false) }
@@ -181,6 +184,9 @@ impl Session {
     }
 
     /// Writes on a stream, and tells how many of the bytes the window let through.
+    ///
+    /// It is refused by the first that holds of [`ActRefused::Failed`], [`ActRefused::NoStream`] and
+    /// [`ActRefused::Ended`], or for want of memory, and changes nothing then.
     pub fn write(&mut self, stream: u32, bytes: &[u8]) -> Result<usize, ActRefused>
         ensures ok { IfOk result (λ count. AddsWrite self.old self.new stream (take count bytes.now)) }
         ensures going { OnOk result (self.new.failed ≡ false) }
@@ -216,7 +222,8 @@ impl Session {
     /// Bytes of a stream were taken: at most those that arrived and weren't taken yet.
     ///
     /// Behind the end of a stream that isn't live any more it answers [`ActRefused::NoStream`] and changes nothing:
-    /// there is no window left to open, so a caller may take what it holds without asking first.
+    /// there is no window left to open, so a caller may take what it holds without asking first. A session that has
+    /// failed answers [`ActRefused::Failed`], and want of memory for the frame that opens the window changes nothing.
     pub fn taken(&mut self, stream: u32, count: usize) -> Result<(), ActRefused>
         ensures ok { OnOk result (Adds self.old self.new (λ role past.
             Taken stream (min count (untaken role past stream)))) }
@@ -252,7 +259,7 @@ impl Session {
         Ok(())
     }
 
-    /// Closes this end's direction of a stream.
+    /// Closes this end's direction of a stream. It is refused as `write` is, and changes nothing then.
     pub fn close(&mut self, stream: u32) -> Result<(), ActRefused>
         ensures ok { OnOk result (Adds self.old self.new (λ role past. Close stream)) }
         ensures going { OnOk result (self.new.failed ≡ false) }
@@ -282,7 +289,8 @@ impl Session {
         Ok(())
     }
 
-    /// Ends both directions of a stream.
+    /// Ends both directions of a stream. It is refused with [`ActRefused::Failed`] or [`ActRefused::NoStream`], or for
+    /// want of memory, and changes nothing then.
     pub fn reset(&mut self, stream: u32) -> Result<(), ActRefused>
         ensures ok { OnOk result (Adds self.old self.new (λ role past. Reset stream)) }
         ensures going { OnOk result (self.new.failed ≡ false) }
@@ -307,7 +315,8 @@ impl Session {
 
     /// Says that this end goes away: it opens no stream of the other end any more. The specification knows the codes
     /// [`Header::NORMAL_TERMINATION`], [`Header::PROTOCOL_ERROR`] and [`Header::INTERNAL_ERROR`]; a code above makes
-    /// some peers end the session.
+    /// some peers end the session. It is refused with [`ActRefused::Failed`], or for want of memory, and says nothing
+    /// then.
     pub fn go_away(&mut self, code: u32) -> Result<(), ActRefused>
         ensures ok { OnOk result (Adds self.old self.new (λ role past. Act.GoAway code)) }
         ensures going { OnOk result (self.new.failed ≡ false) }

@@ -44,6 +44,7 @@ pub struct Told {
 }
 
 impl Told {
+    /// A caller that was told nothing.
     pub fn new(alloc: Global) -> Told {
         Told {
             made: Vec::new(alloc),
@@ -52,6 +53,7 @@ impl Told {
         }
     }
 
+    /// Notes what a listing showed.
     pub fn show(&mut self, listing: &Listing) {
         let is_kept = self.listed.push(counts_of(listing)).is_ok();
         self.is_whole &= is_kept;
@@ -149,6 +151,7 @@ pub struct History {
 }
 
 impl History {
+    /// A history with room for so many calls.
     pub fn blank(alloc: Global, calls: u64) -> Result<History, AllocError> {
         let made = blanks::<Made>(alloc, calls)?;
         let listed = blanks::<Counts>(alloc, calls)?;
