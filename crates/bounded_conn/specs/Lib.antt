@@ -1,4 +1,4 @@
 -- cited by public clauses
 pub mod Bounds
 -- cited by laws
-pub mod KeptRows
+pub mod Kept

@@ -2,7 +2,7 @@
 
 ghost use Rattle.std.specs.Prelude.{◌≡◌};
 ghost use Rattle.bounded_conn.specs.Bounds.{most};
-ghost use Rattle.bounded_conn.specs.KeptRows.{KeepsFields};
+ghost use Rattle.bounded_conn.specs.Kept.{KeepsFields};
 
 use crate::MOST_WAITING;
 use conn_link::Link;

@@ -13,4 +13,3 @@ pub mod InTurn
 pub mod Listed
 pub mod Waiting
 pub mod Wanting
-pub mod Rows

@@ -3,6 +3,3 @@ pub mod Connects
 pub mod Wanting
 pub mod Runs
 pub mod Promises
-pub mod ConnectRows
-pub mod RunRows
-pub mod PromiseRows

@@ -1,14 +1,9 @@
 //! What holds of an end wherever it is, and what a whole run comes to.
 
-ghost use Rattle.std.specs.Prelude.{ℕ, Bool, List};
 ghost use Rattle.peer_ids.specs.Key.{Key};
 ghost use Rattle.upgrade.specs.declared.role.ConnRole.{ConnRole};
-ghost use Rattle.yamux_session.specs.declared.event.Role.{Role};
 ghost use Rattle.conn_core.specs.Promises.{AreServing, AreEarly, LiveAreHeld, UpIsSplit};
 ghost use Rattle.conn_core.specs.Promises.{ListedAreHeld, EachIsAnswered, AllIsCounted, PastStays, ComesInTurn};
-ghost use Rattle.conn_core.specs.ConnectRows.{NameRows, PhaseRows, GrownRows, OpenedRows, EndRows};
-ghost use Rattle.conn_core.specs.PromiseRows.{ServingRows, EarlyRows, HandedRows};
-ghost use Rattle.conn_core.specs.RunRows.{LastRows, SumRows, RefusedRows, AnswerRows};
 
 use handlers::{Handler, Protocols};
 
@@ -76,26 +71,4 @@ pub fn comes_in_turn<P: Protocols>()
 /// What a run hands back is each handler that is held, with its stream's number, and no other.
 pub fn listed_are_held<H: Handler>()
     ensures { ListedAreHeld H }
-{}
-
-/// The definitions say of worked ends and calls what they are to say.
-pub fn worked_rows<P: Protocols>()
-    ensures names { NameRows }
-    ensures phases { PhaseRows P P.H }
-    ensures grown { GrownRows P.H }
-    ensures opened { OpenedRows P.H }
-    ensures ends { (start : P) (role : ConnRole) (own : Key)
-        → EndRows P.H.steps P.H.fails P.H.is_closed P.H.is_finished P.makes_inbound P.makes_outbound P.listed
-        P.is_eager P.leads_inbound P.leads_outbound start role own }
-    ensures serving { (names : List (List ℕ)) (role : Role)
-        → ServingRows P.H.steps P.H.is_closed P.H.is_finished names role }
-    ensures early { (names : List (List ℕ)) (role : Role)
-        → EarlyRows P.H.steps P.H.is_closed P.H.is_finished names role }
-    ensures handed { HandedRows P.H }
-    ensures last { LastRows P.H }
-    ensures sums { SumRows P.H }
-    ensures refused { RefusedRows P.H }
-    ensures answers { (start : P) (role : ConnRole) (own : Key)
-        → AnswerRows P.H.steps P.H.fails P.H.is_closed P.H.is_finished P.makes_inbound P.makes_outbound P.listed
-        P.is_eager P.leads_inbound P.leads_outbound start role own }
 {}

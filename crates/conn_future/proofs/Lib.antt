@@ -9,6 +9,4 @@ pub mod Waiting
 pub mod Unlinked
 pub mod Standing
 pub mod OverLink
-pub mod Rows
-pub mod PollRows
 pub mod Leading

@@ -344,11 +344,6 @@ module _ {L P H : Type 0} (link : LinkGhosts L) (protocols : ProtocolsGhosts P H
       → Stays link protocols handler start role own first log gave now core left held stage
   going_stays first log gave now core left held stage is goes = subst (λ (s : Stage). Stays link protocols handler start role own first log gave now core left held s) (sym is) goes
 
-  -- no event that the core told says that the link failed
-  pub told_links_not : (first : L) (log : List (Entry H)) (gave : List (ConnEvent H)) (ended : Bool) (now : L) (core : ConnCore P H) (left : List ℕ) (held : List (ConnEvent H))
-      → Joins link protocols handler start role own first log gave ended now core left (event.Fault fault.Link ∷ held) → ⊥
-  told_links_not first log gave ended now core left held joins = never_links link protocols handler start role own _ _ log gave held _ core joins.stands
-
   -- with nothing held
   pub goes_none : (first : L) (log : List (Entry H)) (gave : List (ConnEvent H)) (now : L) (core : ConnCore P H) (left : List ℕ) (held : List (ConnEvent H)) (stage : Stage)
       → stage ≡ Going → held ≡ []

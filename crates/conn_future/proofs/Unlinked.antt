@@ -92,23 +92,6 @@ end_last (x ∷ gave) e held [] last ends none is =
 end_last (x ∷ gave) e held (b ∷ before) last ends none is =
     end_last gave e held before last ends (rest_false (is_end b) (has_ended before) none) (cc is)
 
-abbrev is_upgraded : {H : Type 0} → ConnEvent H → Bool
-is_upgraded (event.Fault why) = false
-is_upgraded event.Shut = false
-is_upgraded (event.Upgraded key) = true
-is_upgraded (event.Agreed n index) = false
-is_upgraded (event.Refused n) = false
-is_upgraded (event.Done n handler) = false
-is_upgraded (event.Broken n cause) = false
-
-abbrev has_upgraded : {H : Type 0} → List (ConnEvent H) → Bool
-has_upgraded [] = false
-has_upgraded (e ∷ told) = is_upgraded e || has_upgraded told
-
-one_more : {H : Type 0} (told : List (ConnEvent H)) (e : ConnEvent H) → is_upgraded e ≡ false → has_upgraded told ≡ false → has_upgraded (told ++ e ∷ []) ≡ false
-one_more [] e is none = ap (λ b. b || false) is
-one_more (x ∷ told) e is none = neither (is_upgraded x) (has_upgraded told) (has_upgraded (told ++ e ∷ [])) (one_more told e is) none
-
 -- nothing stands behind an end, and none says that the link failed
 data Tells {H : Type 0} (told : List (ConnEvent H)) : Type 0 where
   NoneEnds : has_ended told ≡ false → Tells told
@@ -150,21 +133,6 @@ module _ {P H : Type 0} (step : H → HandlerCall → H → Type 0) (fails : H �
   said_goes_on (Says (event.Fault why) ∷ log) due = absurd due.0
   said_goes_on (Says event.Shut ∷ log) due = absurd due.0
 
-  -- that it is up is told before, and once
-  said_upgrades_not : (log : List (Entry H)) → AllDue step fails is_closed is_finished inbound_makes outbound_makes eager names peer role log → has_upgraded (said log) ≡ false
-  said_upgrades_not [] due = refl
-  said_upgrades_not (Of x ∷ log) due = said_upgrades_not log due.1
-  said_upgrades_not (Made n handler ∷ log) due = said_upgrades_not log due.1
-  said_upgrades_not (Asks n index ∷ log) due = said_upgrades_not log due.1
-  said_upgrades_not (Calls n call ∷ log) due = said_upgrades_not log due.1
-  said_upgrades_not (Says (event.Agreed n index) ∷ log) due = one_more (said log) (event.Agreed n index) refl (said_upgrades_not log due.1)
-  said_upgrades_not (Says (event.Refused n) ∷ log) due = one_more (said log) (event.Refused n) refl (said_upgrades_not log due.1)
-  said_upgrades_not (Says (event.Done n handler) ∷ log) due = one_more (said log) (event.Done n handler) refl (said_upgrades_not log due.1)
-  said_upgrades_not (Says (event.Broken n cause) ∷ log) due = one_more (said log) (event.Broken n cause) refl (said_upgrades_not log due.1)
-  said_upgrades_not (Says (event.Upgraded key) ∷ log) due = absurd due.0
-  said_upgrades_not (Says (event.Fault why) ∷ log) due = absurd due.0
-  said_upgrades_not (Says event.Shut ∷ log) due = absurd due.0
-
 module _ {P H : Type 0} (step : H → HandlerCall → H → Type 0) (fails : H → Asked → ℕ → Type 0)
     (is_closed is_finished : H → Bool) (inbound_makes outbound_makes : P → ℕ → List ℕ → H → Type 0)
     (listed : P → List (List ℕ)) (is_eager : P → ℕ → Bool)
@@ -196,20 +164,6 @@ module _ {P H : Type 0} (step : H → HandlerCall → H → Type 0) (fails : H �
       ∙ said_goes_on step fails is_closed is_finished inbound_makes outbound_makes (is_eager start) (listed start) (id_of up.key) (session_role role) log up.at_rest.due))
   connects_tells input ended log told taken phases.Over owed waiting it = ends_tell input ended log told (taken ++ waiting) it.1
   connects_tells input ended log told taken phases.Spent owed waiting it = absurd it
-
-  -- one that told that it is up stands at no list without it
-  connects_once : (input more : List ℕ) (ended end : Bool) (log opened : List (Entry H)) (key : Key) (taken all : List ℕ) (phase : Phase P H) (owed : List (ConnEvent H)) (waiting : List ℕ) → is_over phase ≡ false
-      → Connects step fails is_closed is_finished inbound_makes outbound_makes listed is_eager inbound_leads outbound_leads start role own input ended log (event.Upgraded key ∷ []) taken phase owed waiting
-      → Connects step fails is_closed is_finished inbound_makes outbound_makes listed is_eager inbound_leads outbound_leads start role own more end opened [] all phase owed waiting
-      → ⊥
-  connects_once input more ended end log opened key taken all (phases.Upgrading x protocols) owed waiting goes it other = cc it.4.none_told
-  connects_once input more ended end log opened key taken all (phases.Up mux) owed waiting goes it other =
-      let up = it.1.3.0 in let also = other.1.3.0 in
-      let said_is : said log ≡ event.Upgraded also.key ∷ said opened = cc (up.told_is, also.told_is) in
-      let none = said_upgrades_not step fails is_closed is_finished inbound_makes outbound_makes (is_eager start) (listed start) (id_of up.key) (session_role role) log up.at_rest.due in
-      let some : has_upgraded (said log) ≡ true = ap has_upgraded said_is in cc (none, some)
-  connects_once input more ended end log opened key taken all phases.Over owed waiting goes it other = cc goes
-  connects_once input more ended end log opened key taken all phases.Spent owed waiting goes it other = it
 
   connects_unended : (input : List ℕ) (ended : Bool) (log : List (Entry H)) (told : List (ConnEvent H)) (taken : List ℕ) (phase : Phase P H) (owed : List (ConnEvent H)) (waiting : List ℕ) → is_over phase ≡ false
       → Connects step fails is_closed is_finished inbound_makes outbound_makes listed is_eager inbound_leads outbound_leads start role own input ended log told taken phase owed waiting → ended ≡ false
@@ -260,13 +214,6 @@ module _ {L P H : Type 0} (link : LinkGhosts L) (protocols : ProtocolsGhosts P H
       → CoreStands link protocols handler start role own given ended log told taken core → CoreStands link protocols handler start role own more end opened told all next → is_over core.phase ≡ is_over next.phase
   same_over given more ended end log opened told taken all core next stands other =
       sym (over_is given ended log told taken core stands) ∙ over_is more end opened told all next other
-
-  pub told_once : (given more : List ℕ) (ended end : Bool) (log opened : List (Entry H)) (key : Key) (taken all : List ℕ) (core : ConnCore P H)
-      → CoreStands link protocols handler start role own given ended log (event.Upgraded key ∷ []) taken core → CoreStands link protocols handler start role own more end opened [] all core → ⊥
-  told_once given more ended end log opened key taken all core stands other =
-      connects_once handler.steps handler.fails handler.is_closed handler.is_finished protocols.makes_inbound
-      protocols.makes_outbound protocols.listed protocols.is_eager protocols.leads_inbound protocols.leads_outbound start role own given more ended end log opened key taken all core.phase core.owed.items core.output.items
-      (sym (over_is given ended log (event.Upgraded key ∷ []) taken core stands)) stands.1 other.1
 
   -- one that goes on was told of no end
   pub told_of_no_end : (given : List ℕ) (ended : Bool) (log : List (Entry H)) (told : List (ConnEvent H)) (taken : List ℕ) (core : ConnCore P H)

@@ -1,11 +1,11 @@
 -- At which sources a poll has registered.
-use Rattle.std.proofs.Common.{◌≡◌, ◌≢◌, inl, inr, ℕ, true, List, [], ◌∷◌, length, refl, sym, subst}
+use Rattle.std.proofs.Common.{◌≡◌, inl, inr, ℕ, true, List, [], sym, subst}
 use Rattle.futures.specs.declared.task.context.Context.{Context}
 use Rattle.futures.specs.Task.{Covers, Hears, Keeps, Lasting}
 use Rattle.conn_link.specs.Moving.{Within}
 use Rattle.conn_future.specs.declared.turns.Waits.{Waits}
 use Rattle.conn_future.specs.declared.stage.Stage.{Stage}
-use Rattle.conn_future.specs.declared.stage.Stage.TheVariants.{Going, Shutting}
+use Rattle.conn_future.specs.declared.stage.Stage.TheVariants.{Shutting}
 use Rattle.conn_future.specs.Stages.{WaitsAt}
 use Rattle.conn_future.specs.Turning.{HasWaited}
 
@@ -34,25 +34,6 @@ waits_write waits next old new reads reads_next writes writes_next same register
 
 -- ---- it waits at each source that the stage names
 
-going_hears : (cx : Context) (reads writes shuts : ℕ → Type 0) (unsent : List ℕ) → Covers cx reads → (unsent ≢ [] → Covers cx writes)
-    → (source : ℕ) → WaitsAt reads writes shuts Going unsent source → Hears cx source
-going_hears cx reads writes shuts unsent read wrote source (inl reading) = read.1 source reading
-going_hears cx reads writes shuts unsent read wrote source (inr writing) = (wrote writing.0).1 source writing.1
-
-pub going_covers : (cx : Context) (reads writes shuts : ℕ → Type 0) (unsent : List ℕ) → Covers cx reads → (unsent ≢ [] → Covers cx writes)
-    → Covers cx (WaitsAt reads writes shuts Going unsent)
-going_covers cx reads writes shuts unsent read wrote = (read.0, going_hears cx reads writes shuts unsent read wrote)
-
-writing_hears : (cx : Context) (reads writes shuts : ℕ → Type 0) (unsent : List ℕ) → unsent ≢ [] → Covers cx writes
-    → (source : ℕ) → WaitsAt reads writes shuts Shutting unsent source → Hears cx source
-writing_hears cx reads writes shuts unsent some wrote source (inl writing) = wrote.1 source writing.1
-writing_hears cx reads writes shuts unsent some wrote source (inr shutting) = absurd (some shutting.0)
-
--- behind shut, with output left
-pub writing_covers : (cx : Context) (reads writes shuts : ℕ → Type 0) (unsent : List ℕ) → unsent ≢ [] → Covers cx writes
-    → Covers cx (WaitsAt reads writes shuts Shutting unsent)
-writing_covers cx reads writes shuts unsent some wrote = (wrote.0, writing_hears cx reads writes shuts unsent some wrote)
-
 shutting_hears : (cx : Context) (reads writes shuts : ℕ → Type 0) (unsent : List ℕ) → unsent ≡ [] → Covers cx shuts
     → (source : ℕ) → WaitsAt reads writes shuts Shutting unsent source → Hears cx source
 shutting_hears cx reads writes shuts unsent none shut source (inl writing) = absurd (writing.0 none)
@@ -68,8 +49,3 @@ pub closing_covers : (cx : Context) (reads writes shuts : ℕ → Type 0) (stage
     → Covers cx (WaitsAt reads writes shuts stage unsent)
 closing_covers cx reads writes shuts stage unsent is none shut =
     subst (λ (s : Stage). Covers cx (WaitsAt reads writes shuts s unsent)) (sym is) (shutting_covers cx reads writes shuts unsent none shut)
-
--- where none is left the list is empty
-pub none_left : (unsent : List ℕ) → length unsent ≡ 0 → unsent ≡ []
-none_left [] is = refl
-none_left (byte ∷ unsent) is = absurd (cc is)

@@ -1,11 +1,6 @@
-//! What holds of a connection over a link wherever it is, and what the definitions come to.
+//! What holds of a connection over a link wherever it is.
 
-ghost use Rattle.peer_ids.specs.Key.{Key};
-ghost use Rattle.upgrade.specs.declared.role.ConnRole.{ConnRole};
 ghost use Rattle.conn_future.specs.Follows.{EndsBehind, CarriesInTurn, UpOverLink};
-ghost use Rattle.conn_future.specs.StageRows.{StageRows, WaitRows, CameRows, DrainRows};
-ghost use Rattle.conn_future.specs.FollowRows.{FollowRows};
-ghost use Rattle.conn_future.specs.PollRows.{PollRows};
 
 use conn_link::Link;
 use handlers::{Handler, Protocols};
@@ -24,15 +19,4 @@ pub fn carries_in_turn<L: Link, P: Protocols>()
 /// and is still to take.
 pub fn up_over_link<L: Link, P: Protocols>()
     ensures { UpOverLink L.Link P.Protocols P.H.Handler }
-{}
-
-/// The definitions say of worked stages, links and cores what they are to say.
-pub fn worked_rows<P: Protocols>()
-    ensures stages { StageRows }
-    ensures waits { WaitRows }
-    ensures came { CameRows }
-    ensures drains { DrainRows }
-    ensures polls { PollRows }
-    ensures follows { (start : P) (role : ConnRole) (own : Key)
-        → FollowRows P.Protocols P.H.Handler start role own }
 {}

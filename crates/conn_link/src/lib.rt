@@ -2,7 +2,6 @@
 //! [`Pipe`] is a link in memory, whose calls go by lists of steps.
 #![tactic(auto)]
 
-pub mod laws;
 mod link;
 mod pipe;
 mod script;

@@ -13,7 +13,7 @@ use Rattle.yamux_session.specs.History.Item.{Came}
 use Rattle.yamux_session.specs.Openings.{is_live, finished}
 use Rattle.yamux_session.specs.Arrives.{tellings, HasData}
 use Rattle.yamux_session.specs.Naming.{IsAbout, IsNoOpening as OpensNone, NamesOne}
-use Rattle.yamux_session.specs.Events.{Told, events}
+use Rattle.yamux_session.specs.Events.{Told}
 use Rattle.yamux_session.specs.Seen.{Seen, seen, hears, all_heard, just_opened, AgreesOn, TellsFrom, EventsTell, Windows, windows, IsQuiet, CreditIsTold}
 use Rattle.yamux_session.specs.Endings.{opened_in, told_opened, OpeningsAreTold, OpenedByTheOther, OpenedAnew, EndsAreLast}
 use Rattle.yamux_session.specs.State.{State, Stands as SessionStands, IsOneFrame}
@@ -246,9 +246,6 @@ module _ {P H : Type 0} (step : H → HandlerCall → H → Type 0) (fails : H �
     pub stream : ℕ
     pub all_for : AllByRecursion (IsFor stream) told
     pub awaits : Awaits step fails is_closed is_finished inbound_makes outbound_makes eager names peer role then later sent now streams past stream (tellings told)
-
-  events_are : events role (items then) ≡ events role (items log) ++ tellings told
-  events_are = ap (λ (t : List Item). events role t) items_are ∙ tells.told_is
 
   unopened_faced : turn then ≡ Some n → AllByRecursion OpensNone told → Faced
   unopened_faced turn_is none_opened =

@@ -20,7 +20,3 @@ pub mod Facing
 pub mod Asking
 pub mod Leaving
 pub mod Early
-pub mod MadeRows
-pub mod ListRows
-pub mod TurnRows
-pub mod Placed

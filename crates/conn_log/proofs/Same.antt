@@ -20,7 +20,7 @@ use Rattle.conn_log.specs.declared.event.ConnEvent.TheVariants as event
 use Rattle.conn_log.specs.Entries.{Entry, items, agreed, is_over, was_done, made_of, calls_of, has_taken, asked, is_kept, left_behind}
 use Rattle.conn_log.specs.Entries.Entry.{Of, Says, Made, Calls}
 use Rattle.conn_log.specs.Asking.{is_give, is_asked_anew}
-use Rattle.conn_log.specs.Held.{IsSide, IsHeld, IsAtRest, IsPast, AreLeft}
+use Rattle.conn_log.specs.Held.{IsSide, IsAtRest, IsPast, AreLeft}
 
 -- these are of the stream what they were
 pub record Same {H : Type 0} (role : Role) (log now : List (Entry H)) (m : ℕ) : Type 0 where
@@ -232,27 +232,8 @@ settled_same step is_closed is_finished role past now n left stream shut has lef
   carried (inr on) = inr (sym shut ∙ on)
 
 module _ {H : Type 0} (step : H → HandlerCall → H → Type 0) (is_closed is_finished : H → Bool) (names : List (List ℕ)) (role : Role) where
-  pub held_same : (log now : List (Entry H)) (m : ℕ) (got : List ℕ) (ended : Bool) (stream : Streaming H) → Same role log now m
-      → IsHeld step is_closed is_finished names role log m got ended stream → IsHeld step is_closed is_finished names role now m got ended stream
-  held_same log now m got ended stream s h = record {
-    so_far = h.so_far;
-    side_is = side_same role names log now m h.so_far.side s.asked_is h.side_is;
-    got_is = h.got_is;
-    ended_is = h.ended_is;
-    sent_is = h.sent_is ∙ ap (λ (x : Seen). x.sent) (sym s.seen_is);
-    made_is = h.made_is ∙ sym s.made_is;
-    calls_is = h.calls_is ∙ sym s.calls_is;
-    stands = h.stands;
-    talking = λ is. s.agreed_is ∙ h.talking is;
-    agreed_on = λ is none. h.agreed_on is (sym s.agreed_is ∙ none);
-    over = s.over_is ∙ h.over;
-    done = s.done_is ∙ h.done;
-    served = h.served;
-  }
-
   pub at_rest_same : (log now : List (Entry H)) (m : ℕ) (stream : Streaming H) → Same role log now m
       → IsAtRest step is_closed is_finished names role log m stream → IsAtRest step is_closed is_finished names role now m stream
-  unfolding held_same
   at_rest_same log now m stream s r =
       let came : inbound role (items log) m ≡ inbound role (items now) m = ap (λ (x : Seen). x.came) (sym s.seen_is) in
       let ended : finished role (items log) m ≡ finished role (items now) m = ap (λ (x : Seen). x.ended) (sym s.seen_is) in

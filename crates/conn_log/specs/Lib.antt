@@ -4,12 +4,6 @@ pub mod Asking
 pub mod Turns
 pub mod Due
 pub mod Making
-pub mod MakingRows
-pub mod EntryRows
-pub mod TurnRows
-pub mod DueRows
-pub mod AskedRows
-pub mod PlaceRows
 pub mod Held
 pub mod Rests
 pub mod Asked

@@ -4,7 +4,6 @@
 
 mod earlier;
 mod event;
-pub mod laws;
 
 pub use earlier::Earlier;
 pub use event::{ConnEvent, ConnFault, ConnRefused};

@@ -1,3 +1,2 @@
 -- cited by public clauses and laws
 pub mod Dispatch
-pub mod Rows

@@ -3,7 +3,6 @@
 
 mod agreement;
 mod direction;
-pub mod laws;
 
 pub use agreement::negotiate;
 pub use direction::Direction;

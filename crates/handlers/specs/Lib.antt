@@ -2,4 +2,3 @@
 pub mod Calls
 pub mod Names
 pub mod Numbered
-pub mod Rows

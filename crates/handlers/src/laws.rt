@@ -4,20 +4,8 @@ ghost use Rattle.std.specs.Prelude.{◌≡◌, ℕ, Bool, true, false, List, [],
 ghost use Rattle.handlers.specs.Calls.{HandlerCall, Take, Give, End, Arises, WasHanded};
 ghost use Rattle.handlers.specs.contracts.handler.HandlerFault.{the_view};
 ghost use Rattle.handlers.specs.declared.handler.HandlerFault.TheInside.{Inside as Fields};
-ghost use Rattle.handlers.specs.Names.{NameRows};
-ghost use Rattle.handlers.specs.Rows.{AnyBytes, JoinedRows, EndRows, HandedRows, StopRows};
 
 use crate::handler::Handler;
-
-/// The definitions say of worked names and calls what they are to say.
-pub fn worked_rows()
-    ensures names { NameRows }
-    ensures any_bytes { AnyBytes }
-    ensures joined { JoinedRows }
-    ensures ends { EndRows }
-    ensures handed { HandedRows }
-    ensures stops { StopRows }
-{}
 
 /// What contracts see of a fault is, field by field, what its public fields hold.
 pub fn fields_are_public()

@@ -2,6 +2,3 @@
 pub mod Orders
 pub mod Laws
 pub mod HeldLaws
--- worked rows
-pub mod OrderRows
-pub mod HeldRows

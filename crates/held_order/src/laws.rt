@@ -2,8 +2,6 @@
 
 ghost use Rattle.held_order.specs.Laws.{LetsGo, Arranges};
 ghost use Rattle.held_order.specs.HeldLaws.{NamesEachHeld, DueIsOnce};
-ghost use Rattle.held_order.specs.OrderRows.{OrderRows, ArrangedRows};
-ghost use Rattle.held_order.specs.HeldRows.{TimesRows, ToldOnceRows};
 
 use handlers::{Handler, Protocols};
 
@@ -30,12 +28,4 @@ pub fn each_told_once<P: Protocols>()
 /// list.
 pub fn all_in_order<H: Handler>()
     ensures { Arranges H }
-{}
-
-/// The definitions say of worked lists and handlers what they are to say.
-pub fn worked_rows<H: Handler>()
-    ensures orders { OrderRows }
-    ensures arranged { ArrangedRows H }
-    ensures times { TimesRows }
-    ensures told_once { ToldOnceRows }
 {}

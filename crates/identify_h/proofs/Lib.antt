@@ -4,12 +4,10 @@ pub mod Streaming
 pub mod Sent
 pub mod Read
 pub mod Rows
-pub mod HandlerRows
 pub mod Outcomes
 pub mod Written
 pub mod SentRead
 pub mod Lengths
 pub mod Refusing
-pub mod RoomRows
 pub mod Stopping
 pub mod OneWay

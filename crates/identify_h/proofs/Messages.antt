@@ -1,6 +1,6 @@
 -- Messages of identify: their key, merging, and that one stands for its bytes.
-use Rattle.std.proofs.Common.{◌≡◌, ◌≢◌, ◌⊎◌, ◌≤◌, ℕ, List, Option, Some, None, Result, Ok, Err, refl, sym, ap, subst, ◌∙◌, inl, inr, arith}
-use Rattle.std.specs.Prelude.{IfOk, IfErr, IsSome}
+use Rattle.std.proofs.Common.{◌≡◌, ◌≢◌, ◌⊎◌, ◌≤◌, ℕ, List, Option, Some, None, Result, Ok, Err, refl, sym, ap, subst, ◌∙◌, inl, inr}
+use Rattle.std.specs.Prelude.{IfOk, IfErr}
 use Rattle.std.specs.Global.{Vec}
 use Rattle.std.specs.Option.{option_or}
 use Rattle.varint_proto.specs.declared.fault.WireFault.{WireFault}
@@ -8,39 +8,12 @@ use Rattle.varint_proto.specs.Message.{Entry, IsMessage, FaultIn, last_body}
 use Rattle.varint_proto.proofs.OneReading.{one_message, message_or_fault}
 use Rattle.peer_ids.specs.Key.{Key}
 use Rattle.peer_ids.specs.PeerId.{id_of}
-use Rattle.peer_ids.specs.ReadsKey.{SpellsKey, RefusesKey}
-use Rattle.peer_ids.specs.declared.fault.KeyFault.{KeyFault}
-use Rattle.peer_ids.specs.declared.fault.KeyFault.TheVariants as keys
+use Rattle.peer_ids.specs.ReadsKey.{SpellsKey}
 use Rattle.peer_ids.proofs.OneKey.{one_key, key_or_fault}
 use Rattle.identify_h.specs.declared.fault.IdentifyFault.{IdentifyFault}
 use Rattle.identify_h.specs.declared.fault.IdentifyFault.TheVariants.{Failed, TooLong, TooMany, Wire, OtherKey, Cut, OutOfMemory}
-use Rattle.identify_h.specs.Faults.{of_key_fault}
-use Rattle.identify_h.specs.Messages.{Message, IsKeyOf, Says, Spells, IsOtherKey, IsKeySpelt, RefusesKeyOf, HasText, Refuses, HasBadKey, OneMessage, newer}
+use Rattle.identify_h.specs.Messages.{Message, IsKeyOf, Says, Spells, IsOtherKey, IsKeySpelt, HasText, Refuses, HasBadKey, OneMessage, newer}
 use Rattle.identify_h.specs.Parts.{text}
-
-pub refused_key : (peer spelling : List ℕ) (fault : KeyFault) → RefusesKey spelling fault → RefusesKeyOf peer spelling (of_key_fault fault)
-refused_key peer spelling keys.Wire refused = inl (keys.Wire, (λ e. cc), refused)
-refused_key peer spelling keys.NoType refused = inl (keys.NoType, (λ e. cc), refused)
-refused_key peer spelling keys.NoData refused = inl (keys.NoData, (λ e. cc), refused)
-refused_key peer spelling keys.UnknownType refused = inl (keys.UnknownType, (λ e. cc), refused)
-refused_key peer spelling keys.BadLength refused = inl (keys.BadLength, (λ e. cc), refused)
-refused_key peer spelling keys.OutOfMemory refused = refused
-
--- the key that a message has is refused
-pub refused_at_key : (peer bytes spelling : List ℕ) (fields : List Entry) (fault : IdentifyFault) → IsMessage bytes fields
-    → last_body 1 fields ≡ Some spelling → RefusesKeyOf peer spelling fault → Refuses peer bytes fault
-refused_at_key peer bytes spelling fields OtherKey message is refused = (fields, message, (spelling, is, refused))
-refused_at_key peer bytes spelling fields OutOfMemory message is refused = (
-  fields,
-  message,
-  subst IsKeySpelt (sym is) refused,
-  inl (1, omega arith, omega arith, subst (λ (b : Option (List ℕ)). IsSome b) (sym is) refl),
-)
-refused_at_key peer bytes spelling fields Failed message is refused = absurd refused
-refused_at_key peer bytes spelling fields TooLong message is refused = absurd refused
-refused_at_key peer bytes spelling fields TooMany message is refused = absurd refused
-refused_at_key peer bytes spelling fields Wire message is refused = absurd refused
-refused_at_key peer bytes spelling fields Cut message is refused = absurd refused
 
 -- memory is asked for to keep a field, and the key is the peer's
 pub is_spelt : (peer : List ℕ) (spelling : Option (List ℕ)) (key : Option Key) → IsKeyOf peer spelling key → IsKeySpelt spelling

@@ -33,9 +33,6 @@ pub record Same (bodies others : List (List ℕ)) (rest other : List ℕ) : Type
   pub bodies_are : bodies ≡ others
   pub rest_is : rest ≡ other
 
-less_left : (left a b : ℕ) → left - (a + b) ≡ (left - a) - b
-less_left left a b = omega arith
-
 shift : (n left : ℕ) (body : List ℕ) (bodies : List (List ℕ)) (rest : List ℕ) → Stops (suc n - length (body ∷ bodies)) (left - length (concat (body ∷ bodies))) rest
     → Stops (n - length bodies) ((left - length body) - length (concat bodies)) rest
 shift n left body bodies rest stops found after some frames =

@@ -52,15 +52,6 @@ pub record AllSoFar (number : ℕ) (rest : List ℕ) (list : List (List ℕ)) (f
   pub message : IsMessage rest after
   pub list_is : list ≡ all_bodies number before
 
-pub none_yet : (number : ℕ) (bytes : List ℕ) (fields : List Entry) → IsMessage bytes fields → AllSoFar number bytes [] fields
-none_yet number bytes fields message = record {
-  before = [];
-  after = fields;
-  fields_are = refl;
-  message = message;
-  list_is = refl;
-}
-
 next_is : (middle : List ℕ) (f : Entry) (rest : List ℕ) (more : List Entry) → Begins middle f rest → IsMessage middle more
     → (others : List Entry) × (more ≡ f ∷ others) × IsMessage rest others
 next_is middle f rest [] begins message = absurd (let some = begins_some middle f rest begins in let none = ap length message in omega arith)

@@ -1,6 +1,5 @@
 -- A message that is sent behind its length is read, and a fault stays.
-use Rattle.std.proofs.Common.{◌≡◌, ℕ, ◌-◌, ◌≤◌, List, [], ◌∷◌, ◌++◌, length, refl, sym, ap, subst, ◌∙◌, append_assoc, arith}
-use Rattle.std.specs.List.{concat, flat_map}
+use Rattle.std.proofs.Common.{◌≡◌, ℕ, ◌-◌, ◌≤◌, List, [], ◌∷◌, ◌++◌, length, refl, sym, subst, ◌∙◌, arith}
 use Rattle.std.proofs.lemmas.List.{append-nil, length-append}
 use Rattle.varint_proto.specs.Varint.{shortest}
 use Rattle.varint_proto.specs.declared.fault.IncomingRefused.TheVariants as incoming
@@ -10,7 +9,7 @@ use Rattle.identify_h.specs.declared.fault.IdentifyFault.{IdentifyFault}
 use Rattle.identify_h.specs.declared.fault.IdentifyFault.TheVariants.{Failed, TooLong, TooMany, Wire, OtherKey, Cut, OutOfMemory}
 use Rattle.identify_h.specs.Sending.{most_bytes, framed}
 use Rattle.identify_h.specs.Messages.{Spells, written}
-use Rattle.identify_h.specs.Streams.{NextFault, left_behind, Lead, Begins, FaultsStay, SentIsRead}
+use Rattle.identify_h.specs.Streams.{NextFault, left_behind, Begins, FaultsStay, SentIsRead}
 use Rattle.identify_h.proofs.Streaming.{begins_on}
 use Rattle.identify_h.proofs.Written.{read_back}
 
@@ -29,24 +28,6 @@ sent_back peer m has small = (
   omega arith,
   subst (λ (t : List ℕ). Spells peer t m) (sym (append-nil (written m))) (read_back peer m has (omega arith)),
 )
-
--- bodies behind their lengths, whatever follows
-behind_a_length : (spelling body middle rest : List ℕ) → spelling ++ (body ++ (middle ++ rest)) ≡ ((spelling ++ body) ++ middle) ++ rest
-behind_a_length spelling body middle rest =
-    sym (ap (λ (t : List ℕ). t ++ rest) (append_assoc spelling body middle) ∙ append_assoc spelling (body ++ middle) rest
-    ∙ ap (λ (t : List ℕ). spelling ++ t) (append_assoc body middle rest))
-
-pub messages_lead : (left : ℕ) (bodies : List (List ℕ)) (rest : List ℕ) → length (concat bodies) ≤ left → left ≤ most_bytes
-    → Lead left (flat_map framed bodies ++ rest) bodies rest
-messages_lead left [] rest within small = refl
-messages_lead left (body ∷ bodies) rest within small =
-    let sum = length-append body (concat bodies) in (
-      flat_map framed bodies ++ rest,
-      subst (λ (t : List ℕ). Frames left t body (flat_map framed bodies ++ rest))
-          (behind_a_length (shortest (length body)) body (flat_map framed bodies) rest)
-          (framed_is_read left body (flat_map framed bodies ++ rest) (omega arith) (omega arith)),
-      messages_lead (left - length body) bodies rest (omega arith) (omega arith),
-    )
 
 next_fault_on : (bodies : List (List ℕ)) (rest more : List ℕ) (fault : IdentifyFault) → NextFault bodies rest fault → NextFault bodies (rest ++ more) fault
 next_fault_on bodies rest more TooLong h = (h.0, fault_more (left_behind bodies) rest more incoming.TooLong h.1)

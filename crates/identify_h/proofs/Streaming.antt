@@ -2,7 +2,7 @@
 use Rattle.std.proofs.Common.{◌≡◌, ◌≢◌, ◌⊎◌, ℕ, zero, suc, ◌+◌, ◌-◌, ◌<◌, ◌≤◌, List, [], ◌∷◌, ◌++◌, length, Option, Some, None, Ok, Err, Bool, true, false, ◌||◌, ◌==◌, cond, refl, sym, ap, subst, ◌∙◌, inl, inr, append_assoc, arith}
 use Rattle.std.specs.Prelude.{take, drop, IfSome, is_some}
 use Rattle.std.specs.List.{concat}
-use Rattle.std.proofs.lemmas.Bool.{cases_lt, eqb-true, eq-eqb}
+use Rattle.std.proofs.lemmas.Bool.{cases_lt, eq-eqb}
 use Rattle.std.proofs.lemmas.List.{append-nil, length-append, length-drop}
 use Rattle.varint_proto.proofs.Pieces.{take_past}
 use Rattle.varint_proto.specs.declared.fault.IncomingRefused.{IncomingRefused}
@@ -235,20 +235,6 @@ unknown_if None digits some same = refl
 unknown_if (Some m) digits some same = absurd (let none = same (λ e. cc) in omega arith)
 
 -- ---- a body that waits
-
-pub none_waits : (x : Arriving) → x.expected ≡ None → waiting x ≡ 0
-none_waits x none = ap (waits (length x.body)) none
-
-pub partial_waits : (x : Arriving) → (IsWhole x → ⊥) → waiting x ≡ 0
-partial_waits x partial = by x.expected refl
-  where
-    by_length : (n : ℕ) (b : Bool) → (n == length x.body) ≡ b → x.expected ≡ Some n → ◌≡◌ {A = ℕ} (cond b 1 0) 0
-    by_length n true same is = absurd (partial (is ∙ ap Some (eqb-true n (length x.body) same)))
-    by_length n false same is = refl
-
-    by : (o : Option ℕ) → x.expected ≡ o → waits (length x.body) o ≡ 0
-    by None is = refl
-    by (Some n) is = by_length n (n == length x.body) refl is
 
 pub not_waiting : (x : Arriving) → waiting x ≡ 0 → IsWhole x → ⊥
 not_waiting x none whole =

@@ -22,8 +22,7 @@ ghost use Rattle.identify_h.specs.Streams.{Reads, TakeFails, EndFails};
 ghost use Rattle.identify_h.specs.Streams.{OneOutcome, SomeOutcome, FaultsStay, AskingGoesOn, SentIsRead};
 ghost use Rattle.identify_h.specs.Reading.{Reader, Stands, IsFresh, Alike, ReadStep, ReadFails};
 ghost use Rattle.identify_h.specs.Sending.{Sending, SendStep, SendFails, sending, most_bytes};
-ghost use Rattle.identify_h.specs.Rows.{MessageRows, FieldRows, MemoryRows, BadKeyRows, MergeRows, StreamRows};
-ghost use Rattle.identify_h.specs.Rows.{FaultRows, RoomRows, TakeRows, NumberRows, SendRows, ReadRows};
+ghost use Rattle.identify_h.specs.Rows.{WorkedRows};
 
 use crate::fault::IdentifyFault;
 use crate::reader::IdentifyIn;
@@ -33,20 +32,9 @@ use peer_ids::KeyFault;
 use std::alloc::{AllocError, AllocFailed};
 use varint_proto::{IncomingRefused, WireFault};
 
-/// The definitions say of worked inputs what the specification and the profile say.
+/// The definitions give what the specification and this project's profile give, at worked bytes.
 pub fn worked_rows()
-    ensures messages { MessageRows }
-    ensures fields { FieldRows }
-    ensures memory { MemoryRows }
-    ensures bad_keys { BadKeyRows }
-    ensures merging { MergeRows }
-    ensures streams { StreamRows }
-    ensures faults { FaultRows }
-    ensures room { RoomRows }
-    ensures taking { TakeRows }
-    ensures numbers { NumberRows }
-    ensures sending { SendRows }
-    ensures reading { ReadRows }
+    ensures { WorkedRows }
 {}
 
 /// What contracts see of an identify message is what its fields hold.

@@ -1,16 +1,16 @@
 -- A side that has heard nothing.
-use Rattle.std.proofs.Common.{◌≡◌, ℕ, ◌<◌, false, List, [], ◌∷◌, ◌++◌, length, map, Some, None, Ok, refl, ap, sym, ◌∙◌, arith}
+use Rattle.std.proofs.Common.{◌≡◌, ℕ, ◌<◌, false, List, [], ◌∷◌, ◌++◌, length, map, Some, None, refl, ap, sym, ◌∙◌, arith}
 use Rattle.std.specs.Prelude.{slice_get}
 use Rattle.std.specs.List.{All}
 use Rattle.std.proofs.lemmas.List.{append-nil}
 use Rattle.std.proofs.lemmas.List.Elements.{All-nil, All-map}
 use Rattle.varint_proto.specs.Incoming.{Stands as Arrives}
-use Rattle.ms_select.specs.declared.answer.Answer.TheVariants.{Going, NoneLeft}
+use Rattle.ms_select.specs.declared.answer.Answer.TheVariants.{Going}
 use Rattle.ms_select.specs.declared.verdict.Role.TheVariants.{Dialer, Listener}
 use Rattle.ms_select.specs.Messages.{longest, header, message, IsShort}
 use Rattle.ms_select.specs.Listening.{IsName}
 use Rattle.ms_select.specs.Dialing.{proposals}
-use Rattle.ms_select.specs.Sides.{Comes, IsHeard, written, count_of, Negotiating, StandsWith}
+use Rattle.ms_select.specs.Sides.{IsHeard, written, count_of, Negotiating, StandsWith}
 use Rattle.ms_select.proofs.Hearing.{nothing_read, no_bytes}
 
 -- names that can be proposed have messages
@@ -55,9 +55,3 @@ listener_fresh x r b c a l e p = fresh x b (rw r c) a l e (rw r (All-nil IsShort
 pub dialer_fresh : (x : Negotiating) (first : List ℕ) → x.role ≡ Dialer → x.begun ≡ false → x.count ≡ 0 → Arrives [] x.incoming → x.incoming.limit ≡ longest → x.incoming.expected ≡ None
     → slice_get x.names 0 ≡ Some first → x.pending ≡ message header ++ message first → StandsWith (Some Going) x [] 0 []
 dialer_fresh x first r b c a l e at p = fresh x b (rw r c) a l e (rw r (tt, some_below x.names first at)) (rw r (p ∙ sym (first_proposal x.names first at)))
-
--- a dialer without names
-pub nameless : (x : Negotiating) → x.role ≡ Dialer → x.names ≡ [] → x.pending ≡ [] → StandsWith (Some NoneLeft) x [] 0 []
-nameless x r n p =
-    let none : Comes Dialer [] [] (Ok NoneLeft) 0 [] = ([], [], record { parts = refl; refusals = tt }, record { all = refl; none = λ e. refl }, refl, refl) in
-    rw (r, n, p) none

@@ -12,4 +12,3 @@ pub mod Fresh
 pub mod Cut
 pub mod SomeTalk
 pub mod Rows
-pub mod JoinedRows

@@ -49,11 +49,6 @@ behind (x ∷ xs) (y ∷ ys) a b r s p q f g h k e =
     let tails = (same_text x y (spelled xs ++ (message a ++ r)) (spelled ys ++ (message b ++ s)) (short_na x x-is) (short_na y y-is) (sym (append_assoc (message x) (spelled xs) (message a ++ r)) ∙ e ∙ append_assoc (message y) (spelled ys) (message b ++ s))).1 in
     behind xs ys a b r s (All-tail (λ t. t ≡ na) x xs p) (All-tail (λ t. t ≡ na) y ys q) f g h k tails
 
-or_false : (a b c : Bool) → (cond (cond a true b) true c) ≡ false → (b ≡ false) × (c ≡ false)
-or_false true b c e = absurd cc
-or_false false true c e = absurd cc
-or_false false false c e = (refl, e)
-
 abbrev some_name : List ℕ → Option (List ℕ)
 some_name name = Some name
 

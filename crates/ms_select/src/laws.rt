@@ -6,19 +6,11 @@ ghost use Rattle.ms_select.specs.Dialing.{OneDialer, SomeDialer};
 ghost use Rattle.ms_select.specs.Joined.{OneName};
 ghost use Rattle.ms_select.specs.Sides.{AnswersAsDefined};
 ghost use Rattle.ms_select.specs.Laws.{DecisionStays, FaultStays, NothingBehind, AskedAll};
-ghost use Rattle.ms_select.specs.Rows.{MessageRows, NameRows, ChoiceRows, ListenRows, DialRows, SendRows, MemoryRows};
-ghost use Rattle.ms_select.specs.Rows.{JoinedRows};
+ghost use Rattle.ms_select.specs.Rows.{WorkedRows};
 
-/// The definitions say of worked bytes what the standard and this project's profile say.
+/// The definitions give what the standard and this project's profile give, at worked bytes.
 pub fn worked_rows()
-    ensures messages { MessageRows }
-    ensures names { NameRows }
-    ensures choices { ChoiceRows }
-    ensures listener { ListenRows }
-    ensures dialer { DialRows }
-    ensures sends { SendRows }
-    ensures memory { MemoryRows }
-    ensures joined { JoinedRows }
+    ensures { WorkedRows }
 {}
 
 /// Two ends that both agree in one talk name the same protocol.

@@ -8,4 +8,4 @@ pub mod Printed
 pub mod Sockets
 pub mod Alphabets
 pub mod OneText
-pub mod WorkedRows
+pub mod Rows

@@ -1,8 +1,7 @@
 //! Laws of addresses and their texts. Each is a function with an empty body, whose contract is the law.
 
 ghost use Rattle.multiaddr.specs.Laws.{OneReading, OneTextReading, Printing};
-ghost use Rattle.multiaddr.specs.Rows.{AddressRows, GivenRows, Ip6Rows, ProtocolRows, SpellingRows, TextRows};
-ghost use Rattle.multiaddr.specs.Rows.{TextValueRows, ValueRows};
+ghost use Rattle.multiaddr.specs.Rows.{WorkedRows};
 
 /// Bytes are at most one address, have at most one fault, and not both.
 pub fn one_reading()
@@ -19,14 +18,7 @@ pub fn printing()
     ensures { Printing }
 {}
 
-/// The definitions say of worked addresses and texts what the standards say.
+/// The definitions give what the standards give, for worked addresses and texts.
 pub fn worked_rows()
-    ensures protocols { ProtocolRows }
-    ensures values { ValueRows }
-    ensures spellings { SpellingRows }
-    ensures addresses { AddressRows }
-    ensures ip6 { Ip6Rows }
-    ensures texts_of_values { TextValueRows }
-    ensures texts { TextRows }
-    ensures given { GivenRows }
+    ensures { WorkedRows }
 {}

@@ -1,3 +1,2 @@
 mod Memory
 mod Names
-mod WorkedRows

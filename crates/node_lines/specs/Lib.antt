@@ -1,4 +1,3 @@
 pub mod Awaiting
-pub mod Rows
 pub mod Script
 pub mod Trace

@@ -2,7 +2,6 @@
 #![tactic(auto)]
 
 mod awaited;
-pub mod laws;
 mod script;
 mod trace;
 

@@ -3,4 +3,3 @@ mod Names
 mod OnePlace
 mod Printed
 mod Spelt
-mod WorkedRows

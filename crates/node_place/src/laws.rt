@@ -1,16 +1,8 @@
 //! Laws of places. Each is a function with an empty body, whose contract is the law.
 
 ghost use Rattle.node_place.specs.Laws.{OnePlace};
-ghost use Rattle.node_place.specs.Rows.{NamedRows, PrintedRows, RefusedRows};
 
 /// A text names at most one place, or has at most one fault, and not both; what is printed of a socket names it.
 pub fn one_place()
     ensures { OnePlace }
-{}
-
-/// The definitions say of worked texts what the standards say.
-pub fn worked_rows()
-    ensures named { NamedRows }
-    ensures refused { RefusedRows }
-    ensures printed { PrintedRows }
 {}

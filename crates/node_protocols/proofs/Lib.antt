@@ -1,3 +1,2 @@
 mod OwnLength
 mod Staying
-mod Rows

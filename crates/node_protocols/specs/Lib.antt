@@ -3,4 +3,3 @@ pub mod Fixed
 pub mod Handlers
 pub mod Own
 pub mod Makes
-pub mod Rows

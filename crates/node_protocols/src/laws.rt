@@ -1,4 +1,4 @@
-//! What holds of the handlers and of the definitions.
+//! Laws of the handlers and the protocols of a node.
 
 ghost use Rattle.std.specs.Prelude.{◌≡◌, ◌↔◌, ℕ, List, Bool, true, IfSome};
 ghost use Rattle.handlers.specs.Calls.{HandlerCall, Asked, Arises, WasHanded};
@@ -15,7 +15,6 @@ ghost use Rattle.node_protocols.specs.Handlers.{message_of};
 ghost use Rattle.node_protocols.specs.Makes.{Node, Hears, MakesInbound, MakesOutbound};
 ghost use Rattle.node_protocols.specs.Makes.{LeadsInbound, LeadsOutbound};
 ghost use Rattle.node_protocols.specs.Own.{protocol_names};
-ghost use Rattle.node_protocols.specs.Rows.{OwnRows, MakesRows, LeadsRows, HandlerRows, StopRows};
 
 use crate::handler::NodeHandler;
 use crate::names::{IDENTIFY, PING, PUSH};
@@ -24,15 +23,6 @@ use crate::protocols::NodeProtocols;
 use handlers::{Handler, Protocols};
 use identify_h::{IdentifyIn, IdentifyOut};
 use ping_h::{PingEcho, PingOut};
-
-/// The definitions say of worked nodes and handlers what the specifications and the profile say.
-pub fn worked_rows()
-    ensures own { OwnRows }
-    ensures makes { MakesRows }
-    ensures leads { LeadsRows }
-    ensures handlers { HandlerRows }
-    ensures stops { StopRows }
-{}
 
 /// What comes of a handler by its calls is of the same kind, and comes of it as that kind's own handler does: what is
 /// proved of those over whole lists of calls holds of a node's.

@@ -1,3 +1,2 @@
 pub mod Endings
 pub mod Errands
-pub mod Rows

@@ -3,7 +3,6 @@
 
 mod ending;
 mod errand;
-pub mod laws;
 mod listen_terms;
 mod own;
 mod ticks;

@@ -1,7 +1,6 @@
 //! `node trace`: one end of a connection with the protocols of a node, on which a script is played.
 #![tactic(auto)]
 
-pub mod laws;
 mod tracing;
 
 pub use tracing::trace;

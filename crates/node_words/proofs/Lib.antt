@@ -1,3 +1,2 @@
 mod Keys
 mod Named
-mod WorkedRows

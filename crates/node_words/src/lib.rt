@@ -3,7 +3,6 @@
 
 mod command;
 mod dial_options;
-pub mod laws;
 mod listen_options;
 mod options;
 mod trace_options;

@@ -8,4 +8,4 @@ pub mod OneText
 pub mod Written
 pub mod SomeKey
 pub mod Texts
-pub mod WorkedRows
+pub mod Rows

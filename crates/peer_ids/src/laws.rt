@@ -4,7 +4,7 @@ ghost use Rattle.std.specs.Prelude.{◌≡◌, ℕ, List, Result};
 ghost use Rattle.peer_ids.specs.declared.fault.IdFault.{IdFault};
 ghost use Rattle.peer_ids.specs.ReadsText.{ReadsId};
 ghost use Rattle.peer_ids.specs.Laws.{OneKey, SomeKey, CanonicalIsRead, IdsAreMultihashes, OneText};
-ghost use Rattle.peer_ids.specs.Rows.{Base32Rows, CountRows, IdRows, KeyRows, MultihashRows, TextRows, TypeRows};
+ghost use Rattle.peer_ids.specs.Rows.{WorkedRows};
 
 /// Bytes spell at most one key, and are refused by at most one fault.
 pub fn one_key()
@@ -37,13 +37,7 @@ pub fn one_reading()
         → some ≡ other }
 {}
 
-/// The definitions say of worked keys, ids and texts what the standards say.
+/// The definitions give what the standards give, for worked keys, ids and texts.
 pub fn worked_rows()
-    ensures types { TypeRows }
-    ensures keys { KeyRows }
-    ensures ids { IdRows }
-    ensures multihashes { MultihashRows }
-    ensures base32 { Base32Rows }
-    ensures counts { CountRows }
-    ensures texts { TextRows }
+    ensures { WorkedRows }
 {}

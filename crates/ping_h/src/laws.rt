@@ -9,20 +9,15 @@ ghost use Rattle.handlers.specs.Calls.{ToGive, ToEnd, Arises, EndsAs, taken, giv
 ghost use Rattle.handlers.specs.Calls.{HasFailed, HasEnded};
 ghost use Rattle.ping_h.specs.Echoes.{Echo, EchoStep, EchoFails, fresh, whole_rounds};
 ghost use Rattle.ping_h.specs.Rounds.{Round, RoundStep, RoundFails, round};
-ghost use Rattle.ping_h.specs.Rows.{OwedRows, RoundRows, EchoStepRows, EchoFaultRows, RoundStepRows, RoundFaultRows};
+ghost use Rattle.ping_h.specs.Rows.{WorkedRows};
 
 use crate::echo::PingEcho;
 use crate::round::PingOut;
 use handlers::Handler;
 
-/// The definitions say of worked inputs what the specification says.
+/// The definitions give what the specification and this project's profile give, at worked inputs.
 pub fn worked_rows()
-    ensures rounds { RoundRows }
-    ensures owed { OwedRows }
-    ensures echo_steps { EchoStepRows }
-    ensures echo_faults { EchoFaultRows }
-    ensures round_steps { RoundStepRows }
-    ensures round_faults { RoundFaultRows }
+    ensures { WorkedRows }
 {}
 
 /// An echo answers and refuses a call as the definitions say, and in no other way.

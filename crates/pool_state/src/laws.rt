@@ -14,8 +14,7 @@ ghost use Rattle.pool_state.specs.Shown.{Shown, IsLegal, ShowsHistory, reply_aft
 ghost use Rattle.pool_state.specs.Added.{added};
 ghost use Rattle.pool_state.specs.Bounded.{IsBounded, refusal_numbers};
 ghost use Rattle.pool_state.specs.Ordered.{IsEachOnce, KeepsOrder};
-ghost use Rattle.pool_state.specs.Rows.{AddedRows, AgentRows, BoundedRows, ConnectionRows, LimitRows, ListRows};
-ghost use Rattle.pool_state.specs.Rows.{NumberRows, PoolRows, RangeRows, RefusalRows, StreamRows};
+ghost use Rattle.pool_state.specs.Rows.{WorkedRows};
 
 /// What a legal history shows keeps to the limits.
 pub fn bounded()
@@ -71,17 +70,7 @@ pub fn peers_keep_their_order()
     ensures allowed { KeepsOrder allowed disallows }
 {}
 
-/// The definitions say of worked histories what this project's profile says.
+/// The definitions give the replies and listings of worked runs of this project's profile.
 pub fn worked_rows()
-    ensures connections { ConnectionRows }
-    ensures streams { StreamRows }
-    ensures lists { ListRows }
-    ensures refusals { RefusalRows }
-    ensures limits { LimitRows }
-    ensures ranges { RangeRows }
-    ensures added { AddedRows }
-    ensures bounded { BoundedRows }
-    ensures agents { AgentRows }
-    ensures numbers { NumberRows }
-    ensures pools { PoolRows }
+    ensures { WorkedRows }
 {}

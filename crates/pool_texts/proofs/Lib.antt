@@ -3,4 +3,3 @@ mod Peers
 mod Printed
 pub mod Tails
 pub mod Words
-mod WorkedRows

@@ -1,5 +1,5 @@
 -- A line is the wish for a listing, or a call's name, alone or with the rest of the call behind a space.
-use Rattle.std.proofs.Common.{◌≡◌, ◌≢◌, ◌⊎◌, ℕ, true, List, None, Some, refl, sym, ap, ◌∙◌, arith, inl, inr}
+use Rattle.std.proofs.Common.{◌≡◌, ◌⊎◌, ℕ, true, List, None, Some, refl, sym, ap, ◌∙◌, arith, inl, inr}
 use Rattle.std.specs.Prelude.{codes, slice_index}
 use Rattle.pool_state.specs.declared.call.Call.{Call}
 use Rattle.pool_state.specs.declared.call.Call.TheVariants as call
@@ -7,7 +7,7 @@ use Rattle.pool_texts.specs.declared.line.Line.{Line}
 use Rattle.pool_texts.specs.declared.line.Line.TheVariants as line
 use Rattle.pool_texts.specs.Lines.{ArePair, name_of, SaysRest, Says}
 use Rattle.pool_texts.proofs.Peers.{no_dash}
-use Rattle.pool_texts.proofs.Tails.{is_whole, no_pair, Splits, IsWord, is_word, with_rest, alone}
+use Rattle.pool_texts.proofs.Tails.{is_whole, no_pair, Splits, IsWord, with_rest, alone}
 
 whole_name : (other : Call) → is_whole (name_of other) ≡ true
 unfolding is_whole
@@ -42,8 +42,3 @@ says_alone text unsplit (line.Call other) is =
     let said = alone name_of SaysRest whole_name text unsplit other is in
     let accept = accepts other said.1 in
     inr (said.0 ∙ sym (ap name_of accept), ap line.Call accept)
-
--- another word says nothing
-pub no_line : (text : List ℕ) → is_whole text ≡ true → text ≢ codes "list" → text ≢ codes "accept" → (it : Line) → ¬ Says text it
-no_line text whole unlisted unaccepted it says =
-    elim (says_alone text (is_word text whole) it says) [ inl list ↦ unlisted list.0 | inr accept ↦ unaccepted accept.0 ]

@@ -1,5 +1,5 @@
 -- A text is a name alone, or a name, a space and more.
-use Rattle.std.proofs.Common.{◌≡◌, ◌≢◌, ℕ, ◌<◌, ◌==◌, ◌&&◌, zero, suc, Bool, true, not, List, [], ◌∷◌, ◌++◌, length, drop, Option, None, Some, Result, Ok, Err, refl, sym, ap, subst, ◌∙◌, append-nil, arith}
+use Rattle.std.proofs.Common.{◌≡◌, ℕ, ◌<◌, ◌==◌, ◌&&◌, zero, suc, Bool, true, not, List, [], ◌∷◌, ◌++◌, length, Option, None, Some, Result, Ok, Err, refl, sym, ap, subst, ◌∙◌, append-nil, arith}
 use Rattle.std.specs.Prelude.{slice_index, IfSome, IfOk}
 use Rattle.std.proofs.lemmas.Bool.Decides.{nat_tests}
 use Rattle.std.proofs.lemmas.List.{length-append, get_or-append_right}
@@ -22,33 +22,6 @@ no_pair text name words whole pair =
     let at : slice_index text (length name) ≡ 32 = grind (arith, pair, get_or-append_right name (32 ∷ words) (length name) (length name) 0 refl (omega arith)) in
     spaceless text whole (length name) place at
 
-whole_word : (word : List ℕ) → HasNoSpace word → is_whole word ≡ true
-unfolding is_whole
-whole_word [] spaced = refl
-whole_word (c ∷ word) spaced =
-    let rest = whole_word word (λ place inside is. spaced (suc place) (omega (arith, inside)) is) in
-    let first : c ≢ 32 = spaced 0 (omega arith) in
-    grind (arith, nat_tests)
-
-same_front : (a b c d : List ℕ) → is_whole a ≡ true → is_whole c ≡ true → a ++ 32 ∷ b ≡ c ++ 32 ∷ d → a ≡ c
-unfolding is_whole
-same_front [] b [] d one other is = refl
-same_front [] b (y ∷ c) d one other is =
-    let first : 32 ≡ y = ap (λ (word : List ℕ). slice_index word 0) is in
-    absurd (grind (arith, nat_tests))
-same_front (x ∷ a) b [] d one other is =
-    let first : x ≡ 32 = ap (λ (word : List ℕ). slice_index word 0) is in
-    absurd (grind (arith, nat_tests))
-same_front (x ∷ a) b (y ∷ c) d one other is =
-    let first : x ≡ y = ap (λ (word : List ℕ). slice_index word 0) is in
-    let rest = same_front a b c d (grind (arith, nat_tests)) (grind (arith, nat_tests)) (ap (drop 1) is) in
-    cc
-
--- two words behind which a space stands in the same text are the same
-pub first_word : (first second other rest : List ℕ) → is_whole first ≡ true → HasNoSpace other
-    → ArePair (first ++ 32 ∷ second) other rest → other ≡ first
-first_word first second other rest whole spaced pair = sym (same_front first second other rest whole (whole_word other spaced) pair)
-
 -- What stands before the first space, and behind it, is this.
 abbrev pub Splits : List ℕ → List ℕ → List ℕ → Type 0
 Splits text name words =
@@ -57,9 +30,6 @@ Splits text name words =
 -- No word with a space behind it begins the text.
 abbrev pub IsWord : List ℕ → Type 0
 IsWord text = (first second : List ℕ) → ArePair text first second → HasNoSpace first → ⊥
-
-pub is_word : (text : List ℕ) → is_whole text ≡ true → IsWord text
-is_word text whole first second pair spaced = no_pair text first second whole pair
 
 module _ {X : Type 0} (name_of : X → List ℕ) (Rest : Option (List ℕ) → X → Type 0) (whole : (it : X) → is_whole (name_of it) ≡ true) where
   abbrev pub Says : List ℕ → X → Type 0

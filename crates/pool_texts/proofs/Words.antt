@@ -1,11 +1,8 @@
 -- What single words say: numbers, and pairs with a space between them.
-use Rattle.std.proofs.Common.{◌≡◌, ℕ, ◌<◌, ◌^◌, true, List, length, Option, Some, None, Result, Ok, Err, Bor, ap, ◌∙◌, arith, rules}
+use Rattle.std.proofs.Common.{◌≡◌, ℕ, ◌<◌, ◌^◌, List, length, Option, Some, None, Result, Ok, Err, Bor, ap, ◌∙◌, arith, rules}
 use Rattle.std.specs.Prelude.{slice_index, IfSome, IsSome}
 use Rattle.std.proofs.lemmas.Str.Pattern.{IsSplitOnceResult, split_parts, split_after}
-use Rattle.std.specs.Char.{is_ascii_digit}
 use Rattle.std.specs.Int.{IsInRange}
-use Rattle.std.specs.List.{list_all}
-use Rattle.std.proofs.lemmas.List.Sums.{AllPass-from_list_all}
 use Rattle.std.specs.Result.{OkIff}
 use Rattle.std.specs.Str.Parse.{digits_value, ParsesUnsigned}
 use Rattle.std.proofs.lemmas.Bool.Decides.{nat_tests}
@@ -28,9 +25,6 @@ number_read : {E : Type 0} (bits : ℕ) (word : List ℕ) (read : Result ℕ E) 
     → IsDigits word → OkIff read ((0 < length word) × (digits_value 10 word < 2 ^ bits)) (digits_value 10 word)
 number_read bits word read h digits = parse_digits own bits word read h (are_digits word digits)
 
-pub spaceless_digits : (word : List ℕ) → IsDigits word → HasNoSpace word
-spaceless_digits word h place inside is = grind (arith, nat_tests, h.1 place 0 inside)
-
 -- a number that a word writes is what is read of it
 pub number_known : {E : Type 0} (bits : ℕ) (word : List ℕ) (read : Result ℕ E) → ParsesUnsigned bits 10 word read
     → (number : ℕ) → IsNumber bits word number → read ≡ Ok number
@@ -48,11 +42,3 @@ pub pair_known : (words first second : List ℕ) (parts : Option (Bor (List ℕ)
     → IfSome parts (λ pair. (pair.0.now ≡ first) × (pair.1.now ≡ second)) × IsSome parts
 pair_known words first second None h pair spaceless = absurd (split_after 32 words first second None h (omega arith) pair spaceless)
 pair_known words first second (Some it) h pair spaceless = (split_after 32 words first second (Some it) h (omega arith) pair spaceless, search rules)
-
--- worked digits and numbers, each by a computation
-pub digits_are : (word : List ℕ) → 0 < length word → list_all is_ascii_digit word ≡ true → IsDigits word
-digits_are word some all = (some, AllPass-from_list_all is_ascii_digit word all)
-
-pub number_is : (bits : ℕ) (word : List ℕ) (number : ℕ) → 0 < length word → list_all is_ascii_digit word ≡ true
-    → digits_value 10 word ≡ number → number < 2 ^ bits → IsNumber bits word number
-number_is bits word number some all is small = (digits_are word some all, is, small)

@@ -1,7 +1,6 @@
 //! The texts of a pool: the lines that call it, and what is printed of its replies and listings.
 #![tactic(auto)]
 
-pub mod laws;
 mod line;
 mod print;
 

@@ -1,5 +1,5 @@
-//! Two ends in one process: they agree on plaintext, show each other their keys, agree on yamux, and the listener
-//! echoes what comes on a stream.
+//! Two ends in one process: they negotiate plaintext, exchange their keys, negotiate yamux, and the listener echoes
+//! what it receives on a stream.
 #![tactic(auto)]
 
 use anyhow::{Context, bail};
@@ -8,6 +8,16 @@ use peer_ids::PublicKey;
 use plaintext_x::{Exchange, Proven};
 use std::alloc::Global;
 use yamux_session::{Event, Role, Session};
+
+/// How often `send` waits for credit before it gives up.
+const MOST_ROUNDS: usize = 16;
+
+/// Both ends of a connection that is up.
+#[derive(Drop)]
+struct Ends {
+    dialer: Session,
+    listener: Session,
+}
 
 /// Both ends agree on a protocol: what each writes is fed to the other.
 fn agree(alloc: Global, name: &str) -> anyhow::Result<()> {
@@ -25,7 +35,7 @@ fn do_agree(dialer: &mut Dialer, listener: &mut Listener) -> anyhow::Result<bool
     Ok(heard.answer == Answer::Agreed(0) && answered.answer == Answer::Agreed(0))
 }
 
-/// Each end shows its key. Gives what the dialer knows of the listener then.
+/// Each end shows its key. Returns what the dialer then knows of the listener.
 fn prove(
     alloc: Global,
     dialer_key: &PublicKey,
@@ -41,50 +51,53 @@ fn prove(
         .context("the listener has shown no key")
 }
 
-/// The listener sends back what comes on each stream.
-fn echo(session: &mut Session, bytes: &[u8]) -> anyhow::Result<()> {
-    for event in &session.feed(bytes)? {
-        if let Event::Payload(stream, bytes) = event {
-            session.write(*stream, bytes.as_slice())?;
-            session.taken(*stream, bytes.len())?;
-        }
-    }
-    Ok(())
-}
-
-/// Each end makes its key, and shows it.
+/// Each end makes its key and shows it.
 fn meet(alloc: Global) -> anyhow::Result<Proven> {
     let dialer_key = PublicKey::ed25519(alloc, &[0; 32])?;
     let listener_key = PublicKey::ed25519(alloc, &[0x11; 32])?;
     prove(alloc, &dialer_key, &listener_key)
 }
 
-/// Sends `hello` on a new stream.
-fn greet(session: &mut Session) -> anyhow::Result<()> {
-    let stream = session.open_stream()?;
-    session.write(stream, b"hello")?;
-    Ok(())
-}
-
-/// Tells what came on each stream.
-fn tell(rt: &HostRuntime, alloc: Global, events: &[Event]) -> anyhow::Result<()> {
-    for event in events {
-        if let Event::Payload(stream, bytes) = event {
-            let text = String::from_utf8_lossy(alloc, bytes.as_slice())?;
-            println!(rt; "stream {stream}: {text}")?;
+/// The listener sends back what it receives on each stream.
+fn echo(session: &mut Session, bytes: &[u8]) -> anyhow::Result<()> {
+    for event in &session.feed(bytes)? {
+        if let Event::Payload(stream, data) = event {
+            let count = session.write(*stream, data.as_slice())?;
+            if count < data.len() {
+                bail!("the dialer takes nothing");
+            }
+            session.taken(*stream, count)?;
         }
     }
     Ok(())
 }
 
-/// The dialer sends on a stream, the listener echoes it, and the dialer tells what came back.
-fn talk(rt: &HostRuntime, alloc: Global) -> anyhow::Result<()> {
-    let mut dialer = Session::new(alloc, Role::Client);
-    let mut listener = Session::new(alloc, Role::Server);
-    greet(&mut dialer)?;
-    echo(&mut listener, &dialer.take_output())?;
-    let events = dialer.feed(&listener.take_output())?;
-    tell(rt, alloc, &events)
+/// The dialer prints what it receives, and takes it.
+fn receive(rt: &HostRuntime, alloc: Global, ends: &mut Ends) -> anyhow::Result<()> {
+    for event in &ends.dialer.feed(&ends.listener.take_output())? {
+        if let Event::Payload(stream, data) = event {
+            let text = String::from_utf8_lossy(alloc, data.as_slice())?;
+            println!(rt; "stream {stream}: {text}")?;
+            ends.dialer.taken(*stream, data.len())?;
+        }
+    }
+    Ok(())
+}
+
+/// Sends `text` on a new stream and prints what comes back.
+fn send(rt: &HostRuntime, alloc: Global, ends: &mut Ends, text: &[u8]) -> anyhow::Result<()> {
+    let stream = ends.dialer.open_stream()?;
+    let mut rest = text;
+    for _round in 0..MOST_ROUNDS {
+        let count = ends.dialer.write(stream, rest)?;
+        rest = rest.get(count..).unwrap_or(&[]);
+        echo(&mut ends.listener, &ends.dialer.take_output())?;
+        receive(rt, alloc, ends)?;
+        if rest.is_empty() {
+            return Ok(());
+        }
+    }
+    bail!("the listener gives no credit")
 }
 
 fn main(rt: HostRuntime) -> anyhow::Result<()> {
@@ -93,5 +106,9 @@ fn main(rt: HostRuntime) -> anyhow::Result<()> {
     let listener = meet(alloc)?;
     println!(rt; "connected to {}", listener.peer())?;
     agree(alloc, "/yamux/1.0.0")?;
-    talk(&rt, alloc)
+    let mut ends = Ends {
+        dialer: Session::new(alloc, Role::Client),
+        listener: Session::new(alloc, Role::Server),
+    };
+    send(&rt, alloc, &mut ends, b"hello")
 }

@@ -1,4 +1,3 @@
 pub mod Lefts
 mod UpTo
 pub mod Standing
-mod WorkedRows

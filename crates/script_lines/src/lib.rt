@@ -1,7 +1,6 @@
 //! A script, which is read whole and then played line by line: its lines, and why the playing of one stops.
 #![tactic(auto)]
 
-pub mod laws;
 mod reading;
 mod stopped;
 mod text;

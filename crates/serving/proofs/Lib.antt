@@ -2,5 +2,4 @@ pub mod Acts
 pub mod Refusals
 pub mod StageKinds
 pub mod Going
-pub mod Rows
 pub mod Sending

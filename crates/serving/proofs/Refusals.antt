@@ -109,9 +109,6 @@ open_for_memory role past n amount refused why e = memory_alone (is_live role pa
 pub all_of : {k : ℕ} → k ≤ 262144 → min 18446744073709551615 k ≡ k
 all_of h = omega arith
 
-pub least : {k amount : ℕ} → k ≤ amount → min k amount ≡ k
-least h = omega arith
-
 -- what was taken was taken of a live stream
 pub is_live_by : (role : Role) (past : List Item) (n : ℕ) → stream_refusal role past n ≡ None → is_live role past n ≡ true
 is_live_by role past n e = live_by (is_live role past n) e

@@ -2,7 +2,6 @@
 //! there is credit, writes them, closes its direction where no more is given, and takes what came.
 #![tactic(auto)]
 
-pub mod laws;
 mod serving;
 
 pub use serving::serve;

@@ -3,5 +3,4 @@ pub mod Tries
 pub mod Steps
 pub mod Sockets
 -- cited by laws
-pub mod StepRows
-pub mod KeptRows
+pub mod Kept

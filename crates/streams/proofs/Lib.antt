@@ -3,6 +3,5 @@ pub mod Hearing
 pub mod Moving
 pub mod Giving
 pub mod Deciding
-pub mod Rows
 pub mod Beginning
 pub mod Sending

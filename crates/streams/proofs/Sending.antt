@@ -1,13 +1,13 @@
 -- What a stream gives, by the parts of what waits.
-use Rattle.std.proofs.Common.{◌≡◌, ℕ, ◌+◌, ◌-◌, ◌≤◌, min, true, false, not, Bool, List, [], ◌∷◌, ◌++◌, length, take, drop, Some, None, sym, ap, ◌∙◌, subst, arith}
-use Rattle.std.proofs.lemmas.List.{append-nil, length-append, take-append-drop, length-take-le, take_min, drop_min}
+use Rattle.std.proofs.Common.{◌≡◌, ℕ, ◌+◌, ◌-◌, ◌≤◌, min, true, false, Bool, List, [], ◌∷◌, ◌++◌, length, take, drop, Some, None, sym, ap, ◌∙◌, subst, arith}
+use Rattle.std.proofs.lemmas.List.{append-nil, length-append, take-append-drop, length-take-le, take_min}
 use Rattle.handlers.specs.Calls.{HandlerCall, Give}
 use Rattle.streams.specs.declared.stage.Stage.{Stage}
 use Rattle.streams.specs.declared.stage.Stage.TheVariants as stages
 use Rattle.streams.specs.Streams.{Past, with_call}
-use Rattle.streams.specs.State.{Streaming, Stands, StandsAt, Answered, is_open, is_talking, handler_of}
-use Rattle.streams.specs.Giving.{Gives, StageGives}
-use Rattle.streams.proofs.Giving.{Parts, stepped, order_of, was_asked, none_asked, front_sent}
+use Rattle.streams.specs.State.{Streaming, Stands, StandsAt, is_open}
+use Rattle.streams.specs.Giving.{StageGives}
+use Rattle.streams.proofs.Giving.{Parts, order_of, was_asked, none_asked, front_sent}
 
 -- what is given out, and what is left of what waits
 pub record Sent (waiting front left given bytes : List ℕ) (room count : ℕ) : Type 0 where
@@ -53,15 +53,6 @@ module _ {H : Type 0} (step : H → HandlerCall → H → Type 0) (closed : H �
             (was_asked step closed past old new (room - count) (room - length bytes) waiting front left given shown (cut waiting front left given bytes room count s) sum held gives)),
       )
 
-  pub nothing_asked : (x : Streaming H) (old new : Stage H) (waiting front left given bytes : List ℕ) (room count : ℕ) → x ≡ record { waiting = waiting; stage = old }
-      → Sent waiting front left given bytes room count → is_open closed x.stage ≡ false → StageGives step closed old (room - count) new given
-      → (new ≡ x.stage) × (bytes ++ left ≡ x.waiting)
-  nothing_asked x old new waiting front left given bytes room count e s shut gives =
-      let shown = subst (λ (y : Streaming H). is_open closed y.stage ≡ false) e shut in
-      let same = none_asked step closed old new (room - count) given shown gives in
-      let all : bytes ≡ front = s.bytes_are ∙ ap (λ t. front ++ t) same.1 ∙ append-nil front in
-      (same.0 ∙ sym (ap (λ (y : Streaming H). y.stage) e), ap (λ t. t ++ left) all ∙ parts_of waiting front left given bytes room count s ∙ sym (ap (λ (y : Streaming H). y.waiting) e))
-
   pub sent_on : (x : Streaming H) (past : Past H) (old new : Stage H) (waiting front left given bytes : List ℕ) (room count : ℕ) → x ≡ record { waiting = waiting; stage = old }
       → Sent waiting front left given bytes room count → Stands step x past → is_open closed x.stage ≡ false → StageGives step closed old (room - count) new given
       → StandsAt step new (record past { sent = past.sent ++ bytes }) left
@@ -85,46 +76,3 @@ module _ {H : Type 0} (step : H → HandlerCall → H → Type 0) (closed : H �
   given_short (stages.Serving handler) new rest given g = g.2.0
   given_short stages.Done new rest given g = none_given given rest g.1
   given_short stages.Over new rest given g = none_given given rest g.1
-
-  -- the handler that was asked is held on
-  asked_step : (old new : Stage H) (handler : H) (rest : ℕ) (given : List ℕ) → handler_of old ≡ Some handler → closed handler ≡ false
-      → StageGives step closed old rest new given → (after : H) × (handler_of new ≡ Some after) × (is_talking new ≡ is_talking old) × step handler (Give rest given) after
-  asked_step (stages.Talking talk None) new handler rest given e unclosed g = absurd cc
-  asked_step (stages.Talking talk (Some held)) new handler rest given e unclosed g =
-      let same : held ≡ handler = cc e in
-      let went = subst (λ (h : H). Gives step closed h rest g.0 given) same g.2 in
-      (g.0, ap handler_of g.1, ap is_talking g.1, stepped step closed handler g.0 rest given (ap not unclosed) went)
-  asked_step (stages.Agreed index) new handler rest given e unclosed g = absurd cc
-  asked_step (stages.Serving held) new handler rest given e unclosed g =
-      let same : held ≡ handler = cc e in
-      let went = subst (λ (h : H). Gives step closed h rest g.0 given) same g.2 in
-      (g.0, ap handler_of g.1, ap is_talking g.1, stepped step closed handler g.0 rest given (ap not unclosed) went)
-  asked_step stages.Done new handler rest given e unclosed g = absurd cc
-  asked_step stages.Over new handler rest given e unclosed g = absurd cc
-
-  -- so it answers
-  pub answers_on : (old new : Stage H) (rest : ℕ) (given : List ℕ) → StageGives step closed old rest new given → Answered step closed old rest
-  answers_on old new rest given g handler held unclosed =
-      let it = asked_step old new handler rest given held unclosed g in (it.0, given, it.3)
-
-  pub step_on : (x : Streaming H) (old new : Stage H) (handler : H) (waiting front left given bytes : List ℕ) (room count : ℕ) → x ≡ record { waiting = waiting; stage = old }
-      → Sent waiting front left given bytes room count → handler_of x.stage ≡ Some handler → closed handler ≡ false → StageGives step closed old (room - count) new given
-      → (after : H) × (more : List ℕ) × (handler_of new ≡ Some after) × (is_talking new ≡ is_talking x.stage) × (bytes ≡ take room x.waiting ++ more)
-      × step handler (Give (room - length x.waiting) more) after
-  step_on x old new handler waiting front left given bytes room count e s held unclosed gives =
-      let stage_is : x.stage ≡ old = ap (λ (y : Streaming H). y.stage) e in
-      let waits : x.waiting ≡ waiting = ap (λ (y : Streaming H). y.waiting) e in
-      let size : room - count ≡ room - length x.waiting = omega (arith, s.count_is, ap length waits) in
-      let it = asked_step old new handler (room - count) given (ap handler_of (sym stage_is) ∙ held) unclosed gives in (
-        it.0,
-        given,
-        it.1,
-        it.2 ∙ ap is_talking (sym stage_is),
-        s.bytes_are ∙ ap (λ t. t ++ given) (front_is_taken waiting front left given bytes room count s ∙ ap (take room) (sym waits)),
-        subst (λ (k : ℕ). step handler (Give k given) it.0) size it.3,
-      )
-
-  pub waits_on : (x : Streaming H) (old : Stage H) (waiting front left given bytes : List ℕ) (room count : ℕ) → x ≡ record { waiting = waiting; stage = old }
-      → Sent waiting front left given bytes room count → left ≡ drop room x.waiting
-  waits_on x old waiting front left given bytes room count e s =
-      s.left_is ∙ ap (λ k. drop k waiting) s.count_is ∙ drop_min room waiting ∙ ap (λ (y : Streaming H). drop room y.waiting) (sym e)

@@ -5,7 +5,6 @@ pub mod Stops
 pub mod State
 pub mod Hearing
 pub mod Laws
-pub mod Rows
 -- inside
 pub mod InTalk
 pub mod Giving

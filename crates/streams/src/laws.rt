@@ -2,20 +2,8 @@
 
 ghost use Rattle.streams.specs.Streams.{Past};
 ghost use Rattle.streams.specs.Laws.{OneAnswer, AnswerStays, CutAnywhere, OneSplit};
-ghost use Rattle.streams.specs.Rows.{StageRows, AskedRows, HearsRows, EarlyRows, RoomRows, StopRows, StreamRows};
 
 use handlers::Handler;
-
-/// The definitions say of worked bytes and calls what they are to say.
-pub fn worked_rows()
-    ensures stages { StageRows }
-    ensures asked { AskedRows }
-    ensures hears { HearsRows }
-    ensures early { EarlyRows }
-    ensures room { RoomRows }
-    ensures stops { StopRows }
-    ensures streams { StreamRows }
-{}
 
 /// The data determines what is answered while a stream talks, and what its talk has written.
 pub fn one_answer()

@@ -19,7 +19,7 @@ use Rattle.swarm_calls.specs.Ledgers.{caller_of}
 use Rattle.swarm_calls.specs.History.{mine, IsOf, Counts}
 use Rattle.swarm_calls.specs.Snapshots.{IsShown}
 use Rattle.swarm_calls.specs.Locked.{IsLocked}
-use Rattle.swarm_calls.specs.Calls.{Past, past, Later, SameCalls, IsTurnedAway, IsCalled, newcomers}
+use Rattle.swarm_calls.specs.Calls.{Past, past, Later, SameCalls, IsTurnedAway, IsCalled}
 use Rattle.swarm_calls.proofs.Legal.{legal_snoc, mine_same, mine_snoc, counts_snoc, counts_nil, of_snoc}
 use Rattle.swarm_calls.proofs.Prefixes.{prefix_trans}
 use Rattle.swarm_calls.proofs.Replies.{spent_at_last, never_out_of_memory, unspent_below}
@@ -126,10 +126,3 @@ rest_moves done rest rest' all x step is = append_assoc done (x ∷ []) rest' �
 pub none_left : {X : Type 0} (done rest all : List X) → length rest ≡ 0 → done ++ rest ≡ all → done ≡ all
 none_left done [] all none is = sym (append-nil done) ∙ is
 none_left done (x ∷ rest) all none is = absurd (omega arith)
-
--- the passes of the callers before this one, and its own
-pub newcomers_more : (number : ℕ) → 1 ≤ number → newcomers (number - 1) ++ past number [] ∷ [] ≡ newcomers number
-newcomers_more zero one = absurd (omega arith)
-newcomers_more (suc n) one =
-    let before : suc n - 1 ≡ n = omega arith in
-    ap (λ (k : ℕ). newcomers k ++ past (suc n) [] ∷ []) before

@@ -4,4 +4,3 @@ pub mod Replies
 pub mod Legal
 pub mod Showing
 pub mod Calls
-pub mod Rows

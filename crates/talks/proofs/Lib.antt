@@ -1,5 +1,4 @@
 pub mod Outcomes
 pub mod Hearing
 pub mod Ends
-pub mod Rows
 pub mod Running

@@ -2,7 +2,6 @@
 pub mod Talks
 pub mod State
 pub mod Laws
-pub mod Rows
 -- inside
 pub mod Fields
 pub mod Hearing

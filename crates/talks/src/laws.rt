@@ -2,14 +2,6 @@
 
 ghost use Rattle.talks.specs.Laws.{OneOutcome, SomeOutcome, DecisionStays, FaultStays, NothingBehind};
 ghost use Rattle.talks.specs.Laws.{AnswersAsDefined, AskedAll, OneName, BothAgree, NoneAgrees};
-ghost use Rattle.talks.specs.Rows.{AskRows, AnswerRows, MemoryRows};
-
-/// The definitions say of worked bytes what the standard and this project's profile say.
-pub fn worked_rows()
-    ensures asks { AskRows }
-    ensures answers { AnswerRows }
-    ensures memory { MemoryRows }
-{}
 
 /// Which bytes are a talk's, where it stands and what it has written depend on its side and its input alone.
 pub fn one_outcome()

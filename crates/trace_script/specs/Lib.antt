@@ -1,3 +1,2 @@
 pub mod Played
 pub mod Printed
-pub mod Rows

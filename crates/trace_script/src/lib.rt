@@ -1,7 +1,6 @@
 //! A script that is played on an end of a connection, and what is printed of it.
 #![tactic(auto)]
 
-pub mod laws;
 mod playing;
 mod print;
 mod whole;

@@ -1,64 +1,27 @@
 -- A talk of an upgrade takes a piece, and what it wrote is kept.
-use Rattle.std.proofs.Common.{◌≡◌, ◌≢◌, ℕ, ◌≤◌, List, [], ◌++◌, length, take, drop, Some, Result, Ok, Err, refl, sym, ap, ◌∙◌, subst, inl}
+use Rattle.std.proofs.Common.{◌≡◌, ◌≢◌, ℕ, ◌≤◌, List, [], ◌++◌, take, drop, Result, Ok, Err, refl, sym, ap, ◌∙◌, subst}
 use Rattle.std.specs.Prelude.{IfOk, IfErr}
 use Rattle.std.proofs.lemmas.List.{append-nil, take-append-drop}
-use Rattle.std.proofs.Math.Seq.{take-length}
 use Rattle.ms_select.specs.declared.answer.Answer.{Answer}
-use Rattle.ms_select.specs.declared.answer.Answer.TheVariants.{Going, Agreed, NoneLeft}
+use Rattle.ms_select.specs.declared.answer.Answer.TheVariants.{Going, NoneLeft}
 use Rattle.ms_select.specs.declared.answer.Step.{Step}
 use Rattle.ms_select.specs.declared.fault.SelectFault.{SelectFault}
 use Rattle.ms_select.specs.declared.fault.SelectFault.TheVariants as select_faults
 use Rattle.talks.specs.Talks.{Side, Talks, Faults, RunsOut as TalkRunsOut}
-use Rattle.talks.specs.State.{Talking, Stands as TalkStands}
+use Rattle.talks.specs.State.{Talking}
 use Rattle.talks.proofs.Outcomes.{from_comes}
 use Rattle.upgrade.specs.declared.fault.UpgradeFault.TheVariants as faults
-use Rattle.upgrade.specs.Stages.{IsWaiting, LosesOutput, Hears, of_select}
-
--- nothing is decided, and what was written is kept
-pub goes_on : (side : Side) (talk heard kept : Talking) (input piece before : List ℕ) (used : ℕ) → IsWaiting side talk input before
-    → heard.side ≡ talk.side → heard.answer ≡ Some Going → used ≡ length piece → TalkStands heard (input ++ take used piece) before
-    → kept.side ≡ heard.side → kept.answer ≡ heard.answer → kept.pending ≡ []
-    → ((input : List ℕ) (taken : List ℕ) → TalkStands heard input taken → TalkStands kept input (taken ++ heard.pending))
-    → IsWaiting side kept (input ++ piece) (before ++ heard.pending)
-goes_on side talk heard kept input piece before used w a b all s d e f g =
-    let is : take used piece ≡ piece = ap (λ n. take n piece) all ∙ take-length piece in
-    record {
-      side_is = d ∙ a ∙ w.side_is;
-      going = e ∙ b;
-      none_waits = f;
-      stands = g (input ++ piece) before (subst (λ (t : List ℕ). TalkStands heard (input ++ t) before) is s);
-    }
+use Rattle.upgrade.specs.Stages.{IsWaiting, LosesOutput, Hears}
 
 -- of the side that was asked for
 pub of_side : (side other : Side) (input : List ℕ) (standing : Result Answer SelectFault) (output : List ℕ) → other ≡ side → Talks other input standing output → Talks side input standing output
 of_side side other input standing output e t = subst (λ (s : Side). Talks s input standing output) e t
-
-runs_out_of : (side other : Side) (output input piece : List ℕ) → other ≡ side → TalkRunsOut other output input piece → TalkRunsOut side output input piece
-runs_out_of side other output input piece e r = subst (λ (s : Side). TalkRunsOut s output input piece) e r
-
--- a fault of the talk
-pub fails : (waiting : List ℕ) (side : Side) (talk kept : Talking) (input piece before pending : List ℕ) (fault : SelectFault) → IsWaiting side talk input before
-    → (fault ≢ select_faults.OutOfMemory → Faults talk.side (input ++ piece) fault (before ++ pending))
-    → (fault ≡ select_faults.OutOfMemory → TalkRunsOut talk.side (before ++ pending) input piece)
-    → Hears side kept input piece (Err (of_select fault)) waiting (before ++ pending)
-fails waiting side talk kept input piece before pending select_faults.Failed w f m = of_side side talk.side _ _ _ w.side_is (f (λ e. cc))
-fails waiting side talk kept input piece before pending select_faults.BadLength w f m = of_side side talk.side _ _ _ w.side_is (f (λ e. cc))
-fails waiting side talk kept input piece before pending select_faults.NoNewline w f m = of_side side talk.side _ _ _ w.side_is (f (λ e. cc))
-fails waiting side talk kept input piece before pending select_faults.BadHeader w f m = of_side side talk.side _ _ _ w.side_is (f (λ e. cc))
-fails waiting side talk kept input piece before pending select_faults.NotProposed w f m = of_side side talk.side _ _ _ w.side_is (f (λ e. cc))
-fails waiting side talk kept input piece before pending select_faults.OutOfMemory w f m = inl (runs_out_of side talk.side _ _ _ w.side_is (m refl))
 
 -- the other end doesn't know the protocol
 pub turned_down : (waiting : List ℕ) (side : Side) (talk kept : Talking) (input piece before pending : List ℕ) (used : ℕ) (answer : Answer) → IsWaiting side talk input before → answer ≡ NoneLeft
     → Talks talk.side (input ++ take used piece) (Ok answer) (before ++ pending) → Hears side kept input piece (Err faults.NoneLeft) waiting (before ++ pending)
 turned_down waiting side talk kept input piece before pending used answer w e t =
     (take used piece, drop used piece, sym (take-append-drop used piece), of_side side talk.side _ _ _ w.side_is (subst (λ (a : Answer). Talks talk.side (input ++ take used piece) (Ok a) (before ++ pending)) e t))
-
--- both ends agree
-pub agreed : (waiting : List ℕ) (side : Side) (talk kept : Talking) (input piece before pending : List ℕ) (used index : ℕ) (answer : Answer) → IsWaiting side talk input before → answer ≡ Agreed index
-    → used ≤ length piece → Talks talk.side (input ++ take used piece) (Ok answer) (before ++ pending) → Hears side kept input piece (Ok (Some used)) waiting (before ++ pending)
-agreed waiting side talk kept input piece before pending used index answer w e within t =
-    (within, (index, of_side side talk.side _ _ _ w.side_is (subst (λ (a : Answer). Talks talk.side (input ++ take used piece) (Ok a) (before ++ pending)) e t)))
 
 -- ---- there is no room for what it wrote
 

@@ -8,4 +8,3 @@ pub mod Telling
 pub mod Staying
 pub mod Ends
 pub mod Rows
-pub mod MemoryRows

@@ -10,7 +10,7 @@ use Rattle.upgrade.specs.declared.stages.Stage.{Stage}
 use Rattle.upgrade.specs.declared.stages.Next.{Next}
 use Rattle.upgrade.specs.declared.stages.Next.TheVariants.{Up}
 use Rattle.upgrade.specs.declared.upgrade.Progress.{Progress}
-use Rattle.upgrade.specs.Upgrades.{Upgrades, IsUp, ComesTo, RunsOut}
+use Rattle.upgrade.specs.Upgrades.{Upgrades, IsUp, ComesTo}
 use Rattle.upgrade.specs.State.{Upgrading, Stands}
 use Rattle.upgrade.specs.Stages.{StandsIn, Leads}
 use Rattle.upgrade.proofs.Outcomes.{one_outcome}
@@ -24,10 +24,6 @@ fault_is waiting role own input piece (faults.Select fault) written l ne = l
 fault_is waiting role own input piece faults.NoneLeft written l ne = l
 fault_is waiting role own input piece (faults.Exchange fault) written l ne = l
 fault_is waiting role own input piece faults.OutOfMemory written l ne = absurd (ne refl)
-
-pub runs_out : (waiting : List ℕ) (role : ConnRole) (own : Key) (input piece : List ℕ) (fault : UpgradeFault) (written : List ℕ) → Leads role own input piece (Err fault) waiting written → fault ≡ faults.OutOfMemory
-    → RunsOut role own input piece waiting written
-runs_out waiting role own input piece fault written l e = subst (λ (f : UpgradeFault). Leads role own input piece (Err f) waiting written) e l
 
 abbrev pub refused : UpgradeFault → Result Progress UpgradeFault
 refused fault = Err fault

@@ -2,16 +2,11 @@
 
 ghost use Rattle.upgrade.specs.Laws.{OneOutcome, SomeOutcome, UpStays, FaultStays, FaultsOfParts};
 ghost use Rattle.upgrade.specs.Laws.{GoesOn, BothUp};
-ghost use Rattle.upgrade.specs.Rows.{ByteRows, DialerRows, ListenerRows, MemoryRows, RoomRows, GrowthRows};
+ghost use Rattle.upgrade.specs.Rows.{WorkedRows};
 
-/// The definitions say of worked bytes what the standards and this project's profile say.
+/// The definitions give what the standards and this project's profile give, at worked bytes.
 pub fn worked_rows()
-    ensures bytes { ByteRows }
-    ensures dialer { DialerRows }
-    ensures listener { ListenerRows }
-    ensures memory { MemoryRows }
-    ensures room { RoomRows }
-    ensures growth { GrowthRows }
+    ensures { WorkedRows }
 {}
 
 /// Which bytes are an upgrade's, what it comes to and what it has written depend on its role, its key and its input

@@ -40,7 +40,3 @@ ends_within bytes frames place at =
       (λ within. record { frames = frames; rest = place.part; reads = at.reads; mid_frame = known.0 (sym same ∙ within) }),
       (λ end. same ∙ known.1 (other_reading bytes place.part frames at.reads end)),
     )
-
-pub failed_not : (fault : Option FrameFault) (place : Place) (f : FrameFault) → fault ≡ Some f → is_within_at fault place ≡ false
-failed_not None place f e = absurd cc
-failed_not (Some g) place f e = refl

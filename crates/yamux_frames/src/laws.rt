@@ -3,20 +3,13 @@
 ghost use Rattle.std.specs.Prelude.{◌≡◌};
 ghost use Rattle.yamux_frames.specs.Frames.{OneReading, SomeReading};
 ghost use Rattle.yamux_frames.specs.OneAnswer.{AreAllowed, OneAnswer, AnswerOrFault, OneFault};
-ghost use Rattle.yamux_frames.specs.Rows.{HeaderRows, HeaderFaultRows, FrameRows, EndRows, CutRows, PlaceRows};
-ghost use Rattle.yamux_frames.specs.Rows.{StandRows};
+ghost use Rattle.yamux_frames.specs.Rows.{WorkedRows};
 
 use crate::header::Header;
 
-/// The definitions say of worked bytes what the specification says.
+/// The definitions give what the specification gives, at worked bytes.
 pub fn worked_rows()
-    ensures headers { HeaderRows }
-    ensures faults { HeaderFaultRows }
-    ensures frames { FrameRows }
-    ensures ends { EndRows }
-    ensures cuts { CutRows }
-    ensures places { PlaceRows }
-    ensures stands { StandRows }
+    ensures { WorkedRows }
 {}
 
 /// No bytes are read in two ways: their frames, the fault among them, and what is left over are determined.

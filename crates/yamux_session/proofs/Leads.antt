@@ -11,7 +11,6 @@ use Rattle.yamux_session.specs.State.{State, Stands, EndsWith, Led, IsOneFrame, 
 use Rattle.yamux_session.specs.Arrives.{telling, tellings, HasData, added}
 use Rattle.yamux_session.proofs.Pieces.{take_over, take_on}
 use Rattle.yamux_session.proofs.Telling.{all_both}
-use Rattle.yamux_frames.specs.Frames.{Reads}
 use Rattle.std.specs.List.{AllByRecursion}
 use Rattle.std.proofs.lemmas.List.Concat.{flat_map-append}
 
@@ -103,21 +102,6 @@ nothing_fed role past fed sent told s stands =
       tt,
     ) in
     (past, none.0, none.1)
-
--- memory was wanting before the first byte
-pub none_led : (role : Role) (past : List Item) (fed bytes sent pending : List ℕ) (s : State) → Stands role past fed sent s → pending ≡ s.pending
-    → (used : ℕ) × (used ≤ length bytes) × (now : List Item) × HasCome role past fed (take used bytes) sent now pending
-none_led role past fed bytes sent pending s stands same = (
-  0,
-  omega arith,
-  past,
-  record {
-    came = ([], refl);
-    no_fault = stands.no_fault;
-    read = (s.place.part, subst (λ (t : List ℕ). Reads t (arrivals past) s.place.part) (sym (append-nil fed)) stands.frames.reads);
-    output = ap (λ (t : List ℕ). sent ++ t) same ∙ stands.output;
-  },
-)
 
 -- after a fault the rest of the bytes isn't looked at
 pub failed_led : (role : Role) (past now : List Item) (fed bytes sent : List ℕ) (at : ℕ) (told : List Told) (s : State) → at ≤ length bytes → s.failed ≡ true

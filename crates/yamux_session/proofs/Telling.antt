@@ -1,5 +1,5 @@
 -- The events and the output of arrivals.
-use Rattle.std.proofs.Common.{◌≡◌, ℕ, ◌<◌, ◌≤◌, Bool, true, false, ◌&&◌, not, cond, nat_lt, List, [], ◌∷◌, ◌++◌, length, map, Option, Some, None, refl, sym, ap, ◌∙◌, subst, append_assoc, arith}
+use Rattle.std.proofs.Common.{◌≡◌, ℕ, ◌<◌, ◌≤◌, Bool, true, false, ◌&&◌, cond, nat_lt, List, [], ◌∷◌, ◌++◌, length, map, Option, Some, None, refl, sym, ap, ◌∙◌, subst, append_assoc, arith}
 use Rattle.std.proofs.lemmas.List.{append-nil}
 use Rattle.std.specs.List.{AllByRecursion}
 use Rattle.std.proofs.lemmas.Bool.{lt-ltb, le-ltb}
@@ -11,16 +11,16 @@ use Rattle.yamux_session.specs.declared.event.Role.{Role}
 use Rattle.yamux_session.specs.declared.event.Event.{Event}
 use Rattle.yamux_session.specs.declared.event.Event.TheVariants as event
 use Rattle.yamux_session.specs.declared.heads.Effect.{Effect}
-use Rattle.yamux_session.specs.History.{Item, came_bytes, ack, is_go_away, is_update, is_own}
+use Rattle.yamux_session.specs.History.{Item, came_bytes, is_go_away}
 use Rattle.yamux_session.specs.History.Item.{Came}
-use Rattle.yamux_session.specs.Openings.{reading, opens, head_belongs}
+use Rattle.yamux_session.specs.Openings.{reading}
 use Rattle.yamux_session.specs.Windows.{accepted}
 use Rattle.yamux_session.specs.Faults.{HasNoFault}
-use Rattle.yamux_session.specs.Events.{Told, when, head_events, tail_events, taker, byte_told, events, events_unless}
-use Rattle.yamux_session.specs.Output.{output, output_unless, answer_to}
+use Rattle.yamux_session.specs.Events.{Told, when, taker, byte_told, events}
+use Rattle.yamux_session.specs.Output.{output}
 use Rattle.yamux_session.specs.Table.{Table}
 use Rattle.yamux_session.specs.Keeps.{Keeps}
-use Rattle.yamux_session.specs.Heads.{HeadDone, told_of}
+use Rattle.yamux_session.specs.Heads.{told_of}
 use Rattle.yamux_session.specs.Arrives.{telling, tellings, HasData, AddsNoData, Tells, began, Arrives}
 use Rattle.yamux_session.specs.Naming.{IsNoData}
 use Rattle.yamux_session.proofs.Arriving.{belongs_on}
@@ -70,34 +70,6 @@ tells_head a b c d e h effect one two three four =
 
 -- ---- a head
 
-pub head_told : (role : Role) (past : List Item) (h : Header) (effect : Effect) (new : Table) → HeadDone role past h effect new → head_events role past h ≡ told_of h effect
-head_told role past h effect new done =
-    let o : Bool = opens role past (Came (Head h)) h.stream in
-    let a : Bool = head_belongs role past h h.stream && ack h && is_own role h.stream && not (accepted role past h.stream) in
-    let c : Bool = head_belongs role past h h.stream && is_update h.kind && nat_lt 0 h.length in
-    ap (λ b. ((when (is_go_away h.kind) (Told.GoAway h.length) ++ when b (Told.Opened h.stream)) ++ when a (Told.Accepted h.stream)) ++ when c (Told.Credit h.stream)) (sym done.opened)
-    ∙ ap (λ b. ((when (is_go_away h.kind) (Told.GoAway h.length) ++ when effect.opened (Told.Opened h.stream)) ++ when b (Told.Accepted h.stream)) ++ when c (Told.Credit h.stream)) (sym done.accepted)
-    ∙ ap (λ b. ((when (is_go_away h.kind) (Told.GoAway h.length) ++ when effect.opened (Told.Opened h.stream)) ++ when effect.accepted (Told.Accepted h.stream)) ++ when b (Told.Credit h.stream)) (sym done.credited)
-
-pub head_arrives : (role : Role) (past : List Item) (h : Header) (effect : Effect) (new : Table) (old_told new_told : List Event) (old_output new_output answered : List ℕ)
-    → HeadDone role past h effect new → Tells old_told new_told (told_of h effect) → answered ≡ answer_to h effect.opened → new_output ≡ old_output ++ answered
-    → Arrives role past (Came (Head h) ∷ past) new old_told new_told old_output new_output
-head_arrives role past h effect new old_told new_told old_output new_output answered done tells answer appended = record {
-  no_fault = λ before. (done.no_fault, before);
-  keeps = done.keeps;
-  told = (
-    told_of h effect,
-    tells,
-    ap (λ f. events role past ++ events_unless f (head_events role past h)) done.no_fault ∙ ap (λ (xs : List Told). events role past ++ xs) (head_told role past h effect new done),
-  );
-  output = (
-    answered,
-    appended,
-    ap (λ f. output role past ++ output_unless f (answer_to h (opens role past (Came (Head h)) h.stream))) done.no_fault
-        ∙ ap (λ b. output role past ++ answer_to h b) (sym done.opened) ∙ ap (λ (xs : List ℕ). output role past ++ xs) (sym answer),
-  );
-}
-
 -- ---- bytes of a payload
 
 abbrev pub bytes_told : Option ℕ → List ℕ → List Told
@@ -143,16 +115,6 @@ bytes_arrive role past bytes new t old_told new_told out keeps takes tells = rec
 }
 
 -- ---- a tail
-
-pub tail_arrives : (role : Role) (past : List Item) (new : Table) (told : List Told) (old_told new_told : List Event) (out : List ℕ)
-    → Keeps role (Came Tail ∷ past) new → told ≡ tail_events role past (reading role past) → Tells old_told new_told told
-    → Arrives role past (Came Tail ∷ past) new old_told new_told out out
-tail_arrives role past new told old_told new_told out keeps told_is tells = record {
-  no_fault = λ before. (refl, before);
-  keeps = keeps;
-  told = (told, tells, ap (λ (xs : List Told). events role past ++ xs) (sym told_is));
-  output = ([], sym (append-nil out), refl);
-}
 
 -- ---- one arrival after another
 

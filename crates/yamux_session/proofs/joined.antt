@@ -3,6 +3,7 @@ pub mod Totals
 pub mod Once
 pub mod WholeFrames
 pub mod Joining
+pub mod Answered
 pub mod InTurn
 pub mod Coming
 pub mod Delivered

@@ -17,7 +17,7 @@ use Rattle.yamux_session.specs.Faults.{HasNoFault}
 use Rattle.yamux_session.specs.Events.{Told, events}
 use Rattle.yamux_session.specs.Data.{inbound, written}
 use Rattle.yamux_session.specs.Output.{output}
-use Rattle.yamux_session.specs.Acts.{IsAnswered}
+use Rattle.yamux_session.specs.Acts.{IsAnswered, AreAnswered}
 
 -- an end: its list, and the bytes that it was fed
 pub record End : Type 0 where
@@ -51,6 +51,11 @@ pub data Joined : End → End → Type 0 where
       → Joined new server
   Server_acts : {client server new : End} {act : Act} → Joined client server → IsDone Server server new act
       → Joined client new
+
+-- Each call in the two histories was made where it isn't refused.
+abbrev pub JoinedAreAnswered : Type 0
+JoinedAreAnswered = (client server : End) → Joined client server
+    → AreAnswered Client client.items × AreAnswered Server server.items
 
 -- Neither end meets a fault, and the data that arrived for a stream at one end is a prefix of what was let through at
 -- the other

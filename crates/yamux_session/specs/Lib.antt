@@ -19,7 +19,6 @@ pub mod Tied
 pub mod OneOutcome
 pub mod Arrives
 pub mod Rows
-pub mod CallRows
 pub use Rattle.yamux_frames.specs.Spelling
 pub use Rattle.yamux_frames.specs.Place
 pub use Rattle.yamux_frames.specs.Frames

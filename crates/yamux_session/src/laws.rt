@@ -6,37 +6,16 @@ ghost use Rattle.yamux_session.specs.Acts.{OneRefusal};
 ghost use Rattle.yamux_session.specs.Received.{ReceivedData, SomeSince};
 ghost use Rattle.yamux_session.specs.Seen.{ActsDo, ActsMove, CreditIsTold, EventsTell};
 ghost use Rattle.yamux_session.specs.Endings.{EndsAreLast, NotTold, OpenedAnew, OpenedByTheOther, OpeningsAreTold};
-ghost use Rattle.yamux_session.specs.Joined.{AllBeforeTheEnd, Balance, BothGoOn, NoFault, NothingIsLost};
-ghost use Rattle.yamux_session.specs.Joined.{NothingStandsStill, SomeJoined};
+ghost use Rattle.yamux_session.specs.Joined.{AllBeforeTheEnd, Balance, BothGoOn, JoinedAreAnswered, NoFault};
+ghost use Rattle.yamux_session.specs.Joined.{NothingIsLost, NothingStandsStill, SomeJoined};
 ghost use Rattle.yamux_session.specs.OneOutcome.{OneOutcome};
 ghost use Rattle.yamux_session.specs.Runs.{OneCall, RunIsLegal};
 ghost use Rattle.yamux_session.specs.Tied.{ActGoesOn, FeedGoesOn, WantOfMemoryStops};
-ghost use Rattle.yamux_session.specs.Rows.{AnswerRows, AnsweredRows, EarlyRows, EndingRows, FirstFaultRows};
-ghost use Rattle.yamux_session.specs.Rows.{FlagRows, FrameRows, FullRows, GrowthRows, LeavingRows, NamingRows};
-ghost use Rattle.yamux_session.specs.Rows.{OpeningRows, OtherRows, SameRows, SentRows, WindowRows};
-ghost use Rattle.yamux_session.specs.CallRows.{FeedRows, RunRows, StandRows};
+ghost use Rattle.yamux_session.specs.Rows.{WorkedRows};
 
-/// The definitions say of worked histories what the specification says.
+/// The definitions give what the specification and this project's profile give, at worked histories.
 pub fn worked_rows()
-    ensures openings { OpeningRows }
-    ensures full { FullRows }
-    ensures sent { SentRows }
-    ensures same { SameRows }
-    ensures early { EarlyRows }
-    ensures leaving { LeavingRows }
-    ensures endings { EndingRows }
-    ensures answered { AnsweredRows }
-    ensures windows { WindowRows }
-    ensures others { OtherRows }
-    ensures answers { AnswerRows }
-    ensures flags { FlagRows }
-    ensures naming { NamingRows }
-    ensures frames { FrameRows }
-    ensures growth { GrowthRows }
-    ensures first_faults { FirstFaultRows }
-    ensures runs { RunRows }
-    ensures feeds { FeedRows }
-    ensures stands { StandRows }
+    ensures { WorkedRows }
 {}
 
 /// At most 256 streams of each end are live.
@@ -101,6 +80,11 @@ pub fn acts_tell()
 /// ends, the reader's receiving window is the writer's credit and what is on its way.
 pub fn balance()
     ensures { Balance }
+{}
+
+/// The histories of two such sessions have only calls that weren't refused where they were made.
+pub fn joined_are_answered()
+    ensures { JoinedAreAnswered }
 {}
 
 /// Two such sessions never meet a fault, and the data that arrived for a stream at one end is a prefix of what was let

@@ -1,8 +1,8 @@
-//! Two callers that dial, by `both_seen`.
+//! Two callers that dial, by `clients`.
 
 use super::asserts::holds;
 use super::peer;
-use both_seen::{Dials, both_seen};
+use clients::swarm::{Dials, two_callers};
 use peer_ids::PeerId;
 use pool_state::{Config, ConnSide, Limits, Phase, Reply, Row};
 use std::alloc::Global;
@@ -19,7 +19,7 @@ fn play<R: Wait>(
     a: PeerId,
     b: PeerId,
 ) -> Result<(Dials, Closed), NewRefused> {
-    both_seen::<Brand, Brand, Brand, Brand, Brand, Brand, Brand, Brand, Brand, R>(
+    two_callers::<Brand, Brand, Brand, Brand, Brand, Brand, Brand, Brand, Brand, R>(
         rt,
         alloc,
         config,

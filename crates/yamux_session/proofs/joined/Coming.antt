@@ -113,10 +113,6 @@ finishes_fin role past (Came (Byte b)) n is = absurd cc
 finishes_fin role past (Came (Garbled bytes)) n is = absurd cc
 finishes_fin role past (Did act) n is = absurd cc
 
-either : (a b : Bool) → a || b ≡ true → (a ≡ true → ⊥) → b ≡ true
-either true b e off = absurd (off refl)
-either false b e off = e
-
 finished_if : (role : Role) (past : List Item) (x : Item) (n : ℕ) (f : Bool) → finishes (reading role past) x n ≡ f → finished role (x ∷ past) n ≡ true
     → (finished role past n ≡ true → 0 < total (fin_of n) (arrivals past)) → 0 < total (fin_of n) (arrivals (x ∷ past))
 finished_if role past x n true is now before = let some = finishes_fin role past x n is in let more = fin_grows n x past in omega arith

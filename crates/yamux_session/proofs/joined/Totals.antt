@@ -75,10 +75,6 @@ data_else f m none tail head (piece ∷ pieces) xs =
     let here = head (length piece) in
     omega arith
 
-if_total : (f : Arrival → ℕ) (b : Bool) (us vs xs : List Arrival) (p q : ℕ) → total f us ≡ total f xs + p → total f vs ≡ total f xs + q → total f (cond b us vs) ≡ total f xs + cond b p q
-if_total f true us vs xs p q e g = e
-if_total f false us vs xs p q e g = g
-
 pub same_total : (f : Arrival → ℕ) (b : Bool) (us vs xs : List Arrival) → total f us ≡ total f xs → total f vs ≡ total f xs → total f (cond b us vs) ≡ total f xs
 same_total f true us vs xs e g = e
 same_total f false us vs xs e g = g

@@ -1,4 +1,4 @@
-use Rattle.std.proofs.Common.{◌≡◌, List, ℕ, ap, ◌∙◌, codes}
+use Rattle.std.proofs.Common.{ap, ◌∙◌, codes}
 use Rattle.std.proofs.lemmas.Result.{on_ok_weaker}
 use Rattle.peer_ids.specs.Key.{Key}
 use Rattle.node_protocols.specs.Own.{own_message}

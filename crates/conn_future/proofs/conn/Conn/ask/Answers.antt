@@ -2,7 +2,7 @@ use Rattle.conn_log.specs.Entries.{Entry}
 use Rattle.conn_core.specs.Connects.{waiting_in}
 use Rattle.conn_core.proofs.Growing.{one_opened}
 use Rattle.conn_future.specs.Follows.{CoreStands}
-use Rattle.std.proofs.Common.{◌∙◌, rules, List, ◌++◌, ◌∷◌, [], false, refl, ap, subst}
+use Rattle.std.proofs.Common.{◌∙◌, rules, List, ◌++◌, [], false, refl, ap, subst}
 use Rattle.conn_future.proofs.Standing.{parts_stay, parts_of, goes_of, stays_none, stays_same_core, goes_asked, going_stays}
 use Rattle.conn_future.proofs.Opening.{opened_wants}
 use Rattle.conn_future.proofs.Unchanged.{same_core}

@@ -1,8 +1,0 @@
-use Rattle.std.proofs.Common.{take}
-use Rattle.both_heard.proofs.Heard.{asks}
-use Rattle.both_heard.proofs.ask.Goals as goal
-
-pub returns : goal.returns
-returns c =
-    asks c.sessions_stay_joined.ensures.act c.in_ok-stream.stream (take c.in_ok-count.count c.args.question.now) c.args.client.now c.open_stream.new.self c.write.new.self
-    c.in_ok-stream.ensures.ok c.in_ok-count.ensures.ok

@@ -1,2 +1,0 @@
--- cited by public clauses and laws
-pub mod Heard

@@ -1,5 +1,0 @@
-mod LinkRows
-mod SocketRows
-mod BoundRows
-mod OverLinkRows
-mod KindRows

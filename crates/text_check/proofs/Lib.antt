@@ -1,6 +1,0 @@
-mod Texts
-mod Lines
-mod Words
-mod Played
-mod Places
-mod KindRows

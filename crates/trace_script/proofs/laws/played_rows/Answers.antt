@@ -1,8 +1,0 @@
-use Rattle.trace_script.proofs.WorkedRows.{played_rows}
-use Rattle.trace_script.proofs.laws.played_rows.Goals as goal
-
-pub returns : goal.returns
-returns g c = λ start role own.
-    let H = g.P.H.Handler in
-    let makes = g.P.Protocols in
-    played_rows H.steps H.fails H.is_closed H.is_finished makes.makes_inbound makes.makes_outbound makes.listed makes.is_eager makes.leads_inbound makes.leads_outbound start role own
